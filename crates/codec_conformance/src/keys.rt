@@ -1,4 +1,4 @@
-//! HMAC (RFC 2104) and books of named keys.
+//! HMAC (RFC 2104) and key books.
 
 use crate::rows::check_rows;
 use hmac_keys::*;
@@ -7,8 +7,8 @@ use std::alloc::Global;
 use std::test::*;
 use test_support::octets;
 
-/// The HMAC of a text under a key, the same wherever the text is split, and the same with an
-/// `HmacKey`.
+/// Returns the HMAC of a text under a key, if it is the same wherever the text is split, and the
+/// same with an `HmacKey`.
 fn tag(alloc: Global, input: &str) -> Option<String> {
     let (key, text) = input.split_once(" | ")?;
     let key = octets(alloc, key)?;
@@ -20,7 +20,7 @@ fn tag(alloc: Global, input: &str) -> Option<String> {
     hex::encode(alloc, tag.as_slice()).ok()
 }
 
-/// The tag of a text, where it is that of any two parts of it.
+/// Returns the tag of a text, if every split of the text into two parts gives this tag.
 fn tag_of_any_parts(key: &[u8], text: &[u8]) -> Option<[u8; 32]> {
     let tag = hmac_sha256(key, text, &[]);
     for place in 0..text.len() {
@@ -49,7 +49,7 @@ aax131 | 5468697320697320612074657374207573696e672061206c6172676572207468616e206
     check_rows(&rt, rt.alloc(), rows, tag);
 }
 
-/// Keys of the octets 0, 1, 2 and so on, around the length of a block.
+/// Keys of the octets 0, 1, 2 and so on, with lengths around that of a block.
 #[test]
 fn keys_around_a_block(rt: HostRuntime) {
     let rows = "
@@ -61,7 +61,7 @@ fn keys_around_a_block(rt: HostRuntime) {
     check_rows(&rt, rt.alloc(), rows, tag);
 }
 
-/// Whether a value is a tag of 32 octets.
+/// Returns whether a value is a tag of 32 octets.
 fn is_tag(alloc: Global, input: &str) -> Option<String> {
     let (value, tag) = input.split_once(" | ")?;
     let value = octets(alloc, value)?;
@@ -89,7 +89,7 @@ fn equal_tags(rt: HostRuntime) {
     check_rows(&rt, rt.alloc(), rows, is_tag);
 }
 
-/// The number of keys in a key file and the key of a name, or the fault of the file.
+/// Returns the number of keys in a key file and the key with a name, or the fault of the file.
 fn found(alloc: Global, file: &str, uri: &str) -> Option<String> {
     match KeyBook::read(alloc, file) {
         Ok(book) => found_in(alloc, &book, uri),
@@ -113,8 +113,8 @@ fn key_shown(alloc: Global, len: usize, key: &[u8]) -> Option<String> {
     format!(in alloc; "{len}: {key}").ok()
 }
 
-/// The result of looking up a name in a file: the keys /0, /1 and so on, their number before a bar,
-/// and then the lines after it.
+/// Returns the result of looking up a name in a key file. The file has the keys /0, /1 and so on,
+/// as many as the number before the bar says, followed by the lines after the bar.
 fn key_file(alloc: Global, input: &str) -> Option<String> {
     let (count, rest) = input.split_once('|').unwrap_or(("0", input));
     let (end, uri) = rest.split_once(" ? ").unwrap_or((rest, "/"));
@@ -186,7 +186,7 @@ A 00 -> BadLine(1)
     check_rows(&rt, rt.alloc(), rows, key_file);
 }
 
-/// The result of looking up a key of these octets, up to the key.
+/// Returns the result of looking up a key with these octets, up to the key itself.
 fn file_of_key(alloc: Global, input: &str) -> Option<String> {
     let digits = hex::encode(alloc, octets(alloc, input)?).ok()?;
     let file = format!(in alloc; "/A {digits}\n").ok()?;
@@ -244,7 +244,7 @@ fn keys_by_names(rt: HostRuntime) {
     check_rows(&rt, rt.alloc(), rows, key_file);
 }
 
-/// The name of a fault, its line and its message.
+/// Returns the name of a fault, its line and its message.
 fn fault_text(alloc: Global, fault: &str) -> Option<String> {
     let fault = match fault {
         "BadLine 7" => KeyFault::BadLine(7),
@@ -268,7 +268,8 @@ Memory -> Memory 0: out of memory
     check_rows(&rt, rt.alloc(), rows, fault_text);
 }
 
-/// Whether a file has this number of keys, unless memory is refused.
+/// Returns whether a key file has this number of keys. If memory runs out, the result is true as
+/// well.
 fn reads_or_memory(alloc: Global, file: &str, len: usize) -> bool {
     match KeyBook::read(alloc, file) {
         Ok(book) => book.len() == len,
@@ -282,12 +283,12 @@ fn refused_memory(rt: HostRuntime) {
     assert!(rt; reads_or_memory(rt.alloc(), file, 3));
 }
 
-/// Whether a file is refused for this cause, whether there is memory or not.
+/// Returns whether a key file is refused with this fault, whether or not memory runs out.
 fn is_refused(alloc: Global, file: &str, fault: KeyFault) -> bool {
     KeyBook::read(alloc, file).err() == Some(fault)
 }
 
-/// A lack of memory is reported only if the whole file is right.
+/// Memory that runs out is reported only if the whole file is valid.
 #[test]
 fn faults_come_before_memory(rt: HostRuntime) {
     let file = "/A 00\n/seg=5 00\n; another\n/50=%05 00";

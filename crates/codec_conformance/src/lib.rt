@@ -1,4 +1,4 @@
-//! Tests of reading and writing: elements, names, keys and packets.
+//! Tests of reading and writing elements, names, keys and packets.
 #![tactic(auto)]
 
 #[cfg(test)]

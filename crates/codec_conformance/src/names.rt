@@ -12,7 +12,7 @@ fn fault_text(alloc: Global, fault: NameFault) -> Option<String> {
     format!(in alloc; "{fault:?}").ok()
 }
 
-/// The number of a name's components and the last of them, or the fault of its octets.
+/// Returns the number of a name's components and the last component, or the fault of the octets.
 fn components(alloc: Global, input: &str) -> Option<String> {
     let octets = octets(alloc, input)?;
     match Name::read(&octets) {
@@ -21,7 +21,7 @@ fn components(alloc: Global, input: &str) -> Option<String> {
     }
 }
 
-/// The number of a name's components and the last of them.
+/// Returns the number of a name's components and the last component.
 fn number_and_last(alloc: Global, name: Name<'_>) -> Option<String> {
     let len = name.len();
     if name.iter().count() != len || name.component(len).is_some() {
@@ -82,7 +82,7 @@ fn digest_lengths(rt: HostRuntime) {
     check_rows(&rt, rt.alloc(), rows, components);
 }
 
-/// The name of a list of components, each its type and its value.
+/// Returns the name with these components, each given by its type and its value.
 fn name_of(alloc: Global, input: &str) -> Option<NameBuf> {
     let mut name = NameBuf::new(alloc);
     for component in input.split_ascii_whitespace() {
@@ -97,7 +97,8 @@ fn append(alloc: Global, name: &mut NameBuf, component: &str) -> Option<()> {
     name.append(kind, &octets(alloc, value)?).ok()
 }
 
-/// The octets of a name with a component appended, or the fault, which changes nothing.
+/// Returns the octets of a name after a component is appended, or the fault, which leaves the name
+/// unchanged.
 fn appended(alloc: Global, input: &str) -> Option<String> {
     let (start, component) = input.split_once("+ ")?;
     let (kind, value) = component.split_once(':')?;
@@ -139,7 +140,7 @@ fn appended_components(rt: HostRuntime) {
     check_rows(&rt, rt.alloc(), rows, appended);
 }
 
-/// The URI text of a list of components, which reads as that name.
+/// Returns the URI text of a list of components, if that text reads as the same name.
 fn uri_of(alloc: Global, input: &str) -> Option<String> {
     let name = name_of(alloc, input)?;
     let text = name.to_uri(alloc).ok()?;
@@ -165,7 +166,7 @@ fn name_order_and_uri(rt: HostRuntime) {
     check_rows(&rt, rt.alloc(), rows, relation);
 }
 
-/// Each octet as a component of its own, and all of them as one.
+/// Each octet in a component of its own, and all octets in one component.
 #[test]
 fn every_octet(rt: HostRuntime) {
     let rows = "
@@ -255,8 +256,8 @@ fn words_of_numbers(rt: HostRuntime) {
     check_rows(&rt, rt.alloc(), rows, octets_of);
 }
 
-/// The octets of the name that a URI text spells, or the fault. Read without memory, the text has
-/// the same number of components, or the same fault.
+/// Returns the octets of the name that a URI text reads as, or the fault. Also checks that
+/// `uri_len` returns the number of components, or the same fault.
 fn octets_of(alloc: Global, input: &str) -> Option<String> {
     let read = NameBuf::from_uri(alloc, input);
     if uri_len(input)
@@ -273,7 +274,7 @@ fn octets_of(alloc: Global, input: &str) -> Option<String> {
     }
 }
 
-/// Whether two URI texts read as one name, in either order.
+/// Returns whether two URI texts read as the same name, if the result is the same in either order.
 fn are_equal(alloc: Global, input: &str) -> Option<String> {
     let (a, b) = input.split_once(' ')?;
     let equal = uris_are_equal(a, b);
@@ -443,7 +444,7 @@ ndn:ndn:/A -> BadUri
     check_rows(&rt, rt.alloc(), rows, octets_of);
 }
 
-/// The number of 64 components and those of this text, or the fault.
+/// Returns the number of components in a text of 64 components followed by the input, or the fault.
 fn after_64_components(alloc: Global, input: &str) -> Option<String> {
     let mut text = String::new(alloc);
     for _ in 0..64 {
@@ -470,7 +471,7 @@ fn sixty_four_components(rt: HostRuntime) {
     check_rows(&rt, rt.alloc(), rows, after_64_components);
 }
 
-/// The prefixes of a name, from the empty one to the whole.
+/// Returns the prefixes of a name, from the empty one to the whole name.
 fn prefixes(alloc: Global, input: &str) -> Option<String> {
     let name = NameBuf::from_uri(alloc, input).ok()?;
     let len = name.view().len();
@@ -511,8 +512,8 @@ fn hash_of<T: Hash>(value: &T) -> u64 {
     state.finish()
 }
 
-/// The order of two names, where that in the other direction, equality and hashes agree with it, of
-/// keys and of views.
+/// Returns the order of two names, if the reverse comparison, equality and hashes agree with it,
+/// both for owned names and for views.
 fn order_of(left: &NameBuf, right: &NameBuf) -> Option<Ordering> {
     let order = left.cmp(right);
     let is_equal = order.is_eq();
@@ -525,7 +526,7 @@ fn order_of(left: &NameBuf, right: &NameBuf) -> Option<Ordering> {
     agree.then_some(order)
 }
 
-/// The relation of a name to another one.
+/// Returns the relation of one name to another one.
 fn relation(alloc: Global, input: &str) -> Option<String> {
     let (left, right) = input.split_once(' ')?;
     let left = NameBuf::from_uri(alloc, left).ok()?;
@@ -567,7 +568,7 @@ fn name_order(rt: HostRuntime) {
     check_rows(&rt, rt.alloc(), rows, relation);
 }
 
-/// The order of two components, where that in the other direction, equality and hashes agree with
+/// Returns the order of two components, if the reverse comparison, equality and hashes agree with
 /// it.
 fn order_of_components(left: &Component<'_>, right: &Component<'_>) -> Option<Ordering> {
     let order = left.cmp(right);
@@ -578,7 +579,7 @@ fn order_of_components(left: &Component<'_>, right: &Component<'_>) -> Option<Or
     agree.then_some(order)
 }
 
-/// The relation of the first component of a name to that of another one.
+/// Returns the relation between the first components of two names.
 fn first_components(alloc: Global, input: &str) -> Option<String> {
     let (left, right) = input.split_once(' ')?;
     let left = NameBuf::from_uri(alloc, left).ok()?;
@@ -602,7 +603,7 @@ fn component_order(rt: HostRuntime) {
     check_rows(&rt, rt.alloc(), rows, first_components);
 }
 
-/// The number of components after the first, if a copy of the rest has as many.
+/// Returns the number of components after the first one, if a copy of the iterator returns as many.
 fn count_after_first(name: Name<'_>) -> Option<usize> {
     let mut after_first = name.into_iter();
     after_first.next();
@@ -618,7 +619,7 @@ fn components_shown(alloc: Global, name: Name<'_>) -> Option<String> {
     Some(text)
 }
 
-/// The components of a name, and the number of them after the first.
+/// Returns the components of a name, and the number of components after the first one.
 fn in_turn(alloc: Global, input: &str) -> Option<String> {
     let name = NameBuf::from_uri(alloc, input).ok()?.try_clone(alloc).ok()?;
     let count = count_after_first(name.view())?;
@@ -634,7 +635,7 @@ fn components_in_turn(rt: HostRuntime) {
     check_rows(&rt, rt.alloc(), rows, in_turn);
 }
 
-/// The text of a fault.
+/// Returns the message of a fault.
 fn text_of_fault(alloc: Global, fault: &str) -> Option<String> {
     let fault = match fault {
         "BadComponent" => NameFault::BadComponent,
@@ -668,7 +669,7 @@ fn keys(rt: HostRuntime) {
     check_rows(&rt, rt.alloc(), rows, relation);
 }
 
-/// The type and the value of a URI text of one component, or the fault.
+/// Returns the type and the value of the component that a URI text reads as, or the fault.
 fn component(alloc: Global, input: &str) -> Option<String> {
     match component_from_uri(alloc, input) {
         Ok((kind, value)) => {
@@ -699,7 +700,7 @@ sha256digest=00 -> BadUri
     check_rows(&rt, rt.alloc(), rows, component);
 }
 
-/// Whether each of these gives what it gives with ample memory, or is refused for memory alone.
+/// Returns whether each of these calls succeeds, or fails only because memory runs out.
 fn give_all_or_memory(alloc: Global, text: &str) -> bool {
     let mut name = match NameBuf::from_uri(alloc, text) {
         Ok(name) => name,
@@ -720,12 +721,12 @@ fn give_all_or_memory(alloc: Global, text: &str) -> bool {
     }
 }
 
-/// Whether a text is refused for this cause, whether there is memory or not.
+/// Returns whether a text is refused with this fault, whether or not memory runs out.
 fn is_refused(alloc: Global, text: &str, fault: NameFault) -> bool {
     NameBuf::from_uri(alloc, text).err() == Some(fault)
 }
 
-/// A lack of memory is reported only if the text is a name's.
+/// Memory that runs out is reported only if the text reads as a name.
 #[test]
 fn faults_come_before_memory(rt: HostRuntime) {
     assert!(rt; is_refused(rt.alloc(), "/A/%4", NameFault::BadUri));

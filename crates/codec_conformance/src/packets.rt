@@ -1,7 +1,8 @@
-//! Packets, link packets, what signatures cover, and writers.
+//! Packets, link packets, the octets that signatures cover, and writers.
 //!
-//! In the rows `0703080141` is the Name /A, `0a0401020304` a Nonce, `16031b0100 1700` a
-//! SignatureInfo and an empty SignatureValue, and `050b..` the Interest of that Name and Nonce.
+//! In the rows, `0703080141` is the Name /A, `0a0401020304` is a Nonce, `16031b0100 1700` is a
+//! SignatureInfo and an empty SignatureValue, and `050b..` is the Interest with that Name and
+//! Nonce.
 
 mod covered;
 mod faults;
@@ -14,7 +15,8 @@ use ndn_tlv::put_element;
 use std::alloc::Global;
 use test_support::octets;
 
-/// Octets inside elements of the types before a bar, the outermost first.
+/// Returns octets inside nested elements. The types of these elements come before a bar, the
+/// outermost first.
 fn packet(alloc: Global, input: &str) -> Option<Vec<u8>> {
     let (kinds, value) = input.split_once('|').unwrap_or(("", input));
     let mut octets = octets(alloc, value)?;
@@ -34,7 +36,7 @@ fn element(alloc: Global, kind: &str, value: &[u8]) -> Option<Vec<u8>> {
     Some(out)
 }
 
-/// Whether octets are read, or the name of their fault.
+/// Returns "read" for octets that are a frame, and otherwise the name of their fault.
 fn outcome_of(octets: &[u8]) -> &'static str {
     match read_frame(octets) {
         Ok(_) => "read",
@@ -46,7 +48,8 @@ fn outcome(alloc: Global, input: &str) -> Option<String> {
     String::from_str(alloc, outcome_of(&packet(alloc, input)?)).ok()
 }
 
-/// The outcome that all proper prefixes have.
+/// Returns the outcome of reading the proper prefixes of a packet, if it is the same for all of
+/// them.
 fn cut(alloc: Global, input: &str) -> Option<String> {
     let octets = packet(alloc, input)?;
     let outcome = outcome_of(&[]);
@@ -58,7 +61,7 @@ fn cut(alloc: Global, input: &str) -> Option<String> {
     String::from_str(alloc, outcome).ok()
 }
 
-/// The octets of the packet in a frame, and the reason of a Nack.
+/// Returns the octets of the packet in a frame, with the reason of a Nack.
 fn carried(alloc: Global, input: &str) -> Option<String> {
     match read_frame(&packet(alloc, input)?).ok()? {
         Frame::Interest(interest) => {
@@ -79,7 +82,7 @@ fn carried(alloc: Global, input: &str) -> Option<String> {
     }
 }
 
-/// Octets of a field that may be absent.
+/// Returns the octets of an optional field as text.
 fn value_text(alloc: Global, value: Option<&[u8]>) -> Option<String> {
     match value {
         None => String::from_str(alloc, "none").ok(),
@@ -140,7 +143,7 @@ fn data_text(alloc: Global, data: Data<'_>) -> Option<String> {
     format!(in alloc; "Data {name}, fresh {freshness}, content {content}, {signature}").ok()
 }
 
-/// All fields of an Interest or a Data.
+/// Returns all fields of an Interest or a Data.
 fn fields(alloc: Global, input: &str) -> Option<String> {
     let octets = packet(alloc, input)?;
     match read_frame(&octets).ok()? {

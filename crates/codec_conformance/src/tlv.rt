@@ -6,7 +6,7 @@ use std::alloc::Global;
 use std::test::*;
 use test_support::octets;
 
-/// The spelling of a number, which reads as that number.
+/// Returns the encoding of a number, if it reads as that number.
 fn spelling(alloc: Global, number: &str) -> Option<String> {
     let number = number.parse().ok()?;
     let mut out = Vec::new(alloc);
@@ -29,7 +29,7 @@ fn number_spellings(rt: HostRuntime) {
     check_rows(&rt, rt.alloc(), rows, spelling);
 }
 
-/// The element at the front of some octets and what follows it, or the fault.
+/// Returns the element at the front of some octets and the octets after it, or the fault.
 fn first(alloc: Global, input: &str) -> Option<String> {
     let octets = octets(alloc, input)?;
     match first_element(&octets) {
@@ -42,7 +42,7 @@ fn first(alloc: Global, input: &str) -> Option<String> {
     }
 }
 
-/// The element of a type and a value.
+/// Returns the element with this type and value.
 fn written(alloc: Global, input: &str) -> Option<String> {
     let (kind, value) = input.split_once(' ')?;
     let kind = kind.parse().ok()?;
@@ -53,7 +53,7 @@ fn written(alloc: Global, input: &str) -> Option<String> {
     hex::encode(alloc, out).ok()
 }
 
-/// An Interest: its Name /A and its Nonce.
+/// An Interest with the Name /A and a Nonce.
 #[test]
 fn smallest_interest(rt: HostRuntime) {
     let rows = "
@@ -94,7 +94,7 @@ ff0000000100000000 -> TypeTooLarge
     check_rows(&rt, rt.alloc(), rows, first);
 }
 
-/// The text of a fault.
+/// Returns the message of a fault.
 fn fault_text(alloc: Global, fault: &str) -> Option<String> {
     let fault = match fault {
         "Truncated" => TlvFault::Truncated,
@@ -121,7 +121,7 @@ Memory -> out of memory
     check_rows(&rt, rt.alloc(), rows, fault_text);
 }
 
-/// A whole value as a NonNegativeInteger.
+/// Returns a whole value, read as a NonNegativeInteger.
 fn integer(alloc: Global, input: &str) -> Option<String> {
     match nni_of(&octets(alloc, input)?) {
         Ok(number) => number.to_string(alloc).ok(),
@@ -129,7 +129,7 @@ fn integer(alloc: Global, input: &str) -> Option<String> {
     }
 }
 
-/// The shortest NonNegativeInteger of a number.
+/// Returns the shortest NonNegativeInteger encoding of a number.
 fn shortest_integer(alloc: Global, number: &str) -> Option<String> {
     let number = number.parse().ok()?;
     let mut out = Vec::new(alloc);
@@ -161,7 +161,7 @@ fn integers(rt: HostRuntime) {
     check_rows(&rt, rt.alloc(), rows, shortest_integer);
 }
 
-/// The types of the elements and the lengths of their values, up to the end or the fault.
+/// Returns the types of the elements and the lengths of their values, up to the end or to a fault.
 fn elements(alloc: Global, input: &str) -> Option<String> {
     let octets = octets(alloc, input)?;
     let mut text = String::new(alloc);
@@ -183,7 +183,7 @@ fn elements_end_with_the_octets_or_a_fault(rt: HostRuntime) {
     check_rows(&rt, rt.alloc(), rows, elements);
 }
 
-/// Whether each of these appends all of its octets, or none where memory is refused.
+/// Returns whether each of these calls appends all of its octets, or none if memory runs out.
 fn append_all_or_nothing(alloc: Global) -> bool {
     let mut number = Vec::new(alloc);
     let number_put = put_number(&mut number, 65_536).is_ok();

@@ -1,4 +1,4 @@
--- The messages for a fault in a key file and for a file that cannot be read.
+-- The messages for a fault in a key file, and for a file that cannot be read.
 use Rattle.std.specs.Prelude.{ℕ, zero, suc, List, ◌++◌, codes}
 use Rattle.std.specs.Fmt.{decimal}
 use Rattle.std.specs.declared.io.ErrorKind.{ErrorKind}
@@ -6,7 +6,7 @@ use Rattle.std.specs.declared.io.ErrorKind.TheVariants as kinds
 use Rattle.hmac_keys.specs.declared.fault.KeyFault.{KeyFault}
 use Rattle.hmac_keys.specs.declared.fault.KeyFault.TheVariants as keys
 
--- at line 0 the file is not UTF-8
+-- what is wrong in a key file, and how to correct it; line 0 means that the file is not UTF-8
 unfoldable pub advice_on_keys : KeyFault → List ℕ
 advice_on_keys (keys.BadLine zero) = codes "the file is not UTF-8 text: write it in UTF-8 or ASCII"
 advice_on_keys (keys.BadLine (suc line)) =
@@ -16,7 +16,7 @@ advice_on_keys keys.TooMany =
     codes "at most 256 keys are allowed: leave out those that no rule asks for"
 advice_on_keys keys.Memory = codes "out of memory"
 
--- the line and the kind of a fault, and below it what is wrong
+-- the line and the kind of a fault, and on the next line what is wrong
 abbrev pub key_text : KeyFault → List ℕ
 key_text (keys.BadLine line) = codes "keys:" ++ (decimal line ++ (codes ": BadLine\n  "
     ++ (advice_on_keys (keys.BadLine line) ++ codes "\n")))

@@ -1,4 +1,5 @@
-//! The programs' messages for a fault in a key file and for a file that cannot be read.
+//! The messages that the programs print for a fault in a key file, and for a file that cannot be
+//! read.
 #![tactic(auto)]
 
 ghost use Rattle.std.specs.Prelude.{◌≡◌, Some};
@@ -8,8 +9,8 @@ use hmac_keys::KeyFault;
 use std::fmt;
 use std::io::ErrorKind;
 
-/// The message of a fault in a key file: the line and the kind of the fault, and on the next line how
-/// to mend it. It ends with an LF.
+/// The message for a fault in a key file: the line and the kind of the fault, and on the next line
+/// how to correct it. The message ends with an LF.
 #[derive(Clone, Copy)]
 pub struct KeyMessage(pub KeyFault);
 
@@ -28,7 +29,7 @@ impl fmt::Display for KeyMessage {
     }
 }
 
-/// What is wrong in a key file, and how to mend it.
+/// Returns what is wrong in a key file, and how to correct it.
 #[tactic(auto, unfolding(crate::specs::Advice::advice_on_keys))]
 fn advice_on_keys(fault: KeyFault) -> &'static str
     ensures { result.now ≡ advice_on_keys fault }
@@ -44,7 +45,7 @@ fn advice_on_keys(fault: KeyFault) -> &'static str
     }
 }
 
-/// Why a file cannot be read.
+/// Returns why a file cannot be read.
 #[tactic(auto, unfolding(crate::specs::Advice::cause_of))]
 pub fn cause_of(kind: ErrorKind) -> &'static str
     ensures { result.now ≡ cause_of kind }

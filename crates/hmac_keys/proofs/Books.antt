@@ -1,4 +1,4 @@
--- The keys of a book, by their names.
+-- The keys of a book, found by their names.
 use Rattle.std.proofs.Common.{◌≡◌, ◌≢◌, ℕ, zero, suc, ◌+◌, ◌<◌, ◌≤◌, Bool, true, false, ◌||◌, List, [], ◌∷◌, ◌++◌, length, get_or, take, refl, sym, ap, ◌∙◌, arith, inl, inr, Bor}
 use Rattle.std.specs.Prelude.{Option, Some, None, is_some, Ok, Err, MatchOption}
 use Rattle.std.specs.List.{AllByRecursion}
@@ -17,7 +17,7 @@ use Rattle.hmac_keys.specs.KeyFile.{NamedKey, AreApart, IsAmong}
 use Rattle.hmac_keys.specs.KeyReading.{has_name, with_key}
 use Rattle.hmac_keys.specs.Shown.{named_keys}
 
--- ---- looking for a name
+-- ---- finding a name
 
 pub same_name : (a b : List Field) → a ≡ b → is_eq (name_cmp a b) ≡ true
 same_name a b e = ap is_eq (name_cmp-equal a b e)
@@ -30,7 +30,7 @@ none_among name (key ∷ keys) h octets (inl e) =
     cc
 none_among name (key ∷ keys) h octets (inr a) = none_among name keys (or_parts (is_eq (name_cmp key.0 name)) (has_name name keys) h).1 octets a
 
--- none of the first keys of a book has the name
+-- none of the first i keys of a book has the name
 abbrev pub HasNone : List Field → List Key → ℕ → Type 0
 HasNone name keys i = has_name name (named_keys (take i keys)) ≡ false
 
@@ -63,7 +63,7 @@ among_at name (first ∷ keys) zero key lt is e =
     inl (ap (λ (k : Key). (k.name, k.hmac)) (sym is) ∙ ap (λ (n : List Field). (n, key.hmac)) (one_name key.name name e))
 among_at name (first ∷ keys) (suc i) key lt is e = inr (among_at name keys i key (omega arith) is e)
 
--- ---- a further key
+-- ---- one more key is added
 
 pub has_name_more : (name : List Field) (keys : List NamedKey) (key : NamedKey) → has_name name (keys ++ key ∷ []) ≡ (has_name name keys || is_eq (name_cmp key.0 name))
 has_name_more name [] key = or_nothing (is_eq (name_cmp key.0 name))
@@ -90,7 +90,7 @@ among_from_has name (key ∷ keys) h = elim (or_cases (is_eq (name_cmp key.0 nam
   | inr more ↦ let rest = among_from_has name keys more in (rest.0, inr rest.1)
 ]
 
--- whether a key was found is whether the name is there
+-- a key is found exactly if its name is among the keys
 pub found_has : (name : List Field) (keys : List NamedKey) (r : Option (Bor (List ℕ))) → MatchOption r ((octets : List ℕ) → IsAmong (name, octets) keys → ⊥) (λ octets. IsAmong (name, octets.now) keys)
     → is_some r ≡ has_name name keys
 found_has name keys None h = sym (false_from_ne_true (has_name name keys) (λ t. let some = among_from_has name keys t in h some.0 some.1))
@@ -115,7 +115,7 @@ apart_more (first ∷ keys) key apart h =
     others [] h last = (last, tt)
     others (other ∷ rest) h last = (h.0, others rest h.1 last)
 
--- what a book shows with one key more
+-- what a book shows after one more key is added
 pub named_more : (keys after : List Key) (key : Key) (shown : List NamedKey) → named_keys keys ≡ shown → after ≡ keys ++ key ∷ [] → named_keys after ≡ shown ++ (key.name, key.hmac) ∷ []
 named_more keys after key shown view e =
     ap named_keys e ∙ map-append (λ k. (k.name, k.hmac)) keys (key ∷ []) ∙ ap (λ (front : List NamedKey). front ++ (key.name, key.hmac) ∷ []) view

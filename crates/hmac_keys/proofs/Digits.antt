@@ -1,4 +1,4 @@
--- What `decode` of the kit reads is two hexadecimal digits of either case for each octet.
+-- The function `decode` reads two hexadecimal digits of either case for each octet.
 use Rattle.std.proofs.Common.{◌≡◌, ℕ, suc, ◌+◌, ◌*◌, ◌%◌, ◌<◌, ◌≤◌, ◌==◌, Bool, true, false, cond, leb, ◌&&◌, List, [], ◌∷◌, length, Result, Ok, Err, refl, sym, ap, subst, ◌∙◌, arith, inl, inr}
 use Rattle.std.specs.Prelude.{Option, Some, None}
 use Rattle.std.proofs.lemmas.Bool.{cases_lt, false_from_ne_true, and_parts, leb-true}
@@ -15,7 +15,7 @@ use Rattle.ndn_names.proofs.TextReading.{hex_length}
 digit_again : (c : ℕ) → digit_value c < 16 → hex_digit_value c ≡ Some (digit_value c)
 digit_again c h = grind arith
 
--- the value is below 16 at digits alone
+-- only digits have a value below 16
 decimal_digit : (c : ℕ) → 48 ≤ c → c < 58 → digit_value c < 16
 decimal_digit c a b = grind arith
 
@@ -38,7 +38,7 @@ digit_found c v e = elim (cases_lt (digit_value c) 16) [
   | inr large ↦ let none : None ≡ Some v = sym (no_digit c large) ∙ e in absurd cc
 ]
 
--- the value of a digit that reads
+-- the value of a digit that is read
 some_digit : (c i v : ℕ) (o : Option ℕ) → digit_or_error c i o ≡ Ok v → o ≡ Some v
 some_digit c i v None e = absurd cc
 some_digit c i v (Some w) e = let same : w ≡ v = cc in ap Some same
@@ -78,7 +78,7 @@ pairs_again i text [] h = ap (decode_pairs i) h
 pairs_again i text (octet ∷ octets) h =
     ap (decode_pairs i) h.3 ∙ decode_pairs-ok_pair i h.0 h.1 octet h.2 (pair_again h.0 h.1 i octet h.4) ∙ ap (cons_byte octet) (pairs_again (i + 2) h.2 octets h.5)
 
--- a test that a fault answers
+-- a test that returns a fault
 passed : (b : Bool) (fault : FromHexError) (r : Result (List ℕ) FromHexError) (octets : List ℕ) → cond b (Err fault) r ≡ Ok octets → r ≡ Ok octets
 passed true fault r octets e = absurd cc
 passed false fault r octets e = e

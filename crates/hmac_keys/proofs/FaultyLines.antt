@@ -1,4 +1,4 @@
--- What stands in a key file that is refused.
+-- What is wrong in a key file that is refused.
 use Rattle.std.proofs.Common.{◌≡◌, ◌≢◌, ℕ, ◌+◌, ◌≤◌, true, false, List, [], ◌∷◌, ◌++◌, length, Result, Err, refl, sym, ap, subst, ◌∙◌, append_assoc, arith, inl, inr}
 use Rattle.std.specs.Prelude.{Option, Some, None}
 use Rattle.std.proofs.lemmas.Bool.{cases_Bool, cases_eq, false_from_ne_true}
@@ -14,7 +14,7 @@ use Rattle.hmac_keys.proofs.Keys.{key_found, key_again}
 use Rattle.hmac_keys.proofs.Files.{keys_through}
 use Rattle.hmac_keys.proofs.Books.{none_among, among_from_has, has_from_among, named_twice, one_too_many, key_added, apart_more}
 
--- one line more
+-- one more line, which is skipped, does not change the keys
 skipped_after : (before : List (List ℕ)) (keys : List NamedKey) (line : List ℕ) → AreKeysOf before keys → is_skipped line ≡ true → AreKeysOf (before ++ line ∷ []) keys
 skipped_after [] keys line h skipped = inl (skipped, h)
 skipped_after (first ∷ before) keys line (inl h) skipped = inl (h.0, skipped_after before keys line h.1 skipped)
@@ -26,11 +26,11 @@ key_after (first ∷ before) keys line key (inl h) kept is = inl (h.0, key_after
 key_after (first ∷ before) keys line key (inr h) kept is =
     inr (h.0, (h.1.0, h.1.1 ++ key ∷ [], ap (λ (k : List NamedKey). k ++ key ∷ []) h.1.2, h.1.3, key_after before h.1.1 line key h.1.4 kept is))
 
--- the fault that is told is that of the line
+-- the reported fault is that of the line
 is_told : (lines : List (List ℕ)) (found told : KeyFault) → (r : Result (List NamedKey) KeyFault) → r ≡ Err found → r ≡ Err told → FaultIn lines found → FaultIn lines told
 is_told lines found told r e f h = let same : Err found ≡ Err told = sym e ∙ f in subst (FaultIn lines) (cc) h
 
--- the fault of a line that is not skipped, or of those after it
+-- the fault of a line that is not skipped, or of the lines after it
 line_faulty : (n : ℕ) (before lines : List (List ℕ)) (line : List ℕ) (keys : List NamedKey) (fault : KeyFault) → n ≡ length before + 1 → is_skipped line ≡ false → AreKeysOf before keys → AreApart keys → length keys ≤ 256
     → ((key : NamedKey) → IsKeyLine line key → has_name key.0 keys ≡ false → length keys ≢ 256 → keys_from (n + 1) (keys ++ key ∷ []) lines ≡ Err fault → FaultIn (before ++ line ∷ lines) fault)
     → (r : Option NamedKey) → key_in line ≡ r → on_result (λ more. keys_from (n + 1) more lines) (λ told. Err told) (on_option (with_key n keys) (Err (BadLine n)) r) ≡ Err fault → FaultIn (before ++ line ∷ lines) fault
@@ -73,7 +73,7 @@ faulty n before (line ∷ lines) keys fault number are apart few e =
 pub first_fault : (text : List ℕ) (fault : KeyFault) → keys_in text ≡ Err fault → FirstFault text fault
 first_fault text fault e = faulty 1 [] (lines_of text) [] fault refl refl tt (omega arith) e
 
--- ---- and the other way
+-- ---- the fault that is in the lines is reported
 
 told_at : (lines : List (List ℕ)) (n : ℕ) (line : List ℕ) (keys : List NamedKey) (fault : KeyFault) → IsReached lines n line keys → after_line n keys line ≡ Err fault → keys_from 1 [] lines ≡ Err fault
 unfolding keys_from

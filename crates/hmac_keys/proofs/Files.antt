@@ -15,9 +15,9 @@ use Rattle.hmac_keys.specs.KeyReading.{has_name, key_in, with_key, after_line, k
 use Rattle.hmac_keys.proofs.Keys.{key_found, key_again}
 use Rattle.hmac_keys.proofs.Books.{one_name, named_twice, one_too_many, key_added, apart_more}
 
--- ---- a line and the text after it
+-- ---- the first line of a text and the remaining text
 
--- the text's lines are this line and those after it, or this line alone
+-- the lines of the text are `line` and the lines of `after`, or `line` alone
 abbrev pub BeginsWith : List ℕ → List ℕ → List ℕ → Type 0
 BeginsWith text line after = (lines_of text ≡ line ∷ lines_of after) ⊎ ((lines_of text ≡ line ∷ []) × (after ≡ []))
 
@@ -39,14 +39,14 @@ pub line_failed : (n : ℕ) (keys : List NamedKey) (rest line after : List ℕ) 
 line_failed n keys rest line after fault begins (inr memory) = inr memory
 line_failed n keys rest line after fault begins (inl failed) = inl (line_told n keys rest line after fault begins failed)
 
--- ---- the keys of the lines
+-- ---- the keys in the lines
 
--- what an answer out of a result's value was made of
+-- a sequence of two steps succeeds only if the first step does
 ok_of : {A B : Type 0} (r : Result A KeyFault) (f : A → Result B KeyFault) (y : B) → on_result f (λ fault. Err fault) r ≡ Ok y → (x : A) × (r ≡ Ok x) × (f x ≡ Ok y)
 ok_of (Ok x) f y e = (x, refl, e)
 ok_of (Err fault) f y e = absurd cc
 
--- what is read is the keys so far, and then those of the lines
+-- The keys that are read are the ones so far, followed by those in the lines.
 record AreRead (lines : List (List ℕ)) (keys all : List NamedKey) : Type 0 where
   new : List NamedKey
   whole : all ≡ keys ++ new
@@ -54,7 +54,7 @@ record AreRead (lines : List (List ℕ)) (keys all : List NamedKey) : Type 0 whe
   apart : AreApart all
   few : length all ≤ 256
 
--- the key that a line adds
+-- The line adds a key.
 pub record IsAdded (n : ℕ) (keys : List NamedKey) (line : List ℕ) (more : List NamedKey) : Type 0 where
   pub key : NamedKey
   pub read : key_in line ≡ Some key
@@ -113,7 +113,7 @@ keys_read n (line ∷ lines) keys all e apart few =
           key_before line lines keys all added.key kept added.read (keys_read (n + 1) lines more all rest (apart_more keys added.key apart added.other) short)
     ]
 
--- a key that stands among others
+-- what holds of all keys holds of a key among them
 all_at : (P : NamedKey → Type 0) (front : List NamedKey) (key : NamedKey) (back : List NamedKey) → AllByRecursion P (front ++ key ∷ back) → P key
 all_at P [] key back h = h.0
 all_at P (first ∷ front) key back h = all_at P front key back h.1
@@ -146,7 +146,7 @@ keys_through n (line ∷ lines) rest keys new (inr h) apart few =
     rw (h.0, key_again line key h.1.3, key_added n keys key lacks room)
     (tail ∙ ap (λ (k : List NamedKey). keys_from (n + 1 + length lines) k rest) (sym whole) ∙ ap (λ (m : ℕ). keys_from m (keys ++ new) rest) at)
 
--- ---- a whole text
+-- ---- the whole text
 
 pub found : (text : List ℕ) (keys : List NamedKey) → keys_in text ≡ Ok keys → KeysOf text keys
 found text keys e =

@@ -31,7 +31,7 @@ none_is : {A : Type 0} (o : Option A) → is_some o ≡ false → o ≡ None
 none_is (Some x) e = absurd cc
 none_is None e = refl
 
--- a text reads as a name that is not empty
+-- a text reads as a nonempty name exactly if its number of components is greater than 0
 pub name_test : (uri : List ℕ) (n : ℕ) → (cs : List Field) × ReadsAs uri cs × (n ≡ length cs) → ltb 0 n ≡ is_some (name_of uri)
 name_test uri n h = ap (ltb 0) h.2 ∙ counted h.0 ∙ sym (ap (λ r. is_some (on_result not_empty (λ _. None) r)) (text_again uri h.0 h.1))
   where
@@ -63,9 +63,9 @@ some_key line uri digits e named spelled =
     let octets = some_is (octets_of digits) spelled in
     ((name.0, octets.0), key_parts line uri digits name.0 octets.0 e name.1 octets.1, name.1)
 
--- ---- lines with a name
+-- ---- lines that have a name
 
--- two texts read as one name
+-- two texts read as the same name
 abbrev AreOne : List ℕ → List ℕ → Type 0
 AreOne a b = (cs : List Field) × ReadsAs a cs × ReadsAs b cs
 
@@ -99,7 +99,7 @@ whole_has_none line name kept e = rw (kept, e) refl
 pub skipped_has_none : (line : List ℕ) (name : List Field) → is_skipped line ≡ true → false ≡ line_has_name name line
 skipped_has_none line name skipped = rw skipped refl
 
--- the first lines of a text, and the first of them
+-- the name is in the first line of the text or in the other lines that are considered
 pub have_first : (name : List Field) (left : ℕ) (rest line after : List ℕ) → BeginsWith rest line after → 0 < left
     → lines_have_name name (take left (lines_of rest)) ≡ (line_has_name name line || lines_have_name name (take (left - 1) (lines_of after)))
 unfolding lines_of
@@ -131,7 +131,7 @@ have_none name (suc left) rest e = rw e (nothing left)
     nothing zero = refl
     nothing (suc k) = refl
 
--- ---- one line more
+-- ---- one more line
 
 after_key : (n : ℕ) (all : List NamedKey) (line : List ℕ) (key : NamedKey) → is_skipped line ≡ false → key_in line ≡ Some key → after_line n all line ≡ with_key n all key
 after_key n all line key kept e = rw (kept, e) refl
@@ -151,7 +151,8 @@ one_more n all line key b kept e is f room = after_key n all line key kept e ∙
 
 -- ---- all lines
 
--- so many lines of the text were read as so many keys, and the rest follows them
+-- The first `before` lines of the text have been read as this many keys, and `rest` is the text
+-- after them.
 pub record HasChecked (before keys : ℕ) (text rest : List ℕ) : Type 0 where
   pub all : List NamedKey
   pub count : keys ≡ length all
@@ -173,7 +174,7 @@ cut_here (suc n) [] line others e = absurd cc
 cut_here (suc n) (first ∷ lines) line others e =
     let here = cut_here n lines line others e in (ap (λ (ls : List (List ℕ)). first ∷ ls) here.0, here.1)
 
--- the name of a line is that of the key that it adds
+-- a line has the name of the key that it adds
 line_name : (n : ℕ) (all more : List NamedKey) (line : List ℕ) → after_line n all line ≡ Ok more → (name : List Field) → has_name name more ≡ (has_name name all || line_has_name name line)
 line_name n all more line e name = elim (cases_Bool (is_skipped line)) [
   | inl skipped ↦
@@ -234,7 +235,7 @@ checked_line before keys count text rest line after h begins some read few = fur
 pub checked_all : (before keys : ℕ) (text rest : List ℕ) → HasChecked before keys text rest → rest ≡ [] → (all : List NamedKey) × (keys_in text ≡ Ok all)
 checked_all before keys text rest h none = (h.all, h.read ∙ no_line (before + 1) h.all rest none)
 
--- ---- a whole text
+-- ---- the whole text
 
 pub weak : (text : List ℕ) (r : Result (List NamedKey) KeyFault) → MatchResult r (λ keys. keys_in text ≡ Ok keys) (IsFaultBeforeMemory (keys_in text)) → MatchResult r (λ keys. keys_in text ≡ Ok keys) (IsFaultOf (keys_in text))
 weak text (Ok keys) h = h

@@ -35,7 +35,7 @@ pub key_parts : (line uri digits : List ℕ) (name : List Field) (octets : List 
     → key_in line ≡ Some (name, octets)
 key_parts line uri digits name octets e named spelled = rw (e, named, spelled) refl
 
--- ---- what a line reads as
+-- ---- what a line is read as
 
 pub name_found : (uri : List ℕ) (name : List Field) → name_of uri ≡ Some name → ReadsAs uri name × (name ≢ [])
 name_found uri name e = found (name_in uri) (text_found uri) e
@@ -52,7 +52,7 @@ name_again uri name h some = ap (on_result not_empty (λ _. None)) (text_again u
     kept [] some = absurd (some refl)
     kept (c ∷ cs) some = refl
 
--- what is read of digits
+-- The digits encode these octets, and there are 1 to 256 of them.
 pub record AreOctets (digits octets : List ℕ) : Type 0 where
   pub hex : IsHex digits octets
   pub some : 1 ≤ length octets
@@ -76,7 +76,7 @@ octets_found digits octets e = found (decode_of digits) (decode_found digits) e
 octets_again : (digits octets : List ℕ) → IsHex digits octets → 1 ≤ length octets → length octets ≤ 256 → octets_of digits ≡ Some octets
 octets_again digits octets h some few = rw (decode_again digits octets h, le-leb 1 (length octets) some, le-leb (length octets) 256 few) refl
 
--- a space is no digit
+-- a space is not a digit
 digits_lack_space : (digits octets : List ℕ) → IsHex digits octets → Lacks 32 digits
 digits_lack_space digits [] h = subst (Lacks 32) (sym h) tt
 digits_lack_space digits (o ∷ octets) h = subst (Lacks 32) (sym h.3) (no_digit h.0 h.4.0, (no_digit h.1 h.4.1, digits_lack_space h.2 octets h.5))
@@ -84,7 +84,7 @@ digits_lack_space digits (o ∷ octets) h = subst (Lacks 32) (sym h.3) (no_digit
     no_digit : (digit : ℕ) → digit_value digit < 16 → digit ≢ 32
     no_digit digit lt is = let h : digit_value 32 < 16 = subst (λ (d : ℕ). digit_value d < 16) is lt in omega arith
 
--- what an answer out of an option's value was made of
+-- a sequence of two steps returns a value only if the first step does
 pub some_of : {A B : Type 0} (r : Option A) (f : A → Option B) (y : B) → on_option f None r ≡ Some y → (x : A) × (r ≡ Some x) × (f x ≡ Some y)
 some_of None f y e = absurd cc
 some_of (Some x) f y e = (x, refl, e)

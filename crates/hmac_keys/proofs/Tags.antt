@@ -1,21 +1,21 @@
--- The blocks of HMAC, and comparing tags without an early end.
+-- The blocks of HMAC, and the comparison of tags without an early exit.
 use Rattle.std.proofs.Common.{◌≡◌, ℕ, ◌+◌, ◌<◌, List, [], ◌∷◌, ◌++◌, length, get_or, take, drop, length-append, refl, sym, ap, ◌∙◌, arith}
 use Rattle.std.specs.Prelude.{◌↔◌}
 use Rattle.std.specs.Int.Bits.{bit_or, bit_xor, xor_zero_r, xor_self, xor_assoc, or_add_and, and_le_l, and_le_r}
 use Rattle.std.proofs.lemmas.List.{length-take, length-map, length-drop, take_more_same, get_or-take, take-take}
 use Rattle.hmac_keys.specs.Mac.{xor_each}
 
--- combining changes no length
+-- combining with a pad keeps the length
 pub combined_len : (old now : List ℕ) (pad i : ℕ) → i < length old → now ≡ xor_each pad (take i old) ++ drop i old → i < length now
 combined_len old now pad i lt e =
     omega (arith, lt, simp (length-append, length-map, length-take, length-drop) at (ap length e))
 
--- the inner pad, and then what takes it off and puts the outer pad on
+-- combining with the inner pad, and then with a value that replaces it by the outer pad
 pub pads : (block : List ℕ) → xor_each 0x6A (xor_each 0x36 block) ≡ xor_each 0x5C block
 pads [] = refl
 pads (octet ∷ block) = λ i. xor_assoc octet 0x36 0x6A i ∷ pads block i
 
--- the octets compared so far are equal just where no difference was found
+-- the octets that have been compared are equal exactly if no difference was found
 abbrev pub HasCompared : List ℕ → List ℕ → ℕ → ℕ → Type 0
 HasCompared xs ys difference i = (difference ≡ 0) ↔ (take i xs ≡ take i ys)
 

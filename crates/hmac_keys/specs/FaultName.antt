@@ -1,4 +1,4 @@
--- What a fault of a key file carries: its name, and the number of its line.
+-- The name of a key file's fault, and the number of the faulty line.
 use Rattle.std.specs.Prelude.{ℕ, List, Option, Some, None, codes}
 use Rattle.hmac_keys.specs.declared.fault.KeyFault.{KeyFault}
 use Rattle.hmac_keys.specs.declared.fault.KeyFault.TheVariants.{BadLine, TwiceNamed, TooMany, Memory}

@@ -1,10 +1,10 @@
--- Which texts have which fault: what is wrong on the first faulty line of a key file.
+-- The fault of a key file: that of its first faulty line.
 use Rattle.std.specs.Prelude.{◌≡◌, ℕ, ◌+◌, ◌≤◌, List, ◌∷◌, ◌++◌, length, false}
 use Rattle.hmac_keys.specs.declared.fault.KeyFault.{KeyFault}
 use Rattle.hmac_keys.specs.declared.fault.KeyFault.TheVariants.{BadLine, TwiceNamed, TooMany, Memory}
 use Rattle.hmac_keys.specs.KeyFile.{NamedKey, AreApart, AreKeysOf, IsAmong, IsKeyLine, is_skipped, lines_of}
 
--- line n of these lines is not skipped, and all lines before it are read, as these keys
+-- Line n is not skipped, and all lines before it are read without a fault, as these keys.
 pub record IsReached
     (lines : List (List ℕ)) (n : ℕ) (line : List ℕ) (keys : List NamedKey) : Type 0 where
   pub before : List (List ℕ)
@@ -28,7 +28,7 @@ HasNameTwice lines n =
     (line : List ℕ) × (keys : List NamedKey) × IsReached lines n line keys
     × ((key : NamedKey) × IsKeyLine line key × ((octets : List ℕ) × IsAmong (key.0, octets) keys))
 
--- some line has a key of another name, and 256 keys come before it
+-- some line has a key with a new name, and 256 keys come before it
 abbrev pub HasTooMany : List (List ℕ) → Type 0
 HasTooMany lines =
     (n : ℕ) × (line : List ℕ) × (keys : List NamedKey) × IsReached lines n line keys
@@ -42,6 +42,6 @@ FaultIn lines (TwiceNamed n) = HasNameTwice lines n
 FaultIn lines TooMany = HasTooMany lines
 FaultIn lines Memory = ⊥
 
--- the cause of this fault in a text that is refused for it; Memory has no cause in the text
+-- the fault that a refused text has; `Memory` is never the fault of a text
 abbrev pub FirstFault : List ℕ → KeyFault → Type 0
 FirstFault text fault = FaultIn (lines_of text) fault

@@ -1,4 +1,4 @@
--- Lines of key files that have a name.
+-- The names in the lines of key files.
 use Rattle.std.specs.Prelude.{◌≡◌, ℕ, ◌+◌, List, length, None, Ok, Err, Bool, false, if◌then◌else◌}
 use Rattle.std.specs.List.{list_any}
 use Rattle.std.specs.Ordering.{is_eq}
@@ -19,15 +19,15 @@ line_has_name name line =
 abbrev pub lines_have_name : List Field → List (List ℕ) → Bool
 lines_have_name name lines = list_any (line_has_name name) lines
 
--- the names in these lines are those of the keys
+-- the lines have the same names as the keys
 abbrev pub HaveNames : List (List ℕ) → List NamedKey → Type 0
 HaveNames lines keys = (name : List Field) → lines_have_name name lines ≡ has_name name keys
 
--- this many keys are read up to the end of a line, after this many lines and these keys
+-- the number of keys is `count` after this line, which follows `before` lines with these keys
 abbrev pub AreReadAfter : ℕ → List NamedKey → List ℕ → ℕ → Type 0
 AreReadAfter before keys line count =
     (all : List NamedKey) × (after_line (before + 1) keys line ≡ Ok all) × (count ≡ length all)
 
--- that line has this fault
+-- this line, which follows `before` lines with these keys, has this fault
 abbrev pub IsFaultAfter : ℕ → List NamedKey → List ℕ → KeyFault → Type 0
 IsFaultAfter before keys line fault = after_line (before + 1) keys line ≡ Err fault

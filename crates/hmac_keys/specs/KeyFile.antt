@@ -1,30 +1,30 @@
--- Key files: which keys a text spells, one on a line.
+-- Key files: which keys a text spells, one key per line.
 use Rattle.std.specs.Prelude.{◌≡◌, ◌≢◌, ℕ, ◌≤◌, ◌⊎◌, List, [], ◌∷◌, ◌++◌, length, Bool, true, false, ⊤, ◌==◌, if◌then◌else◌}
 use Rattle.std.specs.List.{AllByRecursion}
 use Rattle.ndn_tlv.specs.Element.{Field}
 use Rattle.ndn_names.specs.ReadsAs.{ReadsAs, IsHex}
 
--- a key, with the name that it has
+-- a key with its name
 abbrev pub NamedKey : Type 0
 NamedKey = List Field × List ℕ
 
--- an octet in front of the first line
+-- the lines with the octet `o` added at the front of the first one
 abbrev pub in_front : ℕ → List (List ℕ) → List (List ℕ)
 in_front o [] = (o ∷ []) ∷ []
 in_front o (line ∷ lines) = (o ∷ line) ∷ lines
 
--- the lines of a text, which LFs part
+-- the lines of a text, separated by LF
 unfoldable pub lines_of : List ℕ → List (List ℕ)
 lines_of [] = [] ∷ []
 lines_of (o ∷ text) = if o == 10 then [] ∷ lines_of text else in_front o (lines_of text)
 
--- empty lines, and those that begin with a semicolon
+-- a line is skipped if it is empty or begins with a semicolon
 abbrev pub is_skipped : List ℕ → Bool
 is_skipped [] = true
 is_skipped (o ∷ line) = o == 59
 
--- the line of a key: the URI of a name that is not empty, a space, and from 1 to 256 octets in
--- hexadecimal digits of either case
+-- The line of a key: the URI of a nonempty name, a space, and 1 to 256 octets in hexadecimal digits
+-- of either case.
 pub record IsKeyLine (line : List ℕ) (key : NamedKey) : Type 0 where
   pub uri : List ℕ
   pub digits : List ℕ
@@ -35,7 +35,7 @@ pub record IsKeyLine (line : List ℕ) (key : NamedKey) : Type 0 where
   pub some : 1 ≤ length key.1
   pub few : length key.1 ≤ 256
 
--- the keys of lines, in their order
+-- the keys of these lines, in order
 abbrev pub AreKeysOf : List (List ℕ) → List NamedKey → Type 0
 AreKeysOf [] keys = keys ≡ []
 AreKeysOf (line ∷ lines) keys =
@@ -44,16 +44,16 @@ AreKeysOf (line ∷ lines) keys =
     × ((key : NamedKey) × (others : List NamedKey) × (keys ≡ key ∷ others) × IsKeyLine line key
     × AreKeysOf lines others))
 
--- no two keys have one name
+-- no two keys have the same name
 abbrev pub AreApart : List NamedKey → Type 0
 AreApart [] = ⊤
 AreApart (key ∷ keys) = AllByRecursion (λ other. other.0 ≢ key.0) keys × AreApart keys
 
--- the keys that a text spells: at most 256, of different names
+-- the keys that a text spells: at most 256, with different names
 abbrev pub KeysOf : List ℕ → List NamedKey → Type 0
 KeysOf text keys = AreKeysOf (lines_of text) keys × AreApart keys × (length keys ≤ 256)
 
--- a key is among these
+-- the key is in the list
 abbrev pub IsAmong : NamedKey → List NamedKey → Type 0
 IsAmong key [] = ⊥
 IsAmong key (other ∷ keys) = (other ≡ key) ⊎ IsAmong key keys

@@ -1,4 +1,4 @@
--- Reading key files from line to line, with the first fault that is met.
+-- Reading key files line by line, up to the first fault.
 use Rattle.std.specs.Prelude.{◌≡◌, ℕ, ◌+◌, ◌⊎◌, List, [], ◌∷◌, ◌++◌, length, Option, None, Some, Result, Ok, Err, Bool, false, nat_le, ◌==◌, ◌&&◌, ◌||◌, if◌then◌else◌, IsUtf8}
 use Rattle.hex.specs.Hex.{decode_of}
 use Rattle.ndn_tlv.specs.Element.{Field}
@@ -11,7 +11,7 @@ use Rattle.hmac_keys.specs.declared.fault.KeyFault.{KeyFault}
 use Rattle.hmac_keys.specs.declared.fault.KeyFault.TheVariants.{BadLine, TwiceNamed, TooMany, Memory}
 use Rattle.hmac_keys.specs.KeyFile.{NamedKey, KeysOf, is_skipped, lines_of}
 
--- the text before the last space, and that after it
+-- the text before the last space of a line, and the text after it
 unfoldable pub at_last_space : List ℕ → Option (List ℕ × List ℕ)
 at_last_space [] = None
 at_last_space (o ∷ line) =
@@ -22,18 +22,18 @@ abbrev pub not_empty : List Field → Option (List Field)
 not_empty [] = None
 not_empty (c ∷ name) = Some (c ∷ name)
 
--- the name of a URI, if it is not empty
+-- the name that a URI reads as, if it is not empty
 abbrev pub name_of : List ℕ → Option (List Field)
 name_of uri = on_result not_empty (λ _. None) (name_in uri)
 
--- the octets of hexadecimal digits, if they are from 1 to 256
+-- the octets that hexadecimal digits encode, if there are 1 to 256
 abbrev pub octets_of : List ℕ → Option (List ℕ)
 octets_of digits =
     on_result
     (λ octets. if nat_le 1 (length octets) && nat_le (length octets) 256 then Some octets else None)
     (λ _. None) (decode_of digits)
 
--- the key of a line, if it is the line of one
+-- the key in a line, if the line has one
 abbrev pub key_in : List ℕ → Option NamedKey
 key_in line =
     on_option
@@ -46,19 +46,19 @@ abbrev pub has_name : List Field → List NamedKey → Bool
 has_name name [] = false
 has_name name (key ∷ keys) = is_eq (name_cmp key.0 name) || has_name name keys
 
--- the keys with a further one, which line n has
+-- the keys after the key of line n is added
 abbrev pub with_key : ℕ → List NamedKey → NamedKey → Result (List NamedKey) KeyFault
 with_key n keys key =
     if has_name key.0 keys then Err (TwiceNamed n) else (
     if length keys == 256 then Err TooMany else
     Ok (keys ++ key ∷ []))
 
--- the keys after line n
+-- the keys after line n is read
 abbrev pub after_line : ℕ → List NamedKey → List ℕ → Result (List NamedKey) KeyFault
 after_line n keys line =
     if is_skipped line then Ok keys else on_option (with_key n keys) (Err (BadLine n)) (key_in line)
 
--- the keys of lines from number n on, after these
+-- the keys after these lines are read, where n is the number of the first line
 unfoldable pub keys_from : ℕ → List NamedKey → List (List ℕ) → Result (List NamedKey) KeyFault
 keys_from n keys [] = Ok keys
 keys_from n keys (line ∷ lines) =
@@ -67,22 +67,22 @@ keys_from n keys (line ∷ lines) =
 abbrev pub keys_in : List ℕ → Result (List NamedKey) KeyFault
 keys_in text = keys_from 1 [] (lines_of text)
 
--- the fault of a reading, or Memory, which has no cause in the text
+-- the fault of a reading, or `Memory`
 abbrev pub IsFaultOf : Result (List NamedKey) KeyFault → KeyFault → Type 0
 IsFaultOf read fault = (read ≡ Err fault) ⊎ (fault ≡ Memory)
 
--- the fault of a reading, or Memory, where there is none
+-- the fault of a reading, or `Memory` if the reading succeeds
 abbrev pub IsFaultBeforeMemory : Result (List NamedKey) KeyFault → KeyFault → Type 0
 IsFaultBeforeMemory read fault =
     (read ≡ Err fault) ⊎ ((fault ≡ Memory) × ((keys : List NamedKey) × (read ≡ Ok keys)))
 
 -- ---- octets
 
--- the keys of octets, which are UTF-8
+-- the octets are UTF-8 text that spells these keys
 abbrev pub AreKeys : List ℕ → List NamedKey → Type 0
 AreKeys octets keys = IsUtf8 octets × KeysOf octets keys
 
--- the fault of the text, or a bad line without a number where the octets are not UTF-8
+-- the fault of the text, or the fault of a bad line with the number 0 if the octets are not UTF-8
 abbrev pub IsFaultOfOctets : List ℕ → KeyFault → Type 0
 IsFaultOfOctets octets why =
     (IsUtf8 octets × IsFaultBeforeMemory (keys_in octets) why)

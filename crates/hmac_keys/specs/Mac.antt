@@ -6,14 +6,14 @@ use Rattle.sha2.specs.Sha256.{sha256}
 abbrev pub short_key : List ℕ → List ℕ
 short_key key = if nat_lt 64 (length key) then sha256 key else key
 
--- the key, filled with zeros to a block of 64 octets
+-- the key, padded with zeros to a block of 64 octets
 abbrev pub block_of : List ℕ → List ℕ
 block_of key = short_key key ++ replicate (64 - length (short_key key)) 0
 
 abbrev pub xor_each : ℕ → List ℕ → List ℕ
 xor_each pad block = map (λ octet. bit_xor octet pad) block
 
--- H (K xor opad, H (K xor ipad, text)), where opad is 5c and ipad 36 in hexadecimal
+-- H (K xor opad, H (K xor ipad, text)), where opad is 5c and ipad is 36 in hexadecimal
 abbrev pub Mac : List ℕ → List ℕ → List ℕ
 Mac key text =
     sha256 (xor_each 0x5C (block_of key) ++ sha256 (xor_each 0x36 (block_of key) ++ text))

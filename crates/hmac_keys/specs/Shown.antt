@@ -1,4 +1,4 @@
--- What a book shows.
+-- What a key book shows.
 use Rattle.std.specs.Prelude.{List, map}
 use Rattle.hmac_keys.specs.declared.key_book.Key.{Key}
 use Rattle.hmac_keys.specs.KeyFile.{NamedKey}

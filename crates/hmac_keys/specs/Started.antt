@@ -1,10 +1,10 @@
--- Hashes of HMAC that are started, each with the key's block.
+-- Hashes of HMAC that have read the block of a key.
 use Rattle.std.specs.Prelude.{ℕ, List}
 use Rattle.sha2.specs.Hashers.{Holds256}
 use Rattle.hmac_keys.specs.declared.hmac.Blocks.{Blocks}
 use Rattle.hmac_keys.specs.Mac.{block_of, xor_each}
 
--- the inner hash has read K xor ipad, and the outer one K xor opad
+-- the inner hash has read K xor ipad, and the outer hash K xor opad
 abbrev pub AreOf : Blocks → List ℕ → Type 0
 AreOf blocks key =
     Holds256 blocks.inner (xor_each 0x36 (block_of key))

@@ -4,18 +4,18 @@ ghost use Rattle.hmac_keys.specs.declared.fault.KeyFault.TheVariants as faults;
 use std::alloc::AllocFailed;
 use thiserror::Error;
 
-/// Why a key file is refused: its first faulty line, by number. All lines are counted from 1,
-/// skipped ones included. Of several faults of one line the first in this order is reported.
-/// `Memory` is returned only where the file has no fault.
+/// Why a key file is refused: the fault of its first faulty line. Line numbers count all lines from
+/// 1, including skipped ones. If a line has several faults, the first one in this order is
+/// reported. `Memory` is returned only if the file has no fault.
 #[derive(Clone, Copy, Debug, PartialEq, Eq, Error)]
 pub enum KeyFault {
-    /// A line is not the URI of a nonempty name, a space, and 1 to 256 octets in hexadecimal.
+    /// The line is not the URI of a nonempty name, a space, and 1 to 256 octets in hexadecimal.
     #[error("line {0} is not a name and the octets of a key, as /ops/KEY/1 6b6579")]
     BadLine(u64),
-    /// A line has the name of an earlier line's key.
+    /// The line has the name of an earlier line's key.
     #[error("line {0} has the name of an earlier key, and each needs its own")]
     TwiceNamed(u64),
-    /// A line has the 257th key.
+    /// The line has the 257th key.
     #[error("a file has at most 256 keys")]
     TooMany,
     /// Memory could not be allocated.
@@ -26,7 +26,7 @@ pub enum KeyFault {
 impl KeyFault {
     ghost use Rattle.hmac_keys.specs.FaultName.{fault_name, fault_line};
 
-    /// The name of the fault, as the client prints it.
+    /// Returns the name of the fault, as the client prints it.
     pub fn name(self) -> &'static str
         ensures { result.now ≡ fault_name self }
     {
@@ -38,7 +38,7 @@ impl KeyFault {
         }
     }
 
-    /// The number of the faulty line, counted from 1, where one is to blame.
+    /// Returns the number of the faulty line, counted from 1, if the fault names a line.
     pub fn line(self) -> Option<u64>
         ensures { result ≡ fault_line self }
     {

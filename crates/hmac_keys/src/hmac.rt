@@ -8,12 +8,12 @@ use sha2::{Digest, Sha256};
 /// The length of a block of SHA-256, in octets.
 const BLOCK_LEN: usize = 64;
 
-/// The octets that a key is combined with for the outer and the inner hash.
+/// The octets with which a key is combined for the outer and the inner hash.
 const OUTER_PAD: u8 = 0x5c;
 
 const INNER_PAD: u8 = 0x36;
 
-/// The inner and the outer hash of a key, each with the key's block taken in.
+/// The inner and the outer hash of a key. Each has read the key's block.
 #[derive(Drop)]
 pub(crate) struct Blocks {
     inner: Sha256,
@@ -25,7 +25,7 @@ impl Blocks {
     ghost use Rattle.hmac_keys.specs.Mac.{Mac};
     ghost use Rattle.hmac_keys.specs.Started.{AreOf};
 
-    /// Those of a key of any number of octets.
+    /// Returns the hashes of a key of any length.
     pub fn of(key: &[u8]) -> Blocks
         ensures { AreOf result key.now }
     {
@@ -34,14 +34,14 @@ impl Blocks {
         combine(&mut block, INNER_PAD);
         let mut inner = Sha256::new();
         inner.update(&block);
-        // The inner pad is taken off again with the outer one put on.
+        // Combining with both pads removes the inner pad and applies the outer one.
         combine(&mut block, INNER_PAD ^ OUTER_PAD);
         let mut outer = Sha256::new();
         outer.update(&block);
         Blocks { inner, outer }
     }
 
-    /// The same once more, for another text.
+    /// Returns a copy of the hashes, for another text.
     pub fn copy(&self) -> Blocks
         ensures { result ≡ self.now }
     {
@@ -54,7 +54,7 @@ impl Blocks {
         Blocks { inner, outer }
     }
 
-    /// The HMAC of two slices, one after the other.
+    /// Returns the HMAC of `first` followed by `second`.
     pub fn tag(self, first: &[u8], second: &[u8]) -> [u8; 32]
         ensures { (key : List ℕ) → AreOf self key → result ≡ Mac key (first.now ++ second.now) }
     {
@@ -69,15 +69,15 @@ impl Blocks {
     }
 }
 
-/// The HMAC with SHA-256 of two slices, one after the other, under a key of any number of octets
-/// (RFC 2104): 32 octets, which are not shortened. It refuses nothing, and takes no memory.
+/// Returns the HMAC with SHA-256 of `first` followed by `second`, under a key of any length (RFC
+/// 2104): 32 octets, not truncated. Nothing is refused or allocated.
 pub fn hmac_sha256(key: &[u8], first: &[u8], second: &[u8]) -> [u8; 32]
     ensures { result ≡ Mac key.now (first.now ++ second.now) }
 {
     Blocks::of(key).tag(first, second)
 }
 
-/// Puts the key into a block of zeros, hashed where it is longer than the block.
+/// Puts the key into a block of zeros. A key longer than the block is hashed first.
 fn put_key(block: &mut [u8; BLOCK_LEN], key: &[u8])
     requires { block.old ≡ replicate 64 0 }
     ensures { block.new ≡ block_of key.now }
@@ -89,7 +89,7 @@ fn put_key(block: &mut [u8; BLOCK_LEN], key: &[u8])
     }
 }
 
-/// Puts a short key into a block of zeros.
+/// Puts a key of at most 64 octets into a block of zeros.
 fn put_short(block: &mut [u8; BLOCK_LEN], key: &[u8])
     requires zeros { block.old ≡ replicate 64 0 }
     requires short { length key.now ≤ 64 }
@@ -98,7 +98,7 @@ fn put_short(block: &mut [u8; BLOCK_LEN], key: &[u8])
     block[..key.len()].copy_from_slice(key);
 }
 
-/// Combines each octet with the pad.
+/// Combines each octet with the pad by XOR.
 fn combine(block: &mut [u8; BLOCK_LEN], pad: u8)
     ensures { block.new ≡ xor_each pad block.old }
 {
@@ -107,8 +107,8 @@ fn combine(block: &mut [u8; BLOCK_LEN], pad: u8)
     }
 }
 
-/// Whether a signature's value is this tag of 32 octets; a value of another length is not. All the
-/// octets of a value of 32 octets are compared, wherever the first difference is.
+/// Returns whether a signature's value is this tag of 32 octets. A value of another length never
+/// is. A value of 32 octets is always compared as a whole, wherever the first difference is.
 pub fn tags_equal(value: &[u8], tag: &[u8; 32]) -> bool
     ensures { IsTrue result ↔ (value.now ≡ tag.now) }
 {

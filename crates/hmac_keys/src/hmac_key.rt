@@ -3,7 +3,8 @@
 use crate::hmac::Blocks;
 use std::marker::Model;
 
-/// A key for HMAC with SHA-256, which signs and checks many texts: its blocks are hashed once.
+/// A key for HMAC with SHA-256, for signing and checking many texts: its blocks are hashed only
+/// once.
 #[derive(Drop)]
 pub struct HmacKey {
     octets: Vec<u8>,
@@ -25,7 +26,7 @@ impl HmacKey {
     ghost use Rattle.std.specs.Prelude.{◌≡◌, ◌++◌};
     ghost use Rattle.hmac_keys.specs.Mac.{Mac};
 
-    /// The key of these octets, of any number. It takes no memory.
+    /// Returns the key with these octets, of any number. Nothing is allocated.
     pub fn new(octets: Vec<u8>) -> HmacKey
         ensures { result ≡ octets.items }
     {
@@ -33,15 +34,15 @@ impl HmacKey {
         HmacKey { octets, blocks }
     }
 
-    /// The octets of the key.
+    /// Returns the octets of the key.
     pub fn octets(&self) -> &[u8]
         ensures { result.now ≡ self.now }
     {
         &self.octets
     }
 
-    /// The HMAC of two slices, one after the other, as `hmac_sha256` gives it (RFC 2104): 32
-    /// octets, which are not shortened. It never fails, and takes no memory.
+    /// Returns the HMAC of `first` followed by `second`, as `hmac_sha256` does (RFC 2104): 32
+    /// octets, not truncated. The call never fails, and allocates nothing.
     pub fn tag(&self, first: &[u8], second: &[u8]) -> [u8; 32]
         ensures { result ≡ Mac self.now (first.now ++ second.now) }
     {

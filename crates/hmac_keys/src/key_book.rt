@@ -1,4 +1,4 @@
-//! Books of named keys.
+//! Key books: collections of named keys.
 
 ghost use Rattle.std.specs.Prelude.{◌≡◌, ◌↔◌, ℕ, List, Ok, Err, MatchResult};
 ghost use Rattle.hmac_keys.specs.declared.fault.KeyFault.{KeyFault};
@@ -18,7 +18,7 @@ use std::str;
 /// The greatest number of keys in a book.
 pub(crate) const MAX_KEYS: usize = 256;
 
-/// A key and its name.
+/// A key with its name.
 #[derive(Drop)]
 struct Key {
     name: NameBuf,
@@ -30,7 +30,7 @@ impl Key {
     ghost use Rattle.hmac_keys.specs.KeyReading.{key_in};
     ghost use Rattle.hmac_keys.specs.LineFault.{IsLineFault};
 
-    /// The key of a line of this number, which is not skipped.
+    /// Reads the key in line `number`, which is not skipped.
     fn read(alloc: Global, number: u64, line: &str) -> Result<Key, KeyFault>
         ensures { MatchResult result (λ key. key_in line.now ≡ Some (key.name, key.hmac))
             (IsLineFault number (key_in line.now)) }
@@ -49,7 +49,7 @@ impl Key {
     }
 }
 
-/// Keys, at most 256, each under its own name.
+/// At most 256 keys with different names.
 #[derive(Drop)]
 pub struct KeyBook {
     keys: Vec<Key>,
@@ -75,7 +75,7 @@ impl KeyBook {
     ghost use Rattle.hmac_keys.specs.KeyFile.{NamedKey, KeysOf, IsAmong};
     ghost use Rattle.hmac_keys.specs.KeyReading.{keys_in, after_line, with_key, IsFaultOf};
 
-    /// The book without keys.
+    /// Returns a book without keys.
     pub fn new(alloc: Global) -> KeyBook
         ensures { result ≡ [] }
     {
@@ -84,31 +84,31 @@ impl KeyBook {
         }
     }
 
-    /// Reads a key file, of at most 256 keys. Its lines are parted by LF. The last space of a line
-    /// parts the URI of a name that is not empty, as `NameBuf::from_uri` reads it, from the key: 1
-    /// to 256 octets in hexadecimal digits of either case. A CR belongs to its line. Empty lines,
-    /// and those that begin with `;`, are skipped, but are counted.
+    /// Reads a key file of at most 256 keys. LF separates its lines. The last space of a line
+    /// separates the URI of a nonempty name, as `NameBuf::from_uri` reads it, from the key: 1 to
+    /// 256 octets in hexadecimal digits of either case. A CR belongs to its line. Empty lines, and
+    /// lines that begin with `;`, are skipped, but they are counted.
     ///
-    /// Refuses it by its first faulty line, and then reads no key: see `KeyFault`. Two names are
-    /// one if their components are, however the URIs spell them. `Memory` is returned only where
-    /// the text has no fault.
+    /// Returns the fault of the first faulty line, and no keys, if the file is refused: see
+    /// `KeyFault`. Two names are the same if their components are, even if the URIs spell them
+    /// differently. `Memory` is returned only if the text has no fault.
     pub fn read(alloc: Global, text: &str) -> Result<KeyBook, KeyFault>
-        // What is read, the text spells.
+        // The text spells the keys that are read.
         ensures found { IfOk result (KeysOf text.now) }
-        // What the text spells is read, but for memory.
+        // All keys that the text spells are read, unless memory runs out.
         ensures only { (keys : List NamedKey) → KeysOf text.now keys
             → (result ≡ Ok keys) ⊎ IsErrOf result KeyFault.Memory }
-        // Which fault it is.
+        // The fault is the first one of the text, or `Memory`.
         ensures fault { IfErr result (IsFaultOf (keys_in text.now)) }
-        // `Memory` is returned only where all of the text is right.
+        // `Memory` is returned only if the whole text is valid.
         ensures memory { IfErr result (λ fault. fault ≡ KeyFault.Memory
             → (keys : List NamedKey) × KeysOf text.now keys) }
     {
         read_keys(alloc, text)
     }
 
-    /// The keys of the octets of a key file. Octets that are not UTF-8 are reported as a bad line
-    /// with the number 0. `Memory` comes only where the text has no fault.
+    /// Reads the keys in the octets of a key file. If the octets are not UTF-8, the fault is a bad
+    /// line with the number 0. `Memory` is returned only if the text has no fault.
     #[tactic(auto, using(crate::proofs::Files::found))]
     pub fn read_octets(alloc: Global, octets: &[u8]) -> Result<KeyBook, KeyFault>
         ensures { MatchResult result (AreKeys octets.now) (IsFaultOfOctets octets.now) }
@@ -119,7 +119,7 @@ impl KeyBook {
         read_keys(alloc, text)
     }
 
-    /// The keys of the lines, or the first fault, unless memory runs out before.
+    /// Returns the keys in the lines, or their first fault, or `Memory` if memory runs out first.
     fn read_lines(alloc: Global, text: &str) -> Result<KeyBook, KeyFault>
         ensures { MatchResult result (λ book. keys_in text.now ≡ Ok book)
             (IsFaultOf (keys_in text.now)) }
@@ -136,7 +136,7 @@ impl KeyBook {
         Ok(book)
     }
 
-    /// Adds the key of a line of this number, if the line is not skipped.
+    /// Adds the key of line `number`, if the line is not skipped.
     fn add_line(&mut self, alloc: Global, number: u64, line: &str) -> Result<(), KeyFault>
         ensures { MatchResult result (λ _. after_line number self.old line.now ≡ Ok self.new)
             (IsFaultOf (after_line number self.old line.now)) }
@@ -148,7 +148,7 @@ impl KeyBook {
         self.add(number, key)
     }
 
-    /// Adds a key that a line of this number has.
+    /// Adds the key of line `number`.
     fn add(&mut self, number: u64, key: Key) -> Result<(), KeyFault>
         ensures { let next = with_key number self.old (key.name, key.hmac) in
             MatchResult result (λ _. next ≡ Ok self.new) (IsFaultOf next) }
@@ -163,7 +163,7 @@ impl KeyBook {
         Ok(())
     }
 
-    /// The octets of the key that has this very name, if there is one. It takes no memory.
+    /// Returns the octets of the key with exactly this name, if there is one. Nothing is allocated.
     pub fn find(&self, name: Name<'_>) -> Option<&[u8]>
         ensures { MatchOption result
             ((octets : List ℕ) → IsAmong (components name.entry, octets) self.now → ⊥)
@@ -172,8 +172,8 @@ impl KeyBook {
         Some(self.find_hmac(name)?.octets())
     }
 
-    /// The key that has this very name, if there is one, for the tags of many texts. It takes no
-    /// memory.
+    /// Returns the key with exactly this name, if there is one, for the tags of many texts. Nothing
+    /// is allocated.
     pub fn find_hmac(&self, name: Name<'_>) -> Option<&HmacKey>
         ensures { MatchOption result
             ((octets : List ℕ) → IsAmong (components name.entry, octets) self.now → ⊥)
@@ -187,7 +187,7 @@ impl KeyBook {
         None
     }
 
-    /// The number of keys, 256 at most. The clause beside `exact` is true of every book.
+    /// Returns the number of keys, at most 256. The clauses other than `exact` hold of every book.
     pub fn len(&self) -> usize
         ensures exact { result ≡ length self.now }
         ensures apart { AreApart self.now }
@@ -195,7 +195,7 @@ impl KeyBook {
         self.keys.len()
     }
 
-    /// Whether the book has no key.
+    /// Returns whether the book has no keys.
     pub fn is_empty(&self) -> bool
         ensures { IsTrue result ↔ (self.now ≡ []) }
     {
@@ -203,8 +203,8 @@ impl KeyBook {
     }
 }
 
-/// When memory runs out, the lines are read once more without it, so that their fault is reported
-/// first.
+/// If memory runs out, the lines are read once more without allocation, so that a fault in them is
+/// reported first.
 fn read_keys(alloc: Global, text: &str) -> Result<KeyBook, KeyFault>
     ensures { MatchResult result (λ book. keys_in text.now ≡ Ok book)
         (IsFaultBeforeMemory (keys_in text.now)) }
@@ -219,8 +219,8 @@ fn read_keys(alloc: Global, text: &str) -> Result<KeyBook, KeyFault>
     }
 }
 
-/// Law: a text spells the keys of one book at most, which `keys_in` reads, and it refuses a text
-/// for a fault exactly where the first faulty line has that fault.
+/// Law: a text spells the keys of at most one book, which `keys_in` returns. `keys_in` returns a
+/// fault exactly if the first faulty line has that fault.
 pub fn key_files_have_one_reading()
     ensures exact { (text : List ℕ) (keys : List NamedKey) → (keys_in text ≡ Ok keys)
         ↔ KeysOf text keys }

@@ -1,4 +1,4 @@
-//! Looking for the first fault of a key file without memory.
+//! Finding the first fault of a key file without allocation.
 
 ghost use Rattle.std.specs.Prelude.{◌≡◌, ◌+◌, ◌<◌, ◌≤◌, List, Some, None, Ok, Err, IfOk, MatchResult, is_some, length, take};
 ghost use Rattle.ndn_tlv.specs.Element.{Field};
@@ -11,7 +11,7 @@ use crate::key_book::MAX_KEYS;
 use crate::key_line::{MAX_KEY_LEN, first_line, is_skipped};
 use ndn_names::{uri_len, uris_are_equal};
 
-/// Whether the text is the URI of a name that is not empty.
+/// Returns whether the text is the URI of a nonempty name.
 fn is_name(uri: &str) -> bool
     ensures { result ≡ is_some (name_of uri.now) }
 {
@@ -21,7 +21,7 @@ fn is_name(uri: &str) -> bool
     }
 }
 
-/// Whether the text is the hexadecimal digits of 1 to 256 octets.
+/// Returns whether the text is 1 to 256 octets in hexadecimal digits.
 fn is_key(digits: &str) -> bool
     ensures { result ≡ is_some (octets_of digits.now) }
 {
@@ -33,7 +33,7 @@ fn is_key(digits: &str) -> bool
     hex::decode_to_slice(digits.as_bytes(), &mut octets[..len]).is_ok()
 }
 
-/// The URI in a line of this number, which is not skipped.
+/// Returns the URI in line `number`, which is not skipped.
 fn key_uri(number: u64, line: &str) -> Result<&str, KeyFault>
     ensures { MatchResult result
         (λ uri. (key : NamedKey) × (key_in line.now ≡ Some key) × (name_of uri.now ≡ Some key.0))
@@ -51,7 +51,7 @@ fn key_uri(number: u64, line: &str) -> Result<&str, KeyFault>
     Ok(uri)
 }
 
-/// Whether a line has the name of this URI.
+/// Returns whether a line has the name that `uri` reads as.
 fn has_name(line: &str, uri: &str) -> bool
     ensures { (name : List Field) → name_of uri.now ≡ Some name
         → result ≡ line_has_name name line.now }
@@ -65,7 +65,7 @@ fn has_name(line: &str, uri: &str) -> bool
     }
 }
 
-/// Whether one of the first lines of a text has the name of this URI.
+/// Returns whether one of the first `lines` lines of a text has the name that `uri` reads as.
 fn have_name(text: &str, lines: u64, uri: &str) -> bool
     ensures { (name : List Field) → name_of uri.now ≡ Some name
         → result ≡ lines_have_name name (take lines (lines_of text.now)) }
@@ -86,7 +86,8 @@ fn have_name(text: &str, lines: u64, uri: &str) -> bool
     false
 }
 
-/// The number of keys after a line of a text, which comes after this many lines and keys.
+/// Returns the number of keys after a line of a text. The line follows `before` lines with `keys`
+/// keys.
 fn check_line(text: &str, before: u64, keys: usize, line: &str) -> Result<usize, KeyFault>
     requires short { before < length text.now }
     requires few { keys ≤ 256 }
@@ -109,8 +110,8 @@ fn check_line(text: &str, before: u64, keys: usize, line: &str) -> Result<usize,
     Ok(keys + 1)
 }
 
-/// Refuses a key file with its first fault. No name is stored: each line of a key is compared with
-/// the lines before it, of which 256 at most have a key.
+/// Returns the first fault of a key file, if it has one. No name is stored: the line of each key is
+/// compared with the lines before it, at most 256 of which have a key.
 pub(crate) fn check_keys(text: &str) -> Result<(), KeyFault>
     ensures { MatchResult result (λ _. (keys : List NamedKey) × (keys_in text.now ≡ Ok keys))
         (λ fault. keys_in text.now ≡ Err fault) }

@@ -13,7 +13,8 @@ use std::alloc::Global;
 /// The greatest length of a key, in octets.
 pub(crate) const MAX_KEY_LEN: usize = 256;
 
-/// The first line, and the text after its LF; all of the text and nothing, where it has no LF.
+/// Returns the first line, and the text after its LF. Without an LF, returns the whole text and an
+/// empty text.
 pub fn first_line(text: &str) -> (&str, &str)
     requires { text.now ≢ [] }
     ensures lines { (lines_of text.now ≡ result.0.now ∷ lines_of result.1.now)
@@ -26,14 +27,14 @@ pub fn first_line(text: &str) -> (&str, &str)
     }
 }
 
-/// Whether the line is empty, or begins with a semicolon.
+/// Returns whether the line is empty or begins with a semicolon.
 pub(crate) fn is_skipped(line: &str) -> bool
     ensures { result ≡ is_skipped line.now }
 {
     line.is_empty() || line.starts_with(';')
 }
 
-/// The name of a URI in a line of this number, if it is not empty.
+/// Returns the name of a URI in line `number`, if the name is not empty.
 pub(crate) fn name_of(alloc: Global, number: u64, uri: &str) -> Result<NameBuf, KeyFault>
     ensures { MatchResult result (λ name. name_of uri.now ≡ Some name)
         (IsLineFault number (name_of uri.now)) }
@@ -50,7 +51,7 @@ pub(crate) fn name_of(alloc: Global, number: u64, uri: &str) -> Result<NameBuf, 
     }
 }
 
-/// The octets of the hexadecimal digits in a line of this number, if they are from 1 to 256.
+/// Returns the octets that the hexadecimal digits in line `number` encode, if there are 1 to 256.
 pub(crate) fn octets_of(alloc: Global, number: u64, digits: &str) -> Result<Vec<u8>, KeyFault>
     ensures { MatchResult result (λ octets. octets_of digits.now ≡ Some octets.items)
         (IsLineFault number (octets_of digits.now)) }

@@ -1,4 +1,4 @@
-//! HMAC with SHA-256, and books of named keys.
+//! HMAC with SHA-256, and key books.
 #![tactic(auto)]
 
 mod fault;

@@ -1,4 +1,4 @@
-//! Reading that takes no more memory than a limit allows, whatever the source holds.
+//! Reading that returns at most as many octets as a limit allows, whatever the source holds.
 #![tactic(auto)]
 
 ghost use Rattle.std.specs.Prelude.{◌≤◌, length, IfOk, IfSome, option_map};
@@ -9,20 +9,21 @@ use std::alloc::Global;
 use std::io;
 use std::io::{BufRead, Read};
 
-/// The greatest length of a key file, in octets. The programs set it, since comments, empty lines
-/// and long names can make a valid key file of any length. A key whose name fits into a packet has
-/// a line of less than 28,000 octets, even if each octet of the name is escaped: 256 such lines
-/// fit, and more than 1,000,000 octets of comments.
+/// The greatest length of a key file, in octets. The programs set this limit, because comments,
+/// empty lines and long names can make a valid key file arbitrarily long. A key whose name fits
+/// into a packet has a line of less than 28,000 octets, even if each octet of the name is escaped.
+/// The limit allows 256 such lines, and more than 1,000,000 octets of comments.
 pub const MAX_KEY_FILE: u32 = 8_388_608;
 
-/// All octets of a reader, or `None` if it has more than `limit`; then `limit + 1` octets are read.
+/// Reads all octets of a reader. Returns `None` if there are more than `limit`. A result never has
+/// more than `limit` octets.
 pub fn read_within<R: Read + Drop>(
     alloc: Global,
     reader: R,
     limit: u32,
 ) -> io::Result<Option<Vec<u8>>>
     ensures bound { IfOk result (λ found. IfSome found (λ octets. length octets.items ≤ limit)) }
-    // Where it is known what the reader has.
+    // If the octets of the reader are known, the result is exactly these octets, or `None`.
     ensures known { IfOk result (λ found. IfSome (R.remaining reader)
         (λ octets. IsWithin limit octets (option_map (λ o. o.items) found))) }
 {
@@ -31,15 +32,15 @@ pub fn read_within<R: Read + Drop>(
     Ok(kept_within(octets, limit))
 }
 
-/// The next line of a reader with its LF, or `None` if it has more than `limit` octets, LF
-/// included; then `limit + 1` octets are read. At the end of the reader the line is empty.
+/// Reads the next line of a reader, including its LF. Returns `None` if the line, including its LF,
+/// has more than `limit` octets. At the end of the reader the line is empty.
 pub fn read_line_within<R: BufRead>(
     alloc: Global,
     reader: &mut R,
     limit: u32,
 ) -> io::Result<Option<Vec<u8>>>
     ensures bound { IfOk result (λ found. IfSome found (λ line. length line.items ≤ limit)) }
-    // Where it is known what the reader has.
+    // If the octets of the reader are known, the result is exactly the next line, or `None`.
     ensures known { IfOk result (λ found. IfSome (R.remaining reader.old)
         (λ octets. IsWithin limit (take_through 10 octets) (option_map (λ o. o.items) found))) }
 {
@@ -50,7 +51,7 @@ pub fn read_line_within<R: BufRead>(
     Ok(kept_within(line, limit))
 }
 
-/// These octets, unless they are more than `limit`.
+/// Returns the octets, or `None` if there are more than `limit`.
 fn kept_within(octets: Vec<u8>, limit: u32) -> Option<Vec<u8>>
     ensures { IsWithin limit octets.items (option_map (λ o. o.items) result) }
 {

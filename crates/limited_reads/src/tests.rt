@@ -14,23 +14,24 @@ impl Read for Broken {
     }
 }
 
-/// How many octets are read from a reader of `count` octets; `None` if they are too many.
+/// Returns the number of octets read from a reader of `count` octets, or `None` if there are too
+/// many.
 fn read_of(alloc: Global, count: u64) -> Option<usize> {
     let found = read_within(alloc, repeat(b'x').take(count), LIMIT).ok()?;
     Some(found?.len())
 }
 
-/// Whether a reader without an end is too long.
+/// Returns whether an endless reader is refused as too long.
 fn refuses_endless(alloc: Global) -> bool {
     read_within(alloc, repeat(b'x'), LIMIT).is_ok_and(|found| found.is_none())
 }
 
-/// Whether an error after some octets is reported.
+/// Returns whether an error after some octets is reported.
 fn fails_in_the_middle(alloc: Global) -> bool {
     read_within(alloc, repeat(b'x').take(3).chain(Broken), LIMIT).is_err()
 }
 
-/// A reader may have as many octets as the limit, and no more.
+/// A reader may have as many octets as the limit, but no more.
 #[test]
 fn readers(rt: HostRuntime) {
     assert!(rt; read_of(rt.alloc(), 0) == Some(0));
@@ -40,8 +41,8 @@ fn readers(rt: HostRuntime) {
     assert!(rt; fails_in_the_middle(rt.alloc()));
 }
 
-/// Whether the lines of a text are these, with a limit of four octets; `-` stands for a longer
-/// line, and ends the text.
+/// Returns whether the lines of `text`, read with a limit of four octets, are those of `wanted`. A
+/// `-` stands for a line that is too long, and ends the text.
 fn lines_are(alloc: Global, text: &str, wanted: &str) -> Option<bool> {
     let mut reader = BufReader::new(alloc, text.as_bytes()).ok()?;
     let mut lines = Vec::new(alloc);
@@ -57,7 +58,7 @@ fn lines_are(alloc: Global, text: &str, wanted: &str) -> Option<bool> {
     Some(lines.as_slice() == wanted.as_bytes())
 }
 
-/// A line may have as many octets as the limit with its LF, and no more.
+/// A line, including its LF, may have as many octets as the limit, but no more.
 #[test]
 fn lines(rt: HostRuntime) {
     assert!(rt; lines_are(rt.alloc(), "abc\n\nabcd", "abc\n\nabcd") == Some(true));

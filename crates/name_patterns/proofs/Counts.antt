@@ -1,4 +1,4 @@
--- The places from which on an atom has a split, count by count.
+-- The positions from which an atom and those after it can match, count by count.
 use Rattle.std.proofs.Common.{◌≡◌, ℕ, zero, suc, ◌+◌, ◌/◌, ◌^◌, ◌<◌, ◌≤◌, Bool, true, false, not, ◌&&◌, ◌||◌, ltb, List, [], ◌∷◌, length, drop, length-drop, Option, Some, None, is_some, refl, sym, ◌∙◌, ap, arith, add-one, inl, inr, true≢false}
 use Rattle.std.specs.Prelude.{slice_get}
 use Rattle.std.specs.Int.RustNames.{bit_and, bit_or}
@@ -11,12 +11,13 @@ use Rattle.name_patterns.proofs.Places.{in_both, in_either, one_before, passes_n
 use Rattle.name_patterns.proofs.Rows.{count_by_places}
 use Rattle.name_patterns.proofs.Splits.{no_greatest, IsGreatest, some_greatest}
 
--- so many components from a place on pass, and the atoms after have a split from behind them on
+-- the k components from a position on pass, and the later atoms have a split from the position
+-- after them
 abbrev pub takes : ℕ → ℕ → ℕ → ℕ → Bool
 takes passed after place zero = has_place after place
 takes passed after place (suc k) = has_place passed place && takes passed after (place + 1) k
 
--- one of the counts from least on and below n can be taken
+-- one of the counts from `least` up to, but not including, n can be taken
 abbrev pub takes_some : ℕ → ℕ → ℕ → ℕ → ℕ → Bool
 takes_some passed after place least zero = false
 takes_some passed after place least (suc n) = takes_some passed after place least n || (not (ltb n least) && takes passed after place n)
@@ -36,20 +37,20 @@ and_false : (a : Bool) → a && false ≡ false
 and_false true = refl
 and_false false = refl
 
--- a count within the bounds
+-- a count within the bounds is considered
 pub some_step : (passed after begins split least n : ℕ) → ((p : ℕ) → has_place begins p ≡ takes passed after p n)
     → ((p : ℕ) → has_place split p ≡ takes_some passed after p least n) → least ≤ n
     → (p : ℕ) → has_place (bit_or split begins) p ≡ takes_some passed after p least (n + 1)
 some_step passed after begins split least n are some low p =
     rw (add-one, le-ltb n least low) (in_either split begins p ∙ rw (some p, are p) refl)
 
--- a count below them
+-- a count below the bounds is skipped
 pub few_step : (passed after split least n : ℕ) → ((p : ℕ) → has_place split p ≡ takes_some passed after p least n) → n < least
     → (p : ℕ) → has_place split p ≡ takes_some passed after p least (n + 1)
 few_step passed after split least n some few p =
     rw (add-one, lt-ltb n least few) (some p ∙ sym (or_false (takes_some passed after p least n)))
 
--- ---- no more counts
+-- ---- no more counts are possible
 
 none_after : (passed after n m : ℕ) → ((p : ℕ) → takes passed after p n ≡ false) → n ≤ m → (p : ℕ) → takes passed after p m ≡ false
 none_after passed after n zero none low p = let n_is : n ≡ 0 = omega arith in rw n_is at (none p)
@@ -70,7 +71,7 @@ no_more passed after least n (suc m) none low p =
           (no_more passed after least n m none (omega arith) p)
     ]
 
--- ---- what the counts say
+-- ---- what the counts mean
 
 found_in : (passed after place least n : ℕ) → takes_some passed after place least n ≡ true
     → (k : ℕ) × (least ≤ k) × (k < n) × (takes passed after place k ≡ true)
@@ -115,7 +116,7 @@ passing test cs passed place are there =
       | inr above ↦ absurd (true≢false (sym there ∙ (are place ∙ passes_no_end test cs place above)))
     ]
 
--- such a count can be taken of the run
+-- the count is at most the length of the run, and the later atoms have a split after it
 taken_of_run : (test : PlainTest) (cs : List Field) (passed after place k : ℕ) → ArePassed test cs passed → takes passed after place k ≡ true
     → (k ≤ run_of test (drop place cs)) × (has_place after (place + k) ≡ true)
 taken_of_run test cs passed after place zero are e = let is : place + 0 ≡ place = omega arith in (omega arith, rw is e)
@@ -164,7 +165,7 @@ same_tests true b h k = sym (h refl)
 same_tests false true h k = k refl
 same_tests false false h k = refl
 
--- the places from which on one of the counts can be taken are those from which on there is a split
+-- one of the counts can be taken from exactly those positions from which there is a split
 pub split_by_counts : (atom : PlainAtom) (atoms : List PlainAtom) (cs : List Field) (bounds : Bounds) (passed after place : ℕ) → bounds ≡ atom.bounds
     → ArePassed atom.test cs passed → AreSplit atoms cs after → length cs ≤ 64 → place ≤ length cs
     → takes_some passed after place bounds.least (at_most bounds.most 64 + 1) ≡ is_some (first_count (atom ∷ atoms) (drop place cs))

@@ -13,7 +13,7 @@ use Rattle.name_patterns.specs.Faults.{read_at}
 use Rattle.name_patterns.specs.PatternReading.{FrontPart, begins_repeat, atom_in, PlainDraft, with_atom, with_open, with_closed, with_item, with_implied, IsDraft}
 use Rattle.name_patterns.proofs.Steps.{done_unless, done_is}
 
--- ---- what was added
+-- ---- what an item has added
 
 abbrev pub atom_added : PlainDraft → PlainAtom → PlainDraft
 atom_added draft atom = record draft { atoms = draft.atoms ++ atom ∷ []; written = draft.written + 1 }
@@ -68,7 +68,7 @@ closed_found draft at text next after e = by_group draft.open_group e
         let is = done_is {A = Next} (group_closed draft group, text) (next, after) single.1 in
         (group, refl, ap (λ (p : Next). p.0) is, ap (λ (p : Next). p.1) is)
 
--- ---- the limits
+-- ---- the limits of a draft
 
 lies_wider : (m n : ℕ) (groups : List (ℕ × ℕ)) → m ≤ n → AllByRecursion (LiesIn m) groups → AllByRecursion (LiesIn n) groups
 lies_wider m n [] le h = tt

@@ -1,4 +1,4 @@
--- What the parts of a template stand for, part by part.
+-- What the parts of a template expand to, one after another.
 use Rattle.std.proofs.Common.{◌≡◌, ℕ, zero, suc, ◌+◌, ◌-◌, ◌<◌, ◌≤◌, List, [], ◌∷◌, length, map, take, drop, get_or, true, false, ltb, Option, Some, None, refl, sym, ap, ◌∙◌, subst, arith}
 use Rattle.std.specs.Prelude.{slice_get, IsSomeAnd}
 use Rattle.std.specs.List.{sum_by, AllByRecursion}
@@ -11,7 +11,7 @@ use Rattle.ndn_tlv.specs.Element.{Field}
 use Rattle.name_patterns.specs.Pattern.{LiesIn}
 use Rattle.name_patterns.specs.Template.{PlainPart, OfGroup, Single, between, part_of, part_len, expansion_of, IsThere, AreThere, CanStand}
 
--- ---- how long a template's name is
+-- ---- the length of the name that a template makes
 
 pub between_len : (cs : List Field) (places : ℕ × ℕ) → LiesIn (length cs) places → length (between cs places) ≡ places.1 - places.0
 between_len cs places h =
@@ -36,7 +36,7 @@ expansion_length captures cs (part ∷ parts) h =
     ∙ (λ i. part_length captures cs part h.0 i + expansion_length captures cs parts h.1 i)
     ∙ sym (sum_by-cons (part_len captures) part parts)
 
--- what the test of the sum says of the name
+-- if the lengths of the parts add up to more than 64, the name is too long
 pub is_long : (captures : List (ℕ × ℕ)) (cs : List Field) (parts : List PlainPart) → AreThere captures cs parts
     → true ≡ ltb 64 (sum_by (part_len captures) parts) → 64 < length (expansion_of parts captures cs)
 is_long captures cs parts h e =
@@ -49,7 +49,7 @@ is_short captures cs parts h e =
     let few : sum_by (part_len captures) parts ≤ 64 = ltb-false 64 _ (sym e) in
     omega (arith, few, expansion_length captures cs parts h)
 
--- a part for which no room is left
+-- a part is longer than the remaining room
 pub over_room : {X : Type 0} (len : PlainPart → ℕ) (shown : X → PlainPart) (xs : List X) (i : ℕ) (x : X) (room : ℕ) → i < length xs → x ≡ get_or xs i x
     → room + sum_by len (map shown (take i xs)) ≡ 64 → room < len (shown x) → 64 < sum_by len (map shown xs)
 over_room len shown xs i x room lt is sum over =
@@ -63,7 +63,7 @@ stands_at [] i d lt h = absurd (omega arith)
 stands_at (part ∷ parts) zero d lt h = h.0
 stands_at (part ∷ parts) (suc i) d lt h = stands_at parts i d (omega arith) h.1
 
--- a part of a template whose name is short enough can be appended
+-- a part can be appended if the whole name is short enough
 pub part_fits : {X : Type 0} (captures : List (ℕ × ℕ)) (cs : List Field) (shown : X → PlainPart) (xs : List X) (i : ℕ) (x : X) → i < length xs → x ≡ get_or xs i x
     → AllByRecursion CanStand (map shown xs) → length (expansion_of (map shown xs) captures cs) ≤ 64
     → CanStand (shown x) × (length (expansion_of (map shown (take i xs)) captures cs) + length (part_of captures cs (shown x)) ≤ 64)

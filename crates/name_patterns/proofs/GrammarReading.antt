@@ -1,4 +1,4 @@
--- What reading a pattern says of its text.
+-- What reading a pattern tells about its text.
 use Rattle.std.proofs.Common.{◌≡◌, ◌≢◌, ◌⊎◌, ℕ, zero, suc, ◌+◌, ◌-◌, ◌<◌, ◌≤◌, Bool, true, false, cond, eqb, leb, ◌==◌, List, [], ◌∷◌, ◌++◌, length, Option, Some, None, Result, Ok, Err, IfOk, MatchResult, refl, sym, ap, subst, ◌∙◌, arith, inl, inr, eq-eqb, append_assoc, codes, bytes_eq}
 use Rattle.std.specs.Prelude.{is_some}
 use Rattle.std.specs.List.{flat_map, list_any}
@@ -39,7 +39,7 @@ atom_found text found e none =
     Some (record { part = record { test = a.0.part; bounds = bounds.0 }; is_inner = a.0.is_inner; rest = bounds.1 })) found a.2 in
     atom_is text a.0 b.0 found b.2 none (λ plain. test_found text a.0 a.1 plain) (repeat_found a.0.rest b.0 b.1)
 
--- what may stand after a test, before this text
+-- a repeat that may follow a test is read, if `rest` does not begin another one
 repeated_again : (text rest : List ℕ) (bounds : Bounds) → ((text ≡ []) × (bounds ≡ once)) ⊎ IsRepeat text bounds → begins_repeat rest ≡ false
     → repeat_in (text ++ rest) ≡ Some (bounds, rest)
 repeated_again text rest bounds (inl h) free =
@@ -67,9 +67,9 @@ atom_shorter text found h =
     let some = test_some h.0 (atom_begins h.0 found.part h.2) in
     omega arith
 
--- ---- what is left of a pattern
+-- ---- the remaining text of a pattern
 
--- the pattern of these atoms and groups, and then of these items and the last atoms
+-- the pattern that consists of these atoms and groups, then of these items and the last atoms
 abbrev whole : List PlainAtom → List (ℕ × ℕ) → List Item → List PlainAtom → PlainPattern
 whole atoms groups items after = record { atoms = atoms ++ (flat_map item_atoms items ++ after); groups = groups ++ groups_from (length atoms) items }
 
@@ -92,7 +92,7 @@ whole_group atoms groups more items after =
     ∙ ap (λ (n : ℕ). groups ++ ((length atoms, n) ∷ groups_from n items)) (length-append atoms more) in
     λ i. record { atoms = all i; groups = places i }
 
--- the text goes on and ends the pattern of which there are these atoms and groups; no group is open
+-- `text` completes the pattern that begins with these atoms and groups, and no group is open.
 record IsRest (atoms : List PlainAtom) (written : ℕ) (groups : List (ℕ × ℕ)) (text : List ℕ) (pattern : PlainPattern) : Type 0 where
   middle : List ℕ
   end : List ℕ
@@ -105,7 +105,7 @@ record IsRest (atoms : List PlainAtom) (written : ℕ) (groups : List (ℕ × �
   few_atoms : written + length (flat_map item_atoms items) ≤ 32
   few_groups : length pattern.groups ≤ 9
 
--- the same, in a group before which so many atoms stand
+-- `text` completes the pattern inside a group, which begins after `first` atoms
 abbrev IsInGroup : ℕ → List PlainAtom → ℕ → List (ℕ × ℕ) → List ℕ → PlainPattern → Type 0
 IsInGroup first atoms written groups text pattern =
     (inner rest : List ℕ) × (more : List PlainAtom) × (text ≡ inner ++ (41 ∷ rest)) × AreAtoms inner more
@@ -115,7 +115,7 @@ abbrev IsLeft : PlainDraft → Option OpenGroup → List ℕ → PlainPattern �
 IsLeft draft None text pattern = IsRest draft.atoms draft.written draft.groups text pattern
 IsLeft draft (Some group) text pattern = IsInGroup group.first draft.atoms draft.written draft.groups text pattern
 
--- an atom before the rest
+-- an atom comes before the remaining text
 atom_before : (atoms : List PlainAtom) (written : ℕ) (groups : List (ℕ × ℕ)) (text front rest : List ℕ) (atom : PlainAtom) (pattern : PlainPattern)
     → text ≡ front ++ rest → IsAtom front atom → IsRest (atoms ++ atom ∷ []) (written + 1) groups rest pattern → IsRest atoms written groups text pattern
 atom_before atoms written groups text front rest atom pattern is h r =
@@ -133,7 +133,7 @@ atom_before atoms written groups text front rest atom pattern is h r =
       few_groups = r.few_groups;
     }
 
--- a parenthesis and a group before the rest
+-- a parenthesis and a group come before the remaining text
 group_before : (atoms : List PlainAtom) (written : ℕ) (groups : List (ℕ × ℕ)) (text : List ℕ) (pattern : PlainPattern)
     → IsInGroup (length atoms) atoms written groups text pattern → IsRest atoms written groups (40 ∷ text) pattern
 group_before atoms written groups text pattern h =
@@ -155,7 +155,7 @@ group_before atoms written groups text pattern h =
       few_groups = r.few_groups;
     }
 
--- an atom before the rest of a group
+-- an atom comes before the remaining text of a group
 atom_inside : (first : ℕ) (atoms : List PlainAtom) (written : ℕ) (groups : List (ℕ × ℕ)) (text front rest : List ℕ) (atom : PlainAtom) (pattern : PlainPattern)
     → text ≡ front ++ rest → IsAtom front atom → IsInGroup first (atoms ++ atom ∷ []) (written + 1) groups rest pattern → IsInGroup first atoms written groups text pattern
 atom_inside first atoms written groups text front rest atom pattern is h g =
@@ -185,14 +185,14 @@ group_end first atoms written groups text pattern r =
           (sym (append-nil atoms)) counted,
     )
 
--- ---- what is read, the text spells
+-- ---- the text spells the pattern that is read
 
 -- the limits of a draft
 abbrev HasRoom : PlainDraft → Option OpenGroup → Type 0
 HasRoom draft None = (draft.written ≤ 32) × (length draft.groups ≤ 9)
 HasRoom draft (Some group) = (draft.written ≤ 32) × (length draft.groups < 9)
 
--- the text is spelled, once what stands after its first item is
+-- The text is in the grammar if the remaining text after its first item is.
 record IsStep (draft : PlainDraft) (text : List ℕ) (next : PlainDraft × List ℕ) : Type 0 where
   shorter : length next.1 < length text
   room : HasRoom next.0 next.0.open_group
@@ -266,7 +266,7 @@ item_step draft at (o ∷ text) next room e =
           ]
     ]
 
--- the end of the text, or the last anchor
+-- the end of the text, or its last anchor
 end_found : (draft : PlainDraft) (text end : List ℕ) (after : List PlainAtom) (group : Option OpenGroup) (pattern : PlainPattern) → text ≡ end → IsAnchor (codes "$") end after → HasRoom draft group
     → whole_of (record draft { atoms = draft.atoms ++ after }) group ≡ Ok pattern → IsLeft draft group text pattern
 end_found draft text end after (Some group) pattern is ends room e = absurd cc
@@ -354,9 +354,9 @@ pattern_found (o ∷ text) pattern e =
       | inr other ↦ unanchored_found (length (o ∷ text)) (o ∷ text) pattern (rw (ne_eqb o 94 other) at e)
     ]
 
--- ---- what the text spells is read
+-- ---- a pattern that the text spells is read
 
--- no anchor and no repeat begins what stands after an item
+-- the text after an item begins with neither an anchor nor a repeat, but is not empty
 abbrev begins_other : List ℕ → Bool
 begins_other [] = false
 begins_other (o ∷ text) = list_any (λ sign. sign == o) (codes "^*+?{")
@@ -373,7 +373,7 @@ test_other text rest h =
       | inr is ↦ ap (λ (first : ℕ). begins_other (first ∷ (h.1 ++ rest))) is
     ]
 
--- what stands after an atom in a group
+-- the text after an atom in a group
 inside_other : (text rest : List ℕ) (atoms : List PlainAtom) → AreAtoms text atoms → begins_other (text ++ (41 ∷ rest)) ≡ false
 inside_other text rest [] h = ap (λ (t : List ℕ). begins_other (t ++ (41 ∷ rest))) h
 inside_other text rest (atom ∷ atoms) h =
@@ -384,7 +384,7 @@ end_other : (end : List ℕ) (after : List PlainAtom) → IsAnchor (codes "$") e
 end_other end after (inl h) = ap begins_other h.0
 end_other end after (inr h) = ap begins_other h.0
 
--- what stands after an item that is in no group
+-- the text after an item outside all groups
 items_other : (text end : List ℕ) (items : List Item) (after : List PlainAtom) → AreItems text items → IsAnchor (codes "$") end after → begins_other (text ++ end) ≡ false
 items_other text end [] after h ends = ap (λ (t : List ℕ). begins_other (t ++ end)) h ∙ end_other end after ends
 items_other text end (Alone atom ∷ items) after h ends =
@@ -393,7 +393,7 @@ items_other text end (Alone atom ∷ items) after h ends =
 items_other text end (Group atoms ∷ items) after h ends =
     ap (λ (t : List ℕ). begins_other (t ++ end)) (h.2 ∙ ap (λ (t : List ℕ). t ++ h.1) h.3.1)
 
--- drafts
+-- drafts without an open group
 abbrev closed : List PlainAtom → ℕ → List (ℕ × ℕ) → PlainDraft
 closed atoms written groups = record { atoms = atoms; written = written; groups = groups; open_group = None }
 
@@ -405,7 +405,7 @@ not_end o text h =
     let some : eqb (length (o ∷ text)) 0 ≡ false = ne_eqb (length (o ∷ text)) 0 (omega arith) in
     rw (some, ne_eqb o 36 h) refl
 
--- an atom at the front
+-- the atom at the front of the text is read again
 one_again : (draft : PlainDraft) (at : ℕ) (front rest : List ℕ) (atom : PlainAtom) → IsAtom front atom → begins_other rest ≡ false → draft.written < 32
     → with_atom draft at (front ++ rest) ≡ Ok (with_one draft atom, rest)
 one_again draft at front rest atom h free few =
@@ -451,7 +451,7 @@ unfolding items_within
 step_close n len atoms written groups group text free =
     rw (not_end 41 text (λ e. absurd (omega arith)), other_repeat text free) refl
 
--- what is left to read, once the group is closed
+-- reading goes on after the group is closed
 abbrev IsOn : (len : ℕ) → List PlainAtom → ℕ → List (ℕ × ℕ) → OpenGroup → List PlainAtom → List ℕ → Result PlainPattern PatternFault → Type 0
 IsOn len atoms written groups group more rest read =
     (m : ℕ) × (length rest ≤ m)
@@ -492,7 +492,7 @@ inside_again (suc n) len atoms written groups group inner rest (atom ∷ more) h
           (append_assoc atoms (atom ∷ []) more),
     )
 
--- the end of the text, or the last anchor
+-- the end of the text, or its last anchor
 ended : (atoms : List PlainAtom) (groups : List (ℕ × ℕ)) (after : List PlainAtom) → after ≡ [] → record { atoms = atoms; groups = groups } ≡ whole atoms groups [] after
 ended atoms groups after none =
     let every : atoms ≡ atoms ++ after = sym (append-nil atoms) ∙ ap (λ (last : List PlainAtom). atoms ++ last) (sym none) in
@@ -569,7 +569,7 @@ pattern_is pattern before items start after atoms groups is =
     let same = ap (λ (first : List PlainAtom). whole first [] items after) (sym is) in
     same ∙ (λ i. record { atoms = sym atoms i; groups = sym groups i })
 
--- a text that begins with no anchor
+-- a text that does not begin with an anchor
 unanchored : (len : ℕ) (text : List ℕ) → begins_other text ≡ false → pattern_after len text ≡ items_in len (with_implied begun) text
 unanchored len [] h = refl
 unanchored len (o ∷ text) h =
@@ -603,12 +603,12 @@ pattern_again text pattern h =
 pub one_pattern : (text : List ℕ) (a b : PlainPattern) → IsPattern text a → IsPattern text b → a ≡ b
 one_pattern text a b p q = done_is a b (sym (pattern_again text a p) ∙ pattern_again text b q)
 
--- what is read, the text spells
+-- the text spells the pattern that is read
 pub read_spelled : (text : List ℕ) (r : Result PlainPattern PatternFault) → MatchResult r (λ read. pattern_in text ≡ Ok read) (IsFaultOf (pattern_in text)) → IfOk r (IsPattern text)
 read_spelled text (Ok read) e = pattern_found text read e
 read_spelled text (Err fault) e = tt
 
--- what the text spells is what is read, but for memory
+-- the pattern that the text spells is read, unless memory runs out
 pub pattern_only : (text : List ℕ) (r : Result PlainPattern PatternFault) → MatchResult r (λ read. pattern_in text ≡ Ok read) (IsFaultOf (pattern_in text))
     → (pattern : PlainPattern) → IsPattern text pattern → MatchResult r (λ read. read ≡ pattern) (λ fault. fault ≡ Memory)
 pattern_only text (Ok read) e pattern h = done_is read pattern (sym e ∙ pattern_again text pattern h)

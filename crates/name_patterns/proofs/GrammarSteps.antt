@@ -1,13 +1,13 @@
--- What the steps of a reading say of its result.
+-- What the steps of a reading tell about its result.
 use Rattle.std.proofs.Common.{◌≡◌, ℕ, Bool, true, false, cond, Option, Some, None, Result, Ok, Err, refl, subst}
 use Rattle.ndn_tlv.specs.Reading.{on_result}
 use Rattle.name_patterns.specs.declared.fault.PatternFault.{PatternFault}
 use Rattle.name_patterns.specs.Faults.{read_at}
 use Rattle.name_patterns.specs.PatternReading.{◌>>=◌}
 
--- ---- steps that may give nothing
+-- ---- steps that may return nothing
 
--- the value of a step that gave something
+-- a sequence of two steps returns a value only if the first step does
 pub bind_some : {A B : Type 0} (r : Option A) (f : A → Option B) (y : B) → (r >>= f) ≡ Some y → (x : A) × (r ≡ Some x) × (f x ≡ Some y)
 bind_some None f y e = absurd cc
 bind_some (Some x) f y e = (x, refl, e)
@@ -21,7 +21,7 @@ given_is x y e = cc
 pub given_to : {A : Type 0} (P : A → Type 0) (x y : A) → given x ≡ given y → P x → P y
 given_to P x y e p = subst P (given_is x y e) p
 
--- a test that nothing answers
+-- a test whose failure returns nothing
 pub passed : {A : Type 0} (b : Bool) (r : Option A) (y : A) → cond b r None ≡ Some y → (b ≡ true) × (r ≡ Some y)
 passed true r y e = (refl, e)
 passed false r y e = absurd cc
@@ -32,12 +32,12 @@ failed false r y e = (refl, e)
 
 -- ---- steps that may fail
 
--- the value of a step that did not fail
+-- a sequence of two steps succeeds only if the first step does
 pub ok_is : {A B : Type 0} (r : Result A PatternFault) (f : A → Result B PatternFault) (y : B) → on_result f Err r ≡ Ok y → (x : A) × (r ≡ Ok x) × (f x ≡ Ok y)
 ok_is (Ok x) f y e = (x, refl, e)
 ok_is (Err fault) f y e = absurd cc
 
--- the value of a step whose fault may be reported as another
+-- a step whose fault may be replaced by another one
 pub result_is : {A B : Type 0} (f : A → Result B PatternFault) (g : PatternFault → PatternFault) (r : Result A PatternFault) (y : B) → on_result f (λ fault. Err (g fault)) r ≡ Ok y
     → (x : A) × (r ≡ Ok x) × (f x ≡ Ok y)
 result_is f g (Ok x) y e = (x, refl, e)
@@ -56,7 +56,7 @@ done_is x y e = cc
 pub done_to : {A : Type 0} (P : A → Type 0) (x y : A) → done x ≡ done y → P x → P y
 done_to P x y e p = subst P (done_is x y e) p
 
--- a test that a fault answers
+-- a test that returns a fault
 pub not_refused : {A : Type 0} (b : Bool) (fault : PatternFault) (r : Result A PatternFault) (y : A) → cond b (Err fault) r ≡ Ok y → (b ≡ false) × (r ≡ Ok y)
 not_refused true fault r y e = absurd cc
 not_refused false fault r y e = (refl, e)

@@ -13,7 +13,7 @@ use Rattle.name_patterns.proofs.TextParts.{BeginsNot, first_other}
 use Rattle.name_patterns.proofs.DraftSteps.{atom_found}
 use Rattle.name_patterns.proofs.ClosedGroups.{atom_passed, closed_here}
 
--- what stands at the front is no parenthesis
+-- an item that begins with no parenthesis is an atom
 pub item_is_atom : (draft : PlainDraft) (at : ℕ) (text : List ℕ) → BeginsNot 40 text → BeginsNot 41 text → with_item draft at text ≡ with_atom draft at text
 item_is_atom draft at [] opens closes = refl
 item_is_atom draft at (o ∷ text) opens closes = rw (first_other 40 o text opens, first_other 41 o text closes) refl
@@ -67,9 +67,9 @@ never_closed (suc n) len draft text group is_open never =
         let p = item_inside draft (len - length text) text next.0 next.1 group e is_open never in
         further next.0 next.1 p.0 p.1
 
--- ---- items in turn
+-- ---- items in order
 
--- the text's pattern is what the rest says, after this draft
+-- the pattern of the text is the pattern that `rest` completes after this draft
 abbrev pub HasItems : ℕ → PlainDraft → List ℕ → PlainDraft → List ℕ → Type 0
 HasItems len begun items draft rest = (n : ℕ) × (length rest ≤ n) × (items_in len begun items ≡ items_within n len draft rest)
 
@@ -110,7 +110,7 @@ items_end len begun items draft rest h ends = h.2 ∙ last h.0
     last zero = refl
     last (suc n) = rw ends refl
 
--- the end of the text, and the last anchor
+-- the end of the text, or its last anchor
 pub end_implied : (draft : PlainDraft) (rest : List ℕ) → length rest ≡ 0 → at_end draft rest ≡ whole_of (with_implied draft) draft.open_group
 end_implied draft [] none = refl
 end_implied draft (o ∷ rest) none = absurd (omega arith)

@@ -8,12 +8,12 @@ use Rattle.name_patterns.specs.PatternReading.{◌>>=◌, FrontPart, has_special
 use Rattle.name_patterns.proofs.Steps.{fault_on}
 use Rattle.name_patterns.proofs.TextParts.{BeginsNot, first_other}
 
--- components before those of others
+-- the components `cs` before the others
 abbrev pub before_others : List Field → Bool → Option (FrontPart (List Field)) → Option (FrontPart (List Field))
 before_others cs is_inner listed =
     listed >>= λ others. Some (record { part = cs ++ others.part; is_inner = is_inner || others.is_inner; rest = others.rest })
 
--- the text's list is what was read, and then what the rest says
+-- the list in the text is the components `cs`, followed by the list that `rest` completes
 abbrev pub HasListed : List Field → Bool → List ℕ → List ℕ → Type 0
 HasListed cs is_inner text rest =
     (n : ℕ) × (length rest ≤ n) × (listed_within (length text) text ≡ before_others cs is_inner (listed_within n rest))
@@ -25,7 +25,7 @@ listed_nothing text = (length text, omega arith, sym (nothing (listed_within (le
     nothing None = refl
     nothing (Some others) = refl
 
--- one text more
+-- one more text is read
 listed_more : (n : ℕ) (rest front after : List ℕ) → quoted_in rest ≡ Some (front, after)
     → listed_within (suc n) rest ≡ (text_in front >>= λ c. before_others (c ∷ []) (has_special front) (listed_within n after))
 unfolding listed_within
@@ -42,7 +42,7 @@ listed_one cs is_inner text rest front after c (suc n, few, h) e shorter read =
     moved true b (Some others) = ap (λ (ds : List Field). Some (record { part = ds; is_inner = true; rest = others.rest })) (sym (append_assoc cs (c ∷ []) others.part))
     moved false b (Some others) = ap (λ (ds : List Field). Some (record { part = ds; is_inner = b || others.is_inner; rest = others.rest })) (sym (append_assoc cs (c ∷ []) others.part))
 
--- a text that is no component
+-- a text that is not a component
 pub listed_faulty : (at : ℕ) (cs : List Field) (is_inner : Bool) (text rest front after : List ℕ) (fault : PatternFault) → HasListed cs is_inner text rest
     → quoted_in rest ≡ Some (front, after) → length after < length rest → IsFaultOf (read_at at (text_in front)) fault
     → IsFaultOf (read_at at (listed_within (length text) text)) fault
@@ -52,7 +52,7 @@ listed_faulty at cs is_inner text rest front after fault (suc n, few, h) e short
     (fault_on at _ (λ others. Some (record { part = cs ++ others.part; is_inner = is_inner || others.is_inner; rest = others.rest })) fault
     (fault_on at (text_in front) (λ c. before_others (c ∷ []) (has_special front) (listed_within n after)) fault faulty))
 
--- no text more
+-- there are no more texts
 listed_end : (n : ℕ) (rest : List ℕ) → quoted_in rest ≡ None → listed_within n rest ≡ list_end rest
 unfolding listed_within
 listed_end zero rest e = refl

@@ -1,4 +1,4 @@
--- What the groups of a match hold.
+-- What the groups of a match capture.
 use Rattle.std.proofs.Common.{◌≡◌, ℕ, zero, suc, ◌+◌, ◌<◌, ◌≤◌, List, [], ◌∷◌, length, map, take, drop, sum, refl, sym, ◌∙◌, ap, arith, take-append-drop}
 use Rattle.std.specs.Prelude.{slice_get, slice_index, IsSomeAnd}
 use Rattle.std.specs.List.{AllByRecursion}
@@ -16,14 +16,14 @@ use Rattle.name_patterns.proofs.Walk.{some_of}
 start_at : (atoms : List PlainAtom) (counts starts : List ℕ) (i : ℕ) → AreStarts atoms counts starts → i ≤ length atoms → slice_index starts i ≡ sum (take i counts)
 start_at atoms counts starts i are low = get_or_from_slice_get starts i (sum (take i counts)) 0 (are i low)
 
--- the places of groups, by the places in front of atoms
+-- the positions of the groups follow from the positions before each atom
 groups_are : (atoms : List PlainAtom) (counts starts : List ℕ) (groups : List (ℕ × ℕ)) → AreStarts atoms counts starts → AllByRecursion (LiesIn (length atoms)) groups
     → map (λ (group : ℕ × ℕ). (slice_index starts group.0, slice_index starts group.1)) groups ≡ map (group_places counts) groups
 groups_are atoms counts starts [] are all = refl
 groups_are atoms counts starts (group ∷ groups) are all =
     rw (start_at atoms counts starts group.0 are (omega (arith, all.0.0, all.0.1)), start_at atoms counts starts group.1 are all.0.1, groups_are atoms counts starts groups are all.1) refl
 
--- what the search finds is a match
+-- the result of the search is a match
 pub matched : (pattern : PlainPattern) (cs : List Field) (starts : List ℕ) (len : ℕ) (captures : List (ℕ × ℕ)) → IsSomeAnd (greedy pattern.atoms cs) (λ counts. AreStarts pattern.atoms counts starts)
     → AllByRecursion (LiesIn (length pattern.atoms)) pattern.groups → len ≡ length cs
     → captures ≡ (0, len) ∷ map (λ (group : ℕ × ℕ). (slice_index starts group.0, slice_index starts group.1)) pattern.groups → Match pattern cs captures

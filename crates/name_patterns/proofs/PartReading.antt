@@ -13,11 +13,11 @@ pub part_is_single : (groups at : ℕ) (text : List ℕ) → BeginsNot 92 text �
 part_is_single groups at [] other = refl
 part_is_single groups at (o ∷ text) other = rw (first_other 92 o text other) refl
 
--- parts before others
+-- the parts `front` before the others
 abbrev pub before_others : List PlainPart → Result (List PlainPart) PatternFault → Result (List PlainPart) PatternFault
 before_others front parts = on_result (λ others. Ok (front ++ others)) Err parts
 
--- the text's parts are those that were read, and then what the rest says
+-- the parts of the text are those that have been read, followed by the parts in `rest`
 abbrev pub HasParts : ℕ → List PlainPart → List ℕ → List ℕ → Type 0
 HasParts groups parts text rest =
     (n : ℕ) × (length rest ≤ n) × (template_in groups text ≡ before_others parts (parts_within n groups (length text) rest))
@@ -30,7 +30,7 @@ parts_begun groups text = (length text, omega arith, sym (nothing (parts_within 
     nothing (Ok parts) = refl
     nothing (Err fault) = refl
 
--- one part more
+-- one more part is read
 parts_more : (n groups len : ℕ) (rest after : List ℕ) (part : PlainPart) → 0 < length rest → part_in groups (len - length rest) rest ≡ Ok (part, after)
     → parts_within (suc n) groups len rest ≡ before_others (part ∷ []) (parts_within n groups len after)
 unfolding parts_within
@@ -46,7 +46,7 @@ parts_one groups parts text rest after part (suc n, few, h) shorter e =
     moved (Ok others) = ap (λ (ps : List PlainPart). Ok ps) (sym (append_assoc parts (part ∷ []) others))
     moved (Err fault) = refl
 
--- a faulty part
+-- the next part is faulty
 parts_stop : (n groups len : ℕ) (rest : List ℕ) (fault : PatternFault) → 0 < length rest → part_in groups (len - length rest) rest ≡ Err fault
     → parts_within (suc n) groups len rest ≡ Err fault
 unfolding parts_within
@@ -58,7 +58,7 @@ parts_faulty groups parts text rest fault (zero, few, h) some faulty = absurd (o
 parts_faulty groups parts text rest fault (suc n, few, h) some (inl e) = inl (h ∙ ap (before_others parts) (parts_stop n groups (length text) rest fault some e))
 parts_faulty groups parts text rest fault (suc n, few, h) some (inr memory) = inr memory
 
--- no part more
+-- there are no more parts
 parts_end : (n groups len : ℕ) (rest : List ℕ) → length rest ≡ 0 → parts_within n groups len rest ≡ Ok []
 unfolding parts_within
 parts_end zero groups len rest none = refl

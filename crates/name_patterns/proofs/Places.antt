@@ -1,4 +1,4 @@
--- Sets of places, by the bits of a number.
+-- Sets of positions, as the bits of a number.
 use Rattle.std.proofs.Common.{◌≡◌, ◌≢◌, ℕ, zero, suc, ◌+◌, ◌-◌, ◌*◌, ◌/◌, ◌%◌, ◌^◌, ◌<◌, ◌≤◌, Bool, true, false, ◌&&◌, ◌||◌, eqb, min, max, List, [], ◌∷◌, length, drop, get_or, get_or-drop, length-drop, Some, None, refl, sym, ◌∙◌, ap, arith, inl, inr}
 use Rattle.std.specs.Prelude.{slice_get}
 use Rattle.std.specs.Int.{bit_at, w128, trailing_ones}
@@ -12,7 +12,7 @@ use Rattle.ndn_tlv.specs.Element.{Field}
 use Rattle.name_patterns.specs.Pattern.{PlainTest, Anything}
 use Rattle.name_patterns.specs.Greedy.{passes, run_of, greatest, has_place, passes_there, ArePassed}
 
--- ---- one place
+-- ---- one position
 
 is_there : (places place : ℕ) → bit_at places place ≡ 1 → has_place places place ≡ true
 is_there places place e = eq-eqb (bit_at places place) 1 e
@@ -29,7 +29,7 @@ no_place place = is_not_there 0 place (bit_at-zero place)
 pub no_place_from : (places k place : ℕ) → places < 2 ^ k → k ≤ place → has_place places place ≡ false
 no_place_from places k place small from = is_not_there places place (bit_at_above places k place small from)
 
--- a place that is added
+-- a position is added to the set
 pub added_same : (places k : ℕ) → k < 128 → has_place (bit_or places (1 * 2 ^ k % 2 ^ 128)) k ≡ true
 added_same places k low = is_there _ k (bit_at_set_same w128 places k low)
 
@@ -47,7 +47,7 @@ first_same k low = added_same 0 k low
 pub first_other : (k place : ℕ) → k < 128 → place ≢ k → has_place (1 * 2 ^ k % 2 ^ 128) place ≡ false
 first_other k place low other = added_other 0 k place low other ∙ no_place place
 
--- places that are in both, or in one of two
+-- the intersection and the union of two sets
 pub in_both : (a b place : ℕ) → has_place (bit_and a b) place ≡ (has_place a place && has_place b place)
 in_both a b place = rw (bit_at_and a b place) (of_bits (bit_at a place) (bit_at b place) (bit_at-lt a place) (bit_at-lt b place))
   where
@@ -72,7 +72,7 @@ in_either a b place = rw (bit_at_or a b place) (of_bits (bit_at a place) (bit_at
     of_bits zero (suc (suc y)) low high = absurd (omega arith)
     of_bits (suc zero) (suc (suc y)) low high = absurd (omega arith)
 
--- ---- the places after one
+-- ---- the positions after a given one
 
 bit_of_shr : (n k i : ℕ) → bit_at (n / 2 ^ k) i ≡ bit_at n (k + i)
 bit_of_shr n k i = ap (λ (m : ℕ). m % 2) (shr-shr n k i)
@@ -82,7 +82,7 @@ one_before places place =
     let next : 1 + place ≡ place + 1 = omega arith in
     same_place (places / 2 ^ 1) places place (place + 1) (bit_of_shr places 1 place ∙ ap (λ (i : ℕ). bit_at places i) next)
 
--- the length of the run of components that pass
+-- the length of a run of components that pass
 pub run_is : (passed place : ℕ) → passed < 2 ^ 64 → place ≤ 64 → trailing_ones w128 (passed / 2 ^ place) + place ≤ 64
 run_is passed place small low =
     let low_pow : 2 ^ 64 < 2 ^ 127 = pow_below 64 127 (omega arith) in
@@ -163,7 +163,7 @@ greatest_none can least (suc n) none =
           (greatest_none can least n (λ j low high. none j low (omega arith)))
     ]
 
--- ---- the last place up to an end
+-- ---- the last position up to an end
 
 bit_of_mod : (n w i : ℕ) → i < w → bit_at (n % 2 ^ w) i ≡ bit_at n i
 bit_of_mod n w i low =
@@ -175,7 +175,7 @@ bit_of_shl n k i from low =
     bit_of_mod (n * 2 ^ k) 128 i low
     ∙ (sym (ap (λ (m : ℕ). bit_at m i) plain) ∙ bit_at_cat_high n k 0 i (pow_pos k) from)
 
--- a number of so many bits has the last of them
+-- the highest bit of a number is 1
 top_bit : (a m : ℕ) → a < 2 ^ (m + 1) → 2 ^ (m + 1) ≤ 2 * a + 1 → bit_at a m ≡ 1
 top_bit a m high low =
     let twice : 2 ^ (m + 1) ≡ 2 ^ m * 2 = pow-add 2 m 1 in
@@ -187,7 +187,7 @@ top_bit a m high low =
     swapped : 1 + m ≡ m + 1
     swapped = omega arith
 
--- how many of the places up to an end come after the last that is there
+-- the number of positions up to `end` that come after the last position in the set
 abbrev pub skipped : ℕ → ℕ → ℕ
 skipped places end = count_leading_zeros 128 (places * 2 ^ (127 - end) % 2 ^ 128)
 
@@ -213,7 +213,7 @@ none_later places end place low high skips =
     is_not_there places place
     (rw place_is at (sym (bit_of_shl places (127 - end) (127 - end + place) (omega arith) (omega arith)) ∙ none))
 
--- the greatest count, by the last place
+-- the greatest count, by the last position in the set
 pub greatest_taken : (places place least most : ℕ) → place + most ≤ 64 → skipped places (place + most) ≤ most → least ≤ most - skipped places (place + most)
     → greatest (λ count. has_place places (place + count)) least most ≡ Some (most - skipped places (place + most))
 greatest_taken places place least most low skips enough =

@@ -1,4 +1,4 @@
--- What reading a repeat says of its text.
+-- What reading a repeat tells about its text.
 use Rattle.std.proofs.Common.{◌≡◌, ◌⊎◌, ℕ, ◌<◌, ◌≤◌, false, cond, eqb, ltb, leb, ◌&&◌, ◌||◌, List, [], ◌∷◌, ◌++◌, length, Option, Some, None, refl, sym, ap, subst, ◌∙◌, arith, inl, inr, eq-eqb, append_assoc, codes}
 use Rattle.std.specs.Str.{all_ascii_digits}
 use Rattle.std.specs.Str.Parse.{digits_value}
@@ -37,7 +37,7 @@ count_lacks octet out text n h = digits-Lacks octet out text h.0.1
 abbrev IsRangeOf : List ℕ → Bounds → Type 0
 IsRangeOf text bounds = IsRange text bounds.least bounds.most
 
--- a count and a comma
+-- a number followed by a comma
 least_found : (text low high : List ℕ) (bounds : Bounds) → text ≡ low ++ (44 ∷ high) → length high ≡ 0
     → (count_in low >>= λ least. Some (record { least = least; most = None })) ≡ Some bounds → IsRangeOf text bounds
 least_found text low high bounds is none e =
@@ -103,7 +103,7 @@ range_again text least (Some most) (inr (inr h)) =
     range_cut text h.0 h.1 h.2 (count_lacks 44 (inl (omega arith)) h.0 least h.3)
     ∙ rw (some_digits h.1 most h.4, some_digits h.0 least h.3, count_again h.0 least h.3, count_again h.1 most h.4, le-leb least most h.5) refl
 
--- no brace stands in a range
+-- a range contains no brace
 count_no_brace : (text : List ℕ) (n : ℕ) → IsCount text n → Lacks 125 text
 count_no_brace text n h = count_lacks 125 (inr (omega arith)) text n h
 
@@ -121,7 +121,7 @@ range_no_brace text least (Some most) (inr (inr h)) =
 
 -- ---- repeats
 
--- nothing that stands for one component, or a repeat
+-- a repeat, or an empty text, which stands for one component
 abbrev pub IsRepeatOrNone : List ℕ → Bounds → Type 0
 IsRepeatOrNone text bounds = ((text ≡ []) × (bounds ≡ once)) ⊎ IsRepeat text bounds
 
@@ -137,12 +137,12 @@ braced_found text found e =
     given_to (IsRepeatAt (123 ∷ text)) (b.0, a.0.1) found b.2
     (123 ∷ (a.0.0 ++ codes "}"), ap (λ (t : List ℕ). 123 ∷ t) whole, inr (inr (inr (inr (a.0.0, refl, range_found a.0.0 b.0 b.1)))))
 
--- a repeat of one sign
+-- a repeat of one character
 sign_found : (o sign : ℕ) (text : List ℕ) (bounds : Bounds) (found : Bounds × List ℕ) → o ≡ sign → IsRepeat (sign ∷ []) bounds → Some (bounds, text) ≡ Some found → IsRepeatAt (o ∷ text) found
 sign_found o sign text bounds found is h e =
     given_to (IsRepeatAt (o ∷ text)) (bounds, text) found e (sign ∷ [], ap (λ (first : ℕ). first ∷ text) is, inr h)
 
--- what stands at the front, where it is no brace
+-- the repeat at the front of a text that does not begin with a brace
 unbraced_found : (o : ℕ) (text : List ℕ) (found : Bounds × List ℕ)
     → cond (eqb o 42) (Some (any_number, text)) (cond (eqb o 43) (Some (record { least = 1; most = None }, text)) (cond (eqb o 63) (Some (record { least = 0; most = Some 1 }, text)) (Some (once, o ∷ text)))) ≡ Some found
     → IsRepeatAt (o ∷ text) found
@@ -187,7 +187,7 @@ repeat_again front rest bounds (inr (inr (inr h))) =
     ap (λ (t : List ℕ). repeat_in (t ++ rest)) h.1 ∙ ap braced_in (append_assoc h.0 (codes "}") rest)
     ∙ rw (cut_again 125 h.0 rest (range_no_brace h.0 bounds.least bounds.most h.2), range_again h.0 bounds.least bounds.most h.2) refl
 
--- where no sign of a repeat stands
+-- a text that does not begin with a repeat
 pub repeat_none : (rest : List ℕ) → begins_repeat rest ≡ false → repeat_in rest ≡ Some (once, rest)
 unfolding repeat_in
 repeat_none [] h = refl

@@ -1,4 +1,4 @@
--- The rows of the search, and the places that they are read at.
+-- The rows of the search, and the positions at which they are read.
 use Rattle.std.proofs.Common.{◌≡◌, ◌≢◌, ℕ, zero, suc, ◌+◌, ◌-◌, ◌*◌, ◌<◌, ◌≤◌, Bool, true, false, List, [], ◌∷◌, ◌++◌, length, length-drop, map, drop, get_or, Option, Some, None, is_some, refl, sym, ◌∙◌, ap, arith, inl, inr}
 use Rattle.std.specs.Prelude.{slice_get, slice_set, IsSomeAnd}
 use Rattle.std.proofs.Math.Seq.{drop-length}
@@ -11,7 +11,7 @@ use Rattle.name_patterns.specs.Pattern.{Bounds, PlainTest, PlainAtom}
 use Rattle.name_patterns.proofs.Places.{no_place, greatest_none}
 use Rattle.name_patterns.specs.Greedy.{passes, at_most, run_of, greatest, first_count, has_place, passes_there, ArePassed, AreSplit, IsRow}
 
--- ---- an element that is set
+-- ---- one element is replaced
 
 pub set_same : {X : Type 0} (xs : List X) (i : ℕ) (v : X) → i < length xs → slice_get (slice_set xs i v) i ≡ Some v
 set_same [] i v h = absurd (omega arith)
@@ -25,7 +25,7 @@ set_other (x ∷ xs) zero (suc j) v h = refl
 set_other (x ∷ xs) (suc i) zero v h = refl
 set_other (x ∷ xs) (suc i) (suc j) v h = set_other xs i j v (λ e. h (ap suc e))
 
--- ---- sets of places
+-- ---- sets of positions
 
 pub nil_after : (cs : List Field) (place : ℕ) → place < length cs → first_count [] (drop place cs) ≡ None
 unfolding first_count
@@ -37,7 +37,7 @@ pub nil_at_end : (cs : List Field) → first_count [] (drop (length cs) cs) ≡ 
 unfolding first_count
 nil_at_end cs = rw (drop-length cs) refl
 
--- the places from which on no atoms have a split: the end
+-- the empty list of atoms has a split only from the end of the name
 pub last_split : (cs : List Field) (len places : ℕ) → length cs ≡ len → has_place places len ≡ true
     → ((place : ℕ) → place ≢ len → has_place places place ≡ false) → AreSplit [] cs places
 last_split cs len places len_is there other place low =
@@ -48,7 +48,7 @@ last_split cs len places len_is there other place low =
       | inr apart ↦ other place apart ∙ sym (ap is_some (nil_after cs place (omega arith)))
     ]
 
--- the greatest number asks for no number above its bound
+-- the greatest number depends only on numbers up to its bound
 pub same_greatest : (can other : ℕ → Bool) (least n : ℕ) → ((k : ℕ) → k ≤ n → can k ≡ other k) → greatest can least n ≡ greatest other least n
 unfolding greatest
 same_greatest can other least zero h = rw (h 0 (omega arith)) refl
@@ -59,7 +59,7 @@ at_most_low : (most : Option ℕ) (n : ℕ) → at_most most n ≤ n
 at_most_low None n = omega arith
 at_most_low (Some most) n = omega arith
 
--- the first count of an atom, by the places from which on the atoms after it have a split
+-- the first count of an atom, found by the positions from which the later atoms have a split
 pub count_by_places : (atom : PlainAtom) (atoms : List PlainAtom) (cs : List Field) (bounds : Bounds) (after place run : ℕ)
     → bounds ≡ atom.bounds → AreSplit atoms cs after → run ≡ run_of atom.test (drop place cs) → place ≤ length cs
     → greatest (λ count. has_place after (place + count)) bounds.least (at_most bounds.most run) ≡ first_count (atom ∷ atoms) (drop place cs)
@@ -71,7 +71,7 @@ count_by_places atom atoms cs bounds after place run bounds_is are run_is low =
     (same_greatest (λ count. has_place after (place + count)) (λ count. is_some (first_count atoms (drop count (drop place cs)))) bounds.least
     (at_most bounds.most run) (λ k h. are (place + k) (omega arith) ∙ ap (λ (left : List Field). is_some (first_count atoms left)) (sym (drop-drop k place cs))))
 
--- where some atoms have no split, those with one more in front have none
+-- if some atoms have no split from any position, there is no split with one more atom in front
 none_in_front : (atom : PlainAtom) (atoms : List PlainAtom) (cs : List Field) → AreSplit atoms cs 0 → AreSplit (atom ∷ atoms) cs 0
 none_in_front atom atoms cs none place low =
     let no_count : first_count (atom ∷ atoms) (drop place cs) ≡ None =
@@ -87,7 +87,7 @@ none_from (atom ∷ atoms) cs zero (suc i) from low none = none_in_front atom at
 none_from (atom ∷ atoms) cs (suc first) zero from low none = absurd (omega arith)
 none_from (atom ∷ atoms) cs (suc first) (suc i) from low none = none_from atoms cs first i (omega arith) (omega arith) none
 
--- no place from which on the atoms have a split
+-- no position is left from which the atoms have a split
 pub none_there : (atoms : List PlainAtom) (cs : List Field) (place : ℕ) → AreSplit atoms cs 0 → place ≤ length cs → first_count atoms (drop place cs) ≡ None
 none_there atoms cs place none low = of_test (first_count atoms (drop place cs)) (sym (none place low) ∙ no_place place)
   where
@@ -95,7 +95,7 @@ none_there atoms cs place none low = of_test (first_count atoms (drop place cs))
     of_test None e = refl
     of_test (Some k) e = absurd cc
 
--- one more component that is tested
+-- one more component is tested
 pub pushed : (test : PlainTest) (cs : List Field) (c : Field) (places next place : ℕ) → ArePassed test cs places → length cs ≡ place → has_place next place ≡ passes test c
     → ((other : ℕ) → other ≢ place → has_place next other ≡ has_place places other) → ArePassed test (cs ++ c ∷ []) next
 pushed test cs c places next place are len there others p =
@@ -122,7 +122,7 @@ drop_map_end : {X Y : Type 0} (f : X → Y) (xs : List X) → drop (length xs) (
 drop_map_end f [] = refl
 drop_map_end f (x ∷ xs) = drop_map_end f xs
 
--- after all atoms
+-- the row after the last atom
 pub after_all : {X : Type 0} (f : X → PlainAtom) (xs : List X) (cs : List Field) (places : ℕ) → AreSplit [] cs places → AreSplit (drop (length xs) (map f xs)) cs places
 after_all f xs cs places are = rw (drop_map_end f xs) are
 
@@ -138,7 +138,7 @@ drop_map f (y ∷ xs) (suc at) x h is = rw next (drop_map f xs at x (omega arith
     next : suc at + 1 ≡ suc (at + 1)
     next = omega arith
 
--- one more row of a table
+-- one more row of a table is filled
 pub table_step : {X : Type 0} (P : ℕ → X → Type 0) (rows : List X) (at n : ℕ) (row : X) → at < length rows → P at row
     → ((k : ℕ) → at + 1 ≤ k → k ≤ n → IsSomeAnd (slice_get rows k) (P k)) → (k : ℕ) → at ≤ k → k ≤ n → IsSomeAnd (slice_get (slice_set rows at row) k) (P k)
 table_step P rows at n row room here following k from low =

@@ -164,7 +164,7 @@ some_greatest can least (suc n) k e =
 
 -- ---- splits
 
--- what the first count says of the splits
+-- what the first count tells about the splits
 abbrev pub IsSearched : List PlainAtom → List Field → Option ℕ → Type 0
 IsSearched atoms cs None = HasNoSplit atoms cs × (greedy atoms cs ≡ None)
 IsSearched atoms cs (Some k) = (counts : List ℕ) × (greedy atoms cs ≡ Some counts) × IsGreatestSplit atoms cs counts
@@ -181,7 +181,7 @@ some_splits atoms cs (Some k) counts h split = refl
 abbrev AreSearched : List PlainAtom → Type 0
 AreSearched atoms = (cs : List Field) → IsSearched atoms cs (first_count atoms cs)
 
--- a count of a split can be taken, and is within the bound
+-- the count of a split can be taken, and is within the bounds
 taken : (atom : PlainAtom) (atoms : List PlainAtom) (cs : List Field) (count : ℕ) (counts : List ℕ) → AreSearched atoms → IsSplit (atom ∷ atoms) cs (count ∷ counts)
     → (count ≤ at_most atom.bounds.most (run_of atom.test cs)) × (is_some (first_count atoms (drop count cs)) ≡ true)
 taken atom atoms cs count counts following split = (
@@ -189,7 +189,7 @@ taken atom atoms cs count counts following split = (
   some_splits atoms (drop count cs) (first_count atoms (drop count cs)) counts (following (drop count cs)) split.4,
 )
 
--- an atom in front of others has no first count
+-- if an atom in front of others has no first count, there is no split
 no_split : (atom : PlainAtom) (atoms : List PlainAtom) (cs : List Field) → AreSearched atoms → first_count (atom ∷ atoms) cs ≡ None
     → (counts : List ℕ) → IsSplit (atom ∷ atoms) cs counts → ⊥
 unfolding first_count
@@ -227,7 +227,7 @@ unfolding first_count
 first_is atom atoms cs k e =
     some_greatest (λ n. is_some (first_count atoms (drop n cs))) atom.bounds.least (at_most atom.bounds.most (run_of atom.test cs)) k e
 
--- an atom in front of others, by its first count
+-- the result for an atom in front of others follows from its first count
 step : (atom : PlainAtom) (atoms : List PlainAtom) (cs : List Field) → AreSearched atoms
     → (r : Option ℕ) → first_count (atom ∷ atoms) cs ≡ r → IsSearched (atom ∷ atoms) cs r
 unfolding greedy
@@ -254,7 +254,7 @@ searched [] [] = ([], refl, record { split = (refl, refl); greatest = λ other s
 searched [] (c ∷ cs) = ((λ counts split. absurd cc), refl)
 searched (atom ∷ atoms) cs = step atom atoms cs (searched atoms) (first_count (atom ∷ atoms) cs) refl
 
--- ---- the counts of the greatest split, one after the other
+-- ---- the counts of the greatest split in order
 
 pub first_fits : (atom : PlainAtom) (atoms : List PlainAtom) (cs : List Field) (k : ℕ) → first_count (atom ∷ atoms) cs ≡ Some k → k ≤ length cs
 first_fits atom atoms cs k e =
@@ -281,13 +281,13 @@ pub greedy_no_end : (done : List ℕ) (cs : List Field) → first_count [] cs �
 unfolding greedy
 greedy_no_end done cs e = rw e refl
 
--- ---- an atom that takes one component
+-- ---- an atom that takes exactly one component
 
 nothing_by : (atoms : List PlainAtom) (cs : List Field) (r : Option ℕ) → IsSearched atoms cs r → r ≡ None → greedy atoms cs ≡ None
 nothing_by atoms cs None h e = h.1
 nothing_by atoms cs (Some k) h e = absurd (none_here k e)
 
--- where there is no first count, there are no counts
+-- without a first count, there are no counts
 pub nothing_first : (atoms : List PlainAtom) (cs : List Field) → first_count atoms cs ≡ None → greedy atoms cs ≡ None
 nothing_first atoms cs e = nothing_by atoms cs (first_count atoms cs) (searched atoms cs) e
 
@@ -305,7 +305,7 @@ none_first atom atoms cs once_is no_run =
     let most : min 1 0 ≡ 0 = omega arith in
     rw (once_is, no_run, most) (greatest_no_one (λ count. is_some (first_count atoms (drop count cs))))
 
--- it cannot take one that does not pass
+-- an atom that takes exactly one component cannot take one that does not pass
 pub no_single : (atom : PlainAtom) (atoms : List PlainAtom) (cs : List Field) → atom.bounds ≡ once → run_of atom.test cs ≡ 0 → greedy (atom ∷ atoms) cs ≡ None
 no_single atom atoms cs once_is no_run = greedy_none atom atoms cs (none_first atom atoms cs once_is no_run)
 
@@ -317,7 +317,7 @@ single_first atom atoms c cs once_is is =
     let most : min 1 (1 + run_of atom.test cs) ≡ 1 = omega arith in
     rw (once_is, run, most) (greatest_one (λ count. is_some (first_count atoms (drop count (c ∷ cs)))))
 
--- what it takes goes in front of the counts of the others
+-- an atom that takes exactly one component adds the count 1
 pub single_taken : (done : List ℕ) (atom : PlainAtom) (atoms : List PlainAtom) (c : Field) (cs : List Field) → atom.bounds ≡ once → passes atom.test c ≡ true
     → after_counts done (greedy (atom ∷ atoms) (c ∷ cs)) ≡ after_counts (done ++ 1 ∷ []) (greedy atoms cs)
 single_taken done atom atoms c cs once_is is = by_rest (first_count atoms cs) refl
@@ -329,7 +329,7 @@ single_taken done atom atoms c cs once_is is = by_rest (first_count atoms cs) re
     by_rest (Some k) e =
         greedy_some done atom atoms (c ∷ cs) 1 (single_first atom atoms c cs once_is is ∙ rw e refl)
 
--- ---- what the search says
+-- ---- the result of the search
 
 none_by : (atoms : List PlainAtom) (cs : List Field) (r : Option ℕ) → IsSearched atoms cs r → greedy atoms cs ≡ None → HasNoSplit atoms cs
 none_by atoms cs None h e = h.0

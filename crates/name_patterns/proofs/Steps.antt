@@ -5,7 +5,7 @@ use Rattle.name_patterns.specs.declared.fault.PatternFault.TheVariants.{Syntax}
 use Rattle.name_patterns.specs.Faults.{IsFaultOf, read_at}
 use Rattle.name_patterns.specs.PatternReading.{◌>>=◌}
 
--- a fault of the first step
+-- a fault of the first step is a fault of the sequence
 pub fault_on : {A B : Type 0} (at : ℕ) (first : Option A) (next : A → Option B) (fault : PatternFault)
     → IsFaultOf (read_at at first) fault → IsFaultOf (read_at at (first >>= next)) fault
 fault_on at None next fault (inl e) = inl cc
@@ -13,11 +13,11 @@ fault_on at None next fault (inr memory) = inr memory
 fault_on at (Some x) next fault (inl e) = absurd cc
 fault_on at (Some x) next fault (inr memory) = inr memory
 
--- nothing in the first step
+-- the first step returns nothing
 pub fault_at : {A B : Type 0} (at : ℕ) (first : Option A) (next : A → Option B) → first ≡ None → IsFaultOf (read_at at (first >>= next)) (Syntax at)
 fault_at at first next none = rw none (inl refl)
 
--- what a step that gives something gives on
+-- a sequence of two steps returns a value only if both steps do
 pub found_by : {A B : Type 0} (first : Option A) (next : A → Option B) (y : B) → (first >>= next) ≡ Some y → (x : A) × (first ≡ Some x) × (next x ≡ Some y)
 found_by None next y e = absurd cc
 found_by (Some x) next y e = (x, refl, e)

@@ -1,4 +1,4 @@
--- What reading a template says of its text.
+-- What reading a template tells about its text.
 use Rattle.std.proofs.Common.{◌≡◌, ℕ, zero, suc, ◌+◌, ◌-◌, ◌<◌, ◌≤◌, false, cond, eqb, leb, ltb, ◌&&◌, List, [], ◌∷◌, ◌++◌, length, Some, Result, Ok, Err, MatchResult, refl, sym, ap, subst, ◌∙◌, arith, inl, inr, eq-eqb}
 use Rattle.std.specs.List.{AllByRecursion}
 use Rattle.std.proofs.lemmas.Bool.{cases_eq, and_parts, ne_eqb, leb-true, le-leb, ltb-false, le-ltb}
@@ -33,7 +33,7 @@ digit_again n text h =
     let is : 48 + n - 48 ≡ n = omega arith in
     rw (le-leb 48 (48 + n) (omega arith), le-leb (48 + n) 57 (omega arith), is) refl
 
--- a part that stands at the front
+-- a part at the front of the text
 abbrev IsFront : ℕ → List ℕ → PlainPart × List ℕ → Type 0
 IsFront groups text found = (front : List ℕ) × (text ≡ front ++ found.1) × (0 < length front) × IsPart groups front found.0
 
@@ -138,20 +138,20 @@ pub template_again : (groups : ℕ) (text : List ℕ) (parts : List PlainPart) �
 unfolding template_in
 template_again groups text parts h = parts_again (length text) groups (length text) text parts (omega arith) h
 
--- what the text spells is what is read, but for memory
+-- the template that the text spells is read, unless memory runs out
 pub template_only : (groups : ℕ) (text : List ℕ) (r : Result (List PlainPart) PatternFault) → MatchResult r (λ read. template_in groups text ≡ Ok read) (IsFaultOf (template_in groups text))
     → (parts : List PlainPart) → IsTemplate groups text parts → MatchResult r (λ read. read ≡ parts) (λ fault. fault ≡ Memory)
 template_only groups text (Ok read) e parts h = done_is read parts (sym e ∙ template_again groups text parts h)
 template_only groups text (Err fault) (inl e) parts h = absurd cc (sym (template_again groups text parts h) ∙ e)
 template_only groups text (Err fault) (inr e) parts h = e
 
--- the components of a template can stand in a name
+-- the components of a template can be in a name
 pub template_stands : (groups : ℕ) (text : List ℕ) (parts : List PlainPart) → IsTemplate groups text parts → AllByRecursion CanStand parts
 template_stands groups text [] h = tt
 template_stands groups text (OfGroup n ∷ parts) h = (tt, template_stands groups h.1 parts h.4)
 template_stands groups text (Single c ∷ parts) h = (h.3.2.2, template_stands groups h.1 parts h.4)
 
--- the groups of a template are there
+-- the pattern has all groups that a template uses
 pub template_needs : (groups : ℕ) (text : List ℕ) (parts : List PlainPart) → IsTemplate groups text parts → NeedAtMost groups parts
 template_needs groups text [] h = tt
 template_needs groups text (OfGroup n ∷ parts) h = (h.3.2, template_needs groups h.1 parts h.4)

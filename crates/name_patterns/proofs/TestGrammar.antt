@@ -1,4 +1,4 @@
--- What reading a test of components says of its text.
+-- What reading a test of components tells about its text.
 use Rattle.std.proofs.Common.{◌≡◌, ◌≢◌, ◌⊎◌, ℕ, zero, suc, ◌≤◌, false, cond, eqb, ◌||◌, List, [], ◌∷◌, ◌++◌, length, Some, None, refl, sym, ap, subst, ◌∙◌, arith, inl, inr, eq-eqb, append_assoc, codes}
 use Rattle.std.proofs.lemmas.Bool.{cases_eq, cases_Bool, or_parts, eqb-true, eqb-false, ne_eqb}
 use Rattle.std.proofs.lemmas.List.{length-append, nil_from_length}
@@ -22,7 +22,7 @@ end_found (o ∷ text) found e =
     given_to (IsListed (o ∷ text)) (record { part = []; is_inner = false; rest = text }) found p.1
     ([], ap (λ (first : ℕ). first ∷ text) (eqb-true o 93 p.0), refl)
 
--- a text before others
+-- one text before the others of a list
 before_listed : (text : List ℕ) (quoted : List ℕ × List ℕ) (c : Field) (others found : FrontPart (List Field)) → quoted_in text ≡ Some quoted → text_in quoted.0 ≡ Some c
     → given (record { part = c ∷ others.part; is_inner = has_special quoted.0 || others.is_inner; rest = others.rest }) ≡ given found → found.is_inner ≡ false
     → (others.is_inner ≡ false → IsListed quoted.1 others) → IsListed text found
@@ -165,7 +165,7 @@ test_found (o ∷ text) found e none =
       | inr other ↦ quoted_test_found (o ∷ text) found (rw (ne_eqb o 91 other) at e) none
     ]
 
--- a text of one component
+-- a text that stands for one component
 one_again : (front rest : List ℕ) (c : Field) → IsQuoted front c → test_in (front ++ rest) ≡ Some (record { part = OneOf (c ∷ []); is_inner = false; rest = rest })
 unfolding test_in
 one_again front rest c h =

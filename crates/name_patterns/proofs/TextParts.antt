@@ -1,4 +1,4 @@
--- Texts by their first octet, and texts cut at an octet.
+-- The first octets of texts, and texts that are cut at an octet.
 use Rattle.std.proofs.Common.{◌≡◌, ◌≢◌, ℕ, suc, ◌<◌, eqb, false, List, [], ◌∷◌, length, get_or, Option, Some, None, option_map, Bor, refl, ap, ◌∙◌, arith}
 use Rattle.std.proofs.lemmas.Bool.{ne_eqb}
 use Rattle.std.proofs.lemmas.Str.Pattern.{IsSplitOnceResult, split_parts}
@@ -7,7 +7,7 @@ use Rattle.ndn_names.proofs.TextReading.{Lacks}
 use Rattle.ndn_names.proofs.PieceReading.{cut_again, cut_lacking}
 use Rattle.name_patterns.specs.PatternReading.{quoted_in}
 
--- no text begins with this octet
+-- the text does not begin with this octet
 abbrev pub BeginsNot : ℕ → List ℕ → Type 0
 BeginsNot octet text = (rest : List ℕ) → text ≢ octet ∷ rest
 
@@ -18,7 +18,7 @@ lacks_from_places : (octet : ℕ) (text : List ℕ) → ((i : ℕ) → i < lengt
 lacks_from_places octet [] h = tt
 lacks_from_places octet (o ∷ text) h = (h 0 (omega arith), lacks_from_places octet text (λ i lt. h (suc i) (omega arith)))
 
--- what `split_once` gives at an octet
+-- the result of `split_once` at an octet
 pub cut_is : (octet : ℕ) (text : List ℕ) (r : Option (Bor (List ℕ) × Bor (List ℕ))) → IsSplitOnceResult octet text r → octet < 128
     → cut_at octet text ≡ option_map (λ parts. (parts.0.now, parts.1.now)) r
 cut_is octet text None split lt = cut_lacking octet text (lacks_from_places octet text (split_parts octet text None split lt))

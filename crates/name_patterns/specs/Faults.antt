@@ -3,11 +3,11 @@ use Rattle.std.specs.Prelude.{◌≡◌, ◌⊎◌, Option, None, Some, Result, 
 use Rattle.name_patterns.specs.declared.fault.PatternFault.{PatternFault}
 use Rattle.name_patterns.specs.declared.fault.PatternFault.TheVariants.{Syntax, Memory}
 
--- the fault of a reading, or Memory, which has no cause in the text
+-- the fault of a reading, or `Memory`
 abbrev pub IsFaultOf : {A : Type 0} → Result A PatternFault → PatternFault → Type 0
 IsFaultOf read fault = (read ≡ Err fault) ⊎ (fault ≡ Memory)
 
--- what was read, or else Syntax at this place
+-- the value that was read, or the fault `Syntax` at offset `at`
 abbrev pub read_at : {A : Type 0} → ℕ → Option A → Result A PatternFault
 read_at at (Some x) = Ok x
 read_at at None = Err (Syntax at)

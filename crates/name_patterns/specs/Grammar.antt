@@ -7,28 +7,28 @@ use Rattle.ndn_names.specs.Name.{IsComponent}
 use Rattle.ndn_names.specs.ReadsAs.{ReadsComponent}
 use Rattle.name_patterns.specs.Pattern.{PlainTest, Anything, OneOf, NoneOf, Bounds, once, PlainAtom, anything, PlainPattern}
 
--- a parenthesis, a bracket, a brace, * + ? ^ $ | or, the code 92, a backslash
+-- a parenthesis, a bracket, a brace, one of * + ? ^ $ |, or a backslash (code 92)
 abbrev pub is_special : ℕ → Bool
 is_special o = list_any (λ sign. sign == o) (92 ∷ codes "()[]{}*+?^$|")
 
--- the URI text of a component, which has no special sign and no >
+-- the URI text of a component, without special characters and without >
 abbrev pub IsText : List ℕ → Field → Type 0
 IsText text c =
     AllByRecursion (λ o. (is_special o ≡ false) × (o ≢ 62)) text × ReadsComponent text c
     × IsComponent c
 
--- a text between < and >
+-- the text of a component between < and >
 abbrev pub IsQuoted : List ℕ → Field → Type 0
 IsQuoted text c = (inner : List ℕ) × (text ≡ codes "<" ++ (inner ++ codes ">")) × IsText inner c
 
--- such texts, one after the other
+-- components' texts one after another, each between < and >
 abbrev pub AreQuoted : List ℕ → List Field → Type 0
 AreQuoted text [] = text ≡ []
 AreQuoted text (c ∷ cs) =
     (front rest : List ℕ) × (text ≡ front ++ rest) × IsQuoted front c × AreQuoted rest cs
 
--- <> for anything, one text for one component, a list for one of several, and a list that begins
--- with ^ for none of them
+-- The text of a test: <> for any component, one text for that component, a list for any component
+-- in it, and a list that begins with ^ for any component not in it.
 abbrev pub IsTestText : List ℕ → PlainTest → Type 0
 IsTestText text Anything = text ≡ codes "<>"
 IsTestText text (OneOf cs) =
@@ -42,7 +42,8 @@ IsTestText text (NoneOf cs) =
 abbrev pub IsCount : List ℕ → ℕ → Type 0
 IsCount text n = IsNumeral 10 text × (digits_value 10 text ≡ n) × (n ≤ 64)
 
--- between braces: n, or n, with a comma after it, or a comma and m, or n, a comma and m
+-- the text between the braces of a range: n, or n and a comma, or a comma and m, or n, a comma and
+-- m
 abbrev pub IsRange : List ℕ → ℕ → Option ℕ → Type 0
 IsRange text least None = (low : List ℕ) × (text ≡ low ++ codes ",") × IsCount low least
 IsRange text least (Some most) =
@@ -51,7 +52,7 @@ IsRange text least (Some most) =
     ⊎ ((low high : List ℕ) × (text ≡ low ++ (codes "," ++ high)) × IsCount low least
     × IsCount high most × (least ≤ most)))
 
--- * + ? or a range in braces
+-- the text of a repeat: * + ? or a range in braces
 abbrev pub IsRepeat : List ℕ → Bounds → Type 0
 IsRepeat text bounds =
     ((text ≡ codes "*") × (bounds.least ≡ 0) × (bounds.most ≡ None))
@@ -60,7 +61,8 @@ IsRepeat text bounds =
     ⊎ ((inner : List ℕ) × (text ≡ codes "{" ++ (inner ++ codes "}"))
     × IsRange inner bounds.least bounds.most)))
 
--- a test, and what repeats it; without that, one component is taken
+-- the text of an atom: a test, and an optional repeat; without a repeat the atom takes one
+-- component
 abbrev pub IsAtom : List ℕ → PlainAtom → Type 0
 IsAtom text atom =
     (front rest : List ℕ) × (text ≡ front ++ rest) × IsTestText front atom.test
@@ -71,7 +73,7 @@ AreAtoms text [] = text ≡ []
 AreAtoms text (atom ∷ atoms) =
     (front rest : List ℕ) × (text ≡ front ++ rest) × IsAtom front atom × AreAtoms rest atoms
 
--- an atom alone, or a group of atoms
+-- A single atom, or a group of atoms.
 pub data Item : Type 0 where
   Alone : PlainAtom → Item
   Group : List PlainAtom → Item
@@ -90,13 +92,13 @@ abbrev pub item_atoms : Item → List PlainAtom
 item_atoms (Alone atom) = atom ∷ []
 item_atoms (Group atoms) = atoms
 
--- the groups of items, where n atoms come before them
+-- the groups of items that follow n atoms
 abbrev pub groups_from : ℕ → List Item → List (ℕ × ℕ)
 groups_from n [] = []
 groups_from n (Alone atom ∷ items) = groups_from (n + 1) items
 groups_from n (Group atoms ∷ items) = (n, n + length atoms) ∷ groups_from (n + length atoms) items
 
--- an anchor at an end of the text, or the atom that is implied in its place
+-- an anchor at one end of the text, or the atom that is implied if the anchor is missing
 abbrev pub IsAnchor : List ℕ → List ℕ → List PlainAtom → Type 0
 IsAnchor sign text atoms = ((text ≡ sign) × (atoms ≡ [])) ⊎ ((text ≡ []) × (atoms ≡ anything ∷ []))
 

@@ -18,19 +18,19 @@ abbrev pub at_most : Option ℕ → ℕ → ℕ
 at_most None n = n
 at_most (Some most) n = min most n
 
--- how many components from the first on pass the test
+-- the number of components that pass the test before the first one that fails
 abbrev pub run_of : PlainTest → List Field → ℕ
 run_of test cs = prefix_len (passes test) cs
 
--- the greatest number from least up to n that can be taken
+-- the greatest number from `least` up to n that can be taken
 unfoldable pub greatest : (ℕ → Bool) → ℕ → ℕ → Option ℕ
 greatest can_take least zero = if (least == 0) && can_take 0 then Some 0 else None
 greatest can_take least (suc n) =
     if nat_lt (suc n) least then None else (
     if can_take (suc n) then Some (suc n) else greatest can_take least n)
 
--- The count of the first atom in the greatest split: the greatest in its bounds after which the
--- other atoms have a split. Where there is no atom, 0 means the split of no components.
+-- The count of the first atom in the greatest split: the greatest count within its bounds after
+-- which the other atoms have a split. Without atoms, the count is 0 if there are no components.
 unfoldable pub first_count : List PlainAtom → List Field → Option ℕ
 first_count [] [] = Some 0
 first_count [] (c ∷ cs) = None
@@ -38,14 +38,14 @@ first_count (atom ∷ atoms) cs =
     greatest (λ count. is_some (first_count atoms (drop count cs))) atom.bounds.least
     (at_most atom.bounds.most (run_of atom.test cs))
 
--- all counts of the greatest split, if there is one
+-- all counts of the greatest split, if there is a split
 unfoldable pub greedy : List PlainAtom → List Field → Option (List ℕ)
 greedy [] cs = option_map (λ count. []) (first_count [] cs)
 greedy (atom ∷ atoms) cs =
     option_and_then (λ count. option_map (λ counts. count ∷ counts) (greedy atoms (drop count cs)))
     (first_count (atom ∷ atoms) cs)
 
--- a place is among some, which are the bits of a number
+-- whether a position is in a set, which is stored as the bits of a number
 abbrev pub has_place : ℕ → ℕ → Bool
 has_place places place = bit_at places place == 1
 
@@ -53,40 +53,40 @@ abbrev pub passes_there : PlainTest → Option Field → Bool
 passes_there test None = false
 passes_there test (Some c) = passes test c
 
--- the places of the components that pass the test
+-- `places` are the positions of the components that pass the test
 abbrev pub ArePassed : PlainTest → List Field → ℕ → Type 0
 ArePassed test cs places =
     (place : ℕ) → has_place places place ≡ passes_there test (slice_get cs place)
 
--- the places from which on the atoms have a split of the components
+-- `places` are the positions from which the atoms have a split of the remaining components
 abbrev pub AreSplit : List PlainAtom → List Field → ℕ → Type 0
 AreSplit atoms cs places =
     (place : ℕ) → place ≤ length cs
     → has_place places place ≡ is_some (first_count atoms (drop place cs))
 
--- the row of the first of some atoms: which components pass its test, all at places below 64, and
--- from where on there is a split
+-- The row of the first of these atoms: which components pass its test, at positions below 64, and
+-- from which positions there is a split.
 abbrev pub IsRow : List PlainAtom → List Field → Row → Type 0
 IsRow [] cs row = AreSplit [] cs row.split
 IsRow (atom ∷ atoms) cs row = ArePassed atom.test cs row.passed × (row.passed < 2 ^ 64)
     × AreSplit (atom ∷ atoms) cs row.split
 
--- a table has a row for the atoms from each of them on, from the first that is needed
+-- the table has a valid row for each atom from `first` on, and for the end
 abbrev pub IsTable : ℕ → List PlainAtom → List Field → List Row → Type 0
 IsTable first atoms cs rows =
     (i : ℕ) → first ≤ i → i ≤ length atoms → IsSomeAnd (slice_get rows i) (IsRow (drop i atoms) cs)
 
--- the places in front of each atom and after the last, by the counts of the atoms
+-- `starts` are the positions before each atom and after the last one, given the counts of the atoms
 abbrev pub AreStarts : List PlainAtom → List ℕ → List ℕ → Type 0
 AreStarts atoms counts starts =
     (i : ℕ) → i ≤ length atoms → slice_get starts i ≡ Some (sum (take i counts))
 
--- counts in front of others
+-- the counts `done` before the later ones
 abbrev pub after_counts : List ℕ → Option (List ℕ) → Option (List ℕ)
 after_counts done later = option_map (λ counts. done ++ counts) later
 
--- the first i atoms have these counts in the greatest split, if there is one, and these end at this
--- place
+-- The counts `done` are those of the first i atoms in the greatest split, if there is a split. The
+-- components that these atoms take end before `place`.
 pub record IsTaken (atoms : List PlainAtom) (cs : List Field) (i place : ℕ)
     (starts done : List ℕ) : Type 0 where
   pub len : length done ≡ i

@@ -1,16 +1,16 @@
--- Which names a pattern matches, and what its groups then capture.
+-- Which names a pattern matches, and what its groups capture.
 use Rattle.std.specs.Prelude.{◌≡◌, ℕ, ◌<◌, ◌≤◌, ◌⊎◌, List, [], ◌∷◌, length, take, drop, map, sum, Option, Some, None, ⊤}
 use Rattle.std.specs.List.{AllByRecursion}
 use Rattle.ndn_tlv.specs.Element.{Field}
 use Rattle.ndn_names.specs.Order.{DiffersBelow}
 use Rattle.name_patterns.specs.Pattern.{PlainTest, Anything, OneOf, NoneOf, PlainAtom, PlainPattern}
 
--- a component is one of these
+-- the component is in the list
 abbrev pub IsAmong : Field → List Field → Type 0
 IsAmong c [] = ⊥
 IsAmong c (other ∷ others) = (other ≡ c) ⊎ IsAmong c others
 
--- a component passes a test
+-- the component passes the test
 abbrev pub Passes : PlainTest → Field → Type 0
 Passes Anything c = ⊤
 Passes (OneOf cs) c = IsAmong c cs
@@ -20,9 +20,9 @@ abbrev pub IsAtMost : ℕ → Option ℕ → Type 0
 IsAtMost count None = ⊤
 IsAtMost count (Some most) = count ≤ most
 
--- A split of components gives each atom in turn a count of them. The count is within the atom's
--- bounds, the name has that many components, and each of them passes the atom's test. The atoms
--- after it split the components after those.
+-- A split gives each atom in order a number of components. That count is within the atom's bounds,
+-- enough components are left, and each of them passes the atom's test. The later atoms split the
+-- remaining components.
 abbrev pub IsSplit : List PlainAtom → List Field → List ℕ → Type 0
 IsSplit [] cs counts = (cs ≡ []) × (counts ≡ [])
 IsSplit (atom ∷ atoms) cs [] = ⊥
@@ -30,27 +30,27 @@ IsSplit (atom ∷ atoms) cs (count ∷ counts) =
     (atom.bounds.least ≤ count) × IsAtMost count atom.bounds.most × (count ≤ length cs)
     × AllByRecursion (Passes atom.test) (take count cs) × IsSplit atoms (drop count cs) counts
 
--- no components are split so
+-- the components have no split
 abbrev pub HasNoSplit : List PlainAtom → List Field → Type 0
 HasNoSplit atoms cs = (counts : List ℕ) → IsSplit atoms cs counts → ⊥
 
--- The split whose list of counts is the greatest, compared from the left: where another differs
--- from it first, the other has less.
+-- The split whose list of counts is the greatest, compared from the left: at the first difference,
+-- any other split has the lesser count.
 pub record IsGreatestSplit (atoms : List PlainAtom) (cs : List Field)
     (counts : List ℕ) : Type 0 where
   pub split : IsSplit atoms cs counts
   pub greatest : (other : List ℕ) → IsSplit atoms cs other → (other ≡ counts)
       ⊎ DiffersBelow ◌<◌ other counts
 
--- the places in a name where a group begins and ends, by the counts of the atoms
+-- the positions in a name at which a group begins and ends, given the counts of the atoms
 abbrev pub group_places : List ℕ → ℕ × ℕ → ℕ × ℕ
 group_places counts group = (sum (take group.0 counts), sum (take group.1 counts))
 
--- the places of all groups; group 0 is the whole name
+-- the positions of all groups; group 0 is the whole name
 abbrev pub places_of : PlainPattern → List Field → List ℕ → List (ℕ × ℕ)
 places_of pattern cs counts = (0, length cs) ∷ map (group_places counts) pattern.groups
 
--- the pattern matches the name of these components, and its groups are at these places
+-- the pattern matches the name with these components, and its groups are at these positions
 abbrev pub Match : PlainPattern → List Field → List (ℕ × ℕ) → Type 0
 Match pattern cs places =
     (counts : List ℕ) × IsGreatestSplit pattern.atoms cs counts

@@ -1,4 +1,4 @@
--- Reading a pattern's text from left to right, with the first faulty item.
+-- Reading a pattern's text from left to right, up to the first faulty item.
 use Rattle.std.specs.Prelude.{ℕ, zero, suc, ◌+◌, ◌-◌, ◌<◌, ◌≤◌, IfSome, List, [], ◌∷◌, ◌++◌, length, Option, Some, None, Result, Ok, Err, Bool, false, not, nat_lt, nat_le, ◌==◌, ◌&&◌, ◌||◌, codes, bytes_eq, is_some, if◌then◌else◌}
 use Rattle.std.specs.List.{list_any, AllByRecursion}
 use Rattle.std.specs.Option.{option_map_or}
@@ -19,32 +19,33 @@ abbrev pub ◌>>=◌ : {A B : Type 0} → Option A → (A → Option B) → Opti
 None >>= f = None
 (Some x) >>= f = f x
 
--- the text has a special sign
+-- the text contains a special character
 abbrev pub has_special : List ℕ → Bool
 has_special text = list_any is_special text
 
--- the component of a text
+-- the component that a text encodes
 abbrev pub text_in : List ℕ → Option Field
 text_in text = on_result (λ c. Some c) (λ _. None) (piece_in text)
 
--- a part of a pattern, whether a text of it has a special sign, and the text after it
+-- What is read at the front of a text, whether a component's text in it contains a special
+-- character, and the remaining text.
 pub record FrontPart (A : Type 0) : Type 0 where
   pub part : A
   pub is_inner : Bool
   pub rest : List ℕ
 
--- a text between < and the first > after it; it may be empty
+-- the text between < and the first > after it, which may be empty, and the remaining text
 abbrev pub quoted_in : List ℕ → Option (List ℕ × List ℕ)
 quoted_in [] = None
 quoted_in (o ∷ text) = if o == 60 then cut_at 62 text else None
 
--- no text, up to the bracket that closes a list
+-- the end of a list: no more texts before the closing bracket
 abbrev pub list_end : List ℕ → Option (FrontPart (List Field))
 list_end [] = None
 list_end (o ∷ text) =
     if o == 93 then Some (record { part = []; is_inner = false; rest = text }) else None
 
--- at most n texts between < and >, up to the bracket that closes a list
+-- at most n texts between < and >, up to the bracket that closes the list
 unfoldable pub listed_within : ℕ → List ℕ → Option (FrontPart (List Field))
 listed_within zero text = list_end text
 listed_within (suc n) text = option_map_or
@@ -58,19 +59,19 @@ listed_within (suc n) text = option_map_or
       }))
     (quoted_in text) (list_end text)
 
--- one text or more, up to the bracket that closes the list
+-- one or more texts, up to the bracket that closes the list
 abbrev pub list_in : (List Field → PlainTest) → List ℕ → Option (FrontPart PlainTest)
 list_in test text = do
   listed ← listed_within (length text) text
   if length listed.part == 0 then None
       else Some (record { part = test listed.part; is_inner = listed.is_inner; rest = listed.rest })
 
--- a list, after its first bracket
+-- the test of a list, after its opening bracket
 abbrev pub bracketed_in : List ℕ → Option (FrontPart PlainTest)
 bracketed_in [] = list_in OneOf []
 bracketed_in (o ∷ text) = if o == 94 then list_in NoneOf text else list_in OneOf (o ∷ text)
 
--- a text between < and >, which may be empty
+-- the test of a text between < and >, which may be empty
 abbrev pub quoted_test_in : List ℕ → Option (FrontPart PlainTest)
 quoted_test_in text = do
   quoted ← quoted_in text
@@ -79,18 +80,18 @@ quoted_test_in text = do
         c ← text_in quoted.0
         Some (record { part = OneOf (c ∷ []); is_inner = has_special quoted.0; rest = quoted.1 }))
 
--- a test at the front of the text
+-- the test at the front of the text
 unfoldable pub test_in : List ℕ → Option (FrontPart PlainTest)
 test_in [] = None
 test_in (o ∷ text) = if o == 91 then bracketed_in text else quoted_test_in (o ∷ text)
 
--- a number from 0 to 64
+-- the number from 0 to 64 in decimal digits
 abbrev pub count_in : List ℕ → Option ℕ
 count_in text =
     if all_ascii_digits text && (nat_lt 0 (length text) && nat_le (digits_value 10 text) 64)
     then Some (digits_value 10 text) else None
 
--- the range of the texts before and after a comma, not both of which are empty
+-- the range with these texts before and after its comma; at most one of them is empty
 abbrev pub range_by_comma : List ℕ → List ℕ → Option Bounds
 range_by_comma low high =
     if length high == 0 then (do
@@ -111,19 +112,19 @@ range_by_cut text None = do
 unfoldable pub range_in : List ℕ → Option Bounds
 range_in text = range_by_cut text (cut_at 44 text)
 
--- a repeat begins with one of these signs
+-- the text begins with one of the characters that begin a repeat
 abbrev pub begins_repeat : List ℕ → Bool
 begins_repeat [] = false
 begins_repeat (o ∷ text) = list_any (λ sign. sign == o) (codes "*+?{")
 
--- a repeat in braces, after the first of them
+-- a repeat in braces, after its opening brace
 abbrev pub braced_in : List ℕ → Option (Bounds × List ℕ)
 braced_in text = do
   parts ← cut_at 125 text
   bounds ← range_in parts.0
   Some (bounds, parts.1)
 
--- a repeat at the front of the text, where no repeat means one component
+-- the repeat at the front of the text; without a repeat, one component is taken
 unfoldable pub repeat_in : List ℕ → Option (Bounds × List ℕ)
 repeat_in [] = Some (once, [])
 repeat_in (o ∷ text) =
@@ -133,7 +134,7 @@ repeat_in (o ∷ text) =
     if o == 63 then Some (record { least = 0; most = Some 1 }, text) else
     Some (once, o ∷ text))))
 
--- an atom at the front of the text
+-- the atom at the front of the text
 unfoldable pub atom_in : List ℕ → Option (FrontPart PlainAtom)
 atom_in text = do
   test ← test_in text
@@ -144,15 +145,15 @@ atom_in text = do
     rest = bounds.1;
   })
 
--- what is read of a pattern: its atoms, how many of them are written, its groups, and the group
--- that is open
+-- What has been read of a pattern: its atoms, the number of written atoms, its groups, and the
+-- group that is open.
 pub record PlainDraft : Type 0 where
   pub atoms : List PlainAtom
   pub written : ℕ
   pub groups : List (ℕ × ℕ)
   pub open_group : Option OpenGroup
 
--- an atom at this place, after the draft
+-- the draft after the atom at offset `at` is added
 abbrev pub with_atom : PlainDraft → ℕ → List ℕ → Result (PlainDraft × List ℕ) PatternFault
 with_atom draft at text = on_result
     (λ found.
@@ -167,7 +168,7 @@ with_atom draft at text = on_result
     )))
     Err (read_at at (atom_in text))
 
--- a parenthesis at this place that opens a group
+-- the draft after a parenthesis at offset `at` opens a group
 abbrev pub with_open : PlainDraft → ℕ → List ℕ → Option OpenGroup
     → Result (PlainDraft × List ℕ) PatternFault
 with_open draft at text (Some group) = Err (Nested at)
@@ -181,7 +182,8 @@ with_open draft at text None =
       text,
     )
 
--- A parenthesis at this place that closes a group. No repeat follows it.
+-- The draft after a parenthesis at offset `at` closes a group. No repeat may follow the
+-- parenthesis.
 abbrev pub with_closed : PlainDraft → ℕ → List ℕ → Option OpenGroup
     → Result (PlainDraft × List ℕ) PatternFault
 with_closed draft at text None = Err (Syntax at)
@@ -196,7 +198,7 @@ with_closed draft at text (Some group) =
       text,
     )
 
--- the item at this place: a parenthesis, or an atom
+-- the draft after the item at offset `at` is added: a parenthesis or an atom
 abbrev pub with_item : PlainDraft → ℕ → List ℕ → Result (PlainDraft × List ℕ) PatternFault
 with_item draft at [] = with_atom draft at []
 with_item draft at (o ∷ text) =
@@ -204,14 +206,15 @@ with_item draft at (o ∷ text) =
     if o == 41 then with_closed draft at text draft.open_group else
     with_atom draft at (o ∷ text))
 
--- the text has a closing parenthesis outside of all < and >; at first the text is inside of them,
--- or not
+-- whether the text contains a closing parenthesis outside all < and >; `is_inside` says whether the
+-- text begins between < and >
 unfoldable pub is_closed : Bool → List ℕ → Bool
 is_closed is_inside [] = false
 is_closed is_inside (o ∷ text) =
     if is_inside then is_closed (not (o == 62)) text else ((o == 41) || is_closed (o == 60) text)
 
--- of a fault in front of this text: a group that is never closed is the item before it
+-- The fault to report when an item before this text is faulty: if the open group is never closed,
+-- its parenthesis comes first.
 abbrev pub first_fault : Option OpenGroup → List ℕ → PatternFault → PatternFault
 first_fault None text fault = fault
 first_fault (Some group) text fault = if is_closed false text then fault else Syntax group.place
@@ -221,11 +224,11 @@ abbrev pub whole_of : PlainDraft → Option OpenGroup → Result PlainPattern Pa
 whole_of draft (Some group) = Err (Syntax group.place)
 whole_of draft None = Ok (record { atoms = draft.atoms; groups = draft.groups })
 
--- the draft with the atom that is implied where an anchor is missing
+-- the draft with the atom that is implied by a missing anchor
 abbrev pub with_implied : PlainDraft → PlainDraft
 with_implied draft = record draft { atoms = draft.atoms ++ anything ∷ [] }
 
--- the pattern at the end of the text, or in front of its last anchor
+-- the pattern at the end of the text, or before its last anchor
 abbrev pub at_end : PlainDraft → List ℕ → Result PlainPattern PatternFault
 at_end draft [] = whole_of (with_implied draft) draft.open_group
 at_end draft (o ∷ text) = whole_of draft draft.open_group
@@ -233,7 +236,8 @@ at_end draft (o ∷ text) = whole_of draft draft.open_group
 abbrev pub is_end : List ℕ → Bool
 is_end text = (length text == 0) || bytes_eq text (codes "$")
 
--- the pattern of a text of this length, of which a rest is left; at most n more items are read
+-- the pattern of a text of length `len`, the end of which is still to be read; at most n more items
+-- are read
 unfoldable pub items_within : ℕ → ℕ → PlainDraft → List ℕ → Result PlainPattern PatternFault
 items_within zero len draft text = at_end draft text
 items_within (suc n) len draft text =
@@ -249,7 +253,7 @@ items_in len draft text = items_within (length text) len draft text
 abbrev pub begun : PlainDraft
 begun = record { atoms = []; written = 0; groups = []; open_group = None }
 
--- the pattern of a text of this length after its first anchor
+-- the pattern of a text of length `len`, at its first anchor
 abbrev pub pattern_after : ℕ → List ℕ → Result PlainPattern PatternFault
 pattern_after len [] = items_in len (with_implied begun) []
 pattern_after len (o ∷ text) =
@@ -259,7 +263,7 @@ pattern_after len (o ∷ text) =
 unfoldable pub pattern_in : List ℕ → Result PlainPattern PatternFault
 pattern_in text = pattern_after (length text) text
 
--- the limits that a draft obeys, at most this many of whose atoms are implied
+-- The limits of a draft with at most `implied` implied atoms.
 pub record IsDraft (implied : ℕ) (draft : PlainDraft) : Type 0 where
   pub few_written : draft.written ≤ 32
   pub few_atoms : length draft.atoms ≤ draft.written + implied

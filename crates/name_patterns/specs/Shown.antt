@@ -1,4 +1,4 @@
--- What private parts show.
+-- What private types show.
 use Rattle.std.specs.Prelude.{map}
 use Rattle.ndn_tlv.specs.Element.{Field}
 use Rattle.name_patterns.specs.declared.text.Text.{Text}

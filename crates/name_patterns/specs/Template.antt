@@ -1,4 +1,4 @@
--- Templates: which texts spell them, and the names that they expand to.
+-- Templates: which texts spell them, and which names they expand to.
 use Rattle.std.specs.Prelude.{◌≡◌, ℕ, ◌+◌, ◌-◌, ◌≤◌, List, [], ◌∷◌, ◌++◌, length, take, drop, slice_get, IsSomeAnd, ⊤}
 use Rattle.std.specs.List.{flat_map, AllByRecursion}
 use Rattle.std.specs.Option.{option_map_or}
@@ -7,44 +7,44 @@ use Rattle.ndn_names.specs.Name.{IsComponent}
 use Rattle.name_patterns.specs.Pattern.{LiesIn}
 use Rattle.name_patterns.specs.Grammar.{IsQuoted}
 
--- a part of a template: a group by its number, or a component
+-- A part of a template: a group, by its number, or a component.
 pub data PlainPart : Type 0 where
   OfGroup : ℕ → PlainPart
   Single : Field → PlainPart
 
--- a backslash and a digit, for a group that is there, or the text of a component between < and >
+-- the text of a part: a backslash and the digit of an existing group, or the text of a component
+-- between < and >
 abbrev pub IsPart : ℕ → List ℕ → PlainPart → Type 0
 IsPart groups text (OfGroup n) = (text ≡ 92 ∷ (48 + n) ∷ []) × (n ≤ 9) × (n ≤ groups)
 IsPart groups text (Single c) = IsQuoted text c
 
--- the text spells the template of these parts, for a pattern with this many groups
+-- the text spells the template with these parts, for a pattern with this many groups
 abbrev pub IsTemplate : ℕ → List ℕ → List PlainPart → Type 0
 IsTemplate groups text [] = text ≡ []
 IsTemplate groups text (part ∷ parts) =
     (front rest : List ℕ) × (text ≡ front ++ rest) × IsPart groups front part
     × IsTemplate groups rest parts
 
--- the part of a list from one place up to another
+-- the components from the first position up to the second
 abbrev pub between : List Field → ℕ × ℕ → List Field
 between cs places = take (places.1 - places.0) (drop places.0 cs)
 
--- the components of a part
+-- the components that a part expands to
 abbrev pub part_of : List (ℕ × ℕ) → List Field → PlainPart → List Field
 part_of captures cs (OfGroup n) = option_map_or (between cs) (slice_get captures n) []
 part_of captures cs (Single c) = c ∷ []
 
--- the components of the parts, one after the other, where the groups are at these places of the
--- name
+-- the components that the parts expand to, in order, given the positions of the groups in the name
 abbrev pub expansion_of : List PlainPart → List (ℕ × ℕ) → List Field → List Field
 expansion_of parts captures cs = flat_map (part_of captures cs) parts
 
--- how many components a part has, by the places of its group
+-- the number of components that a part expands to, given the positions of the groups
 abbrev pub part_len : List (ℕ × ℕ) → PlainPart → ℕ
 part_len captures (OfGroup n) =
     option_map_or (λ places. places.1 - places.0) (slice_get captures n) 0
 part_len captures (Single c) = 1
 
--- a part's group is among the captures, and lies within the name
+-- the part's group is among the captures, and lies within the name
 abbrev pub IsThere : List (ℕ × ℕ) → List Field → PlainPart → Type 0
 IsThere captures cs (OfGroup n) = IsSomeAnd (slice_get captures n) (LiesIn (length cs))
 IsThere captures cs (Single c) = ⊤
@@ -52,7 +52,7 @@ IsThere captures cs (Single c) = ⊤
 abbrev pub AreThere : List (ℕ × ℕ) → List Field → List PlainPart → Type 0
 AreThere captures cs parts = AllByRecursion (IsThere captures cs) parts
 
--- the parts need no more than this many groups
+-- the part is a component, or a group with a number of at most `groups`
 abbrev pub NeedsGroup : ℕ → PlainPart → Type 0
 NeedsGroup groups (OfGroup n) = n ≤ groups
 NeedsGroup groups (Single c) = ⊤
@@ -60,7 +60,7 @@ NeedsGroup groups (Single c) = ⊤
 abbrev pub NeedAtMost : ℕ → List PlainPart → Type 0
 NeedAtMost groups parts = AllByRecursion (NeedsGroup groups) parts
 
--- the parts that are components can be in a name
+-- the part is a group, or a component that can be in a name
 abbrev pub CanStand : PlainPart → Type 0
 CanStand (OfGroup n) = ⊤
 CanStand (Single c) = IsComponent c

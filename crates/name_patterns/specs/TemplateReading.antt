@@ -1,4 +1,4 @@
--- Reading a template's text from left to right, with the first faulty part.
+-- Reading a template's text from left to right, up to the first faulty part.
 use Rattle.std.specs.Prelude.{ℕ, zero, suc, ◌-◌, List, [], ◌∷◌, length, Option, Some, None, Result, Ok, Err, nat_lt, nat_le, ◌==◌, ◌&&◌, if◌then◌else◌}
 use Rattle.ndn_tlv.specs.Element.{Field}
 use Rattle.ndn_tlv.specs.Reading.{on_result}
@@ -8,37 +8,38 @@ use Rattle.name_patterns.specs.Template.{PlainPart, OfGroup, Single}
 use Rattle.name_patterns.specs.PatternReading.{◌>>=◌, FrontPart, has_special, text_in, quoted_in}
 use Rattle.name_patterns.specs.Faults.{read_at}
 
--- a decimal digit at the front
+-- the decimal digit at the front of the text, and the remaining text
 abbrev pub digit_in : List ℕ → Option (ℕ × List ℕ)
 digit_in [] = None
 digit_in (o ∷ text) = if nat_le 48 o && nat_le o 57 then Some (o - 48, text) else None
 
--- a group by its digit, after a backslash at this place
+-- the group whose digit is at the front of the text, after a backslash at offset `at`
 abbrev pub group_in : ℕ → ℕ → List ℕ → Result (PlainPart × List ℕ) PatternFault
 group_in groups at text =
     on_result (λ digit. if nat_lt groups digit.0 then Err (BadGroup at)
     else Ok (OfGroup digit.0, digit.1)) Err (read_at at (digit_in text))
 
--- the component of a text between < and >
+-- the component in the text between < and >
 abbrev pub single_in : List ℕ → Option (FrontPart Field)
 single_in text = do
   quoted ← quoted_in text
   c ← text_in quoted.0
   Some (record { part = c; is_inner = has_special quoted.0; rest = quoted.1 })
 
--- such a text at this place, as a part
+-- the part between < and > at offset `at`
 abbrev pub single_part_in : ℕ → List ℕ → Result (PlainPart × List ℕ) PatternFault
 single_part_in at text =
     on_result (λ found. if found.is_inner then Err (Inner at)
     else Ok (Single found.part, found.rest)) Err (read_at at (single_in text))
 
--- a part at this place
+-- the part at offset `at`
 abbrev pub part_in : ℕ → ℕ → List ℕ → Result (PlainPart × List ℕ) PatternFault
 part_in groups at [] = Err (Syntax at)
 part_in groups at (o ∷ text) =
     if o == 92 then group_in groups at text else single_part_in at (o ∷ text)
 
--- the parts of a text of this length, of which a rest is left; at most n more parts are read
+-- the parts of a text of length `len`, the end of which is still to be read; at most n more parts
+-- are read
 unfoldable pub parts_within : ℕ → ℕ → ℕ → List ℕ → Result (List PlainPart) PatternFault
 parts_within zero groups len text = Ok []
 parts_within (suc n) groups len text =

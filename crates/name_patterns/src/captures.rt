@@ -2,10 +2,10 @@
 
 use std::marker::Model;
 
-/// The greatest number of groups, the whole name among them.
+/// The greatest number of groups, including group 0, which is the whole name.
 const MAX_GROUPS: usize = 10;
 
-/// The places in a name where the groups of a pattern begin and end.
+/// The positions in a name at which the groups of a pattern begin and end.
 #[derive(Debug, Drop)]
 pub struct Captures {
     places: [(usize, usize); MAX_GROUPS],
@@ -25,7 +25,7 @@ impl Model for Captures {
 impl Captures {
     ghost use Rattle.std.specs.Prelude.{◌≡◌, ◌<◌, ◌∷◌, ◌++◌, [], length, slice_get};
 
-    /// Group 0: the whole of a name of this many components.
+    /// Returns group 0: the whole name, which has `len` components.
     pub(crate) fn of_name(len: usize) -> Captures
         ensures { result ≡ (0, len) ∷ [] }
     {
@@ -35,7 +35,7 @@ impl Captures {
         }
     }
 
-    /// Adds the next group.
+    /// Appends the next group.
     pub(crate) fn push(&mut self, places: (usize, usize))
         requires { length self.old < 10 }
         ensures { self.new ≡ self.old ++ places ∷ [] }
@@ -44,8 +44,8 @@ impl Captures {
         self.count += 1;
     }
 
-    /// The place of the first component of a group, and the place after its last, counted from 0.
-    /// Group 0 is the whole name, the others are counted from 1 on.
+    /// Returns the index of a group's first component, and the index after its last one, counted
+    /// from 0. Group 0 is the whole name, and the other groups are numbered from 1.
     pub fn group(&self, i: usize) -> Option<(usize, usize)>
         ensures { result ≡ slice_get self.now i }
     {

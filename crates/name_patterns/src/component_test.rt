@@ -8,7 +8,7 @@ ghost use Rattle.name_patterns.specs.Shown.{field_of};
 use crate::text::Text;
 use ndn_names::Component;
 
-/// The test of a component.
+/// Which components pass a test.
 #[derive(Debug, Drop)]
 enum Choice {
     Anything,
@@ -16,7 +16,7 @@ enum Choice {
     NoneOf(Vec<Text>),
 }
 
-/// A test of a component.
+/// A test that a component passes or fails.
 #[derive(Debug, Drop)]
 pub struct Test {
     choice: Choice,
@@ -29,7 +29,7 @@ impl Test {
     ghost use Rattle.name_patterns.specs.Greedy.{passes};
     ghost use Rattle.name_patterns.specs.Shown.{field_of, test_of};
 
-    /// Every component passes.
+    /// Returns the test that every component passes.
     pub fn anything() -> Test
         ensures { test_of result ≡ Anything }
     {
@@ -38,7 +38,7 @@ impl Test {
         }
     }
 
-    /// The components of these texts pass.
+    /// Returns the test that the components with these texts pass.
     pub fn one_of(texts: Vec<Text>) -> Test
         ensures { test_of result ≡ OneOf (map field_of texts.items) }
     {
@@ -47,7 +47,7 @@ impl Test {
         }
     }
 
-    /// All but the components of these texts pass.
+    /// Returns the test that all components pass except those with these texts.
     pub fn none_of(texts: Vec<Text>) -> Test
         ensures { test_of result ≡ NoneOf (map field_of texts.items) }
     {
@@ -56,7 +56,7 @@ impl Test {
         }
     }
 
-    /// Whether every component passes, so that none has to be tested.
+    /// Returns whether every component passes, so that no component needs a test.
     #[inline(always)]
     pub fn is_anything(&self) -> bool
         ensures { IsTrue result ↔ (test_of self.now ≡ Anything) }
@@ -64,7 +64,8 @@ impl Test {
         matches!(&self.choice, Choice::Anything)
     }
 
-    /// Whether a component passes. Nothing else tests one, and each call is one more test.
+    /// Returns whether a component passes, and adds one to `tests`. Components are tested only
+    /// here.
     pub fn passes(&self, candidate: Component<'_>, tests: &mut u64) -> bool
         requires { tests.old + 1 < 2 ^ 64 }
         ensures exact { result ≡ passes (test_of self.now) (component candidate.entry) }
@@ -79,7 +80,7 @@ impl Test {
     }
 }
 
-/// Whether a component is one of these texts.
+/// Returns whether a component is one of those in `texts`.
 fn is_among(candidate: Component<'_>, texts: &[Text]) -> bool
     ensures { result ≡ is_among (component candidate.entry) (map field_of texts.now) }
 {

@@ -1,4 +1,4 @@
-//! Patterns as far as they are read.
+//! Patterns that have been read in part.
 
 use crate::atom::{Atom, any_components, read_atom};
 use crate::fault::PatternFault;
@@ -6,21 +6,22 @@ use crate::pattern::Pattern;
 use crate::repeat::{begins_repeat, first_repeat};
 use std::alloc::Global;
 
-/// The greatest number of atoms that are written in a pattern.
+/// The greatest number of atoms that can be written in a pattern.
 const MAX_WRITTEN: usize = 32;
 
 /// The greatest number of groups of a pattern.
 const MAX_GROUPS: usize = 9;
 
-/// A group that is not closed yet: the place of its parenthesis, and the number of atoms before it.
+/// A group that is still open: the offset of its parenthesis, and the number of atoms before it.
 #[derive(Clone, Copy, Debug)]
 pub struct OpenGroup {
     pub place: usize,
     pub first: usize,
 }
 
-/// What is read of a pattern: its atoms, how many of them are written, its groups, each by the
-/// number of atoms before it and before its end, and the group that is open.
+/// What has been read of a pattern: its atoms, the number of written atoms, its groups, and the
+/// group that is open. A group is a pair: the number of atoms before its first atom, and the number
+/// of atoms before its end.
 #[derive(Debug, Drop)]
 pub struct Draft {
     pub atoms: Vec<Atom>,
@@ -35,7 +36,7 @@ impl Draft {
     ghost use Rattle.name_patterns.specs.PatternReading.{PlainDraft, IsDraft, begun, with_atom, with_open, with_closed, with_item, with_implied, whole_of};
     ghost use Rattle.name_patterns.specs.Shown.{draft_of};
 
-    /// The draft without atoms.
+    /// Returns a draft without atoms.
     pub fn new(alloc: Global) -> Draft
         ensures { draft_of result ≡ begun }
     {
@@ -47,7 +48,7 @@ impl Draft {
         }
     }
 
-    /// Adds the atom that is implied where an anchor is missing.
+    /// Adds the atom that is implied by a missing anchor.
     pub fn imply(&mut self) -> Result<(), PatternFault>
         ensures ok { OnOk result (draft_of self.new ≡ with_implied (draft_of self.old)) }
         ensures err { IfErr result (λ fault. fault ≡ PatternFault.Memory) }
@@ -56,7 +57,8 @@ impl Draft {
         Ok(())
     }
 
-    /// Adds the atom at the front of the text, which is at this place; returns the text after it.
+    /// Adds the atom at the front of the text, at offset `at` of the pattern. Returns the remaining
+    /// text.
     fn add_atom<'a>(
         &mut self,
         alloc: Global,
@@ -79,7 +81,7 @@ impl Draft {
         Ok(found.rest)
     }
 
-    /// Opens a group, whose parenthesis is at this place and before this text.
+    /// Opens a group. Its parenthesis is at offset `at`, and `text` follows it.
     fn open_group(&mut self, at: usize, text: &str) -> Result<(), PatternFault>
         ensures { let next = with_open (draft_of self.old) at text.now self.old.open_group in
             MatchResult result (λ _. next ≡ Ok (draft_of self.new, text.now)) (IsFaultOf next) }
@@ -97,7 +99,7 @@ impl Draft {
         Ok(())
     }
 
-    /// Closes the open group by a parenthesis at this place and before this text.
+    /// Closes the open group. Its parenthesis is at offset `at`, and `text` follows it.
     fn close_group(&mut self, at: usize, text: &str) -> Result<(), PatternFault>
         requires { at + 1 < 2 ^ 64 }
         ensures { let next = with_closed (draft_of self.old) at text.now self.old.open_group in
@@ -117,7 +119,8 @@ impl Draft {
         Ok(())
     }
 
-    /// Adds the item at the front of the text, which is at this place; returns the text after it.
+    /// Adds the item at the front of the text, at offset `at` of the pattern. Returns the remaining
+    /// text.
     pub fn add_item<'a>(
         &mut self,
         alloc: Global,
@@ -140,7 +143,7 @@ impl Draft {
         self.add_atom(alloc, at, text)
     }
 
-    /// The pattern, at the end of the text.
+    /// Returns the pattern at the end of the text.
     pub fn finish(self) -> Result<Pattern, PatternFault>
         requires { IsDraft 2 (draft_of self) }
         ensures { result ≡ whole_of (draft_of self) self.open_group }

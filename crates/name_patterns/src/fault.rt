@@ -4,25 +4,25 @@ ghost use Rattle.name_patterns.specs.declared.fault.PatternFault.TheVariants as 
 use std::alloc::AllocFailed;
 use thiserror::Error;
 
-/// Why a text is no pattern, or no template: its leftmost faulty item, by the place of the item's
-/// first octet, counted from 0. Of several faults of one item the first in this order is reported,
-/// but `Memory` may come in place of any.
+/// Why a text is not a pattern, or not a template: the fault of the leftmost faulty item, with the
+/// offset of its first octet, counted from 0. If an item has several faults, the first one in this
+/// order is reported. `Memory` may be returned in place of any other fault.
 #[derive(Clone, Copy, Debug, PartialEq, Eq, Error)]
 pub enum PatternFault {
-    /// The text here is not in the grammar, or is the 33rd atom.
+    /// The text at this offset is not in the grammar, or is the 33rd atom.
     #[error("octet {0}: not part of a pattern")]
     Syntax(usize),
-    /// A component's text has one of the signs ( ) [ ] { } * + ? ^ $ \ |, which are for patterns
-    /// inside a component.
+    /// The text of a component contains one of the characters ( ) [ ] { } * + ? ^ $ \ |, which are
+    /// reserved for patterns inside components.
     #[error("octet {0}: a pattern inside a component")]
     Inner(usize),
-    /// A group in a group, or a group that is repeated.
+    /// A group is inside another group, or a group is repeated.
     #[error("octet {0}: a group that is nested or repeated")]
     Nested(usize),
-    /// A pattern's tenth group, or a group in a template that the pattern does not have.
+    /// A pattern has a tenth group, or a template uses a group that the pattern does not have.
     #[error("octet {0}: a group that does not exist, or one too many")]
     BadGroup(usize),
-    /// Out of memory.
+    /// Memory could not be allocated.
     #[error("out of memory")]
     Memory,
 }

@@ -1,4 +1,4 @@
-//! Patterns of names of Named Data Networking, and templates for names.
+//! Patterns for names of Named Data Networking, and templates for names.
 #![tactic(auto)]
 
 mod atom;

@@ -1,4 +1,4 @@
-//! Patterns of names.
+//! Patterns for names.
 
 use crate::atom::Atom;
 use crate::captures::Captures;
@@ -6,7 +6,7 @@ use crate::search::{Starts, first_split};
 use ndn_names::Name;
 use std::marker::Model;
 
-/// A pattern of names. It has at most 32 written atoms and 9 groups.
+/// A pattern for names, with at most 32 written atoms and 9 groups.
 #[derive(Debug, Drop)]
 pub struct Pattern {
     pub(crate) atoms: Vec<Atom>,
@@ -36,7 +36,7 @@ impl Pattern {
     ghost use Rattle.name_patterns.specs.Match.{HasNoSplit, Match};
     ghost use Rattle.name_patterns.specs.Template.{PlainPart, NeedAtMost, AreThere};
 
-    /// The number of groups, 9 at most. Group 0, the whole name, is not among them.
+    /// Returns the number of groups, at most 9, not counting group 0, which is the whole name.
     pub fn groups(&self) -> u8
         ensures exact { result ≡ length self.now.groups }
         ensures small { result ≤ 9 }
@@ -44,14 +44,14 @@ impl Pattern {
         self.groups.len() as u8
     }
 
-    /// What the groups capture, if the pattern matches the name: in the first split of the name in
-    /// which each atom in turn prefers more components. It takes no memory.
+    /// Returns what the groups capture, if the pattern matches the name. Each atom in order takes
+    /// as many components as a match allows. Nothing is allocated.
     pub fn matches(&self, name: Name<'_>) -> Option<Captures>
-        // What is given is the match.
+        // The captures in the result are those of the match.
         ensures found { IfSome result (Match self.now (components name.entry)) }
-        // Where nothing is given, there is no match.
+        // If the result is `None`, there is no match.
         ensures none { IfNone result (HasNoSplit self.now.atoms (components name.entry)) }
-        // Templates for this many groups can be expanded.
+        // Templates that need at most this many groups can be expanded.
         ensures there { IfSome result
             (λ captures. (parts : List PlainPart) → NeedAtMost (length self.now.groups) parts
             → AreThere captures (components name.entry) parts) }
@@ -60,8 +60,8 @@ impl Pattern {
         self.matches_counted(name, &mut steps)
     }
 
-    /// The same. Each test of an atom against a component adds one to the steps, and each atom,
-    /// implied ones included, is tested against each component once at most.
+    /// Returns what `matches` returns. Each test of an atom against a component adds one to
+    /// `steps`. Each atom, including implied ones, is tested against each component at most once.
     pub fn matches_counted(&self, name: Name<'_>, steps: &mut u64) -> Option<Captures>
         requires { steps.old + 1000000 < 2 ^ 64 }
         ensures found { IfSome result (Match self.now (components name.entry)) }
@@ -77,7 +77,8 @@ impl Pattern {
         Some(self.captures(&starts, len))
     }
 
-    /// The places of the groups, by those in front of each atom, in a name of this many components.
+    /// Returns the positions of the groups in a name of `len` components, given the positions
+    /// before each atom.
     fn captures(&self, starts: &Starts, len: usize) -> Captures
         ensures { result ≡ (0, len) ∷ map
             (λ group. (slice_index starts.now group.0, slice_index starts.now group.1))

@@ -12,7 +12,7 @@ use crate::fault::PatternFault;
 use crate::pattern::Pattern;
 use std::alloc::Global;
 
-/// Whether there is a closing parenthesis outside of all `<` and `>`.
+/// Returns whether the text contains a closing parenthesis outside all `<` and `>`.
 fn is_closed(text: &[u8]) -> bool
     ensures { result ≡ read.is_closed false text.now }
 {
@@ -29,8 +29,8 @@ fn is_closed(text: &[u8]) -> bool
     false
 }
 
-/// The fault to report of one in front of this text: a group that is never closed is the item
-/// before it.
+/// Returns the fault to report when an item before this text is faulty. If the open group is never
+/// closed, its parenthesis is the leftmost faulty item.
 fn first_fault(open_group: Option<OpenGroup>, text: &str, fault: PatternFault) -> PatternFault
     ensures { result ≡ read.first_fault open_group text.now fault }
 {
@@ -40,7 +40,8 @@ fn first_fault(open_group: Option<OpenGroup>, text: &str, fault: PatternFault) -
     }
 }
 
-/// The pattern of a text of this length, of which these items and the last anchor are left.
+/// Reads the rest of a pattern, `items`, including its last anchor. The whole text of the pattern
+/// has length `len`.
 fn read_items(alloc: Global, begun: Draft, len: usize, items: &str) -> Result<Pattern, PatternFault>
     requires limits { read.IsDraft 1 (draft_of begun) }
     requires rest { length items.now ≤ len }
@@ -63,7 +64,7 @@ fn read_items(alloc: Global, begun: Draft, len: usize, items: &str) -> Result<Pa
     draft.finish()
 }
 
-/// The pattern of a text.
+/// Reads the pattern of a text.
 fn read_pattern(alloc: Global, text: &str) -> Result<Pattern, PatternFault>
     ensures { MatchResult result (λ pattern. read.pattern_in text.now ≡ Ok pattern)
         (IsFaultOf (read.pattern_in text.now)) }
@@ -77,24 +78,24 @@ fn read_pattern(alloc: Global, text: &str) -> Result<Pattern, PatternFault>
 }
 
 impl Pattern {
-    /// Reads a pattern: `^`, items and `$`, where `<>*` is implied in place of an anchor that is
-    /// missing. An item is an atom or `(`, atoms and `)`, which is a group. An atom is `<>` for any
-    /// component, a component's URI text between `<` and `>`, or a list of such texts between `[`
-    /// or `[^` and `]`, for one of them or none of them; a repeat may follow it, as `*`, `+`, `?`,
-    /// `{2}`, `{2,}`, `{,4}` or `{2,4}` with numbers up to 64. At most 32 atoms are written, and 9
-    /// groups.
+    /// Reads a pattern: `^`, items and `$`. If an anchor is missing, `<>*` is implied in its place.
+    /// An item is an atom, or a group: atoms between `(` and `)`. An atom is `<>` for any
+    /// component, the URI text of a component between `<` and `>` for that component, or a list of
+    /// such texts between `[` and `]` for any of them, or between `[^` and `]` for none of them. A
+    /// repeat may follow the atom: `*`, `+`, `?`, `{2}`, `{2,}`, `{,4}` or `{2,4}`, with numbers up
+    /// to 64. A pattern has at most 32 written atoms and 9 groups.
     ///
-    /// Refuses it by its leftmost faulty item: see `PatternFault`. An item is an atom with its
-    /// repeat, a repeat that follows another or a group, a parenthesis, or an anchor elsewhere than
-    /// at its end. A group that is never closed is faulty at its parenthesis. `Memory` may be
-    /// returned for any text.
+    /// Returns the fault of the leftmost faulty item if the text is not a pattern: see
+    /// `PatternFault`. An item is an atom with its repeat, a repeat that follows another repeat or
+    /// a group, a parenthesis, or a misplaced anchor. A group that is never closed is faulty at its
+    /// parenthesis. `Memory` may be returned for any text.
     pub fn read(alloc: Global, text: &str) -> Result<Pattern, PatternFault>
-        // What is read, the text spells.
+        // The text spells the pattern that is read.
         ensures found { IfOk result (IsPattern text.now) }
-        // What the text spells is read, but for memory.
+        // Every pattern that the text spells is read, unless memory runs out.
         ensures only { (pattern : PlainPattern) → IsPattern text.now pattern
             → MatchResult result (λ read. read ≡ pattern) (λ fault. fault ≡ PatternFault.Memory) }
-        // Which fault it is.
+        // The fault is the first one of the text, or `Memory`.
         ensures exact { MatchResult result (λ pattern. read.pattern_in text.now ≡ Ok pattern)
             (IsFaultOf (read.pattern_in text.now)) }
     {
@@ -102,7 +103,7 @@ impl Pattern {
     }
 }
 
-/// Law: a text spells one pattern at most, which `pattern_in` gives.
+/// Law: a text spells at most one pattern, which `pattern_in` returns.
 pub fn patterns_have_one_reading()
     ensures exact { (text : List ℕ) (pattern : PlainPattern) → (read.pattern_in text ≡ Ok pattern)
         ↔ IsPattern text pattern }

@@ -5,10 +5,10 @@ ghost use Rattle.name_patterns.specs.Pattern.{once};
 ghost use Rattle.name_patterns.specs.PatternReading as read;
 ghost use Rattle.name_patterns.specs.Shown.{bounds_of};
 
-/// The greatest number in a repeat, as many components as a name has at most.
+/// The greatest number in a repeat. A name has at most as many components.
 pub const MAX_COUNT: u8 = 64;
 
-/// The least number of components, and the greatest, if there is one.
+/// The least number of components, and the greatest number, which may be absent.
 #[derive(Clone, Copy, Debug)]
 pub struct Repeat {
     pub least: u8,
@@ -16,7 +16,7 @@ pub struct Repeat {
 }
 
 impl Repeat {
-    /// Whether it is just one component.
+    /// Returns whether the atom takes exactly one component.
     #[inline(always)]
     pub fn is_once(self) -> bool
         ensures { IsTrue result ↔ (bounds_of self ≡ once) }
@@ -25,7 +25,7 @@ impl Repeat {
     }
 }
 
-/// The number of decimal digits, from 0 to 64.
+/// Returns the number from 0 to 64 in decimal digits.
 fn count_of(text: &str) -> Option<u8>
     ensures { result ≡ read.count_in text.now }
 {
@@ -38,7 +38,7 @@ fn count_of(text: &str) -> Option<u8>
     }
 }
 
-/// The range of the texts before and after a comma, one of which may be empty.
+/// Returns the range with these texts before and after its comma. One of them may be empty.
 fn range_by_comma(low: &str, high: &str) -> Option<Repeat>
     ensures { option_map bounds_of result ≡ read.range_by_comma low.now high.now }
 {
@@ -57,7 +57,7 @@ fn range_by_comma(low: &str, high: &str) -> Option<Repeat>
     })
 }
 
-/// The range of the text between braces.
+/// Returns the range between braces.
 fn range_of(text: &str) -> Option<Repeat>
     ensures { option_map bounds_of result ≡ read.range_in text.now }
 {
@@ -73,7 +73,7 @@ fn range_of(text: &str) -> Option<Repeat>
     }
 }
 
-/// Whether the text begins with one of the signs of repeats.
+/// Returns whether the text begins with one of the characters that begin a repeat.
 pub fn begins_repeat(text: &str) -> bool
     ensures { result ≡ read.begins_repeat text.now }
 {
@@ -83,7 +83,7 @@ pub fn begins_repeat(text: &str) -> bool
     }
 }
 
-/// The repeat in braces after the first of them, and the text after it.
+/// Returns the repeat in braces, after its opening brace, and the remaining text.
 fn braced_repeat(text: &str) -> Option<(Repeat, &str)>
     ensures read { option_map (λ found. (bounds_of found.0, found.1.now)) result
         ≡ read.braced_in text.now }
@@ -93,8 +93,8 @@ fn braced_repeat(text: &str) -> Option<(Repeat, &str)>
     Some((range_of(range)?, rest))
 }
 
-/// The repeat at the front, which is one component where there is none, and the text after it.
-/// Braces without a range are no repeat, and nothing else.
+/// Returns the repeat at the front of the text, and the remaining text. Without a repeat, one
+/// component is taken. Returns `None` for braces that do not enclose a range.
 pub fn first_repeat(text: &str) -> Option<(Repeat, &str)>
     ensures read { option_map (λ found. (bounds_of found.0, found.1.now)) result
         ≡ read.repeat_in text.now }

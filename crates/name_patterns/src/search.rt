@@ -1,4 +1,4 @@
-//! The search for the first split of a name.
+//! The search for the greatest split of a name.
 
 ghost use Rattle.std.specs.Prelude.{◌≡◌, ◌+◌, ◌*◌, ◌<◌, ◌≤◌, ◌^◌, ◌≢◌, ◌∷◌, ℕ, true, false, List, length, drop, map, slice_get, Some, None, IfSome, IfNone, MatchOption, IsSomeAnd};
 ghost use Rattle.ndn_tlv.specs.Element.{Field};
@@ -12,28 +12,28 @@ use crate::component_test::Test;
 use crate::repeat::{MAX_COUNT, Repeat};
 use ndn_names::{Components, Name};
 
-/// 32 atoms that are written at most, one implied in place of each anchor, and the end.
+/// At most 32 written atoms, one implied atom for each of the two anchors, and the end.
 const MAX_STARTS: usize = 35;
 
-/// The places in front of each atom, and after the last.
+/// The positions before each atom, and after the last one.
 pub type Starts = [usize; MAX_STARTS];
 
-/// Places of a name, the one after its last component among them: a bit for each.
+/// A set of positions in a name, including the one after the last component: one bit for each.
 type Places = u128;
 
-/// What is known of an atom of a name.
+/// What the search knows about an atom.
 #[derive(Clone, Copy)]
 struct Row {
-    /// The components that pass its test.
+    /// The positions of the components that pass its test.
     passed: Places,
-    /// The places from which on it and the atoms after it have a split.
+    /// The positions from which this atom and the later ones have a split.
     split: Places,
 }
 
-/// A row for each atom, and last for none.
+/// One row for each atom, and a last row for the end.
 type Table = [Row; MAX_STARTS];
 
-/// The places, with this one added where it is among them.
+/// Returns the set `places`, with `place` added if `is_there` is set.
 #[inline(always)]
 fn with_place(places: Places, place: usize, is_there: bool) -> Places
     requires { place ≤ 64 }
@@ -49,7 +49,7 @@ fn with_place(places: Places, place: usize, is_there: bool) -> Places
     }
 }
 
-/// The components that pass the test, in a name of this many components.
+/// Returns the positions of the components that pass the test, in a name of `len` components.
 fn passed(test: &Test, name: Name<'_>, len: usize, tests: &mut u64) -> Places
     requires len { (len ≡ length (components name)) × (len ≤ 64) }
     requires room { tests.old + 64 < 2 ^ 64 }
@@ -70,7 +70,7 @@ fn passed(test: &Test, name: Name<'_>, len: usize, tests: &mut u64) -> Places
     passed
 }
 
-/// How many components pass from a place on.
+/// Returns the length of the run of components that pass, from position `place` on.
 #[inline(always)]
 fn run_at(passed: Places, place: usize) -> u8
     requires { (passed < 2 ^ 64) × (place ≤ 64) }
@@ -81,7 +81,7 @@ fn run_at(passed: Places, place: usize) -> u8
     (passed >> place).trailing_ones() as u8
 }
 
-/// The greatest count that an atom can take of a run of components that pass, by its bounds.
+/// Returns the greatest count that an atom's bounds allow for a run of components that pass.
 #[inline(always)]
 fn most_of(repeat: Repeat, run: u8) -> u8
     ensures { result ≡ at_most repeat.most run }
@@ -92,8 +92,8 @@ fn most_of(repeat: Repeat, run: u8) -> u8
     }
 }
 
-/// The greatest count in these bounds that ends, from a place on, where the atoms after it have a
-/// split.
+/// Returns the greatest count from `least` to `most` after which, counted from `place`, the later
+/// atoms have a split.
 #[inline(always)]
 fn greatest(least: u8, most: u8, after: Places, place: usize) -> Option<u8>
     requires { most + place ≤ 64 }
@@ -107,8 +107,8 @@ fn greatest(least: u8, most: u8, after: Places, place: usize) -> Option<u8>
     None
 }
 
-/// The first count of an atom from a place on, by the components that pass its test and the places
-/// from which on the atoms after it have a split.
+/// Returns the first count of an atom from position `place` on. `passed` are the components that
+/// pass its test, and `after` the positions from which the later atoms have a split.
 #[inline(always)]
 fn first_count(repeat: Repeat, passed: Places, after: Places, place: usize) -> Option<u8>
     requires { (passed < 2 ^ 64) × (place ≤ 64) }
@@ -120,14 +120,14 @@ fn first_count(repeat: Repeat, passed: Places, after: Places, place: usize) -> O
     greatest(repeat.least, most, after, place)
 }
 
-/// The places from which on an atom and those after it have a split.
+/// Returns the positions from which an atom and the later ones have a split.
 fn split_before(repeat: Repeat, passed: Places, after: Places) -> Places
     ensures { (atom : PlainAtom) → (atoms : List PlainAtom) → (cs : List Field)
         → bounds_of repeat ≡ atom.bounds → ArePassed atom.test cs passed → AreSplit atoms cs after
         → length cs ≤ 64 → AreSplit (atom ∷ atoms) cs result }
 {
     let most = most_of(repeat, MAX_COUNT);
-    // From these places on `count` components pass, and the other atoms have a split behind them.
+    // From these positions on, `count` components pass and the later atoms have a split after them.
     let mut begins = after;
     let mut split = 0;
     for count in 0..most + 1 {
@@ -135,7 +135,7 @@ fn split_before(repeat: Repeat, passed: Places, after: Places) -> Places
             split |= begins;
         }
         begins = passed & begins >> 1;
-        // One component more can be taken from no place, nor can more than that.
+        // If this count can be taken from no position, no greater count can.
         if begins == 0 {
             return split;
         }
@@ -143,10 +143,10 @@ fn split_before(repeat: Repeat, passed: Places, after: Places) -> Places
     split
 }
 
-/// Fills the table from the last row back to that of the first atom that is left, for a name of
-/// this many components. Where an atom and those after it have no split from any place on, the
-/// atoms in front of it have none either: it stops there, and answers false. Each atom is tested
-/// against each component once at most.
+/// Fills the table from its last row back to that of the atom `first`, for a name of `len`
+/// components. If some atoms have no split from any position, the atoms before them have none
+/// either: the function then stops and returns false. Each atom is tested against each component at
+/// most once.
 fn fill(
     atoms: &[Atom],
     first: usize,
@@ -180,9 +180,9 @@ fn fill(
     true
 }
 
-/// Lets the atoms in front that take one component each take theirs, until another atom comes. It
-/// needs no table, since these atoms have no choice. Returns their number, or nothing where one of
-/// them cannot take its component.
+/// Gives one component to each atom at the front that takes exactly one, up to the first other
+/// atom. No table is needed, since these atoms have no choice. Returns their number, or `None` if
+/// one of them does not accept its component.
 fn take_singles(
     atoms: &[Atom],
     components: &mut Components<'_>,
@@ -217,8 +217,9 @@ fn take_singles(
     Some(atoms.len())
 }
 
-/// Lets the atoms from one on take their components, by a table, in a name of this many components.
-/// Returns the place after the last that is taken.
+/// Distributes the remaining components among the atoms from `first` on, with a table. The name has
+/// `len` components. Returns the position after the last component taken, or `None` if there is no
+/// split.
 fn take_others(
     atoms: &[Atom],
     first: usize,
@@ -255,7 +256,7 @@ fn take_others(
     Some(place)
 }
 
-/// How many components are left.
+/// Returns the number of remaining components.
 #[inline(always)]
 fn count_left(components: Components<'_>) -> usize
     ensures { result ≡ length (components_left components.entry) }
@@ -263,9 +264,9 @@ fn count_left(components: Components<'_>) -> usize
     components.count()
 }
 
-/// The places in front of each atom, and after the last, in the first split of a name, in which
-/// each atom in turn prefers more components, and the number of components. Each atom is tested
-/// against each component once at most.
+/// Returns the positions before each atom and after the last one in the greatest split of a name,
+/// and the number of components. In the greatest split, each atom in order takes as many components
+/// as possible. Each atom is tested against each component at most once.
 pub fn first_split(atoms: &[Atom], name: Name<'_>, tests: &mut u64) -> Option<(Starts, usize)>
     requires few { length atoms.now ≤ 34 }
     requires room { tests.old + 100000 < 2 ^ 64 }

@@ -1,4 +1,4 @@
-//! Templates of names.
+//! Templates for names.
 
 ghost use Rattle.std.specs.Prelude.{◌≡◌, ◌≤◌, ◌+◌, ◌++◌, OnOk, IfErr, length};
 ghost use Rattle.ndn_names.specs.View.{components};
@@ -15,7 +15,7 @@ use std::marker::Model;
 /// A part of a template.
 #[derive(Debug, Drop)]
 pub enum Part {
-    /// What a group captures, by its number.
+    /// The number of a group, for what the group captures.
     Group(u8),
     /// A component.
     Single(Text),
@@ -26,7 +26,7 @@ impl Part {
     ghost use Rattle.name_patterns.specs.Template.{part_len};
     ghost use Rattle.name_patterns.specs.Shown.{part_of};
 
-    /// How many components the part has.
+    /// Returns the number of components that the part expands to.
     fn len(&self, captures: &Captures) -> usize
         ensures { result ≡ part_len captures.now (part_of self.now) }
     {
@@ -39,7 +39,7 @@ impl Part {
     }
 }
 
-/// A template of names: groups of a pattern and components, in turn.
+/// A template for names: a sequence of groups of a pattern and of components.
 #[derive(Debug, Drop)]
 pub struct Template {
     pub(crate) parts: Vec<Part>,
@@ -65,17 +65,17 @@ impl Template {
     ghost use Rattle.ndn_names.specs.View.{components};
     ghost use Rattle.name_patterns.specs.Template.{expansion_of, part_len, AreThere};
 
-    /// The name that the template makes, where the groups are at these places of a name.
+    /// Returns the name that the template makes from the groups that `captures` finds in `name`.
     ///
-    /// Refuses it as `TooManyComponents`, which is reported before memory is needed, or as
-    /// `Memory`.
+    /// Returns `TooManyComponents`, before any allocation, if the name would be too long, or
+    /// `Memory` if memory runs out.
     pub fn expand(
         &self,
         alloc: Global,
         captures: &Captures,
         name: Name<'_>,
     ) -> Result<NameBuf, NameFault>
-        // Each group is among the captures, and lies within the name.
+        // Each group of the template is among the captures, and lies within the name.
         requires { AreThere captures.now (components name) self.now }
         ensures ok { IfOk result
             (λ expanded. expanded ≡ expansion_of self.now captures.now (components name.entry)) }
@@ -94,8 +94,8 @@ impl Template {
         Ok(expanded)
     }
 
-    /// Whether the name that it makes, where the groups are at these places, would have more than
-    /// 64 components, which `expand` refuses. It takes no memory.
+    /// Returns whether the name that the template makes would have more than 64 components, so that
+    /// `expand` refuses it. Nothing is allocated.
     pub fn is_too_long(&self, captures: &Captures) -> bool
         ensures { result ≡ nat_lt 64 (sum_by (part_len captures.now) self.now) }
     {
@@ -111,7 +111,7 @@ impl Template {
     }
 }
 
-/// Appends the components of a part.
+/// Appends the components that a part expands to.
 fn append_part(
     expanded: &mut NameBuf,
     part: &Part,
@@ -121,7 +121,7 @@ fn append_part(
     ensures ok { OnOk result
         (expanded.new ≡ expanded.old ++ template.part_of captures.now (components name.entry)
         (part_of part.now)) }
-    // Where there is room, it fails only when memory runs out.
+    // If the result has at most 64 components, the call fails only if memory runs out.
     ensures room { CanStand (part_of part.now)
         → length expanded.old + length
         (template.part_of captures.now (components name.entry) (part_of part.now)) ≤ 64
@@ -138,7 +138,7 @@ fn append_part(
     Ok(())
 }
 
-/// Appends the components of a name from a place up to another.
+/// Appends the components of a name from position `start` up to `end`.
 fn append_between(
     expanded: &mut NameBuf,
     name: Name<'_>,
@@ -147,7 +147,7 @@ fn append_between(
 ) -> Result<(), NameFault>
     ensures ok { OnOk result
         (expanded.new ≡ expanded.old ++ between (components name.entry) (start, end)) }
-    // Where there is room, it fails only when memory runs out.
+    // If the result has at most 64 components, the call fails only if memory runs out.
     ensures room { length expanded.old + length (between (components name.entry) (start, end)) ≤ 64
         → IfErr result (λ fault. fault ≡ NameFault.Memory) }
 {

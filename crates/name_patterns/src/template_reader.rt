@@ -11,7 +11,7 @@ use crate::template::{Part, Template};
 use crate::text::{first_quoted, has_special, read_text};
 use std::alloc::Global;
 
-/// The decimal digit at the front, and the text after it.
+/// Returns the decimal digit at the front of the text, and the remaining text.
 fn first_digit(text: &str) -> Option<(u8, &str)>
     ensures read { option_map (λ digit. (digit.0, digit.1.now)) result ≡ read.digit_in text.now }
     ensures shorter { IfSome result (λ digit. length digit.1.now < length text.now) }
@@ -23,7 +23,8 @@ fn first_digit(text: &str) -> Option<(u8, &str)>
     Some((digit - b'0', text.strip_prefix(digit as char)?))
 }
 
-/// The group of the digit at the front, after a backslash at a place, and the text after it.
+/// Reads the group whose digit is at the front of the text, after a backslash at offset `at`.
+/// Returns the group and the remaining text.
 fn read_group(at: usize, text: &str, groups: u8) -> Result<(Part, &str), PatternFault>
     ensures read { let group = read.group_in groups at text.now in
         MatchResult result (λ found. group ≡ Ok (part_of found.0, found.1.now))
@@ -39,8 +40,8 @@ fn read_group(at: usize, text: &str, groups: u8) -> Result<(Part, &str), Pattern
     Ok((Part::Group(group), rest))
 }
 
-/// The component of the text between `<` and `>` at the front, which is at this place, and the text
-/// after it.
+/// Reads the component between `<` and `>` at the front of the text, at offset `at`. Returns the
+/// component and the remaining text.
 fn read_single(alloc: Global, at: usize, text: &str) -> Result<(Part, &str), PatternFault>
     ensures read { let single = read.single_part_in at text.now in
         MatchResult result (λ found. single ≡ Ok (part_of found.0, found.1.now))
@@ -57,7 +58,8 @@ fn read_single(alloc: Global, at: usize, text: &str) -> Result<(Part, &str), Pat
     Ok((Part::Single(single), rest))
 }
 
-/// The part at the front of the text, which is at this place, and the text after it.
+/// Reads the part at the front of the text, at offset `at`. Returns the part and the remaining
+/// text.
 fn read_part(alloc: Global, at: usize, text: &str, groups: u8) -> Result<(Part, &str), PatternFault>
     ensures read { let part = read.part_in groups at text.now in
         MatchResult result (λ found. part ≡ Ok (part_of found.0, found.1.now)) (IsFaultOf part) }
@@ -69,7 +71,7 @@ fn read_part(alloc: Global, at: usize, text: &str, groups: u8) -> Result<(Part, 
     }
 }
 
-/// The parts of a text.
+/// Reads the parts of a text.
 fn read_parts(alloc: Global, text: &str, groups: u8) -> Result<Vec<Part>, PatternFault>
     ensures { let parts_in = read.template_in groups text.now in
         MatchResult result (λ parts. parts_in ≡ Ok (map part_of parts.items)) (IsFaultOf parts_in) }
@@ -85,22 +87,22 @@ fn read_parts(alloc: Global, text: &str, groups: u8) -> Result<Vec<Part>, Patter
 }
 
 impl Template {
-    /// Reads a template, for a pattern with this many groups: a row of `\0` to `\9`, each for what
-    /// that group captures, and of components' URI texts between `<` and `>`. `\0` is the whole
-    /// name.
+    /// Reads a template for a pattern with `groups` groups: a sequence of `\0` to `\9`, each for
+    /// what that group captures, and of URI texts of components between `<` and `>`. `\0` is the
+    /// whole name.
     ///
-    /// Refuses it by its leftmost faulty part: see `PatternFault`, of which `Nested` never occurs.
-    /// `Memory` may be returned for any text.
+    /// Returns the fault of the leftmost faulty part if the text is not a template: see
+    /// `PatternFault`. `Nested` never occurs. `Memory` may be returned for any text.
     pub fn read(alloc: Global, text: &str, groups: u8) -> Result<Template, PatternFault>
-        // What is read, the text spells.
+        // The text spells the template that is read.
         ensures found { IfOk result (IsTemplate groups text.now) }
-        // What the text spells is read, but for memory.
+        // Every template that the text spells is read, unless memory runs out.
         ensures only { (parts : List PlainPart) → IsTemplate groups text.now parts
             → MatchResult result (λ read. read ≡ parts) (λ fault. fault ≡ PatternFault.Memory) }
-        // Which fault it is.
+        // The fault is the first one of the text, or `Memory`.
         ensures exact { MatchResult result (λ parts. read.template_in groups text.now ≡ Ok parts)
             (IsFaultOf (read.template_in groups text.now)) }
-        // No group is needed that the pattern does not have.
+        // The template uses only groups that the pattern has.
         ensures groups { IfOk result (NeedAtMost groups) }
     {
         let parts = read_parts(alloc, text, groups)?;
@@ -108,7 +110,7 @@ impl Template {
     }
 }
 
-/// Law: a text spells one template at most, which `template_in` gives.
+/// Law: a text spells at most one template, which `template_in` returns.
 pub fn templates_have_one_reading()
     ensures exact { (groups : ℕ) (text : List ℕ) (parts : List PlainPart)
         → (read.template_in groups text ≡ Ok parts) ↔ IsTemplate groups text parts }

@@ -10,7 +10,7 @@ use crate::fault::PatternFault;
 use crate::text::{FrontPart, Text, first_quoted, has_special, read_text};
 use std::alloc::Global;
 
-/// The texts up to the bracket that closes a list.
+/// Reads the texts of a list, up to its closing bracket.
 fn read_texts(
     alloc: Global,
     at: usize,
@@ -43,7 +43,7 @@ fn read_texts(
     }
 }
 
-/// The test of a list, after its first bracket.
+/// Reads the test of a list, after its opening bracket.
 fn read_list(alloc: Global, at: usize, text: &str) -> Result<FrontPart<'_, Test>, PatternFault>
     ensures read { let listed = read.bracketed_in text.now in
         MatchResult result (λ found. listed ≡ Some (record {
@@ -79,7 +79,7 @@ fn read_list(alloc: Global, at: usize, text: &str) -> Result<FrontPart<'_, Test>
     })
 }
 
-/// The test of a text between `<` and `>`, which may be empty.
+/// Reads the test of a text between `<` and `>`, which may be empty.
 fn read_quoted(alloc: Global, at: usize, text: &str) -> Result<FrontPart<'_, Test>, PatternFault>
     ensures read { let quoted = read.quoted_test_in text.now in
         MatchResult result (λ found. quoted ≡ Some (record {
@@ -109,7 +109,7 @@ fn read_quoted(alloc: Global, at: usize, text: &str) -> Result<FrontPart<'_, Tes
     })
 }
 
-/// The test at the front of the text, in the item at a place.
+/// Reads the test at the front of the text. `at` is the offset of its item in the pattern.
 pub fn read_test(alloc: Global, at: usize, text: &str) -> Result<FrontPart<'_, Test>, PatternFault>
     ensures read { let test = read.test_in text.now in
         MatchResult result (λ found. test ≡ Some (record {

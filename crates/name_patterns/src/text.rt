@@ -1,4 +1,4 @@
-//! Texts of components in patterns and templates.
+//! Components' texts in patterns and templates.
 
 ghost use Rattle.std.specs.Prelude.{◌≡◌, ◌<◌, Some, IfSome, option_map, length, MatchResult};
 ghost use Rattle.name_patterns.specs.Grammar.{is_special};
@@ -10,10 +10,10 @@ use crate::fault::PatternFault;
 use ndn_names::{Component, NameFault, component_from_uri};
 use std::alloc::Global;
 
-/// The signs that no component's text has here.
+/// The characters that a component's text may not contain here.
 const SPECIAL: &[u8; 13] = b"\\()[]{}*+?^$|";
 
-/// The component of a text.
+/// A component, as read from its text.
 #[derive(Debug, Drop)]
 pub struct Text {
     pub kind: u16,
@@ -23,7 +23,7 @@ pub struct Text {
 impl Text {
     ghost use Rattle.std.specs.Prelude.{◌≡◌, ◌==◌, ◌&&◌, bytes_eq};
 
-    /// Whether this is the component's text.
+    /// Returns whether `candidate` is this component.
     pub fn is(&self, candidate: Component<'_>) -> bool
         ensures { result ≡ ((self.now.kind == candidate.entry.kind)
             && bytes_eq self.now.value.items candidate.entry.value.now) }
@@ -32,7 +32,8 @@ impl Text {
     }
 }
 
-/// What is read of a pattern, whether a text of it has a special sign, and the text after it.
+/// What was read at the front of a text, whether a component's text in it contains a special
+/// character, and the remaining text.
 #[derive(Debug, Drop)]
 pub struct FrontPart<'a, T> {
     pub part: T,
@@ -40,21 +41,21 @@ pub struct FrontPart<'a, T> {
     pub rest: &'a str,
 }
 
-/// Whether an octet is a special sign.
+/// Returns whether an octet is a special character.
 fn is_special(octet: u8) -> bool
     ensures { result ≡ is_special octet }
 {
     SPECIAL.contains(&octet)
 }
 
-/// Whether the text has a special sign.
+/// Returns whether the text contains a special character.
 pub fn has_special(text: &str) -> bool
     ensures { result ≡ read.has_special text.now }
 {
     text.as_bytes().iter().any(|octet| is_special(*octet))
 }
 
-/// The text between `<` at the front and the first `>`, and the text after that.
+/// Returns the text between `<` at the front and the first `>`, and the remaining text.
 pub fn first_quoted(text: &str) -> Option<(&str, &str)>
     ensures read { option_map (λ parts. (parts.0.now, parts.1.now)) result
         ≡ read.quoted_in text.now }
@@ -63,7 +64,7 @@ pub fn first_quoted(text: &str) -> Option<(&str, &str)>
     text.strip_prefix('<')?.split_once('>')
 }
 
-/// The component of a text in the item at a place.
+/// Reads the component of a text. `at` is the offset of its item in the pattern.
 pub fn read_text(alloc: Global, at: usize, text: &str) -> Result<Text, PatternFault>
     ensures { let component = read.text_in text.now in
         MatchResult result (λ text. component ≡ Some (field_of text))

@@ -1,4 +1,4 @@
--- Components in text, counted before they are decoded.
+-- Components in text, whose octets are counted before they are decoded.
 use Rattle.std.proofs.Common.{◌≡◌, ℕ, suc, ◌+◌, ◌*◌, ◌<◌, ◌≤◌, Bool, true, false, length, get_or, drop, take, arith, List, [], ◌∷◌, ◌++◌, Result, Ok, Err, refl, sym, ap, ◌∙◌, length-append, inl, inr, eq-eqb}
 use Rattle.std.specs.Prelude.{◌&&◌, ◌==◌}
 use Rattle.std.proofs.lemmas.Bool.{cases_eq, ne_eqb}
@@ -13,7 +13,8 @@ use Rattle.ndn_names.specs.UriReading.{before, pair_in, hex_in, octets_in, unpad
 use Rattle.ndn_names.proofs.Names.{bind_ok}
 use Rattle.ndn_names.proofs.Octets.{HasPut, after_these, put_nothing, put_one, put_pair}
 
--- what the text says is so many octets, and then what the rest says
+-- `text` reads as the octets before `rest`, followed by what `rest` reads as; `count` is the number
+-- of the octets before `rest`
 abbrev pub HasCounted : ℕ → Bool → List ℕ → List ℕ → Type 0
 HasCounted count has_periods_only text rest =
     (items : List ℕ) × HasPut octets_in [] items text rest × (count ≡ length items) × (has_periods_only ≡ is_periods items)
@@ -46,7 +47,7 @@ pub counted_all : (count : ℕ) (has_periods_only : Bool) (text rest : List ℕ)
     → (octets : List ℕ) × (octets_in text ≡ Ok octets) × (count ≡ length octets) × (has_periods_only ≡ is_periods octets)
 counted_all count has_periods_only text rest h e = (h.0, all_read octets_in h.0 text rest h.1 (ap octets_in e), h.2, h.3)
 
--- so many octets of hexadecimal digits
+-- the first i pairs of hexadecimal digits read as i octets
 abbrev pub HasPaired : ℕ → List ℕ → Type 0
 HasPaired i text = (items : List ℕ) × HasPut hex_in [] items text (drop (2 * i) text) × (length items ≡ i)
 
@@ -56,7 +57,7 @@ paired_nothing text = ([], put_nothing hex_in [] [] text refl, refl)
 pub paired_one : (i octet : ℕ) (text : List ℕ) → 2 * i + 1 < length text → HasPaired i text → pair_in (get_or text (2 * i) 0) (get_or text (2 * i + 1) 0) ≡ Ok octet → HasPaired (i + 1) text
 paired_one i octet text lt h e = (h.0 ++ octet ∷ [], put_pair h.0 text i octet lt h.1 e, omega (arith, length-append h.0 (octet ∷ []), h.2))
 
--- a reading of a component, with its octets
+-- a component that was read, and its octets
 abbrev pub HasRead : Result Field NameFault → ℕ → ℕ → Result (List ℕ) NameFault → Type 0
 HasRead read kind len value =
     (field : Field) × (read ≡ Ok field) × ((kind ≡ field.0) × (len ≡ length field.1) × (value ≡ Ok field.1))
@@ -74,7 +75,7 @@ pub plain_said : (kind found len : ℕ) (text octets : List ℕ) (value : Result
     → component_of (kind, take len octets) ≡ Ok (found, take len octets) → value ≡ Ok (take len octets) → HasRead (plain_in kind text) found len value
 plain_said kind found len text octets value read cut is component e = ((found, take len octets), rw (read, cut, component) refl, (refl, is, e))
 
--- no octet takes less of the text than itself, and escapes take more
+-- reading the octet at the front succeeds if reading all octets does
 pub before_found : (octet : ℕ) (r : Result (List ℕ) NameFault) (octets : List ℕ) → before octet r ≡ Ok octets → (rest : List ℕ) × (r ≡ Ok rest) × (octets ≡ octet ∷ rest)
 before_found octet (Ok rest) octets e = (rest, refl, cc)
 before_found octet (Err fault) octets e = absurd cc

@@ -1,4 +1,4 @@
--- The first component of a type, while a name is read.
+-- Finding the first component of a type while a name is read.
 use Rattle.std.proofs.Common.{◌≡◌, ◌≢◌, ℕ, ◌+◌, Bool, true, false, List, [], ◌∷◌, ◌++◌, length, eqb, suc, Option, None, Some, refl, sym, ap, ◌∙◌, append_assoc, arith}
 use Rattle.std.specs.Prelude.{◌↔◌, IsTrue}
 use Rattle.std.proofs.lemmas.Bool.{eqb-true}
@@ -19,7 +19,8 @@ never_empty : (cs : List Field) (c : Field) → cs ++ c ∷ [] ≡ [] → ⊥
 never_empty [] c e = cc
 never_empty (d ∷ cs) c e = cc
 
--- the first one among those that were read, where these octets are left
+-- `first` is the first component of type `kind` among those that have been read, and `rest` are the
+-- octets still to be read.
 pub record FirstSoFar (kind : ℕ) (front : List Field) (rest : List ℕ) (first : FirstOfType) : Type 0 where
   pub before : List Field
   pub after : List Field
@@ -32,7 +33,7 @@ abbrev pub FoundSoFar : ℕ → List Field → List ℕ → Option FirstOfType �
 FoundSoFar kind front rest None = NoneOfType kind front
 FoundSoFar kind front rest (Some first) = FirstSoFar kind front rest first
 
--- n components were read
+-- n components have been read, and `found` is the first of type `kind` among them.
 pub record IsFinding (kind n : ℕ) (rest value : List ℕ) (found : Option FirstOfType) : Type 0 where
   pub front : List Field
   pub reads : Reads n rest value front
@@ -41,7 +42,7 @@ pub record IsFinding (kind n : ℕ) (rest value : List ℕ) (found : Option Firs
 pub begins_finding : (kind : ℕ) (value : List ℕ) → IsFinding kind 0 value value None
 begins_finding kind value = record { front = []; reads = reads_none value; first = tt }
 
--- after a component of another type
+-- the search after a component of another type is read
 found_past : (kind : ℕ) (front : List Field) (rest after : List ℕ) (c : Field) (found : Option FirstOfType) → rest ≢ [] → c.0 ≢ kind → FoundSoFar kind front rest found → FoundSoFar kind (front ++ c ∷ []) after found
 found_past kind front rest after c None some other h = all_and kind front c h other
 found_past kind front rest after c (Some first) some other h = record {
@@ -53,7 +54,7 @@ found_past kind front rest after c (Some first) some other h = record {
   last = (λ t. absurd (some (h.last.0 t).1), λ e. absurd (never_empty h.after c e.0));
 }
 
--- and after one of the type
+-- the search after a component of type `kind` is read
 found_more : (kind : ℕ) (front : List Field) (rest after : List ℕ) (c : Field) (found : Option FirstOfType) (is_last : Bool) (first : FirstOfType) → rest ≢ [] → c.0 ≡ kind → (IsTrue is_last ↔ (after ≡ [])) → Further found c.1 is_last first
     → FoundSoFar kind front rest found → FoundSoFar kind (front ++ c ∷ []) after (Some first)
 found_more kind front rest after c None is_last first some is last f h = record {
@@ -92,7 +93,7 @@ finding_more kind n rest after value c found is_last first some is last f step h
   first = found_more kind h.front rest after c found is_last first some is last f h.first;
 }
 
--- all is read
+-- the search after all components are read
 pub found_all : (kind : ℕ) (front : List Field) (rest : List ℕ) (found : Option FirstOfType) → rest ≡ [] → FoundSoFar kind front rest found → FindsFirst kind front found
 found_all kind front rest None none h = h
 found_all kind front rest (Some first) none h = record {

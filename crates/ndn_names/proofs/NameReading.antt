@@ -19,18 +19,18 @@ use Rattle.ndn_names.proofs.UriCaused.{name_in-caused, piece_in-caused}
 use Rattle.ndn_names.proofs.PieceReading.{alone_found, alone_again}
 use Rattle.ndn_names.proofs.PathReading.{pieces_none, text_found, text_again}
 
--- components before others
+-- the components `cs` before the components `others`
 abbrev pub named : List Field → Result (List Field) NameFault → Result (List Field) NameFault
 named cs others = do
   ds ← others
   Ok (cs ++ ds)
 
--- the text's name is what was read, and then what the rest says
+-- the text's name is the components that have been read, followed by what `rest` reads as
 abbrev pub HasNamed : ℕ → List Field → List ℕ → List ℕ → Type 0
 HasNamed count cs text rest =
     (count ≡ length cs) × (count ≤ 64) × (components_in 0 (pieces_of text) ≡ named cs (components_in count (pieces_of rest)))
 
--- one component more than a name may have
+-- there would be one component more than a name may have
 pub named_full : (count : ℕ) (cs : List Field) (text rest : List ℕ) → HasNamed count cs text rest → count ≡ 64 → rest ≢ [] → components_in 0 (pieces_of text) ≡ Err TooManyComponents
 named_full count cs text rest h full some = h.2 ∙ ap (named cs) (refused (pieces_of rest) (λ none. some (pieces_none rest none)))
   where
@@ -38,7 +38,7 @@ named_full count cs text rest h full some = h.2 ∙ ap (named cs) (refused (piec
     refused [] more = absurd (more refl)
     refused (piece ∷ pieces) more = rw (le-ltb count 64 (omega arith)) refl
 
--- one component more
+-- one more component is read
 pub named_one : (count : ℕ) (cs : List Field) (text rest piece after : List ℕ) (c : Field) → HasNamed count cs text rest → count ≢ 64 → pieces_of rest ≡ piece ∷ pieces_of after → component_in piece ≡ Ok c
     → HasNamed (count + 1) (cs ++ c ∷ []) text after
 named_one count cs text rest piece after c h room split e =
@@ -48,13 +48,13 @@ named_one count cs text rest piece after c h room split e =
     moved cs (Ok ds) = ap (λ (t : List Field). Ok t) (sym (append_assoc cs (c ∷ []) ds))
     moved cs (Err fault) = refl
 
--- its octets
+-- the octets after one more component is read
 pub octets_more : (old now next : List ℕ) (cs : List Field) (c : Field) → now ≡ old ++ octets_of cs → next ≡ now ++ element c → next ≡ old ++ octets_of (cs ++ c ∷ [])
 octets_more old now next cs c e put =
     put ∙ ap (λ (t : List ℕ). t ++ element c) e ∙ append_assoc old (octets_of cs) (element c)
     ∙ ap (λ (t : List ℕ). old ++ t) (ap (λ (t : List ℕ). octets_of cs ++ t) (sym (append-nil (element c))) ∙ sym (flat_map-append element cs (c ∷ [])))
 
--- no component is longer than all of them
+-- no component is longer than the whole name
 short_fields : (cs : List Field) → AllByRecursion IsComponent cs → length (octets_of cs) < 2 ^ 64 → AllByRecursion IsField cs
 short_fields [] is short = tt
 short_fields (c ∷ cs) is short =
@@ -86,9 +86,9 @@ pub slash_first : (text rest : List ℕ) → without_scheme text ≡ 47 ∷ rest
 unfolding name_in
 slash_first text rest e other = ap name_in_path e ∙ rw (false_from_ne_true (bytes_eq rest (codes "/")) (λ t. other ((bytes_eq-Decides rest (codes "/")).0 t))) refl
 
--- ---- what a reading of the whole text says
+-- ---- what reading the whole text returns
 
--- a fault of the text stands before Memory
+-- a fault in the text is reported before `Memory`
 abbrev IsFirst : {A : Type 0} → Result A NameFault → Result A NameFault → Type 0
 IsFirst {A} read r = MatchResult r (λ x. read ≡ Ok x) (IsFaultBeforeMemory read)
 
@@ -117,7 +117,7 @@ pub whole_memory : (text : List ℕ) (r : Result (List Field) NameFault) → IsF
 whole_memory text (Ok cs) h = tt
 whole_memory text (Err fault) h = λ is. let read = memory_last (name_in text) fault (name_in-caused text) h is in (read.0, text_found text read.0 read.1)
 
--- ---- what a reading of one component says
+-- ---- what reading one component returns
 
 abbrev IsFirstPart : {X : Type 0} → (X → List ℕ) → List ℕ → Result (ℕ × X) NameFault → Type 0
 IsFirstPart items text r = MatchResult r (λ c. piece_in text ≡ Ok (c.0, items c.1)) (IsFaultBeforeMemory (piece_in text))
@@ -144,7 +144,7 @@ part_memory items text (Err fault) h =
     λ is. let read = memory_last (piece_in text) fault (piece_in-caused text) h is in
     let found = alone_found text read.0 read.1 in (read.0, found.0, found.1)
 
--- ---- what counting the components of a text says
+-- ---- what counting the components of a text returns
 
 pub unread : (text : List ℕ) (fault : NameFault) (cs : List Field) → name_in text ≡ Err fault → ReadsAs text cs → ⊥
 unread text fault cs e reads = let both : Err fault ≡ Ok cs = sym e ∙ text_again text cs reads in absurd cc

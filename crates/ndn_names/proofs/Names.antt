@@ -1,4 +1,4 @@
--- What reading a name says of its octets.
+-- What reading a name tells about its octets.
 use Rattle.std.proofs.Common.{◌≡◌, ◌≢◌, ℕ, zero, suc, ◌+◌, ◌^◌, ◌<◌, ◌≤◌, Bool, true, false, cond, eqb, ltb, leb, List, [], ◌∷◌, ◌++◌, length, map, Result, Ok, Err, refl, sym, ap, subst, ◌∙◌, append_assoc, arith, inl, inr, eq-eqb}
 use Rattle.std.specs.Prelude.{◌↔◌, IsTrue, slice_get, take, drop, Some, ◌&&◌, ◌||◌, not}
 use Rattle.std.specs.List.{filter_map, AllByRecursion}
@@ -17,7 +17,7 @@ use Rattle.ndn_names.specs.declared.fault.NameFault.TheVariants.{BadComponent, B
 use Rattle.ndn_names.specs.Name.{IsComponent, IsNameValue, octets_of, components_of}
 use Rattle.ndn_names.specs.Reading.{component_of, component_at, component_after, components_after, name_at}
 
--- the value of a step that did not fail
+-- a sequence of two steps succeeds only if the first step does
 pub bind_ok : {A B F : Type 0} (r : Result A F) (f : A → Result B F) (y : B) → (r >>= f) ≡ Ok y → (x : A) × (r ≡ Ok x) × (f x ≡ Ok y)
 bind_ok (Ok x) f y e = (x, refl, e)
 bind_ok (Err d) f y e = absurd cc
@@ -46,7 +46,7 @@ passes false false false long c n e h = refl
 passes false false true true c n e h = refl
 passes false false true false c n e h = let no : false ≡ true = h refl in absurd cc
 
--- what a component is, by its tests
+-- what is read as a component satisfies `IsComponent`
 pub component_found : (c d : Field) → component_of c ≡ Ok d → (c ≡ d) × IsComponent d
 component_found c d e =
     let p = passed (eqb c.0 0) (ltb 65535 c.0) (leb c.0 2) (eqb (length c.1) 32) c d e in
@@ -73,7 +73,7 @@ element_found n x c e =
     at_found (Err f) c e = absurd cc
     at_found (Ok d) c e = let p = component_found d c e in (ap read_element p.0, p.1)
 
--- the components of a list that was read whole
+-- the components of a list whose elements were all read
 pub components_found : (n : ℕ) (es : List (Result Field TlvFault)) (cs : List Field) → n ≤ 64 → components_after n es ≡ Ok cs → (es ≡ map read_element cs) × (n + length cs ≤ 64) × AllByRecursion IsComponent cs
 components_found n [] cs le e = subst (λ (ds : List Field). ([] ≡ map read_element ds) × (n + length ds ≤ 64) × AllByRecursion IsComponent ds) (done_is [] cs e) (refl, omega arith, tt)
 components_found n (x ∷ es) cs le e =
@@ -93,7 +93,7 @@ pub components_again : (n : ℕ) (cs : List Field) → n + length cs ≤ 64 → 
 components_again n [] le h = refl
 components_again n (c ∷ cs) le h = rw (lt-ltb n 64 (omega arith), component_again c h.0, components_again (n + 1) cs (omega arith) h.1) refl
 
--- what is read without a fault is all there is
+-- removing the faults from a list without faults changes nothing
 filter_map-read : (cs : List Field) → filter_map result_ok (map read_element cs) ≡ cs
 filter_map-read [] = refl
 filter_map-read (c ∷ cs) = ap (λ (ds : List Field). c ∷ ds) (filter_map-read cs)
@@ -103,7 +103,7 @@ filter_map-ok es cs e = ap (filter_map result_ok) e ∙ filter_map-read cs
 
 -- ---- names
 
--- what is read is a name's value
+-- octets that are read as a name are the value of that name
 pub name_found : (value : List ℕ) (cs : List Field) → IsBytes value → name_at value ≡ Ok cs → IsNameValue value cs
 unfolding name_at
 name_found value cs fits e =
@@ -111,7 +111,7 @@ name_found value cs fits e =
     let whole = elements_read value cs fits read.0 in
     (whole, (omega (arith, read.1), read.2))
 
--- a name's value is read
+-- the value of a name is read as that name
 pub name_again : (value : List ℕ) (cs : List Field) → IsNameValue value cs → name_at value ≡ Ok cs
 unfolding name_at
 name_again value cs h =
@@ -129,11 +129,11 @@ components_of-found value cs fits e =
 
 -- ---- reading in a loop
 
--- n components were read, and rest is still to be read
+-- n components have been read, and `rest` is still to be read
 abbrev pub IsOn : ℕ → List ℕ → List ℕ → Type 0
 IsOn n rest value = (front : List Field) × (name_at value ≡ (components_after n (elements_of rest) >>= λ cs. Ok (front ++ cs)))
 
--- with these components in front
+-- the components `front` have been read, and `rest` is still to be read
 abbrev pub Reads : ℕ → List ℕ → List ℕ → List Field → Type 0
 Reads n rest value front = name_at value ≡ (components_after n (elements_of rest) >>= λ cs. Ok (front ++ cs))
 
@@ -174,7 +174,7 @@ is_done n rest value e on = (on.0, reads_all n rest value on.0 e on.1)
 pub refused : (value : List ℕ) (e : NameFault) → name_at value ≡ Err e → (cs : List Field) → IsNameValue value cs → ⊥
 refused value e is cs h = let read = name_again value cs h in let no : Err e ≡ done cs = sym is ∙ read in absurd cc
 
--- octets that are there begin with an element, or with what cannot be read
+-- octets that are not empty begin with an element, or with something that cannot be read
 something : (rest : List ℕ) → rest ≢ [] → (at : Result Field TlvFault) × (others : List (Result Field TlvFault)) × (elements_of rest ≡ at ∷ others)
 something rest some =
     elim (element_at rest) as (λ r. element_at rest ≡ r → (at : Result Field TlvFault) × (others : List (Result Field TlvFault)) × (elements_of rest ≡ at ∷ others)) [
@@ -188,7 +188,7 @@ too_many n rest value full some on =
     let refuses : component_after n s.0 ≡ Err TooManyComponents = rw (le-ltb n 64 (omega arith)) refl in
     ends n rest value s.0 s.1 TooManyComponents s.2 refuses on
 
--- reading takes no memory
+-- reading does not run out of memory
 abbrev pub IsCaused : {A : Type 0} → Result A NameFault → Type 0
 IsCaused (Ok x) = Unit {0}
 IsCaused (Err BadComponent) = Unit {0}
@@ -228,7 +228,7 @@ pub name_at-caused : (value : List ℕ) → name_at value ≡ Err Memory → ⊥
 unfolding name_at
 name_at-caused value e = subst IsCaused e (components_caused 0 (elements_of value))
 
--- ---- a name's value, piece by piece
+-- ---- the value of a name, component by component
 
 pub is_shown : (value : List ℕ) (cs : List Field) → IsNameValue value cs → (components_of value ≡ cs) × IsNameValue value (components_of value)
 is_shown value cs h = let is = components_of-is value cs h in (is, subst (IsNameValue value) (sym is) h)
@@ -250,7 +250,7 @@ push_shown value after c h room is short e =
     let text : after ≡ octets_of (cs ++ c ∷ []) = e ∙ ap (λ (t : List ℕ). t ++ element c) h.0.1 ∙ ap (λ (t : List ℕ). octets_of cs ++ t) (sym (append-nil (element c))) ∙ sym (flat_map-append element cs (c ∷ [])) in
     is_shown after (cs ++ c ∷ []) ((AllByRecursion-push IsField cs c h.0.0 field, text), (omega (arith, length-append cs (c ∷ [])), AllByRecursion-push IsComponent cs c h.1.1 is))
 
--- the first component, and the others
+-- the first component of a name, and the others
 pub front_shown : (rest after : List ℕ) (c : Field) → IsNameValue rest (components_of rest) → rest ≡ element c ++ after → elements_of rest ≡ read_element c ∷ elements_of after
     → (components_of rest ≡ c ∷ components_of after) × IsNameValue after (components_of after)
 unfolding components_of
@@ -260,7 +260,7 @@ front_shown rest after c h front walk =
     let text : element c ++ after ≡ element c ++ octets_of (components_of after) = sym front ∙ g.0.1 in
     (is, ((g.0.0.1, append_cancel_left (element c) after (octets_of (components_of after)) text), (omega (arith, g.1.0), g.1.1.1)))
 
--- where no component can be read there is none
+-- if no component can be read, no component is left
 pub end_shown : (rest : List ℕ) (e : NameFault) → IsNameValue rest (components_of rest)
     → (rest ≢ [] → (at : Result Field TlvFault) × (others : List (Result Field TlvFault)) × (elements_of rest ≡ at ∷ others) × (component_at at ≡ Err e))
     → components_of rest ≡ []
@@ -295,7 +295,7 @@ is_empty-shown value b (c ∷ cs) h e =
       λ n. absurd cc,
     )
 
--- where the i-th component stands
+-- the position of the i-th component in the octets
 pub place_of : (cs : List Field) (i : ℕ) (c : Field) → slice_get cs i ≡ Some c → octets_of cs ≡ octets_of (take i cs) ++ (element c ++ octets_of (drop (suc i) cs))
 place_of [] i c e = absurd cc
 place_of (d ∷ cs) zero c e = let same : d ≡ c = cc in ap (λ (f : Field). element f ++ octets_of cs) same

@@ -1,4 +1,5 @@
--- The order of the octets is the order of the names: no spelling of a number begins another, and they are in the numbers' order.
+-- The octets of names have the same order as the names: no encoding of a number is a prefix of
+-- another one, and encodings are ordered as the numbers are.
 use Rattle.std.proofs.Common.{◌≡◌, ℕ, ◌+◌, ◌*◌, ◌^◌, ◌<◌, ◌≤◌, List, [], ◌∷◌, ◌++◌, length, refl, sym, ap, ◌∙◌, inl, inr, append_assoc, arith}
 use Rattle.std.specs.declared.cmp.Ordering.{Ordering}
 use Rattle.std.specs.declared.cmp.Ordering.TheVariants.{Less as Lt, Equal, Greater}
@@ -30,7 +31,7 @@ then_assoc Lt p q = refl
 then_assoc Equal p q = refl
 then_assoc Greater p q = refl
 
--- lists of one length, and what follows them
+-- comparing two lists whose first parts have equal length
 cmp_joined : (a b x y : List ℕ) → length a ≡ length b → slice_cmp nat_cmp (a ++ x) (b ++ y) ≡ ordering_then (slice_cmp nat_cmp a b) (slice_cmp nat_cmp x y)
 cmp_joined [] [] x y e = refl
 cmp_joined [] (c ∷ b) x y e = absurd (omega arith)
@@ -38,7 +39,7 @@ cmp_joined (c ∷ a) [] x y e = absurd (omega arith)
 cmp_joined (c ∷ a) (d ∷ b) x y e =
     ap (ordering_then (nat_cmp c d)) (cmp_joined a b x y (omega arith)) ∙ sym (then_assoc (nat_cmp c d) (slice_cmp nat_cmp a b) (slice_cmp nat_cmp x y))
 
--- ---- numbers of a fixed width, the highest octet first
+-- ---- big-endian numbers of a fixed width
 
 digit : (u v b c : ℕ) → b < 256 → c < 256 → nat_cmp (u * 256 + b) (v * 256 + c) ≡ ordering_then (nat_cmp u v) (nat_cmp b c)
 digit u v b c hb hc =
@@ -50,7 +51,7 @@ digit u v b c hb hc =
     (λ d k. let lt : v * 256 + c < u * 256 + b = omega arith in rw (e, d, nat_more _ _ lt) refl))
     (λ e h. let lt : v * 256 + c < u * 256 + b = omega arith in rw (e, nat_more _ _ lt) refl)
 
--- the number of these octets after u
+-- the number that these octets give after the number u
 abbrev number_after : ℕ → List ℕ → ℕ
 number_after u [] = u
 number_after u (b ∷ bs) = number_after (u * 256 + b) bs
@@ -70,7 +71,7 @@ digits u v (b ∷ bs) (c ∷ cs) e p q =
     ∙ ap (λ (o : Ordering). ordering_then o (slice_cmp nat_cmp bs cs)) (digit u v b c p.0 q.0)
     ∙ then_assoc (nat_cmp u v) (nat_cmp b c) (slice_cmp nat_cmp bs cs)
 
--- octets that are a number
+-- the big-endian octets of n give the number n
 record IsSpelled (w : Width) (n : ℕ) : Type 0 where
   octets : AllByRecursion (λ b. b < 256) (to_be_bytes w n)
   value : number_after 0 (to_be_bytes w n) ≡ n
@@ -98,26 +99,26 @@ wide_order w m n p q len =
     ap (λ (k : ℕ). nat_cmp k n) (sym p.value) ∙ ap (nat_cmp (number_after 0 (to_be_bytes w m))) (sym q.value)
     ∙ digits 0 0 (to_be_bytes w m) (to_be_bytes w n) len p.octets q.octets
 
--- ---- VAR-NUMBERs, whatever follows them
+-- ---- VAR-NUMBERs followed by any octets
 
 abbrev Sorts : List ℕ → List ℕ → ℕ → ℕ → Type 0
 Sorts s t m n = (x y : List ℕ) → slice_cmp nat_cmp (s ++ x) (t ++ y) ≡ ordering_then (nat_cmp m n) (slice_cmp nat_cmp x y)
 
--- the first octets differ, as the numbers do
+-- the first octets differ, and are ordered as the numbers are
 apart_less : (a b : ℕ) (s t : List ℕ) (m n : ℕ) → a < b → m < n → Sorts (a ∷ s) (b ∷ t) m n
 apart_less a b s t m n h k x y = rw (nat_less a b h, nat_less m n k) refl
 
 apart_more : (a b : ℕ) (s t : List ℕ) (m n : ℕ) → b < a → n < m → Sorts (a ∷ s) (b ∷ t) m n
 apart_more a b s t m n h k x y = rw (nat_more a b h, nat_more m n k) refl
 
--- the same first octet
+-- both encodings have the same first octet
 alike : (a : ℕ) (w : Width) (m n : ℕ) → IsSpelled w m → IsSpelled w n → length (to_be_bytes w m) ≡ length (to_be_bytes w n) → Sorts (a ∷ to_be_bytes w m) (a ∷ to_be_bytes w n) m n
 alike a w m n p q len x y =
     ap (λ (o : Ordering). ordering_then o (slice_cmp nat_cmp (to_be_bytes w m ++ x) (to_be_bytes w n ++ y))) (tied_itself nat_cmp_total a)
     ∙ cmp_joined (to_be_bytes w m) (to_be_bytes w n) x y len
     ∙ ap (λ (o : Ordering). ordering_then o (slice_cmp nat_cmp x y)) (sym (wide_order w m n p q len))
 
--- which form a number has
+-- the form of the encoding of a number
 data Form (n : ℕ) : Type 0 where
   one : n < 253 → spelling n ≡ n ∷ [] → Form n
   three : 253 ≤ n → n < 2 ^ 16 → spelling n ≡ 253 ∷ to_be_bytes w16 n → Form n
@@ -178,7 +179,7 @@ element_order f g x y hf hg =
     ∙ ap (ordering_then (nat_cmp f.0 g.0)) (sorts (length f.1) (length g.1) hf.2 hg.2 (f.1 ++ x) (g.1 ++ y) ∙ tail_order f.1 g.1 x y)
     ∙ sym (then_assoc (nat_cmp f.0 g.0) (ordering_then (nat_cmp (length f.1) (length g.1)) (slice_cmp nat_cmp f.1 g.1)) (slice_cmp nat_cmp x y))
 
--- an element has a first octet
+-- the encoding of a number has a first octet
 first_octet : (n : ℕ) (x : List ℕ) → (b : ℕ) × (rest : List ℕ) × (spelling n ++ x ≡ b ∷ rest)
 first_octet n x =
     elim (form_of n) [
@@ -203,6 +204,6 @@ octets_cmp (f ∷ a) (g ∷ b) p q = element_order f g (octets_of a) (octets_of 
 pub values_cmp : (u v : List ℕ) (a b : List Field) → IsNameValue u a → IsNameValue v b → slice_cmp nat_cmp u v ≡ name_cmp a b
 values_cmp u v a b p q = ap (λ (t : List ℕ). slice_cmp nat_cmp t v) p.0.1 ∙ ap (slice_cmp nat_cmp (octets_of a)) q.0.1 ∙ octets_cmp a b p.0.0 q.0.0
 
--- names are equal where their octets are
+-- names are equal exactly where their octets are
 pub values_equal : (u v : List ℕ) (a b : List Field) → IsNameValue u a → IsNameValue v b → bytes_eq u v ≡ eq_by_cmp name_cmp a b
 values_equal u v a b h g = sym (is_eq-slice_cmp u v) ∙ ap is_eq (values_cmp u v a b h g)

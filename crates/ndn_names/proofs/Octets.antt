@@ -1,17 +1,17 @@
--- Reading octets one after the other.
+-- Reading the octets of a value one after the other.
 use Rattle.std.proofs.Common.{◌≡◌, ℕ, ◌+◌, ◌*◌, ◌<◌, length, get_or, drop, arith, List, [], ◌∷◌, ◌++◌, Result, Ok, Err, refl, sym, ap, ◌∙◌, append_assoc}
 use Rattle.std.proofs.lemmas.List.{append-nil, drop_more}
 use Rattle.ndn_tlv.specs.Reading.{◌>>=◌}
 use Rattle.ndn_names.specs.declared.fault.NameFault.{NameFault}
 use Rattle.ndn_names.specs.UriReading.{before, pair_in, hex_in}
 
--- octets before others
+-- the octets `front` before the octets `others`
 abbrev pub after_these : List ℕ → Result (List ℕ) NameFault → Result (List ℕ) NameFault
 after_these front others = do
   octets ← others
   Ok (front ++ octets)
 
--- what the text says is what was put, and then what the rest says
+-- `text` reads as the octets that were appended to `old`, followed by what `rest` reads as
 abbrev pub HasPut : (List ℕ → Result (List ℕ) NameFault) → List ℕ → List ℕ → List ℕ → List ℕ → Type 0
 HasPut reading old now text rest = (front : List ℕ) × (now ≡ old ++ front) × (reading text ≡ after_these front (reading rest))
 

@@ -13,7 +13,7 @@ use Rattle.ndn_tlv.specs.Element.{Field}
 use Rattle.ndn_names.specs.Key.{component_cmp-total, component_cmp-antisymmetric, name_cmp-total, name_cmp-antisymmetric}
 use Rattle.ndn_names.specs.Order.{DiffersBelow, IsProperPrefix, OctetsLess, ComponentLess, Less, component_cmp, name_cmp}
 
--- the outcome of two orders, one after the other
+-- two comparisons in sequence are Less if the first one is, or if it ties and the second one is
 then_less : (o p : Ordering) → ordering_then o p ≡ Lt → (o ≡ Lt) ⊎ ((o ≡ Equal) × (p ≡ Lt))
 then_less Lt p e = inl refl
 then_less Equal p e = inr (refl, e)
@@ -21,7 +21,7 @@ then_less Greater p e = absurd cc
 
 -- ---- lists: what Less means
 
--- the lists begin alike with x
+-- the lists have the same first element x
 later : {X : Type 0} {Below : X → X → Type 0} (x : X) (a b : List X) → IsProperPrefix a b ⊎ DiffersBelow Below a b → IsProperPrefix (x ∷ a) (x ∷ b) ⊎ DiffersBelow Below (x ∷ a) (x ∷ b)
 later {X = X} x a b (inl p) = inl (p.0, p.1, ap (λ (t : List X). x ∷ t) p.2)
 later {X = X} x a b (inr d) = inr (x ∷ d.0, d.1, d.2, d.3, d.4, ap (λ (t : List X). x ∷ t) d.5, ap (λ (t : List X). x ∷ t) d.6, d.7)
@@ -115,7 +115,7 @@ Less-irreflexive a h = let e : Lt ≡ Equal = sym (name_cmp-less a a h) ∙ name
 pub Less-transitive : (a b c : List Field) → Less a b → Less b c → Less a c
 Less-transitive a b c h k = less-name_cmp a c (name_cmp-total.trans a b c (name_cmp-less a b h) (name_cmp-less b c k))
 
--- what an answer means
+-- the meaning of each result of `name_cmp`
 pub MatchOrdering-name_cmp : (a b : List Field) → MatchOrdering (name_cmp a b) (Less a b) (a ≡ b) (Less b a)
 MatchOrdering-name_cmp a b =
     elim (name_cmp a b) as (λ o. name_cmp a b ≡ o → MatchOrdering o (Less a b) (a ≡ b) (Less b a)) [

@@ -1,4 +1,4 @@
--- What reading a name's text says of the text.
+-- What reading a name's text tells about the text.
 use Rattle.std.proofs.Common.{◌≡◌, ◌≢◌, ◌⊎◌, ℕ, ◌+◌, ◌<◌, ◌≤◌, false, cond, eqb, ltb, List, [], ◌∷◌, ◌++◌, length, take, drop, flat_map, Result, Ok, Err, refl, sym, ap, subst, ◌∙◌, arith, inl, inr, eq-eqb, codes, bytes_eq, append_assoc}
 use Rattle.std.specs.List.{AllByRecursion}
 use Rattle.std.proofs.lemmas.Bool.{cases_lt, cases_eq, cases_Bool, lt-ltb, le-ltb, eqb-true, ne_eqb}
@@ -47,11 +47,11 @@ each_again n (piece ∷ pieces) (c ∷ cs) each few are =
 
 -- ---- the pieces between slashes
 
--- the text of these pieces, each after a slash
+-- the text of these pieces, with a slash before each
 abbrev joined : List (List ℕ) → List ℕ
 joined pieces = flat_map (λ p. codes "/" ++ p) pieces
 
--- a slash may end the text
+-- the text may end with a slash
 abbrev pub IsEnd : List ℕ → Type 0
 IsEnd end = (end ≡ []) ⊎ (end ≡ codes "/")
 
@@ -86,7 +86,7 @@ pieces_none (o ∷ text) e =
     front_some o [] e = absurd cc
     front_some o (piece ∷ pieces) e = absurd cc
 
--- no slash stands in a piece
+-- no piece contains a slash
 pub pieces_lack : (text : List ℕ) → AllByRecursion (Lacks 47) (pieces_of text)
 pieces_lack [] = tt
 pieces_lack (o ∷ text) =
@@ -99,7 +99,7 @@ pieces_lack (o ∷ text) =
     front_lacks o [] other h = ((other, tt), tt)
     front_lacks o (piece ∷ pieces) other h = ((other, h.0), h.1)
 
--- the pieces of a text after a slash are all of it, but for a slash at the end
+-- the pieces after a slash make up the whole text, except for a slash at the end
 abbrev IsJoined : List ℕ → List (List ℕ) → Type 0
 IsJoined text pieces = (end : List ℕ) × (47 ∷ text ≡ path_of pieces ++ end) × IsEnd end
 
@@ -123,7 +123,7 @@ joined_again (o ∷ text) =
 
 -- ---- names
 
--- pieces that read as components
+-- each piece reads as a component
 each_piece : (pieces : List (List ℕ)) (cs : List Field) → ReadsEach pieces cs → AllByRecursion IsPiece pieces
 each_piece [] cs each = tt
 each_piece (piece ∷ pieces) [] each = absurd each
@@ -158,7 +158,7 @@ path_found (o ∷ text) cs e =
           (whole.0, pieces_of text, first ∙ whole.1, whole.2, read.0, (omega (arith, read.1), read.2))
     ]
 
--- the scheme, if it stands there
+-- the scheme, which is optional
 abbrev IsStart : List ℕ → Type 0
 IsStart start = (start ≡ []) ⊎ (start ≡ codes "ndn:")
 

@@ -1,4 +1,4 @@
--- What reading a component's text says of the text.
+-- What reading a component's text tells about the text.
 use Rattle.std.proofs.Common.{◌≡◌, ℕ, ◌^◌, ◌<◌, eqb, List, [], ◌∷◌, ◌++◌, length, Option, Some, None, Ok, Err, refl, sym, ap, subst, ◌∙◌, arith, inl, inr, eq-eqb, decimal, true, false}
 use Rattle.std.specs.List.{list_any}
 use Rattle.std.specs.Str.Parse.{IsNumeral, digits_value}
@@ -20,7 +20,7 @@ use Rattle.ndn_names.proofs.TypeNameReading.{number_found, number_again, digits-
 
 -- ---- texts cut at an octet
 
--- what cutting a text at its first octet of a value gives
+-- the result of cutting a text at the first occurrence of an octet
 abbrev pub IsCut : ℕ → List ℕ → Option (List ℕ × List ℕ) → Type 0
 IsCut octet text None = Lacks octet text
 IsCut octet text (Some parts) = (text ≡ parts.0 ++ octet ∷ parts.1) × Lacks octet parts.0
@@ -81,7 +81,7 @@ numbered_again text c h small is = rw (number_again text h small) (ap (λ (v : L
 
 -- ---- components
 
--- after the type name or the number of a type
+-- a component after a type name or a type number
 typed_found : (piece type_name text : List ℕ) (c : Field) → Lacks 47 text → piece ≡ type_name ++ 61 ∷ text → typed_in type_name text (kind_of type_name) ≡ Ok c → ReadsComponent piece c × IsComponent c
 typed_found piece type_name text c slash is e =
     elim (kind_of type_name) as (λ r. kind_of type_name ≡ r → typed_in type_name text r ≡ Ok c → ReadsComponent piece c × IsComponent c) [
@@ -146,7 +146,7 @@ piece_again piece c (inr (inl h)) is = typed_again piece c h is
 piece_again piece c (inr (inr (inl h))) is = digest_piece_again piece c h
 piece_again piece c (inr (inr (inr h))) is = numbered_piece_again piece c h
 
--- a piece that reads as a component is not empty, and has no slash
+-- a piece that reads as a component is not empty and contains no slash
 around_sign : (piece front text : List ℕ) → piece ≡ front ++ 61 ∷ text → Lacks 47 front → Lacks 47 text → (0 < length piece) × Lacks 47 piece
 around_sign piece front text is before_sign after_sign =
     let size = ap length is ∙ length-append front (61 ∷ text) in
@@ -159,7 +159,7 @@ piece_shape piece c (inr (inl h)) =
 piece_shape piece c (inr (inr (inl h))) = around_sign piece h.0 h.1 h.2 (type_name_lacks c.0 h.0 h.3).1 (hex_no_slash h.1 c.1 h.6)
 piece_shape piece c (inr (inr (inr h))) = around_sign piece h.0 h.1 h.2 (type_name_lacks c.0 h.0 h.3).1 (digits-Lacks 47 (inl (omega arith)) h.1 h.5.1)
 
--- ---- a component's text alone
+-- ---- the text of a single component
 
 lacks_none : (octet : ℕ) (text : List ℕ) → list_any (λ o. eqb o octet) text ≡ false → Lacks octet text
 lacks_none octet [] e = tt

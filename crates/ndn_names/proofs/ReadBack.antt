@@ -29,7 +29,7 @@ AllByRecursion-append : (P : ℕ → Type 0) (xs ys : List ℕ) → AllByRecursi
 AllByRecursion-append P [] ys p q = q
 AllByRecursion-append P (x ∷ xs) ys p q = (p.0, AllByRecursion-append P xs ys p.1 q)
 
--- a test that is passed by each number below a limit
+-- a test holds for every number below a limit
 passes_below : (test : ℕ → Bool) (limit n : ℕ) → agree_below test (λ _. true) limit ≡ true → n < limit → test n ≡ true
 passes_below test limit n all lt = agree_below_at test (λ _. true) limit n all lt
 
@@ -81,7 +81,7 @@ padded_below value h =
 value_reads : (value : List ℕ) → AreBelow256 value → IsValueText (value_text value) value
 value_reads value h = escaped_stand (padded value) (padded_below value h)
 
--- no equals sign stands in the text of a value
+-- the text of a value contains no equals sign
 
 abbrev is_without_equals : List ℕ → Bool
 is_without_equals text = list_all (λ o. not (o == 61)) text
@@ -168,7 +168,7 @@ pub name_reads : (cs : List Field) → IsName cs → AreOctets cs → ReadsAs (u
 name_reads cs is h =
     ([], [], map component_text cs, sym (append-nil (uri_of cs)), inl refl, inl refl, components_read cs is.1 h, is)
 
--- ---- octets that spell a name
+-- ---- octets that are the value of a name
 
 IsBytes-front : (xs ys : List ℕ) → IsBytes (xs ++ ys) → IsBytes xs
 IsBytes-front xs ys h = subst IsBytes (take_at xs ys (length xs) refl) (IsBytes-take (length xs) (xs ++ ys) h)
@@ -184,6 +184,6 @@ AreOctets-from_bytes (c ∷ cs) h =
     let sized = IsBytes-back (spelling c.0) (spelling (length c.1) ++ c.1) first in
     (AreBelow256-from_bytes c.1 (IsBytes-back (spelling (length c.1)) c.1 sized), AreOctets-from_bytes cs (IsBytes-back (element c) (octets_of cs) h))
 
--- the text of a name that octets spell
+-- the text of the name with the value `value`
 pub spelled_reads : (value text : List ℕ) (cs : List Field) → IsBytes value → IsNameValue value cs → text ≡ uri_of cs → ReadsAs text cs
 spelled_reads value text cs fits is written = rw written (name_reads cs is.1 (AreOctets-from_bytes cs (subst IsBytes is.0.1 fits)))

@@ -1,4 +1,4 @@
--- The octets that are the shortest NonNegativeInteger of their number.
+-- Which octets are the shortest NonNegativeInteger encoding of their number.
 use Rattle.std.proofs.Common.{◌≡◌, ◌≢◌, ℕ, ◌^◌, ◌<◌, ◌≤◌, cond, eqb, leb, List, Some, Result, Ok, Err, length, refl, sym, ap, ◌∙◌, arith, inl, inr}
 use Rattle.std.specs.Bool.{then_some}
 use Rattle.std.specs.Prelude.{IfOk}
@@ -12,11 +12,11 @@ use Rattle.ndn_tlv.specs.Reading.{nni_at}
 use Rattle.ndn_tlv.proofs.Integers.{length-shortest_one, length-shortest_two, length-shortest_four}
 use Rattle.ndn_names.specs.TypeName.{shortest_number}
 
--- the least number whose shortest form has so many octets
+-- the least number whose shortest encoding has `len` octets
 abbrev pub least_of : ℕ → ℕ
 least_of len = cond (eqb len 1) 0 (cond (eqb len 2) (2 ^ 8) (cond (eqb len 4) (2 ^ 16) (2 ^ 32)))
 
--- from that number on the octets are the shortest, and below it they are not
+-- octets are the shortest encoding exactly if their number is at least `least_of` their length
 shortest_from : (value : List ℕ) (n : ℕ) → IsNni value n → least_of (length value) ≤ n → shortest_nni n ≡ value
 unfolding shortest_nni
 shortest_from value n (inl p) le = rw (p.1, lt-ltb n (2 ^ 8) p.0) refl
@@ -42,7 +42,7 @@ not_shortest value n (inr (inr (inr p))) lt e =
     let small : n < 2 ^ 32 = rw p.1 at lt in
     omega (arith, length-shortest_four n small, ap length e, ap length p.1)
 
--- so one test tells
+-- one comparison decides whether the octets are the shortest encoding
 tested : (value : List ℕ) (n : ℕ) → nni_at value ≡ Ok n → IsNni value n → then_some (leb (least_of (length value)) n) n ≡ shortest_number value
 tested value n is nni =
     elim (cases_lt n (least_of (length value))) [
@@ -50,7 +50,7 @@ tested value n is nni =
       | inr le ↦ rw (is, le-leb (least_of (length value)) n le, (bytes_eq-Decides (shortest_nni n) value).1 (shortest_from value n nni le)) refl
     ]
 
--- what a reader of a number returned
+-- the result of a reader of a number
 pub shortest_number-is : (value : List ℕ) (r : Result ℕ TlvFault) (n least : ℕ) → r ≡ nni_at value → IfOk r (IsNni value) → Some n ≡ result_ok r → least ≡ least_of (length value)
     → then_some (leb least n) n ≡ shortest_number value
 shortest_number-is value (Ok m) n least e nni is l =

@@ -1,4 +1,4 @@
--- Names compared by their texts.
+-- Comparing names by their texts.
 use Rattle.std.proofs.Common.{◌≡◌, ◌≢◌, ℕ, suc, ◌+◌, ◌-◌, ◌<◌, List, [], ◌∷◌, ◌++◌, length, take, Result, Ok, Err, refl, sym, ap, ◌∙◌, arith}
 use Rattle.std.specs.Prelude.{◌↔◌}
 use Rattle.std.proofs.lemmas.List.{append-nil, append_cancel_left, length-append, take_all}
@@ -18,13 +18,13 @@ use Rattle.ndn_names.proofs.NameReading.{named, HasNamed, named_full}
 
 -- ---- octets
 
--- the first octet that is said
+-- the first octet that a reading returns
 pub said_first : (said rest octets : List ℕ) (first octet : ℕ) → said ≡ first ∷ rest → take (suc (length octets)) said ≡ octet ∷ octets → (first ≡ octet) × (take (length octets) rest ≡ octets)
 said_first said rest octets first octet e h =
     let both : first ∷ take (length octets) rest ≡ octet ∷ octets = sym (ap (take (suc (length octets))) e) ∙ h in
     (cc, cc)
 
--- the same of a reading of a text
+-- the first octet that the reading of a text returns
 pub read_first : (reading : List ℕ → Result (List ℕ) NameFault) (text rest octets : List ℕ) (first octet : ℕ) → reading text ≡ before first (reading rest) → (said : List ℕ) → reading text ≡ Ok said
     → take (suc (length octets)) said ≡ octet ∷ octets → (first ≡ octet) × ((others : List ℕ) × (reading rest ≡ Ok others) × (take (length octets) others ≡ octets))
 read_first reading text rest octets first octet e said read h =
@@ -32,7 +32,7 @@ read_first reading text rest octets first octet e said read h =
     let here = said_first said found.0 octets first octet found.2 h in
     (here.0, (found.0, found.1, here.1))
 
--- what is left of two values, of which so many octets are equal as were passed
+-- `x` and `y` are the octets left of two values, and the octets that were passed are equal.
 pub record AreLeft (left : ℕ) (a b : ValueText) (x y : List ℕ) : Type 0 where
   pub x_left : List ℕ
   pub y_left : List ℕ
@@ -42,7 +42,7 @@ pub record AreLeft (left : ℕ) (a b : ValueText) (x y : List ℕ) : Type 0 wher
   pub b_says : SaysFirst b y_left
   pub same : (x ≡ y) ↔ (x_left ≡ y_left)
 
--- what the first octet of a value is, and what is said after it
+-- the first octet of a value, and the text of the octets after it
 abbrev pub Begins : ValueText → ℕ → ValueText → Type 0
 Begins value first after = (octet : ℕ) (octets : List ℕ) → SaysFirst value (octet ∷ octets) → (first ≡ octet) × SaysFirst after octets
 
@@ -119,7 +119,7 @@ named_ok : (cs : List Field) (r : Result (List Field) NameFault) (all : List Fie
 named_ok cs (Ok ds) all e = (ds, refl, sym (done_is (cs ++ ds) all e))
 named_ok cs (Err fault) all e = absurd cc
 
--- the name of the whole text, where a piece follows those that were read
+-- The name of the whole text, whose next piece is still to be read.
 pub record HasNext (cs : List Field) (piece : List ℕ) (all : List Field) : Type 0 where
   pub c : Field
   pub ds : List Field
@@ -141,7 +141,7 @@ last_named count cs text rest h none = h.2 ∙ ap (λ (t : List ℕ). named cs (
 pub too_many : (count : ℕ) (cs : List Field) (text rest : List ℕ) → HasNamed count cs text rest → count ≡ 64 → rest ≢ [] → (all : List Field) → components_in 0 (pieces_of text) ≡ Ok all → ⊥
 too_many count cs text rest h full some all e = let both : Err TooManyComponents ≡ Ok all = sym (named_full count cs text rest h full some) ∙ e in absurd cc
 
--- two texts read as one name
+-- two texts read as the same name
 abbrev pub AreOne : List ℕ → List ℕ → Type 0
 AreOne a b = (cs : List Field) × (components_in 0 (pieces_of a) ≡ Ok cs) × (components_in 0 (pieces_of b) ≡ Ok cs)
 
@@ -160,7 +160,7 @@ pieces_apart count cs a b a_rest b_rest a_piece b_piece a_after b_after ha hb sa
 some_long : (c : Field) (ds all : List Field) → done (c ∷ ds) ≡ Ok all → 0 < length all
 some_long c ds all e = let whole : length (c ∷ ds) ≡ length all = ap length (done_is (c ∷ ds) all e) in omega arith
 
--- one text ends, and the other does not
+-- two texts cannot read as the same name if one ends before the other
 pub longer : (count : ℕ) (cs : List Field) (a b a_rest b_rest : List ℕ) → HasNamed count cs a a_rest → HasNamed count cs b b_rest → a_rest ≡ [] → b_rest ≢ [] → (all : List Field)
     → components_in 0 (pieces_of a) ≡ Ok all → components_in 0 (pieces_of b) ≡ Ok all → ⊥
 longer count cs a b a_rest b_rest ha hb none some all ea eb = further (pieces_of b_rest) refl

@@ -1,4 +1,4 @@
--- What reading octets from text says of the text.
+-- What reading octets from text tells about the text.
 use Rattle.std.proofs.Common.{◌≡◌, ◌≢◌, ℕ, zero, suc, ◌+◌, ◌-◌, ◌*◌, ◌<◌, Bool, true, false, cond, ltb, ◌&&◌, ◌==◌, List, [], ◌∷◌, ◌++◌, length, take, Result, Ok, Err, refl, sym, ap, subst, ◌∙◌, arith, inl, inr, eq-eqb, codes}
 use Rattle.std.specs.List.{AllByRecursion}
 use Rattle.std.specs.Char.{digit_value}
@@ -15,7 +15,7 @@ use Rattle.ndn_names.specs.UriReading.{pair_in, before, hex_in, octets_in, unpad
 
 -- ---- steps
 
--- a test that BadUri answers
+-- a test whose failure returns BadUri
 pub test_passed : {A : Type 0} (b : Bool) (r : Result A NameFault) (y : A) → cond b r (Err BadUri) ≡ Ok y → (b ≡ true) × (r ≡ Ok y)
 test_passed true r y e = (refl, e)
 test_passed false r y e = absurd cc
@@ -116,7 +116,7 @@ octets_again text (o ∷ octets) h =
       | inr p ↦ ap octets_in (h.2 ∙ ap (λ (f : List ℕ). f ++ h.1) p.2) ∙ rw (pair_again p.0 p.1 o p.3, octets_again h.1 octets h.4) refl
     ]
 
--- octets are no empty text
+-- the text of an octet is not empty
 octet_some : (text : List ℕ) (octet : ℕ) → IsOctetText text octet → 0 < length text
 octet_some text octet (inl p) = let size = ap length p.0 in omega arith
 octet_some text octet (inr p) = let size = ap length p.2 in omega arith
@@ -125,7 +125,7 @@ pub octets_some : (text octets : List ℕ) → StandsFor text octets → 0 < len
 octets_some text [] h some = absurd (omega arith)
 octets_some text (o ∷ octets) h some = let size = ap length h.2 ∙ length-append h.0 h.1 in let first = octet_some h.0 o h.3 in omega arith
 
--- no slash stands in such a text
+-- a hexadecimal digit is not a slash
 digit_no_slash : (digit : ℕ) → digit_value digit < 16 → digit ≢ 47
 digit_no_slash digit lt = λ is. let h : digit_value 47 < 16 = subst (λ (d : ℕ). digit_value d < 16) is lt in omega arith
 
@@ -144,9 +144,9 @@ hex_no_slash text [] h = subst (Lacks 47) (sym h) tt
 hex_no_slash text (o ∷ octets) h =
     subst (Lacks 47) (sym h.3) (digit_no_slash h.0 h.4.0, (digit_no_slash h.1 h.4.1, hex_no_slash h.2 octets h.5))
 
--- ---- three more periods
+-- ---- three additional periods
 
--- the end of periods
+-- the last three of a sequence of periods
 periods_end : (n : ℕ) (octets : List ℕ) → is_periods octets ≡ true → length octets ≡ n + 3 → take n octets ++ codes "..." ≡ octets
 periods_end zero (a ∷ b ∷ c ∷ []) all is =
     let first = and_parts (a == 46) (is_periods (b ∷ c ∷ [])) all in

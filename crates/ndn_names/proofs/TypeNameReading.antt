@@ -1,4 +1,4 @@
--- What reading numbers and type names from text says of the text.
+-- What reading numbers and type names from text tells about the text.
 use Rattle.std.proofs.Common.{◌≡◌, ◌⊎◌, ℕ, ◌^◌, ◌<◌, ◌≤◌, Bool, true, false, cond, eqb, ltb, not, ◌&&◌, ◌||◌, List, [], ◌∷◌, length, get_or, Option, Some, None, Ok, Err, refl, sym, ap, subst, ◌∙◌, arith, inl, inr, codes, decimal, bytes_eq}
 use Rattle.std.specs.Str.{all_ascii_digits}
 use Rattle.std.specs.Str.Parse.{AllDigits, IsNumeral, digits_value}
@@ -27,7 +27,7 @@ number_found text n e =
 pub number_again : (text : List ℕ) → IsNumeral 10 text → digits_value 10 text < 2 ^ 64 → number_in text ≡ Ok (digits_value 10 text)
 number_again text h small = rw (own.from text h.1, lt-ltb 0 (length text) h.0, lt-ltb (digits_value 10 text) (2 ^ 64) small) refl
 
--- digits are from 48 to 57
+-- an octet that is not from 48 to 57 does not occur in digits
 pub digits-Lacks : (octet : ℕ) → (octet < 48) ⊎ (57 < octet) → (text : List ℕ) → AllDigits 10 text → Lacks octet text
 digits-Lacks octet out [] h = tt
 digits-Lacks octet out (o ∷ text) h =
@@ -57,12 +57,12 @@ type_again kind some narrow =
 
 -- ---- type names for types
 
--- one test of a chain
+-- one test in a chain
 tested : {A : Type 0} (b : Bool) (x : A) (others : Option A) (y : A) (P : A → Type 0) → (b ≡ true → P x) → (others ≡ Some y → P y) → cond b (Some x) others ≡ Some y → P y
 tested true x others y P here after e = let same : x ≡ y = cc in subst P same (here refl)
 tested false x others y P here after e = after e
 
--- a fact of a type name of a type, by the seven type names
+-- a property holds of all types with names if it holds of each of the seven
 type_name_by_cases : (kind : ℕ) (type_name : List ℕ) (P : ℕ → List ℕ → Type 0)
     → P 1 (codes "sha256digest") → P 2 (codes "params-sha256") → P 50 (codes "seg") → P 52 (codes "off") → P 54 (codes "v") → P 56 (codes "t") → P 58 (codes "seq")
     → type_name_of kind ≡ Some type_name → P kind type_name
@@ -97,13 +97,13 @@ type_name_found type_name kind =
 pub type_name_again : (kind : ℕ) (type_name : List ℕ) → type_name_of kind ≡ Some type_name → kind_of type_name ≡ Some kind
 type_name_again kind type_name = type_name_by_cases kind type_name (λ k w. kind_of w ≡ Some k) refl refl refl refl refl refl refl
 
--- types that have type names
+-- the types that have type names
 pub type_name_kind : (kind : ℕ) (type_name : List ℕ) → type_name_of kind ≡ Some type_name → (1 ≤ kind) × (kind < 65536)
 type_name_kind kind type_name =
     type_name_by_cases kind type_name (λ k w. (1 ≤ k) × (k < 65536))
     (omega arith, omega arith) (omega arith, omega arith) (omega arith, omega arith) (omega arith, omega arith) (omega arith, omega arith) (omega arith, omega arith) (omega arith, omega arith)
 
--- a type name begins with a letter, and a number does not
+-- a type name begins with a letter, and so not with a digit
 type_name_begins : (kind : ℕ) (type_name : List ℕ) → type_name_of kind ≡ Some type_name → 57 < get_or type_name 0 0
 type_name_begins kind type_name = type_name_by_cases kind type_name (λ k w. 57 < get_or w 0 0) (omega arith) (omega arith) (omega arith) (omega arith) (omega arith) (omega arith) (omega arith)
 
@@ -118,6 +118,6 @@ decimal_no_type_name n lt =
           absurd (omega (arith, digit.1))
     ] refl
 
--- a type name lacks the equals sign and the slash
+-- a type name contains no equals sign and no slash
 pub type_name_lacks : (kind : ℕ) (type_name : List ℕ) → type_name_of kind ≡ Some type_name → Lacks 61 type_name × Lacks 47 type_name
 type_name_lacks kind type_name = type_name_by_cases kind type_name (λ k w. Lacks 61 w × Lacks 47 w) (omega arith) (omega arith) (omega arith) (omega arith) (omega arith) (omega arith) (omega arith)

@@ -1,4 +1,4 @@
--- Reading a text takes no memory: each fault has a cause in the text.
+-- Reading a text does not run out of memory: the text is the cause of each fault.
 use Rattle.std.proofs.Common.{◌≡◌, ℕ, ◌+◌, ◌*◌, ◌-◌, ◌^◌, ltb, leb, eqb, cond, length, take, List, [], ◌∷◌, Result, Ok, Err, subst, codes, bytes_eq, decimal}
 use Rattle.std.specs.Prelude.{Option, Some, None, not, ◌&&◌, ◌||◌}
 use Rattle.std.specs.List.{list_any}

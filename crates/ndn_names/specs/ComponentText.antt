@@ -1,4 +1,4 @@
--- Components in text that are not decoded yet.
+-- Components in text before they are decoded.
 use Rattle.std.specs.Prelude.{◌≡◌, ℕ, List, length, take, Result, Ok, Err, ⊤}
 use Rattle.ndn_tlv.specs.Element.{Field}
 use Rattle.ndn_tlv.specs.Number.{shortest_nni}
@@ -10,7 +10,7 @@ use Rattle.ndn_names.specs.declared.fault.NameFault.{NameFault}
 use Rattle.ndn_names.specs.declared.fault.NameFault.TheVariants.{BadUri}
 use Rattle.ndn_names.specs.UriReading.{octets_in, hex_in}
 
--- the value of this many octets that a text spells
+-- the value of `len` octets that a text encodes
 abbrev pub value_in : ℕ → ValueText → Result (List ℕ) NameFault
 value_in len (Plain octets) = Ok octets.now
 value_in len (Escaped text) = do
@@ -19,24 +19,24 @@ value_in len (Escaped text) = do
 value_in len (Hexadecimal text) = hex_in text.now
 value_in len (Number n) = Ok (shortest_nni n)
 
--- the text is that of this component
+-- the text is that of the component `c`
 abbrev pub IsTextOf : Field → ComponentText → Type 0
 IsTextOf c text =
     (text.kind ≡ c.0) × (text.len ≡ length c.1) × (value_in text.len text.value ≡ Ok c.1)
 
--- the octets that a text spells one after the other; those of a number are not spelled so
+-- the octets that a text encodes one by one; a number does not encode its octets so
 abbrev pub octets_said : ValueText → Result (List ℕ) NameFault
 octets_said (Plain octets) = Ok octets.now
 octets_said (Escaped text) = octets_in text.now
 octets_said (Hexadecimal text) = hex_in text.now
 octets_said (Number n) = Err BadUri
 
--- the text spells these octets first, and then any others
+-- the octets that the text encodes begin with `octets`
 abbrev pub SaysFirst : ValueText → List ℕ → Type 0
 SaysFirst value octets =
     (said : List ℕ) × (octets_said value ≡ Ok said) × (take (length octets) said ≡ octets)
 
--- the octets of a number come before these
+-- if the text is a number, `octets` begin with its shortest encoding
 abbrev pub IsNumberIn : List ℕ → ValueText → Type 0
 IsNumberIn octets (Number n) = take (length (shortest_nni n)) octets ≡ shortest_nni n
 IsNumberIn octets (Plain text) = ⊤

@@ -1,14 +1,14 @@
--- The first component of a type in a name.
+-- The first component of a given type in a name.
 use Rattle.std.specs.Prelude.{Bool, true, false, ◌≡◌, ◌≢◌, ◌↔◌, ℕ, List, [], ◌∷◌, ◌++◌, Option, None, Some, IsTrue}
 use Rattle.std.specs.List.{AllByRecursion}
 use Rattle.ndn_tlv.specs.Element.{Field}
 use Rattle.ndn_names.specs.declared.first_of_type.FirstOfType.{FirstOfType}
 
--- no component has this type
+-- no component has the type `kind`
 abbrev pub NoneOfType : ℕ → List Field → Type 0
 NoneOfType kind cs = AllByRecursion (λ c. c.0 ≢ kind) cs
 
--- it is the first of this type among these components
+-- `first` is the first component of the type among `cs`.
 pub record IsFirstOfType (kind : ℕ) (cs : List Field) (first : FirstOfType) : Type 0 where
   pub front : List Field
   pub back : List Field
@@ -17,12 +17,13 @@ pub record IsFirstOfType (kind : ℕ) (cs : List Field) (first : FirstOfType) : 
   pub only : IsTrue first.is_only ↔ NoneOfType kind back
   pub last : IsTrue first.is_last ↔ (back ≡ [])
 
--- the first component of this type, where there is one
+-- the first component of the type, or `None` if there is none
 abbrev pub FindsFirst : ℕ → List Field → Option FirstOfType → Type 0
 FindsFirst kind cs None = NoneOfType kind cs
 FindsFirst kind cs (Some first) = IsFirstOfType kind cs first
 
--- the first component, where one of these octets comes after what was found
+-- the updated result of a search, after one more component of the type was read: the first one
+-- stays
 abbrev pub Further : Option FirstOfType → List ℕ → Bool → FirstOfType → Type 0
 Further None value is_last first =
     (first.value.now ≡ value) × (first.is_only ≡ true) × (first.is_last ≡ is_last)

@@ -1,4 +1,4 @@
--- Names as keys of maps: the laws that comparing and hashing them obey.
+-- Names as keys of maps: the laws of comparing and hashing names.
 use Rattle.std.specs.Prelude.{◌≡◌, true, List, length, refl}
 use mathlib.Core.Path.{ap}
 use Rattle.std.specs.Coded.{Coded, coded×, coded_list, coded_ℕ}
@@ -22,11 +22,11 @@ component_cmp-total =
 pub name_cmp-total : IsTotalOrder name_cmp
 name_cmp-total = lists_total component_cmp-total
 
--- names as values in models
+-- an encoding of names for models
 abbrev pub name_code : Coded (List Field)
 name_code = coded_list (coded× coded_ℕ (coded_list coded_ℕ))
 
--- both of two orders tie
+-- two comparisons in sequence tie only if both tie
 pub both_tie : (o p : Ordering) → ordering_then o p ≡ Equal → (o ≡ Equal) × (p ≡ Equal)
 both_tie Less p e = absurd cc
 both_tie Equal p e = (refl, e)
@@ -43,7 +43,7 @@ component_cmp-antisymmetric x y e =
 pub name_cmp-antisymmetric : IsAntisymmetric name_cmp
 name_cmp-antisymmetric = slice_cmp-IsAntisymmetric component_cmp-antisymmetric
 
--- what a name feeds to a hash: its octets
+-- what a name writes to a hasher: its octets
 abbrev pub name_writes : List Field → HashWrites
 name_writes cs = slice u8 (octets_of cs)
 

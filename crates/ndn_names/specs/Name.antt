@@ -7,36 +7,36 @@ use Rattle.ndn_tlv.specs.Element.{Field, IsField, element, IsElements}
 use Rattle.ndn_tlv.specs.Reading.{elements_of}
 use Rattle.ndn_names.specs.declared.component_type.TheConstants.{PARAMETERS_SHA256_DIGEST}
 
--- a component is its type and its octets: types up to 65535, and 32 octets in the two digests,
--- which have the least types
+-- A component has a type from 1 to 65535 and octets. The two digests, which have the least types,
+-- have 32 octets.
 abbrev pub IsComponent : Field → Type 0
 IsComponent c = (1 ≤ c.0) × (c.0 < 65536) × (c.0 ≤ PARAMETERS_SHA256_DIGEST → length c.1 ≡ 32)
 
--- a name is at most 64 components
+-- a name has at most 64 components
 abbrev pub IsName : List Field → Type 0
 IsName cs = (length cs ≤ 64) × AllByRecursion IsComponent cs
 
--- the TLV-VALUE of a Name: its components, one after the other
+-- the TLV-VALUE of a Name: the octets of its components, in order
 abbrev pub octets_of : List Field → List ℕ
 octets_of cs = flat_map element cs
 
--- the octets are the TLV-VALUE of the name of these components
+-- the octets are the TLV-VALUE of the name with these components
 abbrev pub IsNameValue : List ℕ → List Field → Type 0
 IsNameValue value cs = IsElements value cs × IsName cs
 
--- b begins with a, which may be all of it
+-- b begins with a, or equals it
 abbrev pub IsPrefix : List Field → List Field → Type 0
 IsPrefix a b = (rest : List Field) × (b ≡ a ++ rest)
 
--- the elements of the octets, as far as they can be read
+-- the elements at the front of the octets that can be read
 unfoldable pub components_of : List ℕ → List Field
 components_of value = filter_map result_ok (elements_of value)
 
--- the octets are a name's TLV-VALUE
+-- the octets are the TLV-VALUE of some name
 abbrev pub IsNameOctets : List ℕ → Type 0
 IsNameOctets value = IsNameValue value (components_of value)
 
--- there is one way for octets to be a name's value
+-- two proofs that octets are a name's value are equal
 IsField-prop : (f : Field) → IsProp (IsField f)
 IsField-prop f p q = λ i. (le_prop p.0 q.0 i, le_prop p.1 q.1 i, le_prop p.2 q.2 i)
 

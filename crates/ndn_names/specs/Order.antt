@@ -5,7 +5,7 @@ use Rattle.std.specs.Ordering.{nat_cmp, on, then_cmp}
 use Rattle.std.specs.Cmp.Lexicographic.{slice_cmp}
 use Rattle.ndn_tlv.specs.Element.{Field}
 
--- at the first place where the lists differ, what a has there is less
+-- at the first position at which the lists differ, the element of a is less
 abbrev pub DiffersBelow : {X : Type 0} → (X → X → Type 0) → List X → List X → Type 0
 DiffersBelow {X} Below a b =
     (common after_x after_y : List X) × (x y : X) × (a ≡ common ++ x ∷ after_x)
@@ -14,22 +14,22 @@ DiffersBelow {X} Below a b =
 abbrev pub IsProperPrefix : {X : Type 0} → List X → List X → Type 0
 IsProperPrefix {X} a b = (y : X) × (after : List X) × (b ≡ a ++ y ∷ after)
 
--- octets, for two lists of one length
+-- the order of octets, for two lists of equal length
 abbrev pub OctetsLess : List ℕ → List ℕ → Type 0
 OctetsLess a b = DiffersBelow ◌<◌ a b
 
--- components, by type, then length, then octets
+-- the order of components: by type, then length, then octets
 abbrev pub ComponentLess : Field → Field → Type 0
 ComponentLess x y =
     (x.0 < y.0)
     ⊎ ((x.0 ≡ y.0) × (length x.1 < length y.1))
     ⊎ ((x.0 ≡ y.0) × (length x.1 ≡ length y.1) × OctetsLess x.1 y.1)
 
--- names: a proper prefix is less, and else the first component that differs decides
+-- the order of names: a proper prefix is less; otherwise the first component that differs decides
 abbrev pub Less : List Field → List Field → Type 0
 Less a b = IsProperPrefix a b ⊎ DiffersBelow ComponentLess a b
 
--- the same orders, as functions
+-- the orders of components and of names, as comparison functions
 abbrev pub component_cmp : Field → Field → Ordering
 component_cmp =
     then_cmp (on (λ c. c.0) nat_cmp)

@@ -1,5 +1,4 @@
--- Reading a name from left to right, with the first fault that is met (NDN Packet Format 0.3,
--- "Name").
+-- Reading a name from left to right, up to the first fault (NDN Packet Format 0.3, "Name").
 use Rattle.std.specs.Prelude.{◌≡◌, ◌≢◌, ◌⊎◌, ℕ, ◌+◌, List, [], ◌∷◌, length, Option, None, Some, Result, Ok, Err, nat_lt, nat_le, ◌==◌, ◌&&◌, ◌||◌, not, if◌then◌else◌}
 use Rattle.ndn_tlv.specs.declared.fault.TlvFault.{TlvFault}
 use Rattle.ndn_tlv.specs.Element.{Field}
@@ -8,38 +7,38 @@ use Rattle.ndn_names.specs.declared.component_type.TheConstants.{PARAMETERS_SHA2
 use Rattle.ndn_names.specs.declared.fault.NameFault.{NameFault}
 use Rattle.ndn_names.specs.declared.fault.NameFault.TheVariants.{BadComponent, BadDigestLength, TooManyComponents, Memory}
 
--- a type and octets, as a component
+-- a type and octets, checked as a component
 abbrev pub component_of : Field → Result Field NameFault
 component_of c =
     if (c.0 == 0) || nat_lt 65535 c.0 then Err BadComponent else (
     if nat_le c.0 PARAMETERS_SHA256_DIGEST && not (length c.1 == 32) then Err BadDigestLength
     else Ok c)
 
--- an element, or why there is none, as a component
+-- an element, or the reason why it cannot be read, checked as a component
 abbrev pub component_at : Result Field TlvFault → Result Field NameFault
 component_at (Err fault) = Err BadComponent
 component_at (Ok c) = component_of c
 
--- octets begin with this component, and these octets follow
+-- the octets begin with the component `c`, and `rest` follows it
 abbrev pub IsFirst : List ℕ → Field → List ℕ → Type 0
 IsFirst octets c rest =
     (elements_of octets ≡ Ok c ∷ elements_of rest) × (component_of c ≡ Ok c)
 
--- octets, where there are some, begin with no component for this cause
+-- unless the octets are empty, they do not begin with a component, and `fault` says why
 abbrev pub IsNoFirst : List ℕ → NameFault → Type 0
 IsNoFirst octets fault =
     octets ≢ [] → (at : Result Field TlvFault) × (others : List (Result Field TlvFault))
     × (elements_of octets ≡ at ∷ others) × (component_at at ≡ Err fault)
 
--- the fault of what was found, or Memory where this was
+-- the fault of what was found, or `Memory` if it had none
 abbrev pub IsFaultOrMemory : Result Field NameFault → Field → NameFault → Type 0
 IsFaultOrMemory found c fault = (found ≡ Err fault) ⊎ ((fault ≡ Memory) × (found ≡ Ok c))
 
--- a component that follows n others
+-- the component after n others
 abbrev pub component_after : ℕ → Result Field TlvFault → Result Field NameFault
 component_after n e = if nat_lt n 64 then component_at e else Err TooManyComponents
 
--- the components of these elements, where n components come before them
+-- the components of these elements, which follow n others
 abbrev pub components_after : ℕ → List (Result Field TlvFault) → Result (List Field) NameFault
 components_after n [] = Ok []
 components_after n (e ∷ es) = do
@@ -51,6 +50,6 @@ components_after n (e ∷ es) = do
 unfoldable pub name_at : List ℕ → Result (List Field) NameFault
 name_at value = components_after 0 (elements_of value)
 
--- the name that is read, whatever the fault where there is none
+-- the name that is read, or `None` for any fault
 abbrev pub name_of : List ℕ → Option (List Field)
 name_of value = on_result (λ cs. Some cs) (λ _. None) (name_at value)

@@ -10,21 +10,21 @@ use Rattle.ndn_names.specs.Name.{IsName}
 use Rattle.ndn_names.specs.TypeName.{type_name_of}
 use Rattle.ndn_names.specs.Uri.{padded, path_of}
 
--- two hexadecimal digits of either case, and their octet
+-- two hexadecimal digits of either case, and the octet that they encode
 abbrev pub IsHexPair : ℕ → ℕ → ℕ → Type 0
 IsHexPair high low octet =
     (digit_value high < 16) × (digit_value low < 16)
     × (octet ≡ 16 * digit_value high + digit_value low)
 
--- two digits for each octet
+-- two hexadecimal digits for each octet
 abbrev pub IsHex : List ℕ → List ℕ → Type 0
 IsHex text [] = text ≡ []
 IsHex text (o ∷ octets) =
     (high low : ℕ) × (rest : List ℕ) × (text ≡ high ∷ low ∷ rest) × IsHexPair high low o
     × IsHex rest octets
 
--- an octet in text: itself, unless it is a percent sign or a slash, or a percent sign and two
--- digits
+-- The text of an octet: the octet itself, unless it is a percent sign or a slash; or a percent sign
+-- and two hexadecimal digits.
 abbrev pub IsOctetText : List ℕ → ℕ → Type 0
 IsOctetText text octet =
     ((text ≡ octet ∷ []) × (octet ≢ 37) × (octet ≢ 47))
@@ -35,28 +35,28 @@ StandsFor text [] = text ≡ []
 StandsFor text (o ∷ octets) =
     (front rest : List ℕ) × (text ≡ front ++ rest) × IsOctetText front o × StandsFor rest octets
 
--- a value in text: with three more periods where it has nothing else
+-- the text of a value; three periods are added to a value of periods only
 abbrev pub IsValueText : List ℕ → List ℕ → Type 0
 IsValueText text value = StandsFor text (padded value)
 
--- without an equals sign: a GenericNameComponent
+-- a piece without an equals sign: a GenericNameComponent
 abbrev pub IsGeneric : List ℕ → Field → Type 0
 IsGeneric piece c = AllByRecursion (λ o. o ≢ 61) piece × (c.0 ≡ GENERIC) × IsValueText piece c.1
 
--- the number of a type, without leading zeros, an equals sign, and the value
+-- a piece of a type number without leading zeros, an equals sign, and the value
 abbrev pub IsTyped : List ℕ → Field → Type 0
 IsTyped piece c =
     (text : List ℕ) × (piece ≡ decimal c.0 ++ 61 ∷ text) × (1 ≤ c.0) × (c.0 < 65536)
     × IsValueText text c.1
 
--- the name of the type of a digest, an equals sign, and 64 hexadecimal digits
+-- a piece of the type name of a digest, an equals sign, and 64 hexadecimal digits
 abbrev pub IsDigest : List ℕ → Field → Type 0
 IsDigest piece c =
     (type_name text : List ℕ) × (piece ≡ type_name ++ 61 ∷ text)
     × (type_name_of c.0 ≡ Some type_name) × (c.0 ≤ PARAMETERS_SHA256_DIGEST)
     × (length text ≡ 64) × IsHex text c.1
 
--- the name of the type of a number, an equals sign, and a number below 2 ^ 64 in decimal digits
+-- a piece of a type name, an equals sign, and a number below 2^64 in decimal digits
 abbrev pub IsNumbered : List ℕ → Field → Type 0
 IsNumbered piece c =
     (type_name text : List ℕ) × (piece ≡ type_name ++ 61 ∷ text)
@@ -74,9 +74,9 @@ ReadsEach [] (c ∷ cs) = ⊥
 ReadsEach (piece ∷ pieces) [] = ⊥
 ReadsEach (piece ∷ pieces) (c ∷ cs) = ReadsComponent piece c × ReadsEach pieces cs
 
--- the text reads as the name of these components: it may begin with the scheme and end with a
--- slash. No piece that reads as a component is empty or has a slash, so there is one way to take
--- the text apart.
+-- The text reads as the name with these components. It may begin with the scheme and end with a
+-- slash. A piece that reads as a component is never empty and never contains a slash, so the text
+-- can be split in only one way.
 abbrev pub ReadsAs : List ℕ → List Field → Type 0
 ReadsAs text cs =
     (start end : List ℕ) × (pieces : List (List ℕ)) × (text ≡ start ++ (path_of pieces ++ end))

@@ -7,40 +7,41 @@ use Rattle.ndn_tlv.specs.Element.{Field}
 use Rattle.ndn_names.specs.declared.component_type.TheConstants.{GENERIC, PARAMETERS_SHA256_DIGEST}
 use Rattle.ndn_names.specs.TypeName.{type_name_of, shortest_number}
 
--- the octets that stand for themselves: letters and digits, hyphen, period, underscore, tilde
+-- the octets that need no escape: letters, digits, hyphen, period, underscore, tilde
 abbrev pub is_unreserved : ℕ → Bool
 is_unreserved o = is_ascii_alphanumeric o || (o == 45 || (o == 46 || (o == 95 || o == 126)))
 
--- an octet as two hexadecimal digits, in upper case or not
+-- the two hexadecimal digits of an octet, in upper or lower case
 abbrev pub hexadecimal : Bool → ℕ → List ℕ
 hexadecimal is_upper o = digit_glyph is_upper (o / 16) ∷ digit_glyph is_upper (o % 16) ∷ []
 
 abbrev pub escaped : ℕ → List ℕ
 escaped o = if is_unreserved o then o ∷ [] else codes "%" ++ hexadecimal true o
 
--- nothing but periods, or nothing at all
+-- the value consists of periods only, or is empty
 abbrev pub is_periods : List ℕ → Bool
 is_periods value = list_all (λ o. o == 46) value
 
--- such a value has three more periods in text
+-- the value, with three periods added if it consists of periods only
 abbrev pub padded : List ℕ → List ℕ
 padded value = if is_periods value then value ++ codes "..." else value
 
 abbrev pub value_text : List ℕ → List ℕ
 value_text value = flat_map escaped (padded value)
 
--- a component as text, where its type has no name: that of a GenericNameComponent is left out
+-- the text of a component without a type name: a type number, omitted for a GenericNameComponent,
+-- and the value
 abbrev pub plain_text : Field → List ℕ
 plain_text c =
     if c.0 == GENERIC then value_text c.1 else decimal c.0 ++ (codes "=" ++ value_text c.1)
 
--- where its type has a name and its values are numbers: the number is given where the value is its
--- shortest NonNegativeInteger
+-- the text of a component whose type stands for a number: the number, if the value is its shortest
+-- NonNegativeInteger encoding
 abbrev pub number_text : List ℕ → Field → Option ℕ → List ℕ
 number_text type_name c (Some n) = type_name ++ (codes "=" ++ decimal n)
 number_text type_name c None = plain_text c
 
--- the name of the type is given where it has one; types 1 and 2 are digests
+-- the text of a component, with its type name if it has one; types 1 and 2 are digests
 abbrev pub text_by_type_name : Field → Option (List ℕ) → List ℕ
 text_by_type_name c None = plain_text c
 text_by_type_name c (Some type_name) =
@@ -51,15 +52,15 @@ text_by_type_name c (Some type_name) =
 abbrev pub component_text : Field → List ℕ
 component_text c = text_by_type_name c (type_name_of c.0)
 
--- each piece after a slash, and a slash alone where there is no piece
+-- a slash before each piece, or a single slash if there is no piece
 abbrev pub path_of : List (List ℕ) → List ℕ
 path_of [] = codes "/"
 path_of (piece ∷ pieces) = flat_map (λ p. codes "/" ++ p) (piece ∷ pieces)
 
--- the values of the components are octets
+-- the values of the components consist of octets
 abbrev pub AreOctets : List Field → Type 0
 AreOctets cs = AllByRecursion (λ c. AllByRecursion (λ o. o < 256) c.1) cs
 
--- the text of the name of these components
+-- the text of the name with these components
 abbrev pub uri_of : List Field → List ℕ
 uri_of cs = path_of (map component_text cs)

@@ -1,5 +1,5 @@
--- Reading a name's text from left to right, with the first fault that is met (NDN Packet Format
--- 0.3, "NDN URI Scheme").
+-- Reading a name's text from left to right, up to the first fault (NDN Packet Format 0.3, "NDN URI
+-- Scheme").
 use Rattle.std.specs.Prelude.{◌≡◌, ◌⊎◌, ℕ, ◌+◌, ◌-◌, ◌*◌, ◌^◌, List, [], ◌∷◌, length, take, drop, Option, Some, None, ◌++◌, Bool, Result, Ok, Err, codes, decimal, bytes_eq, nat_lt, nat_le, ◌==◌, ◌&&◌, ◌||◌, not, if◌then◌else◌}
 use Rattle.std.specs.List.{list_any}
 use Rattle.std.specs.Char.{digit_value}
@@ -15,19 +15,19 @@ use Rattle.ndn_names.specs.Reading.{component_of}
 use Rattle.ndn_names.specs.TypeName.{kind_of}
 use Rattle.ndn_names.specs.Uri.{is_periods}
 
--- an octet in two hexadecimal digits
+-- the octet of two hexadecimal digits
 abbrev pub pair_in : ℕ → ℕ → Result ℕ NameFault
 pair_in high low =
     if nat_lt (digit_value high) 16 && nat_lt (digit_value low) 16
     then Ok (16 * digit_value high + digit_value low) else Err BadUri
 
--- an octet before others
+-- the octet `o` before the others
 abbrev pub before : ℕ → Result (List ℕ) NameFault → Result (List ℕ) NameFault
 before o others = do
   octets ← others
   Ok (o ∷ octets)
 
--- octets in hexadecimal digits
+-- the octets that hexadecimal digits encode
 abbrev pub hex_in : List ℕ → Result (List ℕ) NameFault
 hex_in [] = Ok []
 hex_in (high ∷ []) = Err BadUri
@@ -35,7 +35,7 @@ hex_in (high ∷ low ∷ text) = do
   o ← pair_in high low
   before o (hex_in text)
 
--- octets in text with percent signs
+-- the octets that text with percent escapes encodes
 abbrev pub octets_in : List ℕ → Result (List ℕ) NameFault
 octets_in [] = Ok []
 octets_in (a ∷ []) = if a == 37 then Err BadUri else Ok (a ∷ [])
@@ -46,26 +46,26 @@ octets_in (a ∷ b ∷ c ∷ text) =
       before o (octets_in text))
     else before a (octets_in (b ∷ c ∷ text))
 
--- the value: three periods are taken off where there are only periods
+-- the value; three periods are removed if it consists of periods only
 abbrev pub unpadded : List ℕ → Result (List ℕ) NameFault
 unpadded octets =
     if not (is_periods octets) then Ok octets else (
     if nat_lt (length octets) 3 then Err BadUri else Ok (take (length octets - 3) octets))
 
--- a component of a type, by the text of its value
+-- the component of this type with the value that the text encodes
 abbrev pub plain_in : ℕ → List ℕ → Result Field NameFault
 plain_in kind text = do
   octets ← octets_in text
   value ← unpadded octets
   component_of (kind, value)
 
--- a decimal number below 2 ^ 64, without a sign
+-- the number below 2^64 in decimal digits, without a sign
 abbrev pub number_in : List ℕ → Result ℕ NameFault
 number_in text =
     if all_ascii_digits text && (nat_lt 0 (length text) && nat_lt (digits_value 10 text) (2 ^ 64))
     then Ok (digits_value 10 text) else Err BadUri
 
--- the number of a type, without leading zeros
+-- the type number in decimal digits, without leading zeros
 abbrev pub type_in : List ℕ → Result ℕ NameFault
 type_in type_name = do
   kind ← number_in type_name
@@ -82,8 +82,8 @@ numbered_in kind text = do
   n ← number_in text
   Ok (kind, shortest_nni n)
 
--- a component by the text before and after its first equals sign, and the type that is named before
--- it
+-- the component with `type_name` before its first equals sign and `text` after it; the last
+-- argument is the type that `type_name` names, if any
 abbrev pub typed_in : List ℕ → List ℕ → Option ℕ → Result Field NameFault
 typed_in type_name text (Some kind) =
     if nat_le kind PARAMETERS_SHA256_DIGEST then digest_in kind text else numbered_in kind text
@@ -91,7 +91,7 @@ typed_in type_name text None = do
   kind ← type_in type_name
   plain_in kind text
 
--- the octets before the first c, and those after it
+-- the octets before the first c, and the octets after it
 abbrev pub cut_at : ℕ → List ℕ → Option (List ℕ × List ℕ)
 cut_at c [] = None
 cut_at c (o ∷ text) = if o == c then Some ([], text) else (more o (cut_at c text))
@@ -104,15 +104,15 @@ abbrev pub component_by_cut : List ℕ → Option (List ℕ × List ℕ) → Res
 component_by_cut piece None = plain_in GENERIC piece
 component_by_cut piece (Some parts) = typed_in parts.0 parts.1 (kind_of parts.0)
 
--- a component
+-- the component of a piece
 unfoldable pub component_in : List ℕ → Result Field NameFault
 component_in piece = component_by_cut piece (cut_at 61 piece)
 
--- a component alone, in a text that has no slash
+-- the component of a text without slashes
 abbrev pub piece_in : List ℕ → Result Field NameFault
 piece_in text = if list_any (λ o. o == 47) text then Err BadUri else component_in text
 
--- the components of these pieces, where n components come before them
+-- the components of these pieces, which follow n others
 abbrev pub components_in : ℕ → List (List ℕ) → Result (List Field) NameFault
 components_in n [] = Ok []
 components_in n (piece ∷ pieces) = do
@@ -120,7 +120,7 @@ components_in n (piece ∷ pieces) = do
   cs ← components_in (n + 1) pieces
   Ok (c ∷ cs)
 
--- an octet at the front of the first piece
+-- the pieces with the octet `o` added at the front of the first one
 abbrev pub at_front : ℕ → List (List ℕ) → List (List ℕ)
 at_front o [] = (o ∷ []) ∷ []
 at_front o (piece ∷ pieces) = (o ∷ piece) ∷ pieces
@@ -130,11 +130,11 @@ abbrev pub pieces_of : List ℕ → List (List ℕ)
 pieces_of [] = []
 pieces_of (o ∷ text) = if o == 47 then [] ∷ pieces_of text else at_front o (pieces_of text)
 
--- the text after the scheme, if it begins with it
+-- the text after the scheme, if it has one
 abbrev pub without_scheme : List ℕ → List ℕ
 without_scheme text = if bytes_eq (take 4 text) (codes "ndn:") then drop 4 text else text
 
--- the name after a slash; a slash alone is the slash at the end of the empty name
+-- the name in the text after its first slash; a slash alone ends the empty name
 abbrev pub name_after_slash : List ℕ → Result (List Field) NameFault
 name_after_slash text = components_in 0 (if bytes_eq text (codes "/") then [] else pieces_of text)
 
@@ -142,29 +142,30 @@ abbrev pub name_in_path : List ℕ → Result (List Field) NameFault
 name_in_path [] = Err BadUri
 name_in_path (o ∷ text) = if o == 47 then name_after_slash text else Err BadUri
 
--- the name of a text
+-- the name that a text reads as
 unfoldable pub name_in : List ℕ → Result (List Field) NameFault
 name_in text = name_in_path (without_scheme text)
 
--- the fault of a reading, or Memory, where there is none
+-- the fault of a reading, or `Memory` if the reading succeeds
 abbrev pub IsFaultBeforeMemory : {A : Type 0} → Result A NameFault → NameFault → Type 0
 IsFaultBeforeMemory {A} read fault =
     (read ≡ Err fault) ⊎ ((fault ≡ Memory) × ((x : A) × (read ≡ Ok x)))
 
--- the fault of a reading, or Memory, which has no cause in the text
+-- the fault of a reading, or `Memory`
 abbrev pub IsFaultOf : {A : Type 0} → Result A NameFault → NameFault → Type 0
 IsFaultOf read fault = (read ≡ Err fault) ⊎ (fault ≡ Memory)
 
--- the octets of what was read are put after others
+-- the octets of the reading are appended to `old`
 abbrev pub Adds : {A : Type 0} → (A → List ℕ) → Result A NameFault → List ℕ → List ℕ → Type 0
 Adds {A} octets_of read old new = (x : A) × (read ≡ Ok x) × (new ≡ old ++ octets_of x)
 
--- how many octets were read, and whether they are periods only
+-- the number of octets that are read, and whether all of them are periods
 abbrev pub AreCounted : Result (List ℕ) NameFault → ℕ × Bool → Type 0
 AreCounted read count =
     (octets : List ℕ) × (read ≡ Ok octets) × (count.0 ≡ length octets)
     × (count.1 ≡ is_periods octets)
 
--- this many octets are left without the three periods that are taken off
+-- `len` is the number of octets that are left after three periods are removed from a value of
+-- periods only
 abbrev pub AreLeft : List ℕ → ℕ → Type 0
 AreLeft octets len = (unpadded octets ≡ Ok (take len octets)) × (len ≡ length (take len octets))

@@ -1,4 +1,4 @@
--- What the views show.
+-- What views of names and components show.
 use Rattle.std.specs.Prelude.{List}
 use Rattle.ndn_tlv.specs.Element.{Field}
 use Rattle.ndn_names.specs.declared.component.Component.{Component}

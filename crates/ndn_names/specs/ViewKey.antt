@@ -1,4 +1,5 @@
--- Views of names and components as keys of maps: they compare and are hashed as what they show.
+-- Views of names and components as keys of maps: they compare and hash as the values that they
+-- show.
 use Rattle.std.specs.Prelude.{◌≡◌, true, ◌++◌}
 use mathlib.Core.Path.{ap}
 use Rattle.std.specs.declared.cmp.Ordering.{Ordering}
@@ -12,7 +13,7 @@ use Rattle.ndn_names.specs.Order.{component_cmp, name_cmp}
 use Rattle.ndn_names.specs.Key.{component_cmp-total, component_cmp-antisymmetric, name_cmp-total, name_writes, name_writes-alike}
 use Rattle.ndn_names.specs.View.{field_of, components}
 
--- names, as those that own their octets
+-- views of names compare as the names that they show
 abbrev pub view_cmp : Name → Name → Ordering
 view_cmp = on components name_cmp
 
@@ -26,14 +27,14 @@ pub view_writes-alike : (a b : Name) → eq_by_cmp view_cmp a b ≡ true
     → view_writes a ≡ view_writes b
 view_writes-alike a b e = name_writes-alike (components a) (components b) e
 
--- components, by type, then length, then octets
+-- views of components compare by type, then length, then octets
 abbrev pub component_view_cmp : Component → Component → Ordering
 component_view_cmp = on field_of component_cmp
 
 pub component_view_cmp-total : IsTotalOrder component_view_cmp
 component_view_cmp-total = on_total field_of component_cmp-total
 
--- what a component feeds to a hash: its type and its octets
+-- what a component writes to a hasher: its type and its octets
 abbrev pub component_writes : Field → HashWrites
 component_writes c = u16 c.0 ++ slice u8 c.1
 

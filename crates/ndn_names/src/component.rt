@@ -8,19 +8,19 @@ use crate::component_type::PARAMETERS_SHA256_DIGEST;
 use crate::fault::NameFault;
 use ndn_tlv::first_element;
 
-/// The octets of a digest.
+/// The length of a digest, in octets.
 pub(crate) const SHA256_LEN: usize = 32;
 
-/// A component of a name (NDN Packet Format 0.3, "Name"). It borrows its octets.
+/// A component of a name, which borrows its octets (NDN Packet Format 0.3, "Name").
 #[derive(Clone, Copy, Debug)]
 pub struct Component<'a> {
-    /// The TLV-TYPE, as 8 for a GenericNameComponent.
+    /// The TLV-TYPE, for example 8 for a GenericNameComponent.
     pub kind: u16,
-    /// The octets of the TLV-VALUE: 32 of them in a digest, of type 1 or 2.
+    /// The octets of the TLV-VALUE: 32 octets in a digest, which has type 1 or 2.
     pub value: &'a [u8],
 }
 
-/// The type of a component of these octets.
+/// Returns `kind` as the type of a component with this value.
 #[inline(always)]
 pub(crate) fn component_kind(kind: u32, value: &[u8]) -> Result<u16, NameFault>
     ensures { on_result (λ k. Ok (k, value.now)) Err result ≡ component_of (kind, value.now) }
@@ -28,7 +28,7 @@ pub(crate) fn component_kind(kind: u32, value: &[u8]) -> Result<u16, NameFault>
     kind_by_len(kind, value.len())
 }
 
-/// The type of a component of this length, in octets.
+/// Returns `kind` as the type of a component whose value has `len` octets.
 pub(crate) fn kind_by_len(kind: u32, len: usize) -> Result<u16, NameFault>
     ensures { (value : List ℕ) → len ≡ length value
         → on_result (λ k. Ok (k, value)) Err result ≡ component_of (kind, value) }
@@ -45,7 +45,7 @@ pub(crate) fn kind_by_len(kind: u32, len: usize) -> Result<u16, NameFault>
     Ok(kind)
 }
 
-/// The component at the front of the octets, and the octets after it.
+/// Returns the component at the front of the octets, and the octets after it.
 #[inline(always)]
 pub(crate) fn first_component<'a>(octets: &'a [u8]) -> Result<(Component<'a>, &'a [u8]), NameFault>
     ensures shorter { IfOk result (λ x. length x.1.now < length octets.now) }

@@ -1,4 +1,4 @@
-//! Components in URI text, read without memory (NDN Packet Format 0.3, "NDN URI Scheme").
+//! Components in URI text, read without allocation (NDN Packet Format 0.3, "NDN URI Scheme").
 
 ghost use Rattle.std.specs.Prelude.{◌≡◌, ◌<◌, ◌≤◌, ◌∷◌, ◌++◌, ℕ, List, length, take, Ok, Err, IfOk, OnOk, IfErr, MatchResult};
 ghost use Rattle.ndn_tlv.specs.Element.{Field};
@@ -13,20 +13,20 @@ use crate::fault::NameFault;
 use crate::type_name::kind_of;
 use ndn_tlv::{nni_len, put_nni};
 
-/// The text of a value, which is not decoded yet.
+/// The text of a value that has not been decoded yet.
 #[derive(Clone, Copy)]
 pub enum ValueText<'a> {
-    /// The octets themselves.
+    /// The octets of the value themselves.
     Plain(&'a [u8]),
-    /// Octets and percent escapes.
+    /// Octets and percent escapes that encode the value.
     Escaped(&'a [u8]),
-    /// Two hexadecimal digits for each octet.
+    /// Two hexadecimal digits for each octet of the value.
     Hexadecimal(&'a [u8]),
-    /// A number, whose octets are its shortest NonNegativeInteger.
+    /// A number. The octets of the value are its shortest NonNegativeInteger encoding.
     Number(u64),
 }
 
-/// The text of a component: its type, and its value, which is the first `len` octets of the text.
+/// The text of a component: its type, and the text of its value, which is the first `len` octets.
 #[derive(Clone, Copy)]
 pub struct ComponentText<'a> {
     pub kind: u16,
@@ -34,7 +34,7 @@ pub struct ComponentText<'a> {
     pub value: ValueText<'a>,
 }
 
-/// The octet of two hexadecimal digits.
+/// Returns the octet of two hexadecimal digits.
 pub fn octet_of(high: u8, low: u8) -> Result<u8, NameFault>
     ensures { result ≡ read.pair_in high low }
 {
@@ -44,7 +44,7 @@ pub fn octet_of(high: u8, low: u8) -> Result<u8, NameFault>
     }
 }
 
-/// The octet at the front, and the text after it.
+/// Returns the octet that the front of the text encodes, and the text after it.
 #[inline(always)]
 pub fn first_octet<'a>(first: u8, after: &'a [u8]) -> Result<(u8, &'a [u8]), NameFault>
     ensures read { MatchResult result
@@ -61,7 +61,8 @@ pub fn first_octet<'a>(first: u8, after: &'a [u8]) -> Result<(u8, &'a [u8]), Nam
     }
 }
 
-/// The number of octets in text with percent signs, and whether they are periods only.
+/// Returns the number of octets that text with percent escapes encodes, and whether all of them are
+/// periods.
 fn count_octets(text: &[u8]) -> Result<(usize, bool), NameFault>
     ensures { MatchResult result (read.AreCounted (read.octets_in text.now))
         (λ fault. read.octets_in text.now ≡ Err fault) }
@@ -78,7 +79,7 @@ fn count_octets(text: &[u8]) -> Result<(usize, bool), NameFault>
     Ok((count, has_periods_only))
 }
 
-/// The number of octets without the three periods, where there are only periods.
+/// Returns the number of octets in the value. Three are subtracted if all octets are periods.
 fn unpadded_len(count: usize, has_periods_only: bool) -> Result<usize, NameFault>
     ensures shorter { IfOk result (λ len. len ≤ count) }
     ensures read { (octets : List ℕ) → count ≡ length octets
@@ -94,7 +95,7 @@ fn unpadded_len(count: usize, has_periods_only: bool) -> Result<usize, NameFault
     Ok(count - 3)
 }
 
-/// The number of decimal digits.
+/// Returns the number in decimal digits.
 fn decimal_number(text: &str) -> Result<u64, NameFault>
     ensures { result ≡ read.number_in text.now }
 {
@@ -107,7 +108,7 @@ fn decimal_number(text: &str) -> Result<u64, NameFault>
     }
 }
 
-/// The number of a type, without leading zeros.
+/// Returns the type number in decimal digits, without leading zeros.
 fn type_of(type_name: &str) -> Result<u16, NameFault>
     ensures { result ≡ read.type_in type_name.now }
 {
@@ -120,7 +121,7 @@ fn type_of(type_name: &str) -> Result<u16, NameFault>
     }
 }
 
-/// The component of a type, by the text of its value.
+/// Returns the component of this type whose value is `text`.
 fn plain_text(kind: u16, text: &[u8]) -> Result<ComponentText<'_>, NameFault>
     ensures { MatchResult result
         (λ c. (field : Field) × (read.plain_in kind text.now ≡ Ok field) × IsTextOf field c)
@@ -133,7 +134,7 @@ fn plain_text(kind: u16, text: &[u8]) -> Result<ComponentText<'_>, NameFault>
     Ok(ComponentText { kind, len, value })
 }
 
-/// The text of the first `len` of its octets.
+/// Returns the text of the first `len` octets that `text` encodes.
 fn value_text(text: &[u8], count: usize, len: usize) -> ValueText<'_>
     requires { len ≤ count }
     ensures { (octets : List ℕ) → read.octets_in text.now ≡ Ok octets → count ≡ length octets
@@ -145,7 +146,7 @@ fn value_text(text: &[u8], count: usize, len: usize) -> ValueText<'_>
     ValueText::Escaped(text)
 }
 
-/// The component of a digest.
+/// Returns the digest component of this type whose value is `text`, in hexadecimal digits.
 fn digest_text(kind: u16, text: &[u8]) -> Result<ComponentText<'_>, NameFault>
     ensures { MatchResult result
         (λ c. (field : Field) × (read.digest_in kind text.now ≡ Ok field) × IsTextOf field c)
@@ -165,7 +166,7 @@ fn digest_text(kind: u16, text: &[u8]) -> Result<ComponentText<'_>, NameFault>
     })
 }
 
-/// The component of a type and a number.
+/// Returns the component of this type whose value is the number `text`, in decimal digits.
 fn number_text(kind: u16, text: &str) -> Result<ComponentText<'_>, NameFault>
     ensures { MatchResult result
         (λ c. (field : Field) × (read.numbered_in kind text.now ≡ Ok field) × IsTextOf field c)
@@ -180,7 +181,7 @@ fn number_text(kind: u16, text: &str) -> Result<ComponentText<'_>, NameFault>
     })
 }
 
-/// The component of the texts before and after its first equals sign.
+/// Returns the component with these texts before and after its first equals sign.
 fn typed_text<'a>(type_name: &str, text: &'a str) -> Result<ComponentText<'a>, NameFault>
     ensures { let typed = read.typed_in type_name.now text.now (kind_of type_name.now) in
         MatchResult result (λ c. (field : Field) × (typed ≡ Ok field) × IsTextOf field c)
@@ -193,7 +194,7 @@ fn typed_text<'a>(type_name: &str, text: &'a str) -> Result<ComponentText<'a>, N
     }
 }
 
-/// The component of a piece of text without slashes.
+/// Returns the component of a piece of text without slashes.
 pub fn component_text(piece: &str) -> Result<ComponentText<'_>, NameFault>
     ensures { MatchResult result
         (λ c. (field : Field) × (read.component_in piece.now ≡ Ok field) × IsTextOf field c)
@@ -205,7 +206,7 @@ pub fn component_text(piece: &str) -> Result<ComponentText<'_>, NameFault>
     }
 }
 
-/// Appends the octets of text with percent signs.
+/// Appends the octets that text with percent escapes encodes.
 fn put_escaped(out: &mut Vec<u8>, text: &[u8]) -> Result<(), NameFault>
     ensures { let found = read.octets_in text.now in
         MatchResult result (λ _. read.Adds (λ octets. octets) found out.old.items out.new.items)
@@ -220,7 +221,7 @@ fn put_escaped(out: &mut Vec<u8>, text: &[u8]) -> Result<(), NameFault>
     Ok(())
 }
 
-/// Appends the octets of hexadecimal digits.
+/// Appends the octets that hexadecimal digits encode.
 fn put_hexadecimal(out: &mut Vec<u8>, text: &[u8]) -> Result<(), NameFault>
     ensures { let found = read.hex_in text.now in
         MatchResult result (λ _. read.Adds (λ octets. octets) found out.old.items out.new.items)
@@ -237,7 +238,7 @@ fn put_hexadecimal(out: &mut Vec<u8>, text: &[u8]) -> Result<(), NameFault>
     Ok(())
 }
 
-/// Appends the octets of the value of a component.
+/// Appends the value of a component.
 pub fn put_value(out: &mut Vec<u8>, component: ComponentText<'_>) -> Result<(), NameFault>
     ensures ok { (c : Field) → IsTextOf c component.entry
         → OnOk result (out.new.items ≡ out.old.items ++ c.1) }

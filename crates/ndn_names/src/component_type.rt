@@ -1,37 +1,37 @@
-//! Types of components (NDN Packet Format 0.3, "Name"; NDN Naming Conventions, revision 3).
+//! Types of name components (NDN Packet Format 0.3, "Name"; NDN Naming Conventions, revision 3).
 
 ghost use Rattle.std.specs.Prelude.{◌≡◌};
 
 /// ImplicitSha256DigestComponent: SHA-256 of a Data packet, 32 octets.
 pub const IMPLICIT_SHA256_DIGEST: u16 = 1;
 
-/// ParametersSha256DigestComponent: SHA-256 of an Interest's parameters, 32 octets. No digest has a
-/// greater type.
+/// ParametersSha256DigestComponent: SHA-256 of an Interest's parameters, 32 octets. This is the
+/// greatest type of a digest.
 pub const PARAMETERS_SHA256_DIGEST: u16 = 2;
 
 /// GenericNameComponent: any octets.
 pub const GENERIC: u16 = 8;
 
-/// KeywordNameComponent: a word with a meaning of its own.
+/// KeywordNameComponent: a word with a special meaning.
 pub const KEYWORD: u16 = 32;
 
-/// SegmentNameComponent: the number of a segment.
+/// SegmentNameComponent: a segment number.
 pub const SEGMENT: u16 = 50;
 
-/// ByteOffsetNameComponent: where a segment begins, in octets.
+/// ByteOffsetNameComponent: the offset at which a segment begins, in octets.
 pub const BYTE_OFFSET: u16 = 52;
 
-/// VersionNameComponent: the number of a version.
+/// VersionNameComponent: a version number.
 pub const VERSION: u16 = 54;
 
 /// TimestampNameComponent: microseconds since 1970.
 pub const TIMESTAMP: u16 = 56;
 
-/// SequenceNumNameComponent: the number of a collection's item.
+/// SequenceNumNameComponent: the sequence number of an item in a collection.
 pub const SEQUENCE_NUM: u16 = 58;
 
-/// Law: these are the numbers that the standards assign (NDN Packet Format 0.3, "Name", for the
-/// first three; NDN Naming Conventions, revision 3, for the others).
+/// Law: these constants are the numbers that the standards assign (NDN Packet Format 0.3, "Name",
+/// for the first three; NDN Naming Conventions, revision 3, for the others).
 pub fn component_types_are_as_assigned()
     ensures digests { (IMPLICIT_SHA256_DIGEST ≡ 1) × (PARAMETERS_SHA256_DIGEST ≡ 2) }
     ensures generic { GENERIC ≡ 8 }

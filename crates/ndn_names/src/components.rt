@@ -3,7 +3,7 @@ ghost use Rattle.ndn_names.specs.Name.{IsNameOctets, IsNameOctets-prop};
 use crate::component::{Component, first_component};
 use std::alloc::AllocError;
 
-/// The components of a name, from its first to its last.
+/// An iterator over the components of a name, from the first to the last.
 #[derive(Debug, Drop)]
 pub struct Components<'a> {
     pub(crate) rest: &'a [u8],

@@ -6,12 +6,12 @@ use std::alloc::{AllocError, AllocFailed};
 use thiserror::Error;
 
 /// Why octets or a text are not a name, or why a name cannot grow (NDN Packet Format 0.3, "Name").
-/// Components are read from left to right: the 65th is `TooManyComponents` whatever it is, and of
-/// any other in octets the first fault in this enum's order is reported. `NameBuf::from_uri`
-/// documents which fault of a text is reported.
+/// Components are read from left to right. The 65th component is always `TooManyComponents`. Any
+/// other faulty component in octets is reported as the first fault that applies in the order of
+/// this enum. `NameBuf::from_uri` documents the faults of a text.
 #[derive(Clone, Copy, Debug, PartialEq, Eq, Error)]
 pub enum NameFault {
-    /// A component's type is 0 or above 65535, or it is not an element.
+    /// The type of a component is 0 or above 65535, or an element cannot be read.
     #[error("a component has to be a whole element of a type from 1 to 65535")]
     BadComponent,
     /// A digest, a component of type 1 or 2, is not 32 octets long.

@@ -7,18 +7,18 @@ use crate::component::first_component;
 use crate::fault::NameFault;
 use crate::name::MAX_COMPONENTS;
 
-/// The first component of a type in a name.
+/// The first component of a given type in a name.
 #[derive(Clone, Copy, Debug)]
 pub struct FirstOfType<'a> {
-    /// The octets of its TLV-VALUE.
+    /// The TLV-VALUE of the component.
     pub value: &'a [u8],
-    /// Whether no other component of the name has the type.
+    /// Whether the name has no other component of this type.
     pub is_only: bool,
-    /// Whether it is the last component of the name.
+    /// Whether the component is the last one of the name.
     pub is_last: bool,
 }
 
-/// The first component of this type, where the octets are a name's.
+/// Returns the first component of type `kind`, if the octets are a name.
 #[inline(always)]
 pub(crate) fn first_of_type(octets: &[u8], kind: u16) -> Result<Option<FirstOfType<'_>>, NameFault>
     ensures { MatchResult result
@@ -42,7 +42,7 @@ pub(crate) fn first_of_type(octets: &[u8], kind: u16) -> Result<Option<FirstOfTy
     Ok(found)
 }
 
-/// The first component, where this is one more of the type.
+/// Returns the updated search result, after one more component of the type was read.
 #[inline(always)]
 fn with_another<'a>(
     found: Option<FirstOfType<'a>>,

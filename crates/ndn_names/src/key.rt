@@ -62,7 +62,7 @@ impl Hash for NameBuf {
     }
 }
 
-/// As of the `NameBuf` of the same components.
+/// Two names are equal exactly if `NameBuf`s with their components are equal.
 impl PartialEq for Name<'_> {
     ghost eq = { eq_by_cmp view_cmp };
 

@@ -1,4 +1,4 @@
-//! Names of Named Data Networking: components, canonical order, URI text.
+//! Names of Named Data Networking: components, canonical order and URI text.
 #![tactic(auto)]
 
 mod component;

@@ -12,15 +12,15 @@ use std::cmp::Ordering;
 /// The greatest number of components of a name.
 pub const MAX_COMPONENTS: usize = 64;
 
-/// A name, as the TLV-VALUE of its Name element (NDN Packet Format 0.3, "Name"): at most 64
-/// components. It borrows the octets.
+/// A name: the TLV-VALUE of a Name element, which it borrows, of at most 64 components (NDN Packet
+/// Format 0.3, "Name").
 #[derive(Clone, Copy, Debug)]
 pub struct Name<'a> {
     pub(crate) octets: &'a [u8],
     ghost spelled: { IsNameOctets octets.now } by { IsNameOctets-prop octets.now },
 }
 
-/// Refuses octets that are not a name's.
+/// Refuses octets that are not the TLV-VALUE of a name.
 fn check_components(octets: &[u8]) -> Result<(), NameFault>
     ensures { MatchResult result (λ _. (cs : List Field) × (name_at octets.now ≡ Ok cs))
         (λ fault. name_at octets.now ≡ Err fault) }
@@ -49,14 +49,15 @@ impl<'a> Name<'a> {
 
     /// Reads the TLV-VALUE of a Name element, from left to right.
     ///
-    /// Refuses it with the first fault: see `NameFault`, of which `Memory` never occurs.
+    /// Returns the first fault if the value is not a name's: see `NameFault`. `Memory` never
+    /// occurs.
     pub fn read(value: &'a [u8]) -> Result<Name<'a>, NameFault>
-        // What is read is spelled so.
+        // The octets are the TLV-VALUE of the name that is read.
         ensures found { IfOk result (λ name. IsNameValue value.now (components name)) }
-        // What is spelled so is read.
+        // Every name's TLV-VALUE is read.
         ensures only { (cs : List Field) → IsNameValue value.now cs
             → IsOkAnd result (λ name. components name ≡ cs) }
-        // Which fault it is.
+        // The fault is the first one.
         ensures exact { on_result (λ name. Ok (components name)) Err result ≡ name_at value.now }
         ensures takes_no_memory { ¬ IsErrOf result NameFault.Memory }
     {
@@ -64,7 +65,7 @@ impl<'a> Name<'a> {
         Ok(Name { octets: value })
     }
 
-    /// Reads as `read` does, and also returns the first component of this type.
+    /// Reads a name as `read` does, and also returns its first component of type `kind`.
     #[inline(always)]
     pub fn read_finding(
         value: &'a [u8],
@@ -77,14 +78,14 @@ impl<'a> Name<'a> {
         Ok((Name { octets: value }, first))
     }
 
-    /// The TLV-VALUE of the name.
+    /// Returns the TLV-VALUE of the name.
     pub fn as_octets(&self) -> &'a [u8]
         ensures { IsNameValue result.now (components self.now) }
     {
         self.octets
     }
 
-    /// The name of the first `n` components.
+    /// Returns the name of the first `n` components.
     pub fn prefix(&self, n: usize) -> Name<'a>
         requires { n ≤ length (components self.now) }
         ensures { components result ≡ take n (components self.now) }
@@ -98,14 +99,15 @@ impl<'a> Name<'a> {
         }
     }
 
-    /// Whether the other name begins with this one's components. Each name is a prefix of itself.
+    /// Returns whether `other` begins with the components of this name. Each name is a prefix of
+    /// itself.
     pub fn is_prefix_of(&self, other: Name<'_>) -> bool
         ensures { IsTrue result ↔ IsPrefix (components self.now) (components other.entry) }
     {
         other.as_octets().starts_with(self.as_octets())
     }
 
-    /// Compares in canonical order (NDN Packet Format 0.3, "Name", "Canonical Order").
+    /// Compares two names in canonical order (NDN Packet Format 0.3, "Name", "Canonical Order").
     pub fn compare(&self, other: Name<'_>) -> Ordering
         ensures exact { result ≡ name_cmp (components self.now) (components other.entry) }
         ensures order { MatchOrdering result (Less (components self.now) (components other.entry))
@@ -115,7 +117,7 @@ impl<'a> Name<'a> {
         self.as_octets().cmp(other.as_octets())
     }
 
-    /// The components, from the first to the last.
+    /// Returns an iterator over the components, from the first to the last.
     pub fn iter(&self) -> Components<'a>
         ensures { components_left result ≡ components self.now }
     {
@@ -124,7 +126,7 @@ impl<'a> Name<'a> {
         }
     }
 
-    /// The number of components, 64 at most.
+    /// Returns the number of components, at most 64.
     pub fn len(&self) -> usize
         ensures exact { result ≡ length (components self.now) }
         ensures small { result ≤ 64 }
@@ -132,17 +134,17 @@ impl<'a> Name<'a> {
         self.iter().count()
     }
 
-    /// Whether the name has no component.
+    /// Returns whether the name has no components.
     pub fn is_empty(&self) -> bool
         ensures { IsTrue result ↔ (components self.now ≡ []) }
     {
         self.as_octets().is_empty()
     }
 
-    /// The component at a place, counted from 0.
+    /// Returns the component at index `i`, counted from 0.
     pub fn component(&self, i: usize) -> Option<Component<'a>>
         ensures exact { option_map field_of result ≡ slice_get (components self.now) i }
-        // Its place in the name's octets.
+        // The position of the component in the name's octets.
         ensures place { IfSome result (λ c. octets_of (components self.now)
             ≡ octets_of (take i (components self.now))
             ++ (element (field_of c) ++ octets_of (drop (i + 1) (components self.now)))) }
@@ -179,7 +181,7 @@ impl<'a> IntoIterator for &Name<'a> {
     }
 }
 
-/// Law: octets are the TLV-VALUE of at most one name, which `name_at` and `components_of` read.
+/// Law: octets are the TLV-VALUE of at most one name, which `name_at` and `components_of` return.
 pub fn names_have_one_reading()
     ensures one { (value : List ℕ) (a b : List Field) → IsNameValue value a → IsNameValue value b
         → a ≡ b }

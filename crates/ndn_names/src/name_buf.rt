@@ -9,7 +9,8 @@ use ndn_tlv::{Memory, put_element};
 use std::alloc::Global;
 use std::marker::Model;
 
-/// A name that owns its octets (NDN Packet Format 0.3, "Name"): at most 64 components.
+/// A name with its own copy of the octets, of at most 64 components (NDN Packet Format 0.3,
+/// "Name").
 #[derive(Debug, Drop)]
 pub struct NameBuf {
     octets: Vec<u8>,
@@ -27,7 +28,7 @@ impl NameBuf {
     ghost use Rattle.ndn_names.specs.Reading.{component_of, component_after, IsFaultOrMemory};
     ghost use Rattle.ndn_names.specs.View.{components};
 
-    /// The name without components.
+    /// Returns the name without components.
     pub fn new(alloc: Global) -> NameBuf
         ensures { result ≡ [] }
     {
@@ -36,7 +37,7 @@ impl NameBuf {
         }
     }
 
-    /// The name of these octets.
+    /// Returns the name with this TLV-VALUE.
     pub(crate) fn from_octets(octets: Vec<u8>) -> NameBuf
         requires { IsNameValue octets.items (components_of octets.items) }
         ensures { result ≡ components_of octets.items }
@@ -44,7 +45,7 @@ impl NameBuf {
         NameBuf { octets }
     }
 
-    /// A copy of a name.
+    /// Copies a name.
     pub fn from_name(alloc: Global, name: Name<'_>) -> Result<NameBuf, Memory>
         ensures { IfOk result (λ copy. copy ≡ components name.entry) }
     {
@@ -52,21 +53,22 @@ impl NameBuf {
         Ok(NameBuf { octets })
     }
 
-    /// A copy of this name.
+    /// Copies this name.
     pub fn try_clone(&self, alloc: Global) -> Result<NameBuf, Memory>
         ensures { IfOk result (λ copy. copy ≡ self.now) }
     {
         NameBuf::from_name(alloc, self.view())
     }
 
-    /// Appends a component of a type and octets.
+    /// Appends a component with this type and these octets.
     ///
-    /// Refuses it with the first fault in this order, and then changes nothing: `TooManyComponents`
-    /// where there are 64, `BadComponent` at type 0, `BadDigestLength`, `Memory`.
+    /// Returns the first fault in this order and changes nothing if the component is refused:
+    /// `TooManyComponents` if the name has 64 components, `BadComponent` for type 0,
+    /// `BadDigestLength`, `Memory`.
     pub fn append(&mut self, kind: u16, value: &[u8]) -> Result<(), NameFault>
         ensures ok { OnOk result (self.new ≡ self.old ++ (kind, value.now) ∷ []) }
         ensures err { OnErr result (self.new ≡ self.old) }
-        // Which fault it is: where there is no cause, memory was refused.
+        // The fault is the reason for a refusal or, if there is none, that memory ran out.
         ensures exact { let next = component_after (length self.old) (Ok (kind, value.now)) in
             MatchResult result (λ _. next ≡ Ok (kind, value.now))
             (IsFaultOrMemory next (kind, value.now)) }
@@ -79,7 +81,7 @@ impl NameBuf {
         Ok(())
     }
 
-    /// Appends a component that can follow.
+    /// Appends a component that has already been checked.
     fn push(&mut self, kind: u16, value: &[u8]) -> Result<(), Memory>
         requires room { length self.old < 64 }
         requires fits { component_of (kind, value.now) ≡ Ok (kind, value.now) }
@@ -90,7 +92,7 @@ impl NameBuf {
         Ok(())
     }
 
-    /// The name, to read.
+    /// Returns a view of the name.
     pub fn view(&self) -> Name<'_>
         ensures { components result ≡ self.now }
     {

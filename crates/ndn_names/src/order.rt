@@ -1,4 +1,4 @@
-//! Canonical order (NDN Packet Format 0.3, "Name", "Canonical Order"): its laws.
+//! The laws of canonical order (NDN Packet Format 0.3, "Name", "Canonical Order").
 
 ghost use Rattle.std.specs.Prelude.{◌≡◌, ◌⊎◌, ◌↔◌, ℕ, List};
 ghost use Rattle.std.specs.declared.cmp.Ordering.TheVariants as answers;
@@ -10,7 +10,7 @@ ghost use Rattle.ndn_tlv.specs.Element.{Field};
 ghost use Rattle.ndn_names.specs.Name.{IsNameValue};
 ghost use Rattle.ndn_names.specs.Order.{Less, name_cmp};
 
-/// Law: what the comparison of two names answers.
+/// Law: what each result of comparing two names means.
 pub fn comparison_tells_the_order()
     ensures less { (a b : List Field) → (name_cmp a b ≡ answers.Less) ↔ Less a b }
     ensures equal { (a b : List Field) → (name_cmp a b ≡ answers.Equal) ↔ (a ≡ b) }
@@ -24,13 +24,13 @@ pub fn canonical_order_is_total()
     ensures total { (a b : List Field) → Less a b ⊎ ((a ≡ b) ⊎ Less b a) }
 {}
 
-/// Law: names can be the keys of maps in canonical order.
+/// Law: maps can use names as keys, in canonical order.
 pub fn names_can_be_keys()
     ensures total { IsTotalOrder name_cmp }
     ensures antisymmetric { IsAntisymmetric name_cmp }
 {}
 
-/// Law: the TLV-VALUEs of names compare as their octets do.
+/// Law: the TLV-VALUEs of names, compared octet by octet, are in canonical order.
 pub fn octets_are_in_canonical_order()
     ensures { (u v : List ℕ) (a b : List Field) → IsNameValue u a → IsNameValue v b
         → slice_cmp nat_cmp u v ≡ name_cmp a b }

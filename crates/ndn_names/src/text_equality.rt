@@ -1,4 +1,5 @@
-//! Names compared by their URI texts, without memory (NDN Packet Format 0.3, "NDN URI Scheme").
+//! Comparing names by their URI texts, without allocation (NDN Packet Format 0.3, "NDN URI
+//! Scheme").
 
 ghost use Rattle.std.specs.Prelude.{◌≡◌, ◌↔◌, ◌∷◌, ℕ, List, length, take, Ok, IsTrue, MatchOption};
 ghost use Rattle.ndn_tlv.specs.Element.{Field};
@@ -11,7 +12,7 @@ use crate::component_text::{ComponentText, ValueText, component_text, first_octe
 use crate::name::MAX_COMPONENTS;
 use crate::uri_reader::{first_piece, pieces_text};
 
-/// The octets of the value of a number, and zeros after them.
+/// Returns the shortest NonNegativeInteger encoding of a number, padded with zeros at the end.
 #[tactic(auto, unfolding(ndn_tlv::specs::Number::shortest_nni))]
 fn nni_octets(number: u64) -> [u8; 8]
     ensures { take (length (shortest_nni number)) result ≡ shortest_nni number }
@@ -29,7 +30,7 @@ fn nni_octets(number: u64) -> [u8; 8]
     octets
 }
 
-/// The octets of a value, if it is a number.
+/// Returns the octets of a value if it is a number, padded with zeros at the end.
 fn number_octets(value: ValueText<'_>) -> [u8; 8]
     ensures { IsNumberIn result value.entry }
 {
@@ -39,7 +40,8 @@ fn number_octets(value: ValueText<'_>) -> [u8; 8]
     }
 }
 
-/// The text of the octets of a value, which for a number are at the front of the array.
+/// Returns a text that encodes the octets of the value one by one. If the value is a number,
+/// `number` begins with its octets.
 fn spelled_out<'a>(component: ComponentText<'a>, number: &'a [u8; 8]) -> ValueText<'a>
     requires { IsNumberIn number.now component.value }
     ensures { (c : Field) → IsTextOf c component.entry → SaysFirst result c.1 }
@@ -50,7 +52,7 @@ fn spelled_out<'a>(component: ComponentText<'a>, number: &'a [u8; 8]) -> ValueTe
     }
 }
 
-/// The first octet of a value, and the text of the others.
+/// Returns the first octet of a value, and the text of the octets after it.
 fn first_said(value: ValueText<'_>) -> Option<(u8, ValueText<'_>)>
     ensures { (octet : ℕ) (octets : List ℕ) → SaysFirst value.entry (octet ∷ octets)
         → MatchOption result ⊥ (λ x. (x.0 ≡ octet) × SaysFirst x.1 octets) }
@@ -79,7 +81,7 @@ fn first_said(value: ValueText<'_>) -> Option<(u8, ValueText<'_>)>
     }
 }
 
-/// Whether the first `len` octets of two values are the same.
+/// Returns whether the first `len` octets of two values are equal.
 fn octets_are_equal(len: usize, a: ValueText<'_>, b: ValueText<'_>) -> bool
     ensures { (x y : List ℕ) → SaysFirst a.entry x → SaysFirst b.entry y → len ≡ length x
         → len ≡ length y → (IsTrue result ↔ (x ≡ y)) }
@@ -104,7 +106,7 @@ fn octets_are_equal(len: usize, a: ValueText<'_>, b: ValueText<'_>) -> bool
     true
 }
 
-/// Whether two components are equal.
+/// Returns whether two components are equal.
 fn components_are_equal(a: ComponentText<'_>, b: ComponentText<'_>) -> bool
     ensures { (x y : Field) → IsTextOf x a.entry → IsTextOf y b.entry
         → (IsTrue result ↔ (x ≡ y)) }
@@ -120,7 +122,7 @@ fn components_are_equal(a: ComponentText<'_>, b: ComponentText<'_>) -> bool
     octets_are_equal(a.len, spelled_out(a, &a_number), spelled_out(b, &b_number))
 }
 
-/// Whether two pieces of text read as one component.
+/// Returns whether two pieces of text read as the same component.
 fn pieces_are_equal(a: &str, b: &str) -> bool
     ensures { IsTrue result ↔ ((c : Field) × (read.component_in a.now ≡ Ok c)
         × (read.component_in b.now ≡ Ok c)) }
@@ -134,7 +136,7 @@ fn pieces_are_equal(a: &str, b: &str) -> bool
     components_are_equal(a, b)
 }
 
-/// Whether two texts of pieces between slashes read as one name.
+/// Returns whether two texts of pieces between slashes read as the same name.
 fn paths_are_equal(a: &str, b: &str) -> bool
     ensures { IsTrue result ↔ ((cs : List Field)
         × (read.components_in 0 (read.pieces_of a.now) ≡ Ok cs)
@@ -159,8 +161,8 @@ fn paths_are_equal(a: &str, b: &str) -> bool
     b_rest.is_empty()
 }
 
-/// Whether two URI texts read as one name, however they spell it. It takes no memory. A text that
-/// `NameBuf::from_uri` refuses reads as none.
+/// Returns whether two URI texts read as the same name, even if they spell it differently. Nothing
+/// is allocated. A text that `NameBuf::from_uri` refuses reads as no name.
 pub fn uris_are_equal(a: &str, b: &str) -> bool
     ensures { IsTrue result ↔ ((cs : List Field) × ReadsAs a.now cs × ReadsAs b.now cs) }
 {

@@ -10,7 +10,7 @@ use crate::component_type::{
 };
 use ndn_tlv::nni_of;
 
-/// The name of a type.
+/// Returns the name of a type.
 pub fn type_name_of(kind: u16) -> Option<&'static str>
     ensures { option_map (λ type_name. type_name.now) result ≡ spec.type_name_of kind }
 {
@@ -26,7 +26,7 @@ pub fn type_name_of(kind: u16) -> Option<&'static str>
     }
 }
 
-/// The type of this name.
+/// Returns the type with this name.
 pub fn kind_of(type_name: &str) -> Option<u16>
     ensures { result ≡ spec.kind_of type_name.now }
 {
@@ -42,7 +42,7 @@ pub fn kind_of(type_name: &str) -> Option<u16>
     }
 }
 
-/// The number whose shortest NonNegativeInteger the octets are.
+/// Returns the number whose shortest NonNegativeInteger encoding is `value`.
 pub fn shortest_number(value: &[u8]) -> Option<u64>
     ensures { result ≡ spec.shortest_number value.now }
 {

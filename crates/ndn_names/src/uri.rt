@@ -16,7 +16,7 @@ use ndn_tlv::Memory;
 use std::alloc::Global;
 use std::fmt;
 
-/// An octet of a value.
+/// Prints an octet of a value as text.
 #[derive(Clone, Copy)]
 struct Octet(u8);
 
@@ -33,7 +33,7 @@ impl fmt::Display for Octet {
     }
 }
 
-/// A value.
+/// Prints a value as text.
 #[derive(Clone, Copy)]
 struct Value<'a>(&'a [u8]);
 
@@ -54,7 +54,7 @@ impl fmt::Display for Value<'_> {
     }
 }
 
-/// A digest.
+/// Prints a digest in hexadecimal digits.
 #[derive(Clone, Copy)]
 struct Hexadecimal<'a>(&'a [u8]);
 
@@ -112,13 +112,14 @@ impl fmt::Display for NameBuf {
 }
 
 impl NameBuf {
-    /// The URI text of the name, as `{}` prints it: digests in lower case, percent escapes in upper
-    /// case.
+    /// Returns the URI text of the name, as `{}` prints it: digests in lower case, percent escapes
+    /// in upper case.
     pub fn to_uri(&self, alloc: Global) -> Result<String, Memory>
         ensures exact { IfOk result (λ text. string_bytes text ≡ uri_of self.now) }
         ensures reads_back { IfOk result (λ text. ReadsAs (string_bytes text) self.now) }
     {
-        // The proof that the text reads back takes from here that the octets are octets.
+        // The contract of `as_octets` gives the proof of `reads_back` that all values consist of
+        // octets.
         let octets = self.view().as_octets();
         Ok(Name { octets }.to_string(alloc)?)
     }

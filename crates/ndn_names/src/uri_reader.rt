@@ -13,27 +13,28 @@ use crate::name_buf::NameBuf;
 use ndn_tlv::put_number;
 use std::alloc::Global;
 
-/// Room for the octets that a name has beside those of its text: a component has two, its type and
-/// its length, where the text has a slash.
+/// Spare capacity for a name, in octets. A component has two octets in addition to its value, for
+/// type and length, while its text only has a slash.
 const SPARE: usize = 16;
 
-/// Reads the URI text of one component, as `A` or `seg=5`: its type and its octets.
+/// Reads the URI text of one component, for example `A` or `seg=5`. Returns its type and its
+/// octets.
 ///
-/// Refuses it as `NameBuf::from_uri` refuses the component: `BadDigestLength` for `1=` or `2=` with
-/// other than 32 octets, and `BadUri` for all else, a text with a slash among it. `Memory` is
-/// returned only where the text reads as a component.
+/// Returns the same faults as `NameBuf::from_uri` for the component: `BadDigestLength` for `1=` or
+/// `2=` with other than 32 octets, and `BadUri` for everything else, including a slash. Returns
+/// `Memory` only if the text reads as a component.
 pub fn component_from_uri(alloc: Global, text: &str) -> Result<(u16, Vec<u8>), NameFault>
-    // What is read is the component that the text reads as.
+    // The returned component is the one that the text reads as.
     ensures found { IfOk result
         (λ c. ReadsComponent text.now (c.0, c.1.items) × IsComponent (c.0, c.1.items)) }
-    // What reads as a component is read, unless memory runs out.
+    // Every text that reads as a component is read, unless memory runs out.
     ensures only { (c : Field) → ReadsComponent text.now c → IsComponent c
         → MatchResult result (λ component. (component.0, component.1.items) ≡ c)
         (λ fault. fault ≡ NameFault.Memory) }
-    // Which fault it is.
+    // The fault is the first one of the text, or `Memory`.
     ensures exact { MatchResult result (λ c. read.piece_in text.now ≡ Ok (c.0, c.1.items))
         (λ fault. read.IsFaultOf (read.piece_in text.now) fault) }
-    // `Memory` is returned only where all of the text is right.
+    // `Memory` is returned only if the whole text is valid.
     ensures memory { IfErr result (λ fault. fault ≡ NameFault.Memory
         → (c : Field) × ReadsComponent text.now c × IsComponent c) }
 {
@@ -53,14 +54,14 @@ fn read_component(alloc: Global, text: &str) -> Result<(u16, Vec<u8>), NameFault
     Ok((component.kind, value))
 }
 
-/// The text after the scheme, if it begins with it.
+/// Returns the text after the scheme, if it has one.
 fn without_scheme(text: &str) -> &str
     ensures { result.now ≡ read.without_scheme text.now }
 {
     text.strip_prefix("ndn:").unwrap_or(text)
 }
 
-/// The first piece, and the text after its slash.
+/// Returns the first piece, and the text after the slash that ends it.
 pub(crate) fn first_piece(text: &str) -> (&str, &str)
     requires { text.now ≢ [] }
     ensures pieces { read.pieces_of text.now ≡ result.0.now ∷ read.pieces_of result.1.now }
@@ -72,8 +73,8 @@ pub(crate) fn first_piece(text: &str) -> (&str, &str)
     }
 }
 
-/// Refuses pieces between slashes that are not a name's. Otherwise returns the number of the name's
-/// components.
+/// Returns the number of a name's components, or the fault of pieces between slashes that are not a
+/// name.
 fn count_pieces(text: &str) -> Result<usize, NameFault>
     ensures { let name_in = read.components_in 0 (read.pieces_of text.now) in
         MatchResult result (λ n. (cs : List Field) × (name_in ≡ Ok cs) × (n ≡ length cs))
@@ -93,7 +94,7 @@ fn count_pieces(text: &str) -> Result<usize, NameFault>
     Ok(count)
 }
 
-/// Appends the TLV-VALUE of the name of the pieces between slashes.
+/// Appends the TLV-VALUE of the name in a text of pieces between slashes.
 fn put_pieces(out: &mut Vec<u8>, text: &str) -> Result<(), NameFault>
     ensures { let name_in = read.components_in 0 (read.pieces_of text.now) in
         MatchResult result (λ _. read.Adds octets_of name_in out.old.items out.new.items)
@@ -125,7 +126,7 @@ fn put_component(out: &mut Vec<u8>, piece: &str) -> Result<(), NameFault>
     put_value(out, component)
 }
 
-/// The pieces after the first slash, without a slash that is all of them.
+/// Returns the text after the first slash, or an empty text if only a slash follows it.
 pub(crate) fn pieces_text(text: &str) -> Result<&str, NameFault>
     ensures { MatchResult result
         (λ rest. read.name_in text.now ≡ read.components_in 0 (read.pieces_of rest.now))
@@ -138,7 +139,7 @@ pub(crate) fn pieces_text(text: &str) -> Result<&str, NameFault>
     }
 }
 
-/// The name of the text, or its first fault, unless memory runs out before.
+/// Returns the name in the text, or its first fault, or `Memory` if memory runs out first.
 fn put_name(alloc: Global, text: &str) -> Result<NameBuf, NameFault>
     ensures { MatchResult result (λ name. read.name_in text.now ≡ Ok name)
         (read.IsFaultOf (read.name_in text.now)) }
@@ -149,8 +150,8 @@ fn put_name(alloc: Global, text: &str) -> Result<NameBuf, NameFault>
     Ok(NameBuf::from_octets(octets))
 }
 
-/// When memory runs out, the text is read once more without it, so that its fault is reported
-/// first.
+/// If memory runs out, the text is read once more without allocation, so that a fault of the text
+/// is reported first.
 fn read_name(alloc: Global, text: &str) -> Result<NameBuf, NameFault>
     ensures { MatchResult result (λ name. read.name_in text.now ≡ Ok name)
         (read.IsFaultBeforeMemory (read.name_in text.now)) }
@@ -165,16 +166,16 @@ fn read_name(alloc: Global, text: &str) -> Result<NameBuf, NameFault>
     }
 }
 
-/// The number of components of the name that URI text reads as. It takes no memory.
+/// Returns the number of components in the name that a URI text reads as. Nothing is allocated.
 ///
-/// Refuses the text with the first fault, as `NameBuf::from_uri`.
+/// Returns the first fault if the text is not a name, as `NameBuf::from_uri` does.
 pub fn uri_len(text: &str) -> Result<usize, NameFault>
-    // What is read is the name that the text reads as.
+    // The returned number is that of the name that the text reads as.
     ensures found { IfOk result
         (λ n. (cs : List Field) × ReadsAs text.now cs × (n ≡ length cs)) }
-    // What reads as a name is read.
+    // Every text that reads as a name is read.
     ensures only { (cs : List Field) → ReadsAs text.now cs → result ≡ Ok (length cs) }
-    // Which fault it is.
+    // The fault is the first one of the text.
     ensures fault { IfErr result (λ fault. read.name_in text.now ≡ Err fault) }
 {
     let pieces = pieces_text(text)?;
@@ -182,22 +183,22 @@ pub fn uri_len(text: &str) -> Result<usize, NameFault>
 }
 
 impl NameBuf {
-    /// Reads URI text, as `/A/seg=5`, from left to right. It may begin with the scheme `ndn:` and
-    /// end with a slash.
+    /// Reads URI text from left to right, for example `/A/seg=5`. The text may begin with the
+    /// scheme `ndn:` and end with a slash.
     ///
-    /// Refuses it with the first fault in text order: `TooManyComponents` at the 65th component,
-    /// whatever it is, `BadDigestLength` for `1=` or `2=` with other than 32 octets, and `BadUri`
-    /// for all else. `Memory` is returned only where the text reads as a name.
+    /// Returns the first fault in text order: `TooManyComponents` at the 65th component, whatever
+    /// it is, `BadDigestLength` for `1=` or `2=` with other than 32 octets, and `BadUri` for
+    /// everything else. Returns `Memory` only if the text reads as a name.
     pub fn from_uri(alloc: Global, text: &str) -> Result<NameBuf, NameFault>
-        // What is read is the name that the text reads as.
+        // The returned name is the one that the text reads as.
         ensures found { IfOk result (λ name. ReadsAs text.now name) }
-        // What reads as a name is read, unless memory runs out.
+        // Every text that reads as a name is read, unless memory runs out.
         ensures only { (cs : List Field) → ReadsAs text.now cs
             → MatchResult result (λ name. name ≡ cs) (λ fault. fault ≡ NameFault.Memory) }
-        // Which fault it is.
+        // The fault is the first one of the text, or `Memory`.
         ensures exact { MatchResult result (λ name. read.name_in text.now ≡ Ok name)
             (λ fault. read.IsFaultOf (read.name_in text.now) fault) }
-        // `Memory` is returned only where all of the text is right.
+        // `Memory` is returned only if the whole text is valid.
         ensures memory { IfErr result (λ fault. fault ≡ NameFault.Memory
             → (cs : List Field) × ReadsAs text.now cs) }
     {
@@ -205,8 +206,8 @@ impl NameBuf {
     }
 }
 
-/// Law: a text reads as one name at most, which `name_in` gives, and as one component at most,
-/// which `piece_in` gives.
+/// Law: a text reads as at most one name, which `name_in` returns, and as at most one component,
+/// which `piece_in` returns.
 pub fn texts_have_one_reading()
     ensures component { (text : List ℕ) (c : Field) → (read.piece_in text ≡ Ok c)
         ↔ (ReadsComponent text c × IsComponent c) }

@@ -1,4 +1,4 @@
--- Names that a Data answers.
+-- Which names a Data answers.
 use Rattle.std.proofs.Common.{◌≡◌, ℕ, ◌+◌, List, [], ◌∷◌, ◌++◌, length, Some, refl, sym, ap, subst, ◌∙◌, ◌⊎◌, inl, inr, arith, append_assoc}
 use Rattle.std.specs.Prelude.{◌↔◌, slice_get, Bool, ◌&&◌, ◌||◌, IsTrue}
 use Rattle.std.specs.Bool.{Decides}
@@ -18,7 +18,7 @@ get_last : (name : List Field) (x : Field) → slice_get (name ++ x ∷ []) (len
 get_last [] x = refl
 get_last (c ∷ name) x = get_last name x
 
--- a name that is one component longer
+-- a name that extends `name` by one component
 one_more : (name asked : List Field) → IsPrefix name asked → length asked ≡ length name + 1 → (x : Field) × (asked ≡ name ++ x ∷ [])
 one_more name asked p len = only p.0 p.1
   where
@@ -44,7 +44,7 @@ full_name_is name asked digest value kind len p longer place last =
     first_is : (x y : Field) → x ∷ [] ≡ y ∷ [] → x ≡ y
     first_is x y e = cc
 
--- a prefix of a full name is the full name, or a prefix of the name
+-- a prefix of a full name is the full name itself or a prefix of the name without the digest
 prefix_of_full : (asked name : List Field) (x : Field) → IsPrefix asked (name ++ x ∷ []) → IsPrefix asked name ⊎ (asked ≡ name ++ x ∷ [])
 prefix_of_full [] name x p = inl (name, refl)
 prefix_of_full (c ∷ asked) [] x p = inr (alone p.0 p.1)
@@ -66,7 +66,7 @@ prefix_of_full (c ∷ asked) (d ∷ name) x p =
       | inr same ↦ inr (λ k. sym first k ∷ same k)
     ]
 
--- a name that asks for a digest is answered by that digest
+-- an Interest name that ends in an implicit digest is answered exactly where that digest is right
 pub answers_by_digest : (name asked : List Field) (digest value : List ℕ) (flag r : Bool) → asked ≡ full_name name value → IsTrue r ↔ (value ≡ digest) → IsTrue r ↔ Answers name digest asked flag
 answers_by_digest name asked digest value flag r is same = (
   λ t. inr (inl (is ∙ ap (λ (d : List ℕ). full_name name d) (same.0 t))),
@@ -92,7 +92,7 @@ answers_by_digest name asked digest value flag r is same = (
     value_is : asked ≡ full_name name digest → value ≡ digest
     value_is e = ap (λ (f : Field). f.1) (first_is (1, value) (1, digest) (append_cancel_left name ((1, value) ∷ []) ((1, digest) ∷ []) (sym is ∙ e)))
 
--- any other is answered by name
+-- any other Interest name is answered by name alone
 by_name : (name asked : List Field) (digest : List ℕ) (flag : Bool) → ((d : List ℕ) → asked ≡ full_name name d → ⊥) → Answers name digest asked flag → AnswersByName name asked flag
 by_name name asked digest flag other (inl e) = inl e
 by_name name asked digest flag other (inr (inl e)) = absurd (other digest e)
@@ -110,7 +110,7 @@ with_digest name asked digest flag (inr (f, q)) = inr (inr (f, inl q))
 pub answers_by_name : (name asked : List Field) (digest : List ℕ) (flag r : Bool) → ((d : List ℕ) → asked ≡ full_name name d → ⊥) → IsTrue r ↔ AnswersByName name asked flag → IsTrue r ↔ Answers name digest asked flag
 answers_by_name name asked digest flag r other = Decides-like r (with_digest name asked digest flag) (by_name name asked digest flag other)
 
--- ---- tests
+-- ---- `Answers` as a test
 
 name_is : (a b : List Field) → Decides (eq_by_cmp name_cmp a b) (a ≡ b)
 name_is a b =
@@ -162,7 +162,7 @@ answers_is name asked digest flag =
     (Decides-or (eq_by_cmp name_cmp asked (full_name name digest)) (flag && begins_with asked (full_name name digest)) (name_is asked (full_name name digest))
     (Decides-and flag (begins_with asked (full_name name digest)) (λ e. e, λ e. e) (prefix_is asked (full_name name digest)))))
 
--- a test that decides it is that one
+-- a result that decides `Answers` equals the test `answers`
 pub is_answers : (name asked : List Field) (digest : List ℕ) (flag r : Bool) → IsTrue r ↔ Answers name digest asked flag → r ≡ answers name digest asked flag
 is_answers name asked digest flag r is = same_from_decides r (answers name digest asked flag) is (answers_is name asked digest flag)
 

@@ -1,4 +1,4 @@
--- The token that octets of a link carry: 1 to 32 octets.
+-- The PIT token that the octets of a link carry: 1 to 32 octets.
 use Rattle.std.proofs.Common.{◌≡◌, ℕ, true, false, cond, not, eqb, ltb, List, [], ◌∷◌, ◌++◌, length, Option, None, Some, Result, Ok, Err, refl, sym, ap, subst, ◌∙◌, inl, inr}
 use Rattle.std.specs.Prelude.{IfOk, IfSome, is_some}
 use Rattle.std.specs.Option.{option_map}
@@ -23,7 +23,7 @@ use Rattle.ndn_packets.proofs.FrameFaults.{at_most_made}
 use Rattle.ndn_packets.proofs.Packets.{framed_found, token_of_framed}
 use Rattle.ndn_packets.proofs.Wholes.{last_is}
 
--- ---- the size of the token
+-- ---- the length of the token
 
 abbrev SizedAt : LinkSoFar → LinkSoFar → List ℕ → ℕ → Type 0
 SizedAt s t v kind = is_refused_header s (kind, v) ≡ false → with_header s (kind, v) ≡ Ok t → IfSome t.token IsToken
@@ -89,7 +89,7 @@ framed_sized text f e =
           subst (λ (g : PlainFramed). IfSome g.token IsToken) (ok_is (framed_with None q.0) f q.2) tt
     ] b.2
 
--- the token at octets is that of what they hold
+-- a text with a token is a frame with that token
 pub framed_of_token : (text t : List ℕ) → token_at text ≡ Some t → (f : PlainFramed) × (framed_at text ≡ Ok f) × (f.token ≡ Some t)
 unfolding token_at
 framed_of_token text t e = of_result (framed_at text) refl e
@@ -103,7 +103,7 @@ token_is_token text t e =
     let f = framed_of_token text t e in
     subst (λ (o : Option (List ℕ)). IfSome o IsToken) f.2 (framed_sized text f.0 f.1)
 
--- ---- its octets
+-- ---- the octets of the token
 
 bytes_left : (kind : ℕ) (headers : List Field) (back : List Field) → AreBytes (headers ++ back) → AreBytes (headers_of kind headers)
 bytes_left kind [] back fits = tt

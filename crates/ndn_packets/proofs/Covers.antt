@@ -1,4 +1,4 @@
--- Which packets have octets that a signature covers, and which octets these are.
+-- Which packets have octets that a signature covers, and which octets those are.
 use Rattle.std.proofs.Common.{◌≡◌, ◌≢◌, ℕ, suc, ◌+◌, ◌-◌, ◌≤◌, ◌⊎◌, Bool, true, false, cond, eqb, List, [], ◌∷◌, ◌++◌, length, take, Option, None, Some, refl, sym, ap, subst, ◌∙◌, append_assoc, arith, inl, inr}
 use Rattle.std.specs.Prelude.{IsSome, OnSome, is_some, option_map}
 use Rattle.std.specs.List.{flat_map, AllByRecursion}
@@ -24,7 +24,7 @@ use Rattle.ndn_tlv.proofs.Numbers.{IsBytes, IsBytes-back}
 use Rattle.ndn_packets.proofs.Cuts.{cut_found, cut_within, cut_read, cut_is, never_cut, never_in, all_front, cut_among}
 use Rattle.ndn_packets.proofs.Places.{Others, Met, meet_parameters, meet_info, meet_signature, meet_value, Has, has_following, has_back, others_lack, earlier_others, front_fields, back_fields, fields_are, earlier_front, other_optional, hop_apart, all_both}
 
--- ---- what a reader has to find
+-- ---- what a reader must find
 
 outer_one : (text : List ℕ) (kind : ℕ) (value other : List ℕ) → IsElement text kind value → IsElement text kind other → value ≡ other
 outer_one text kind value other a b = ap (λ (f : Field). f.1) (ok_is (kind, value) (kind, other) (sym (only_again text value kind a) ∙ only_again text other kind b))
@@ -77,7 +77,7 @@ data_covered text d h =
           absurd (others_lack 23 _ (earlier_others [] [] 23 _ m.1) signed)
     ]
 
--- those before the place where a reader noted the value
+-- the covered octets of a Data are those before the SignatureValue that the reader noted
 pub data_covers : (text value covered from : List ℕ) (d : PlainData) → IsData text d → IsElement text 6 value → from_first 23 value ≡ Some from → covered ≡ take (length value - length from) value → CoversData text covered
 data_covers text value covered from d h outer mark is =
     let there = data_covered text d h in
@@ -89,7 +89,7 @@ data_covers text value covered from d h outer mark is =
 
 -- ---- an Interest
 
--- where a signature and what it covers stand among the octets
+-- the positions of a signature, and of the octets that it covers, in an Interest
 record IsCutAt (value from_parameters from_info from_signature : List ℕ) : Type 0 where
   early : List ℕ
   to_info : List ℕ
@@ -104,14 +104,15 @@ Cuts value = (from_parameters from_info from_signature : List ℕ) × IsCutAt va
 abbrev HasBoth : List Field → Type 0
 HasBoth fields = Has 44 fields × Has 46 fields
 
--- the octets are cut so where there is an InterestSignatureInfo and an InterestSignatureValue
+-- the octets can be cut exactly where there is an InterestSignatureInfo and an
+-- InterestSignatureValue
 abbrev Decided : List ℕ → List Field → Type 0
 Decided value fields = (Cuts value × HasBoth fields) ⊎ ((Cuts value → ⊥) × (HasBoth fields → ⊥))
 
 has_met : (ignores : ℕ → Bool) (kind : ℕ) (later : List ℕ) (elements fields : List Field) (m : Met ignores kind later elements fields) → Has kind fields
 has_met ignores kind later elements fields m = subst (Has kind) (sym m.fields_are) (has_following kind m.early ((kind, m.value) ∷ m.late) (inl refl))
 
--- a further field stands after the one that was met
+-- a field of type `k` after the field of type `kind` is among the elements that follow that field
 later_met : (ignores : ℕ → Bool) (kind k : ℕ) (later : List ℕ) (elements fields : List Field) (m : Met ignores kind later elements fields) → Has k m.late → Has k fields
 later_met ignores kind k later elements fields m h = subst (Has k) (sym m.fields_are) (has_following k m.early ((kind, m.value) ∷ m.late) (inr h))
 
@@ -211,7 +212,7 @@ has_signed parameters None value signature h some = let none : IsSome {T = Plain
 has_signed parameters (Some v) None signature h some = let none : IsSome {T = PlainSignature} None = subst IsSome h.2 some in absurd cc
 has_signed parameters (Some v) (Some w) signature h some = (has_following 44 (optional 36 parameters) _ (inl refl), has_following 46 (optional 36 parameters) _ (inr (inl refl)))
 
--- both stand after the HopLimit
+-- an Interest with both signature fields after its HopLimit
 module _ (prefix fresh : Bool) (hint : Option (List ℕ)) (nonce : List ℕ) (lifetime hop : Option (List ℕ)) (back : List Field) where
   abbrev all_fields : List Field
   all_fields = flag 33 prefix ++ (flag 18 fresh ++ (optional 30 hint ++ ((10, nonce) ∷ (optional 12 lifetime ++ (optional 34 hop ++ back)))))
@@ -291,16 +292,16 @@ interest_covered text i h =
       },
     )
 
--- ---- what is covered ends where the signature's value begins
+-- ---- the covered octets end where the SignatureValue begins
 
--- the first field of a type in two lists that are the same
+-- two equal lists have the same first field of a type
 first_value : (kind : ℕ) (xs us ys vs : List Field) (v w : List ℕ) → Others kind xs → Others kind us → xs ++ (kind, v) ∷ ys ≡ us ++ (kind, w) ∷ vs → v ≡ w
 first_value kind [] [] ys vs v w p q e = (let first : (kind, v) ≡ (kind, w) = cc in ap (λ (f : Field). f.1) first)
 first_value kind [] (u ∷ us) ys vs v w p q e = (let first : (kind, v) ≡ u = cc in absurd (q.0 (sym (ap (λ (f : Field). f.0) first))))
 first_value kind (x ∷ xs) [] ys vs v w p q e = (let first : x ≡ (kind, w) = cc in absurd (p.0 (ap (λ (f : Field). f.0) first)))
 first_value kind (x ∷ xs) (u ∷ us) ys vs v w p q e = (let rest : xs ++ (kind, v) ∷ ys ≡ us ++ (kind, w) ∷ vs = cc in first_value kind xs us ys vs v w p.1 q.1 rest)
 
--- octets that begin with the element of a field, which is the first of its type
+-- octets that begin with the first field of a type
 record Begins (kind : ℕ) (from : List ℕ) (fields : List Field) : Type 0 where
   value : List ℕ
   after : List ℕ
@@ -310,7 +311,7 @@ record Begins (kind : ℕ) (from : List ℕ) (fields : List Field) : Type 0 wher
   fields_are : fields ≡ early ++ (kind, value) ∷ late
   others : Others kind early
 
--- at a cut the field begins that is met among the elements
+-- the octets from a cut on begin with the first field of that type
 begins : (ignores : ℕ → Bool) (kind : ℕ) (later : List ℕ) (octets before from : List ℕ) (first : Field) (elements fields : List Field) (m : Met ignores kind later elements fields) → first.0 ≢ kind
     → octets ≡ flat_map element (first ∷ elements) → AllByRecursion IsField (first ∷ elements) → IsCut kind octets before from → from ≡ flat_map element ((kind, m.value) ∷ m.back)
 begins ignores kind later octets before from first elements fields m other is sizes cut =
@@ -319,7 +320,7 @@ begins ignores kind later octets before from first elements fields m other is si
     (cut_among kind m.value (first ∷ elements) (first ∷ m.front) m.back sizes (ap (λ (es : List Field). first ∷ es) m.elements_are) (other, m.none)) in
     sym (cut_is kind octets (flat_map element ((kind, m.value) ∷ m.back)) before from (cut_read kind octets _ _ own) cut)
 
--- a field that begins after another one
+-- octets that begin with a field which follows another field
 begins_following : (kind k : ℕ) (from : List ℕ) (v : List ℕ) (early late fields : List Field) → fields ≡ early ++ (k, v) ∷ late → Others kind early → k ≢ kind → Begins kind from late → Begins kind from fields
 begins_following kind k from v early late fields is others other b = record {
   value = b.value;
@@ -331,7 +332,7 @@ begins_following kind k from v early late fields is others other b = record {
   others = all_both (λ f. f.0 ≢ kind) early ((k, v) ∷ b.early) others (other, b.others);
 }
 
--- the elements after the one that was met have sizes too
+-- the elements from the matched field on have valid types and lengths too
 sizes_following : (ignores : ℕ → Bool) (kind : ℕ) (later : List ℕ) (first : Field) (elements fields : List Field) (m : Met ignores kind later elements fields) → AllByRecursion IsField (first ∷ elements)
     → AllByRecursion IsField ((kind, m.value) ∷ m.back)
 sizes_following ignores kind later first elements fields m sizes = (all_front IsField m.front ((kind, m.value) ∷ m.back) (subst (AllByRecursion IsField) m.elements_are sizes.1)).1
@@ -394,13 +395,13 @@ data_ends text d covered h c =
       | inr n ↦ absurd (never_cut 23 c.value covered c.from_signature (ap (from_first 23) (inside ∙ fields.inner.1) ∙ never_in 23 ((7, h.name_value) ∷ fields.elements) fields.inner.0 (eqb-false 7 23 refl, n.0)) c.cut)
     ]
 
--- the value of a signature is that of the field
+-- the value of the signature is the value of the InterestSignatureValue
 signed_value : (info value : Option (List ℕ)) (signature : Option PlainSignature) (s : PlainSignature) → IsSigned info value signature → signature ≡ Some s → value ≡ Some s.value
 signed_value None value signature s h is = absurd (none_is_not_some s (sym h ∙ is))
 signed_value (Some v) None signature s h is = absurd (none_is_not_some s (sym h.2 ∙ is))
 signed_value (Some v) (Some w) signature s h is = ap (λ (t : PlainSignature). Some t.value) (some_is _ s (sym h.2 ∙ is))
 
--- what is after the second part begins with the element of the signature's value
+-- the octets after the second covered part begin with the InterestSignatureValue
 value_at : (text : List ℕ) (i : PlainInterest) (s : PlainSignature) (first second : List ℕ) → IsInterest text i → i.signature ≡ Some s → (c : CoversInterest i.name text first second)
     → (after : List ℕ) × (c.from_signature ≡ element (46, s.value) ++ after)
 value_at text i s first second h signed c =
@@ -424,7 +425,7 @@ value_at text i s first second h signed c =
     let same : s.value ≡ b.value = first_value 46 (early ++ later) b.early [] b.late s.value b.value others b.others are in
     (b.after, b.from_is ∙ ap (λ (v : List ℕ). element (46, v) ++ b.after) (sym same))
 
--- the octets of the digest begin at the first ApplicationParameters
+-- the digest covers the octets from the first ApplicationParameters on
 from_met : (front back : List Field) (value : List ℕ) → Others 36 front → from_parameters (front ++ (36, value) ∷ back) ≡ (36, value) ∷ back
 from_met [] back value others = refl
 from_met (e ∷ front) back value others = rw (ne_eqb e.0 36 others.0) (from_met front back value others.1)
@@ -487,9 +488,10 @@ interest_ends text i s first second h signed c =
       outer = subst (IsElement text 5) (c.parameters.octets_are ∙ ap (λ (t : List ℕ). c.early ++ t) from) c.outer;
     }
 
--- ---- the part that a reader of an Interest notes
+-- ---- the covered part that a reader of an Interest notes
 
--- where no component before a digest is one, nor after it, and a digest is the last one, it is that
+-- if a name has a digest of parameters as its last component and no other one, any digest of
+-- parameters in the name is that one
 last_one : (front back components : List Field) (v d : List ℕ) → NoneOfType 2 back → front ++ (2, v) ∷ back ≡ components ++ (2, d) ∷ [] → back ≡ []
 last_one [] back [] v d none e = cc
 last_one [] back (c ∷ components) v d none e =
@@ -500,7 +502,7 @@ last_one (f ∷ front) back (c ∷ components) v d none e =
     let rest : front ++ (2, v) ∷ back ≡ components ++ (2, d) ∷ [] = cc in
     last_one front back components v d none rest
 
--- of the digests in a name there is one
+-- a name has at most one digest of parameters
 only_one : (name elements : List Field) (parameters : Option (List ℕ)) (x : Field) (others : List Field) → digests_in name ≡ x ∷ others → IsDigested name elements parameters → others ≡ []
 only_one name elements None x others is h = absurd (let no : x ∷ others ≡ [] = sym is ∙ h in cc)
 only_one name elements (Some p) x others is h = (let same = sym is ∙ h in cc)
@@ -537,7 +539,7 @@ second_noted text value i digest p v h outer found at =
               not_both d.is_last others last
         ] refl
 
--- whether a digest of parameters is the last component
+-- whether the last component is a digest of parameters
 ends_in_digest : (name : List Field) → EndsInDigest name ⊎ (EndsInDigest name → ⊥)
 ends_in_digest [] = inr (λ e. never_empty e.0 (2, e.1) (sym e.2))
 ends_in_digest (c ∷ []) =
@@ -555,7 +557,7 @@ ends_in_digest (c ∷ d ∷ name) =
     following [] digest n e = cc
     following (f ∷ front) digest n e = let rest : d ∷ name ≡ front ++ (2, digest) ∷ [] = cc in n (front, digest, rest)
 
--- whether a signature of an Interest covers octets
+-- whether the signature of an Interest covers any octets
 pub covers_any : (text : List ℕ) (i : PlainInterest) → IsInterest text i → ((first second : List ℕ) × CoversInterest i.name text first second) ⊎ ((first second : List ℕ) → CoversInterest i.name text first second → ⊥)
 covers_any text i h =
     elim (ends_in_digest i.name) [
@@ -571,7 +573,7 @@ digest_len : (digest : List ℕ) → length digest ≡ 32 → length (element (2
 unfolding spelling
 digest_len digest is = rw is (ap (λ n. suc (suc n)) is)
 
--- the first part is all of the name but 34 octets
+-- the first covered part is the value of the name without its last 34 octets
 pub first_is_front : (octets text first second : List ℕ) (name : List Field) → IsNameValue octets name → CoversInterest name text first second → (34 ≤ length octets) × (first ≡ take (length octets - 34) octets)
 first_is_front octets text first second name h c =
     let digest : length c.digest ≡ 32 = (all_front IsComponent c.components ((2, c.digest) ∷ []) (subst (AllByRecursion IsComponent) c.named h.1.1)).1.0.2 (omega arith) in
@@ -580,7 +582,7 @@ first_is_front octets text first second name h c =
     let front : length first ≡ length octets - 34 = omega arith in
     (omega arith, sym (ap (take (length octets - 34)) all ∙ take_at first (element (2, c.digest)) (length octets - 34) front))
 
--- the places are in the value, where the name was before the fields
+-- positions that were noted in the octets after the Name hold in the whole value as well
 pub noted_after : (value rest p v : List ℕ) → ((kind : ℕ) → kind ≢ 7 → from_first kind value ≡ from_first kind rest) → IsSignedAt rest p v → IsSignedAt value p v
 noted_after value rest p v place at = (at.0, place 36 (eqb-false 36 7 refl) ∙ at.1, at.2, at.3)
 
@@ -594,9 +596,9 @@ second_within octets p v fits at =
     let in_info = cut_within 46 at.0 v from_info at.3 in
     omega arith
 
--- ---- covered octets are given by the packet
+-- ---- a packet determines its covered octets
 
--- octets are cut in one place
+-- equal octets are cut at the same position
 one_cut : (kind : ℕ) (octets other before from front back : List ℕ) → octets ≡ other → IsCut kind octets before from → IsCut kind other front back → (before ≡ front) × (from ≡ back)
 one_cut kind octets other before from front back same cut again =
     let following : from ≡ back = cut_is kind other from front back (ap (from_first kind) (sym same) ∙ cut_read kind octets before from cut) again in

@@ -1,4 +1,4 @@
--- A Data that is read is in the grammar, and one in the grammar is read.
+-- A Data that is read is in the grammar, and a Data in the grammar is read.
 use Rattle.std.proofs.Common.{◌≡◌, ℕ, List, [], ◌∷◌, ◌++◌, map, Option, Some, None, Result, Ok, refl, sym, ap, subst, ◌∙◌}
 use Rattle.ndn_tlv.specs.declared.fault.TlvFault.{TlvFault}
 use Rattle.ndn_tlv.specs.Element.{Field}
@@ -19,7 +19,7 @@ use Rattle.ndn_packets.proofs.FieldLists.{FieldsRead, fields_found, fields_again
 use Rattle.ndn_packets.proofs.MetaInfos.{meta_found, meta_again}
 use Rattle.ndn_packets.proofs.SignatureInfos.{info_found, info_again}
 
--- ---- what each field leaves
+-- ---- how each field changes the state
 
 abbrev ReadsFreshness : Option (List ℕ) → ℕ → Type 0
 ReadsFreshness None freshness = freshness ≡ 0
@@ -112,7 +112,7 @@ data_of name freshness content info signature = record { name = name; freshness 
 abbrev fields_with : Option (List ℕ) → Option (List ℕ) → List ℕ → List ℕ → List Field
 fields_with meta content info signature = optional 20 meta ++ (optional 21 content ++ ((22, info) ∷ (23, signature) ∷ []))
 
--- the octets of the MetaInfo and of the SignatureInfo
+-- the values of the MetaInfo and of the SignatureInfo consist of octets
 fields_bytes : (meta content : Option (List ℕ)) (info signature : List ℕ) → AreBytes (fields_with meta content info signature) → MayBeBytes meta × IsBytes info
 fields_bytes meta content info signature h =
     let first = bytes_first 20 meta (fields_with meta content info signature) _ refl h in
@@ -167,7 +167,7 @@ data_found text value d one e =
     (λ t. found_or BadField t.info >>= λ info. found_or BadField t.value >>= λ signature. good (data_of a.0.0 t.freshness t.content info signature)) d a.2 in
     after_fields text value a.0 b.0 d one a.1 b.1 b.2
 
--- ---- what is in the grammar is read
+-- ---- a Data in the grammar is read
 
 data_computes : (value name_value : List ℕ) (elements : List Field) (meta content : Option (List ℕ)) (info_value : List ℕ) (name : List Field) (freshness : ℕ) (info : PlainSignatureInfo) (signature : List ℕ)
     → elements_of value ≡ map read ((7, name_value) ∷ elements) → name_at name_value ≡ Ok name → fields_from is_even_high data_schema (map read elements) ≡ map good (fields_with meta content info_value signature)

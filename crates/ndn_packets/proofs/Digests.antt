@@ -1,4 +1,4 @@
--- The digest of parameters that a name has to have.
+-- The digest of parameters that the name of an Interest must have.
 use Rattle.std.proofs.Common.{◌≡◌, ◌≢◌, ℕ, Bool, true, false, cond, eqb, List, [], ◌∷◌, ◌++◌, map, Option, Some, None, refl, sym, ap, subst, ◌∙◌}
 use Rattle.std.specs.Prelude.{OnSome, option_map}
 use Rattle.std.specs.List.{AllByRecursion, flat_map}
@@ -18,7 +18,7 @@ use Rattle.ndn_packets.specs.Reading.{parameters_on, octets_of_read, digest_faul
 use Rattle.ndn_packets.proofs.Steps.{read}
 use Rattle.ndn_packets.proofs.Parameters.{parameters_octets}
 
--- ---- what is right with the digests of a name
+-- ---- when the digests of a name are right
 
 abbrev AreOfKind : List Field → Type 0
 AreOfKind digests = AllByRecursion (λ d. d.0 ≡ 2) digests
@@ -31,7 +31,7 @@ digests_kind (c ∷ name) =
       | false ↦ λ _. digests_kind name
     ] refl
 
--- the digests are those that parameters need, where this is the right one
+-- `digests` are right: none without parameters, exactly `right` with parameters
 abbrev AreRight : Option (List ℕ) → List Field → List ℕ → Type 0
 AreRight None digests right = digests ≡ []
 AreRight (Some parameters) digests right = digests ≡ (2, right) ∷ []
@@ -109,7 +109,7 @@ fault_is name (Some p) (Some d) right h =
     more [] some = absurd (some refl)
     more (e ∷ ds) some = refl
 
--- of the octets that a reader noted, where there are parameters
+-- the check of a reader gives the fault of the digests, given the octets that the reader noted
 pub fault_read : {A : Type 0} (view : A → List ℕ) (name : List Field) (parameters : Option A) (digest : Option FirstOfType) (from octets : List ℕ) → FindsFirst 2 name digest → OnSome parameters (from ≡ octets)
     → digest_fault (option_map view parameters) (digests_in name) (sha256 octets) ≡ fault_by (option_map view parameters) digest (sha256 from)
 fault_read view name None None from octets h e = fault_is name None None (sha256 octets) h

@@ -1,4 +1,4 @@
--- The fields of a schema among elements, read one after the other.
+-- The fields of a schema among elements, read in order.
 use Rattle.std.proofs.Common.{◌≡◌, ◌≢◌, ℕ, Bool, true, false, cond, eqb, List, [], ◌∷◌, ◌++◌, map, Option, Some, None, Result, Ok, Err, refl, sym, ap, subst, ◌∙◌, inl, inr}
 use Rattle.std.specs.List.{AllByRecursion}
 use Rattle.std.proofs.lemmas.Bool.{eqb-true, eqb-false}
@@ -33,7 +33,8 @@ in_nothing kind later h = at_front h.0 h.1
     at_front [] e = cc
     at_front (k ∷ front) e = cc
 
--- a type that is not the first of a schema stands after the first, and needs no previous field
+-- a type other than the first one of a schema counts after that first type, and needs no previous
+-- field
 past_first : (kind first : ℕ) (later schema : List ℕ) → first ≢ kind → Counts kind later (first ∷ schema) → Counts kind later schema × (needs_previous_field kind ≡ false)
 past_first kind first later schema other h = at_front h.0 h.1 h.2 h.3
   where
@@ -89,7 +90,7 @@ after_none kind schema none = found (schema_after kind schema) (after_found kind
     found None h = refl
     found (Some later) h = absurd (none later h)
 
--- ---- what a reading that succeeded has read
+-- ---- what a successful reading has read
 
 pub record FieldsRead {S : Type 0} (take : S → Field → Result S PacketFault) (ignores : ℕ → Bool) (schema : List ℕ) (elements : List (Result Field TlvFault)) (s t : S) : Type 0 where
   pub plain : List Field
@@ -137,7 +138,7 @@ fields_again ignores schema (e ∷ plain) fields (inl h) =
     rw (after_again e.0 schema h.0 h.2) (ap (λ (fs : List (Result Field PacketFault)). good e ∷ fs) (fields_again ignores h.0 plain h.1 h.4) ∙ ap (map good) (sym h.3))
 fields_again ignores schema (e ∷ plain) fields (inr h) = rw (after_none e.0 schema h.0, h.1) (fields_again ignores schema plain fields h.2)
 
--- ---- the fields of a schema are fields that may be absent, in its order
+-- ---- the fields of a schema are optional fields in the order of the schema
 
 abbrev pub InSchema : List ℕ → List Field → Type 0
 InSchema [] fields = fields ≡ []
@@ -158,7 +159,7 @@ fields_in ignores schema (e ∷ plain) fields (inl h) =
     subst (InSchema schema) (sym h.3) (subst (λ (ks : List ℕ). InSchema ks (e ∷ h.1)) (sym h.2.1) inside)
 fields_in ignores schema (e ∷ plain) fields (inr h) = fields_in ignores schema plain fields h.2
 
--- what taking a field that may be absent leaves
+-- the state after an optional field is taken
 abbrev pub Took : {S : Type 0} → (S → Field → Result S PacketFault) → S → ℕ → Option (List ℕ) → S → Type 0
 Took take s kind None t = t ≡ s
 Took take s kind (Some value) t = take s (kind, value) ≡ Ok t
@@ -169,7 +170,7 @@ took_first take s t kind None fields others is e = (s, refl, subst (λ (fs : Lis
 took_first take s t kind (Some v) fields others is e =
     bind_ok (take s (kind, v)) (λ u. read_fields take u (map good others)) t (subst (λ (fs : List Field). read_fields take s (map good fs) ≡ Ok t) is e)
 
--- what is taken of a field that may be absent is read
+-- an optional field that was taken is read again with the same result
 pub took_again : {S : Type 0} (take : S → Field → Result S PacketFault) (s mid : S) (kind : ℕ) (value : Option (List ℕ)) (others : List Field) → Took take s kind value mid
     → read_fields take s (map good (optional kind value ++ others)) ≡ read_fields take mid (map good others)
 took_again take s mid kind None others took = ap (λ u. read_fields take u (map good others)) (sym took)
@@ -182,9 +183,9 @@ fields_keep P ignores schema [] fields h all = subst (AllByRecursion P) (sym h) 
 fields_keep P ignores schema (e ∷ plain) fields (inl h) all = subst (AllByRecursion P) (sym h.3) (all.0, fields_keep P ignores h.0 plain h.1 h.4 all.1)
 fields_keep P ignores schema (e ∷ plain) fields (inr h) all = fields_keep P ignores schema plain fields h.2 all.1
 
--- ---- values of octets
+-- ---- values that consist of octets
 
--- a value that may be absent is of octets
+-- a value, if present, consists of octets
 abbrev pub MayBeBytes : Option (List ℕ) → Type 0
 MayBeBytes None = Unit {0}
 MayBeBytes (Some value) = IsBytes value

@@ -1,4 +1,4 @@
--- Readers of fields tell the first fault.
+-- Readers of fields report the first fault.
 use Rattle.std.proofs.Common.{◌≡◌, ℕ, Bool, true, false, cond, List, [], ◌∷◌, ◌++◌, map, Some, None, Result, Ok, Err, refl, sym, ap, ◌∙◌, inl, inr}
 use Rattle.ndn_tlv.specs.declared.fault.TlvFault.{TlvFault}
 use Rattle.ndn_tlv.specs.Element.{Field}
@@ -20,7 +20,7 @@ bad A d = Err d
 pub err_is : (A : Type 0) (d f : PacketFault) → bad A d ≡ bad A f → f ≡ d
 err_is A d f e = cc
 
--- the fault is that of the first element, or comes after it
+-- the fault belongs to the first element, or to a later one
 first_or_later : {S : Type 0} (take : S → Field → Result S PacketFault) (ignores : ℕ → Bool) (schema later : List ℕ) (s : S) (x : Field) (elements : List (Result Field TlvFault)) (fault : PacketFault)
     → IsSchemaAfter x.0 schema (Some later) → (r : Result S PacketFault) → take s x ≡ r → (r >>= λ t. read_fields take t (fields_from ignores later elements)) ≡ Err fault
     → ((t : S) → read_fields take t (fields_from ignores later elements) ≡ Err fault → FirstFault take ignores later t elements fault)

@@ -1,4 +1,4 @@
--- The reader of frames tells the first fault.
+-- The reader of frames reports the first fault.
 use Rattle.std.proofs.Common.{◌≡◌, ◌≢◌, ℕ, ◌<◌, ◌≤◌, Bool, true, false, cond, not, eqb, ltb, leb, ◌&&◌, List, [], ◌∷◌, ◌++◌, length, map, Option, Some, None, Result, Ok, Err, refl, sym, ap, subst, ◌∙◌, ◌⊎◌, inl, inr, eq-eqb, append_assoc, arith}
 use Rattle.std.specs.Prelude.{◌↔◌, ◌||◌, is_some, IsErr, IsSome, IfErr}
 use Rattle.std.specs.List.{AllByRecursion}
@@ -51,7 +51,7 @@ alone_again text e is = rw is refl
 
 -- ---- packets
 
--- a value that is too long is told before what is wrong with it
+-- a packet that is too long is reported before any fault in its value
 long_found : {A : Type 0} (text : List ℕ) (r : Result A PacketFault) (fault : PacketFault) (P : Type 0) → (r ≡ Err fault → P) → cond (ltb 8800 (length text)) (bad A TooLong) r ≡ Err fault → LongOr text fault P
 long_found {A} text r fault P found e =
     elim (ltb 8800 (length text)) as (λ b. ltb 8800 (length text) ≡ b → cond b (bad A TooLong) r ≡ Err fault → LongOr text fault P) [
@@ -103,7 +103,7 @@ packet_fault_again text e fault (inr (inr h)) = rw (ne_eqb e.0 5 h.0, ne_eqb e.0
 
 -- ---- a Fragment
 
--- what the element of a Fragment holds, beside a Nack of this reason or without one
+-- the packet in a Fragment, which is one element, with a Nack or without one
 abbrev inside : Option ℕ → List ℕ → Field → Result PlainFrame PacketFault
 inside None text = packet_of text
 inside (Some reason) text = nacked_of reason text
@@ -136,7 +136,7 @@ fragment_fault_again : (nack : Option ℕ) (text : List ℕ) (fault : PacketFaul
 fragment_fault_again nack text fault (inl h) = fragment_is nack text ∙ ap (λ (r : Result Field PacketFault). r >>= inside nack text) (outer_fault_again text fault h)
 fragment_fault_again nack text fault (inr h) = fragment_is nack text ∙ ap (λ (r : Result Field PacketFault). r >>= inside nack text) (alone_again text h.0 h.1) ∙ inside_fault_again nack text h.0 fault h.2
 
--- ---- which header fields have been met
+-- ---- which header fields have been read
 
 abbrev has : ℕ → List Field → Bool
 has kind headers = not (is_nil (headers_of kind headers))
@@ -168,7 +168,7 @@ has_one_more kind (h ∷ headers) e =
       | false ↦ has_one_more kind headers e
     ]
 
--- what a state of the reader has met is there
+-- the flags of state `s` say which of the header fields are present
 record Met (s : LinkSoFar) (headers : List Field) : Type 0 where
   sequence : s.sequence ≡ has 81 headers
   frag_index : s.frag_index ≡ has 82 headers
@@ -253,7 +253,7 @@ one_more_met s t headers e met taken =
       nack = flag_met (is_some s.nack) (is_some t.nack) 800 headers e m.nack met.nack;
     }
 
--- ---- a header field that may not stand there
+-- ---- a header field that is refused
 
 token_sizes : (v : List ℕ) → not (is_token v) ≡ true → (length v < 1) ⊎ (32 < length v)
 token_sizes v e =
@@ -416,7 +416,7 @@ header_fault_again s headers e fault met (inr h) =
 
 -- ---- a link packet
 
--- the header fields that are read, and the elements at which the reading stops
+-- the header fields that are read, and the remaining elements, at which the reading stops
 record Stops (s : LinkSoFar) (elements : List (Result Field TlvFault)) (fault : PacketFault) : Type 0 where
   headers : List Field
   rest : List (Result Field TlvFault)
@@ -444,7 +444,7 @@ no_fragment_again : (token : Option (List ℕ)) (nack : Option ℕ) (fault : Pac
 no_fragment_again token None fault some e = absurd cc
 no_fragment_again token (Some reason) fault some e = told PlainFramed BadField fault e
 
--- header fields of which one at most is a token have this one or none
+-- header fields with at most one PitToken have exactly one token or none
 token_among : (headers : List Field) → length (headers_of 98 headers) ≤ 1 → (token : Option (List ℕ)) × (headers_of 98 headers ≡ optional 98 token)
 token_among [] few = (None, refl)
 token_among (h ∷ headers) few =
@@ -458,7 +458,7 @@ token_among (h ∷ headers) few =
     none_more [] few = refl
     none_more (f ∷ hs) few = absurd (omega arith)
 
--- where the reading stops at these elements
+-- the reading stops at these elements
 stops_here : (s : LinkSoFar) (elements : List (Result Field TlvFault)) (fault : PacketFault) → ((before : List Field) → Met s before → AfterHeaders before s.nack elements fault) → Stops s elements fault
 stops_here s elements fault h =
     record { headers = []; rest = elements; last = s; all = refl; allowed = λ fits. (tt, no_more s); met = λ before m. subst (Met s) (sym (append-nil before)) m; here = h }
@@ -498,7 +498,7 @@ stops s (Ok x ∷ elements) fault e =
       ]
     ] refl e
 
--- header fields in the grammar are read, up to the elements at which the reading stops
+-- after header fields in the grammar, the reading reaches the elements at which it stops
 after_again : (s : LinkSoFar) (headers : List Field) (rest : List (Result Field TlvFault)) (fault : PacketFault) → Met s headers → AfterHeaders headers s.nack rest fault → link_from s rest ≡ Err fault
 after_again s headers [] fault met h = no_fragment_again s.token s.nack fault h.0 h.1
 after_again s headers (Err f ∷ after) fault met h = told PlainFramed (Tlv f) fault h
@@ -522,7 +522,7 @@ link_again_to s before (e ∷ headers) rest token nack fault met allowed r h =
     rw (a.no_fragment, a.taken) (link_again_to a.after (before ++ e ∷ []) headers rest token nack fault (one_more_met s a.after before e met a.taken) allowed.1 a.left
     (subst (λ (hs : List Field). AfterHeaders hs nack rest fault) (sym (append_assoc before (e ∷ []) headers)) h))
 
--- the octets of the elements that can be read
+-- the first element and the remaining input consist of octets
 first_bytes : (value : List ℕ) (h : Field) (items : List (Result Field TlvFault)) (r : Result (Field × List ℕ) TlvFault) → element_at value ≡ r → IsBytes value → elements_of value ≡ read h ∷ items
     → (after : List ℕ) × IsBytes h.1 × IsBytes after × (elements_of after ≡ items)
 first_bytes value h items (Ok (f, after)) is fits e =

@@ -1,4 +1,4 @@
--- Full names by their octets.
+-- Full names, given by their octets.
 use Rattle.std.proofs.Common.{◌≡◌, ℕ, ◌+◌, ◌-◌, ◌<◌, ◌^◌, Bool, false, refl, List, [], ◌∷◌, ◌++◌, length, take, drop, sym, ap, subst, ◌∙◌, arith, append_assoc}
 use Rattle.std.specs.Prelude.{◌↔◌, IsTrue, nat_eq}
 use Rattle.std.specs.List.{AllByRecursion, starts_with}
@@ -21,7 +21,7 @@ use Rattle.ndn_names.proofs.Prefixes.{begins_with}
 use Rattle.ndn_packets.specs.Answers.{full_name}
 use Rattle.ndn_packets.specs.FullName.{name_octets, name_in, digest_in, full_name_in, IsFullName}
 
--- fields before one more
+-- a list of fields with one more at its end is a list of fields
 fields_more : (name : List Field) (f : Field) → AllByRecursion IsField name → IsField f → AllByRecursion IsField (name ++ f ∷ [])
 fields_more [] f h g = (g, tt)
 fields_more (c ∷ name) f h g = (h.0, fields_more name f h.1 g)
@@ -42,7 +42,7 @@ full_octets value digest name h len =
       fields_more name (1, digest) h.0.0 (omega arith, omega arith, digest_len),
     )
 
--- the octets that one is made of
+-- octets that are made of the value of a name and a digest are those of a full name
 pub made : (value digest full : List ℕ) (name : List Field) → IsNameValue value name → components_of value ≡ name → length digest ≡ 32
     → full ≡ value ++ element (1, digest) → (name_in full ≡ name) × (digest_in full ≡ digest) × IsFullName full
 made value digest full name h shown len is =
@@ -73,12 +73,12 @@ pub full_cmp : (u v : List ℕ) → IsFullName u → IsFullName v → slice_cmp 
 full_cmp u v h g =
     (λ k. slice_cmp nat_cmp (h.whole k) (g.whole k)) ∙ octets_cmp (full_name_in u) (full_name_in v) h.fields g.fields
 
--- names are equal where their octets are
+-- names with the same octets are equal
 pub one_name : (a b : List Field) → AllByRecursion IsField a → AllByRecursion IsField b → octets_of a ≡ octets_of b → a ≡ b
 one_name a b h g e =
     name_cmp-antisymmetric a b (sym (octets_cmp a b h g) ∙ ap (λ (t : List ℕ). slice_cmp nat_cmp t (octets_of b)) e ∙ octets_cmp b b g g ∙ tied_itself name_cmp-total b)
 
--- a full name begins with a name where its octets do
+-- a full name has a name as prefix exactly where its octets begin with the octets of that name
 pub under : (u value : List ℕ) (name : List Field) (r : Bool) → IsFullName u → IsNameValue value name → r ≡ starts_with nat_eq u value → IsTrue r ↔ IsPrefix name (full_name_in u)
 under u value name r h g e =
     let s = starts_is unsigned_Decides u value r e in (
@@ -91,7 +91,8 @@ fields_front : (name : List Field) (f : Field) → AllByRecursion IsField (name 
 fields_front [] f h = tt
 fields_front (c ∷ name) f h = (h.0, fields_front name f h.1)
 
--- the octets of a name are those of the full name, or of the name in it
+-- octets of a name equal those of a full name, or those of the name without its digest, exactly
+-- where the names are equal
 pub is_full : (u value : List ℕ) (name : List Field) → IsFullName u → IsNameValue value name → (value ≡ u) ↔ (name ≡ full_name_in u)
 is_full u value name h g = (
   λ e. one_name name (full_name_in u) g.0.0 h.fields (sym g.0.1 ∙ e ∙ h.whole),
@@ -104,7 +105,7 @@ is_front u value name h g = (
   λ e. g.0.1 ∙ ap octets_of e ∙ sym h.name,
 )
 
--- full names of other digests do not tie
+-- full names with different digests do not compare as equal
 pub other_digests : (u v : List ℕ) → IsFullName u → IsFullName v → (digest_in u ≡ digest_in v → ⊥) → eq_by_cmp name_cmp (full_name_in u) (full_name_in v) ≡ false
 other_digests u v h g other = by (name_cmp (full_name_in u) (full_name_in v)) refl
   where

@@ -1,4 +1,4 @@
--- The octets of a packet in hand are that packet.
+-- The received octets of each packet in memory are that packet.
 use Rattle.std.proofs.Common.{◌≡◌, ℕ, List, [], ◌-◌, ◌≤◌, length, take, ◌∙◌, ap, Option, None, Some, Ok, refl, sym, subst, inl, inr}
 use Rattle.std.specs.Prelude.{IsSome, option_map}
 use Rattle.ndn_names.specs.Name.{IsNameValue}
@@ -46,7 +46,7 @@ interest_read i = interest_held i.whole.now (plain_interest i) i.spelled
 pub data_read : (d : Data) → IsReadData d
 data_read d = data_held d.whole.now (plain_data d) d.spelled
 
--- what was noted is what the signature covers
+-- the covered octets of a Data in memory are those that its signature covers
 pub data_covered_read : (d : Data) → CoversData d.whole.now d.covered.now
 data_covered_read d =
     let there = data_covered d.whole.now (plain_data d) (data_read d) in
@@ -70,7 +70,7 @@ interest_second_read i = held (option_map (λ c. c.now) i.covered) i.covers
 pub parts_none : (i : Interest) → i.covered ≡ None → (first second : List ℕ) → CoversInterest (components i.name) i.whole.now first second → ⊥
 parts_none i none = subst (λ (covered : Option (List ℕ)). HoldsSecond (components i.name) i.whole.now covered) (ap (option_map (λ c. c.now)) none) (interest_second_read i)
 
--- the two parts, where these are the octets of the name
+-- the two covered parts of an Interest, given the octets of its name
 pub parts_some : (i : Interest) (octets second : List ℕ) → option_map (λ c. c.now) i.covered ≡ Some second → IsNameValue octets (components i.name)
     → (34 ≤ length octets) × CoversInterest (components i.name) i.whole.now (take (length octets - 34) octets) second
 parts_some i octets second some named =
@@ -78,7 +78,8 @@ parts_some i octets second some named =
     let front = first_is_front octets i.whole.now there.0 second (components i.name) named there.1 in
     (front.0, subst (λ (first : List ℕ). CoversInterest (components i.name) i.whole.now first second) front.1 there.1)
 
--- there are such exactly where there is a signature and the digest is the last component
+-- an Interest has covered octets exactly where it is signed and its digest of parameters is the
+-- last component
 pub covers_where : (i : Interest) → ((first second : List ℕ) → CoversInterest (components i.name) i.whole.now first second → IsSome i.signature × EndsInDigest (components i.name))
     × (IsSome i.signature × EndsInDigest (components i.name) → (first second : List ℕ) × CoversInterest (components i.name) i.whole.now first second)
 covers_where i =

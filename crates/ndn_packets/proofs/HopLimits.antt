@@ -1,4 +1,4 @@
--- Where the HopLimit of an Interest stands, and what another one there makes of the Interest.
+-- The position of the HopLimit in an Interest, and the effect of another octet there.
 use Rattle.std.proofs.Common.{◌≡◌, ℕ, zero, suc, ◌+◌, ◌-◌, ◌<◌, ◌≤◌, Bool, true, false, cond, eqb, List, [], ◌∷◌, ◌++◌, length, get_or, Option, None, Some, Result, Ok, Err, refl, sym, ap, subst, ◌∙◌, append_assoc, arith, inl, inr, eq-eqb}
 use Rattle.std.specs.Prelude.{is_some, slice_set, slice_index, ◌&&◌}
 use Rattle.std.specs.List.{flat_map, AllByRecursion}
@@ -32,7 +32,7 @@ hop_octets : (limit : ℕ) → element (34, limit ∷ []) ≡ 34 ∷ 1 ∷ limit
 unfolding spelling
 hop_octets limit = refl
 
--- an Interest's octets up to the HopLimit's element, and with it and what follows
+-- the octets of an Interest before its HopLimit, and from its HopLimit on
 module _ (name_value : List ℕ) (front back : List Field) where
   abbrev elements_with : ℕ → List Field
   elements_with limit = front ++ (34, limit ∷ []) ∷ back
@@ -57,7 +57,7 @@ module _ (name_value : List ℕ) (front back : List Field) where
   abbrev text_front : ℕ → List ℕ
   text_front limit = spelling 5 ++ (spelling (length (value_with limit)) ++ inner_front)
 
-  -- the front is the same for each HopLimit
+  -- the octets before the HopLimit are the same for each value of the HopLimit
   text_is : (limit other : ℕ) → element (5, value_with other) ≡ text_front limit ++ from_limit other
   text_is limit other =
       (λ k. spelling 5 ++ (spelling (length (value_with other)) ++ value_is other k))
@@ -70,7 +70,7 @@ bytes_with limit after small fits (suc zero) = omega arith
 bytes_with limit after small fits (suc (suc zero)) = small
 bytes_with limit after small fits (suc (suc (suc i))) = fits i
 
--- the octet after the type and the length, and another one there
+-- the octet after the type and length of the HopLimit, and its replacement
 octet_is : (front after : List ℕ) (limit : ℕ) → slice_index (front ++ 34 ∷ 1 ∷ limit ∷ after) (length front + 2) ≡ limit
 octet_is front after limit =
     let len : length (front ++ 34 ∷ 1 ∷ []) ≡ length front + 2 = length-append front (34 ∷ 1 ∷ []) in
@@ -87,7 +87,7 @@ limit_is : (value : Option (List ℕ)) (limit : Option ℕ) (n : ℕ) → IsOcte
 limit_is None limit n is there = absurd (none_is_not_some n (sym is ∙ there))
 limit_is (Some v) limit n is there = ap (λ (t : List ℕ). Some t) (is.1 ∙ ap (λ k. k ∷ []) (some_is is.0 n (sym is.2 ∙ there)))
 
--- other elements do not matter to the octets from the parameters on
+-- the elements before the ApplicationParameters do not affect the octets from the parameters on
 parameters_following : (front back : List Field) (value : List ℕ) → Others 36 front → from_parameters (front ++ (34, value) ∷ back) ≡ from_parameters back
 parameters_following [] back value others = refl
 parameters_following (e ∷ front) back value others = rw (ne_eqb e.0 36 others.0) (parameters_following front back value others.1)
@@ -96,7 +96,7 @@ digested_same : (name elements others : List Field) (parameters : Option (List �
 digested_same name elements others None same h = h
 digested_same name elements others (Some p) same h = h ∙ ap (λ (es : List Field). (2, sha256 (flat_map element es)) ∷ []) same
 
--- where the HopLimit stands
+-- the position of the HopLimit
 record HopStands (text : List ℕ) (i : PlainInterest) (limit : ℕ) : Type 0 where
   front : List ℕ
   after : List ℕ
@@ -109,7 +109,7 @@ place_is text i limit from h there read =
     ap (place_in text) (frame_again text (AnInterest text i) (None, (h, inl (refl, refl))))
     ∙ rw (eq-eqb (length text) (length text) refl, there, element_alone text h.fields.value 5 h.fields.outer, read) refl
 
--- all fields, with this HopLimit
+-- all fields of the Interest, with this HopLimit
 abbrev fields_with : (text : List ℕ) (i : PlainInterest) → IsInterest text i → List ℕ → List Field
 fields_with text i h value =
     flag 33 i.can_be_prefix ++ (flag 18 i.must_be_fresh ++ (optional 30 h.hint ++ ((10, i.nonce) ∷ (optional 12 h.lifetime_value ++ ((34, value) ∷ back_fields i.parameters h.info_value h.signature_value)))))
@@ -198,7 +198,7 @@ hop_stands text i limit h there =
           (subst (Fields is_even_high interest_schema (elements_with h.name_value s.front s.back other)) (sym (fields_are i.can_be_prefix i.must_be_fresh h.hint i.nonce h.lifetime_value ((34, other ∷ []) ∷ late))) (s.again (other ∷ [])));
     }
 
--- ---- what stands at the place, and what another octet there makes
+-- ---- the octet of the HopLimit, and the effect of another octet there
 
 pub hop_only : (text : List ℕ) (limit : ℕ) → HasHopLimit text limit → hop_place text < length text
 hop_only text limit has =
@@ -211,7 +211,7 @@ hop_still text i old limit small h there =
     let set : with_octet text limit ≡ s.front ++ 34 ∷ 1 ∷ limit ∷ s.after = (λ k. slice_set (s.octets k) (s.place k) limit) ∙ octet_set s.front s.after old limit in
     subst (λ (t : List ℕ). IsInterest t (with_limit i limit)) (sym set) (s.again limit small)
 
--- a packet inside a link packet is shorter than that
+-- a packet inside a link packet is shorter than the link packet
 inside_shorter : (text whole : List ℕ) (token : Option (List ℕ)) → IsLinkPacket text token None (Some whole) → length whole < length text
 inside_shorter text whole token link =
     let around = flat_map element link.headers in

@@ -25,7 +25,7 @@ octets_following : (name : List Field) (digest : List ℕ) → octets (name ++ (
 octets_following name digest =
     flat_map-append element name ((2, digest) ∷ []) ∙ ap (λ (x : List ℕ). octets name ++ x) (append-nil (element (2, digest)))
 
--- the name and the digest of the fields after it
+-- the name with the digest of the fields after it
 abbrev pub with_digest : List Field → List Field → List Field
 with_digest name fields = name_with (sha256 (octets fields)) name fields
 
@@ -33,7 +33,7 @@ pub with_digest_octets : (name later : List Field) → not (is_nil later) ≡ tr
 with_digest_octets name [] some = absurd cc
 with_digest_octets name (f ∷ later) some = octets_following name (sha256 (octets (f ∷ later)))
 
--- the name with zeros in place of the digest
+-- 32 zeros, in place of the digest
 abbrev zeros : List ℕ
 zeros = replicate 32 0
 
@@ -74,7 +74,7 @@ zeroed_holds_digest name later some =
 pub zeroed_is_long : (n : ℕ) (name later : List Field) → IsLength n (octets (with_digest name later)) → length (octets (with_digest name later)) ≤ 8800 → n ≡ length (octets (name_with zeros name later))
 zeroed_is_long n name later is short = omega (arith, is, zeroed_length name later)
 
--- what is written of the name, in parts
+-- the parts of the name as it is first written, with zeros for the digest
 pub zeroed_begin : (name later : List Field) (n : ℕ) → n ≡ length (octets (name_with zeros name later)) → length (spelling 7 ++ spelling n) + length (octets name) ≤ length (element (7, octets (name_with zeros name later)))
 zeroed_begin name later n long =
     rw long (omega (
@@ -91,7 +91,7 @@ zeroed_put old value name later n some is long =
     append_assoc header value (element (2, zeros))
     ∙ (ap (λ (x : List ℕ). header ++ x) (ap (λ (x : List ℕ). x ++ element (2, zeros)) is.0.1 ∙ sym (zeroed_octets name later some)) ∙ element_put old 7 n (octets (name_with zeros name later)) long)
 
--- ---- fields that may be absent
+-- ---- optional fields
 
 pub flag_is_long : (n kind : ℕ) → IsLength n (element (kind, [])) → IsLength n (octets (flag kind true))
 flag_is_long n kind is = subst (λ (x : List ℕ). IsLength n x) (sym (append-nil (element (kind, [])))) is
@@ -167,9 +167,9 @@ zeroed_value name early later =
       length-append (element (7, whole)) (octets early),
     )
 
--- ---- the digest over the zeros
+-- ---- the digest replaces the zeros
 
--- what stands before the digest
+-- the octets before the digest
 abbrev name_front : ℕ → List Field → List ℕ
 name_front n name = spelling 7 ++ (spelling n ++ (octets name ++ (spelling 2 ++ spelling 32)))
 

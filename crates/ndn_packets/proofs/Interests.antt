@@ -1,4 +1,4 @@
--- An Interest that is read is in the grammar, and one in the grammar is read.
+-- An Interest that is read is in the grammar, and an Interest in the grammar is read.
 use Rattle.std.proofs.Common.{◌≡◌, ◌≢◌, ℕ, Bool, true, false, cond, eqb, List, [], ◌∷◌, ◌++◌, length, map, Option, Some, None, Result, Ok, Err, refl, sym, ap, subst, ◌∙◌, eq-eqb}
 use Rattle.std.specs.Prelude.{unwrap_or}
 use Rattle.std.proofs.lemmas.Bool.{eqb-true}
@@ -31,13 +31,13 @@ abbrev fields_with : Bool → Bool → Option (List ℕ) → List ℕ → Option
 fields_with prefix fresh hint nonce lifetime hop parameters info value =
     flag 33 prefix ++ (flag 18 fresh ++ (optional 30 hint ++ ((10, nonce) ∷ (optional 12 lifetime ++ (optional 34 hop ++ (optional 36 parameters ++ (optional 44 info ++ optional 46 value)))))))
 
--- ---- what each field leaves
+-- ---- how each field changes the state
 
 abbrev so_far : Bool → Bool → Option (List ℕ) → ℕ → Option ℕ → InterestSoFar
 so_far prefix fresh nonce lifetime hop =
     record { can_be_prefix = prefix; must_be_fresh = fresh; nonce = nonce; lifetime = lifetime; hop_limit = hop; parameters = None; info = None; value = None }
 
--- with the three fields from the parameters on
+-- the state with the three fields from the ApplicationParameters on
 abbrev signed_so_far : InterestSoFar → Option (List ℕ) → Option PlainSignatureInfo → Option (List ℕ) → InterestSoFar
 signed_so_far s parameters info value = record {
   can_be_prefix = s.can_be_prefix;
@@ -54,7 +54,7 @@ is_nil_is : (xs : List ℕ) → is_nil xs ≡ true → xs ≡ []
 is_nil_is [] e = refl
 is_nil_is (x ∷ xs) e = absurd cc
 
--- a test that BadField answers
+-- a test whose failure returns BadField
 tested : {A : Type 0} (b : Bool) (x y : A) → cond b (good x) (Err BadField) ≡ Ok y → (b ≡ true) × (x ≡ y)
 tested true x y e = (refl, ok_is x y e)
 tested false x y e = absurd (err_is_not_ok _ y e)
@@ -76,7 +76,7 @@ hint_taken : (value : Option (List ℕ)) (s t : InterestSoFar) → Took take_int
 hint_taken None s t took = took
 hint_taken (Some v) s t took = sym (ok_is s t took)
 
--- a Nonce that is there has four octets
+-- a Nonce, if present, has four octets
 abbrev IsFour : Option (List ℕ) → Type 0
 IsFour None = Unit {0}
 IsFour (Some nonce) = length nonce ≡ 4
@@ -110,7 +110,7 @@ parameters_taken : (value : Option (List ℕ)) (front s t : InterestSoFar) → s
 parameters_taken None front s t is took = took ∙ is
 parameters_taken (Some v) front s t is took = sym (ok_is _ t (subst (λ (u : InterestSoFar). take_interest_field u (36, v) ≡ Ok t) is took))
 
--- an InterestSignatureInfo that may be absent
+-- an optional InterestSignatureInfo with its meaning
 abbrev SaysInfo : Option (List ℕ) → Option PlainSignatureInfo → Type 0
 SaysInfo None said = said ≡ None
 SaysInfo (Some value) said = (info : PlainSignatureInfo) × IsSignatureInfo value info × (said ≡ Some info)
@@ -221,16 +221,16 @@ interest_fields plain fields t fit recognised taken =
       made = sym last ∙ v;
     }
 
--- ---- what is read
+-- ---- what is read is in the grammar
 
 nonce_there : (value : Option (List ℕ)) (nonce : List ℕ) → value ≡ Some nonce → IsFour value → length nonce ≡ 4
 nonce_there value nonce is four = subst IsFour is four
 
--- what a packet's octets have to be for its digest to be right
+-- the digest that the name of the Interest must have
 abbrev right_digest : List (Result Field TlvFault) → List ℕ
 right_digest later = sha256 (octets_of_read (parameters_on later))
 
--- what the last step answers
+-- the result of the last check, of the digest
 abbrev unless_digest : List Field → List (Result Field TlvFault) → InterestSoFar → List ℕ → Result PlainInterest PacketFault
 unless_digest name later t nonce = on_option (λ fault. Err fault) (good (interest_made name t nonce)) (digest_fault t.parameters (digests_in name) (right_digest later))
 
@@ -298,7 +298,7 @@ interest_found text value i one e =
     (λ t. found_or NoNonce t.nonce >>= λ nonce. unless_digest a.0.0 a.0.1 t nonce) i g.1 in
     after_name text value a.0 b.0 i one a.1 (not_nil a.0.0 g.0) b.1 b.2
 
--- ---- what is in the grammar is read
+-- ---- an Interest in the grammar is read
 
 abbrev flag_value : Bool → Option (List ℕ)
 flag_value true = Some []
@@ -349,13 +349,13 @@ value_again : (value parameters : Option (List ℕ)) (said : Option PlainSignatu
 value_again None parameters said front = refl
 value_again (Some v) parameters said front = refl
 
--- a signature is made of what its InterestSignatureInfo says
+-- a signature comes from its InterestSignatureInfo
 signature_again : (info value : Option (List ℕ)) (signature : Option PlainSignature) → IsSigned info value signature → (said : Option PlainSignatureInfo) × SaysInfo info said × (signature_of said value ≡ signature)
 signature_again None value signature h = (None, refl, sym h)
 signature_again (Some v) None signature h = (Some h.0, (h.0, h.1, refl), sym h.2)
 signature_again (Some v) (Some w) signature h = (Some h.0, (h.0, h.1, refl), sym h.2)
 
--- the fields of an Interest, and what has been read of them
+-- the fields of an Interest, and the state after they are read
 fields_computed : (prefix fresh : Bool) (hint : Option (List ℕ)) (nonce : List ℕ) (lifetime hop parameters info value : Option (List ℕ)) (number limit : Option ℕ) (said : Option PlainSignatureInfo) → length nonce ≡ 4
     → IsNumber lifetime number → IsOctet hop limit → MayBeBytes info → SaysInfo info said
     → read_fields take_interest_field no_fields_yet (map good (fields_with prefix fresh hint nonce lifetime hop parameters info value))
@@ -396,7 +396,7 @@ unfolding interest_at
 interest_computes value name_value elements fields name t nonce inner name_is named right fields_are taken nonce_is =
     rw (elements_exact value ((7, name_value) ∷ elements) inner, name_again name_value name name_is, is_nil-false name named, fields_are, taken, nonce_is, right) refl
 
--- the octets of the InterestSignatureInfo
+-- the value of the InterestSignatureInfo consists of octets
 info_bytes : (prefix fresh : Bool) (hint : Option (List ℕ)) (nonce : List ℕ) (lifetime hop parameters info value : Option (List ℕ)) → AreBytes (fields_with prefix fresh hint nonce lifetime hop parameters info value) → MayBeBytes info
 info_bytes prefix fresh hint nonce lifetime hop parameters info value fit =
     let from46 = optional 46 value in

@@ -1,4 +1,4 @@
--- The order of keys ties only equal keys.
+-- Two keys that compare as equal are equal.
 use Rattle.std.specs.Prelude.{◌≡◌, ◌↔◌}
 use Rattle.std.proofs.Common.{subst}
 use Rattle.std.specs.declared.cmp.Ordering.TheVariants.{Equal}

@@ -1,4 +1,4 @@
--- Lengths of what is written, and what is left of octets to which some are appended.
+-- Lengths of what is written, and the octets that remain after some are appended.
 use Rattle.std.proofs.Common.{◌≡◌, ℕ, ◌+◌, ◌-◌, ◌^◌, ◌<◌, min, List, [], ◌∷◌, ◌++◌, length, refl, sym, ap, subst, ◌∙◌, append_assoc, arith, inl, inr, Option}
 use Rattle.std.proofs.lemmas.Bool.{cases_lt}
 use Rattle.std.proofs.lemmas.List.{length-append}
@@ -32,7 +32,7 @@ sum_is_long m n front back p q = omega (arith, length-append front back)
 pub name_is_long : (n : ℕ) (value : List ℕ) (name : List Field) → IsNameValue value name → IsLength n value → IsLength n (octets name)
 name_is_long n value name is long = subst (λ (x : List ℕ). IsLength n x) is.0.1 long
 
--- the length of octets that are in memory
+-- a length is exact if the octets are in memory
 pub in_memory_is_exact : (n : ℕ) (octets : List ℕ) → IsLength n octets → length octets < 2 ^ 63 → n ≡ length octets
 in_memory_is_exact n octets is small = omega arith
 
@@ -63,7 +63,7 @@ info_is_long signed time seq =
     let times = octets (number 40 time) in
     omega (arith, ap length (info_octets signed time seq), length-append ((kind ++ locator) ++ times) (octets (number 42 seq)), length-append (kind ++ locator) times, length-append kind locator)
 
--- the parts of a SignatureInfo that is put
+-- the octets after a SignatureInfo is appended in parts
 abbrev info_after : List ℕ → ℕ → ℕ → Sign → Option ℕ → Option ℕ → List ℕ
 info_after old kind len signed time seq =
     ((((old ++ (spelling kind ++ spelling len)) ++ element (27, shortest_nni (kind_of signed))) ++ octets (optional 28 (locator_value signed))) ++ octets (number 40 time)) ++ octets (number 42 seq)
@@ -77,7 +77,7 @@ info_after_octets old kind len signed time seq =
     regrouped : (a b c d e : List ℕ) → (((a ++ b) ++ c) ++ d) ++ e ≡ a ++ (((b ++ c) ++ d) ++ e)
     regrouped a b c d e = simp append_assoc
 
--- they are the SignatureInfo, where they are in memory
+-- the appended parts are the SignatureInfo, if they are in memory
 pub info_put : (old : List ℕ) (kind len : ℕ) (signed : Sign) (time seq : Option ℕ) (new : List ℕ) → IsLength len (octets (info_fields signed time seq)) → new ≡ info_after old kind len signed time seq → length new < 2 ^ 63
     → new ≡ old ++ element (kind, octets (info_fields signed time seq))
 info_put old kind len signed time seq new long is small =
@@ -86,7 +86,7 @@ info_put old kind len signed time seq new long is small =
     let whole = is ∙ info_after_octets old kind len signed time seq in
     whole ∙ element_put old kind len info (in_memory_is_exact len info long (omega (arith, ap length whole, length-append header info)))
 
--- and fill its length
+-- the parts of a SignatureInfo add up to its length
 pub info_parts : (kind len : ℕ) (signed : Sign) (time seq : Option ℕ) → IsLength len (octets (info_fields signed time seq)) → length (element (kind, octets (info_fields signed time seq))) < 2 ^ 63
     → length (element (kind, octets (info_fields signed time seq))) ≡ length (spelling kind ++ spelling len)
     + (length (element (27, shortest_nni (kind_of signed))) + (length (octets (optional 28 (locator_value signed))) + (length (octets (number 40 time)) + length (octets (number 42 seq)))))

@@ -1,4 +1,4 @@
--- A link packet that is read is in the grammar, and one in the grammar is read.
+-- A link packet that is read is in the grammar, and a link packet in the grammar is read.
 use Rattle.std.proofs.Common.{◌≡◌, ℕ, suc, ◌<◌, ◌≤◌, Bool, true, false, cond, not, eqb, ltb, List, [], ◌∷◌, ◌++◌, length, map, Option, Some, None, Result, Ok, Err, refl, sym, ap, subst, ◌∙◌, arith, inl, inr}
 use Rattle.std.specs.Prelude.{◌||◌, is_some}
 use Rattle.std.specs.List.{AllByRecursion}
@@ -21,20 +21,22 @@ use Rattle.ndn_packets.proofs.FieldLists.{MayBeBytes, AreBytes}
 use Rattle.ndn_packets.proofs.Numbers.{number_found, number_again}
 use Rattle.ndn_packets.proofs.Nacks.{nack_found, nack_again}
 
--- ---- the header fields that a state leaves room for
+-- ---- the header fields that may still come in a state
 
--- how many header fields of a type may still come, where one has been met or not
+-- how many header fields of a type may still come: none if one has been read, else one
 abbrev pub room : Bool → ℕ
 room true = 0
 room false = 1
 
--- the Nacks still to come, where one of a reason has been met or none, and the reason of the link packet's Nack
+-- the Nacks that may still come, given the reason of the Nack that has been read, if any, and the
+-- reason of the link packet's Nack
 abbrev pub NackAmong : Option ℕ → List Field → Option ℕ → Type 0
 NackAmong None nacks None = nacks ≡ []
 NackAmong None nacks (Some reason) = (value : List ℕ) × (nacks ≡ (800, value) ∷ []) × IsNack value reason
 NackAmong (Some met) nacks nack = (nacks ≡ []) × (nack ≡ Some met)
 
--- the tokens still to come, where this one has been met or none, and the token of the link packet
+-- the tokens that may still come, given the token that has been read, if any, and the token of the
+-- link packet
 abbrev pub TokenAmong : Option (List ℕ) → List Field → Option (List ℕ) → Type 0
 TokenAmong None tokens token = tokens ≡ optional 98 token
 TokenAmong (Some met) tokens token = (tokens ≡ []) × (token ≡ Some met)
@@ -115,7 +117,7 @@ nack_header_found s t v fits free e =
       leaves = λ headers token nack r. record { sequence = r.sequence; frag_index = r.frag_index; frag_count = r.frag_count; tokens = r.tokens; nacks = first_nack s.nack nack v n.0 (headers_of 800 headers) free is r.nacks };
     })
 
--- an ignored header field is above all known ones, and counts for none of them
+-- an ignored header field has a greater type than all known header fields
 above : (kind : ℕ) → is_ignored_header kind ≡ true → 800 < kind
 above kind is = ltb-true 800 kind (and_parts _ _ is).0
 
@@ -156,7 +158,7 @@ header_found s t e fits =
       ]
     ]
 
--- ---- one header field that is in the grammar
+-- ---- one header field in the grammar
 
 pub record Again (s : LinkSoFar) (e : Field) (headers : List Field) (token : Option (List ℕ)) (nack : Option ℕ) : Type 0 where
   pub after : LinkSoFar
@@ -270,7 +272,7 @@ header_again s e headers token nack (inr (inr (inr (inr (inr is))))) = ignored_a
 
 -- ---- the elements of a link packet
 
--- what a Fragment that may be absent holds, beside a token and a Nack of this reason or without one
+-- the content of an optional Fragment, with a token and a Nack or without them
 abbrev pub held : Option (List ℕ) → Option ℕ → Option (List ℕ) → Result PlainFramed PacketFault
 held token nack None = no_fragment token nack
 held token nack (Some text) = fragment_at nack text >>= λ frame. good (framed_with token frame)

@@ -1,4 +1,4 @@
--- Where the fields begin that the readers of packets note: at the first element of their type.
+-- The readers of packets note where fields begin: at the first element of their type.
 use Rattle.std.proofs.Common.{◌≡◌, ◌≢◌, ℕ, true, false, cond, eqb, List, [], ◌∷◌, ◌++◌, Option, None, Some, Ok, refl, sym, ap, subst, ◌∙◌, eq-eqb}
 use Rattle.std.specs.Prelude.{IsSome, OnSome, option_map}
 use Rattle.std.specs.List.{AllByRecursion}
@@ -14,7 +14,7 @@ use Rattle.ndn_packets.specs.Covered.{from_first, IsSignedAt}
 use Rattle.ndn_packets.proofs.Steps.{some_is, none_is_not_some}
 use Rattle.ndn_packets.proofs.Cuts.{next_is, next_other}
 
--- an element that counts nowhere in a schema is of no type that could still come
+-- an element whose type does not count in the schema has none of the types that may still come
 pub skipped : (kind k : ℕ) (schema whole value octets after : List ℕ) → None ≡ schema_after k schema → schema ≡ whole → IsSome (schema_after kind whole) → Ok ((k, value), after) ≡ element_at octets → from_first kind octets ≡ from_first kind after
 skipped kind k schema whole value octets after none same comes read =
     next_other kind octets (k, value) after read
@@ -22,24 +22,25 @@ skipped kind k schema whole value octets after none same comes read =
 
 -- ---- a schema
 
--- only types that need the previous field stand after a type, or none
+-- each type in `later` needs the previous field
 abbrev pub IsTail : List ℕ → Type 0
 IsTail later = (k : ℕ) → needs_previous_field k ≡ false → schema_after k later ≡ None
 
--- a type that is noted in a schema, of whose types before it this holds
+-- The reader notes where the field of type `kind` begins, and `P` holds of the types before it in
+-- the schema.
 pub record IsMark (P : ℕ → Type 0) (kind : ℕ) (later : List ℕ) : Type 0 where
   pub tail : IsTail later
   pub apart : (k : ℕ) → P k → k ≢ kind
   pub near : needs_previous_field kind ≡ true → (k : ℕ) → P k → ⊥
 
--- it can still come
+-- `kind` may still come, after types that satisfy `P`
 pub record Ahead (P : ℕ → Type 0) (kind : ℕ) (later schema : List ℕ) : Type 0 where
   pub front : List ℕ
   pub schema_is : schema ≡ front ++ kind ∷ later
   pub others : AllByRecursion P front
 
 module _ (P : ℕ → Type 0) (kind : ℕ) (later : List ℕ) (m : IsMark P kind later) where
-  -- after a field of another type it still can
+  -- after a field of another type, `kind` may still come
   other_met : (k : ℕ) (front after : List ℕ) → AllByRecursion P front → k ≢ kind → schema_after k (front ++ kind ∷ later) ≡ Some after → P k × Ahead P kind later after
   other_met k [] after all other e =
       elim (needs_previous_field k) as (λ b. needs_previous_field k ≡ b → cond b None (schema_after k later) ≡ Some after → P k × Ahead P kind later after) [
@@ -74,7 +75,7 @@ module _ (P : ℕ → Type 0) (kind : ℕ) (later : List ℕ) (m : IsMark P kind
 
 -- ---- the reader
 
--- a field that can still come: the first element of its type is among those that are left
+-- no element of type `kind` has been passed yet, and `kind` may still come
 pub record Awaits (P : ℕ → Type 0) (kind : ℕ) (later text : List ℕ) (fields : FieldReader) : Type 0 where
   pub ahead : Ahead P kind later fields.schema.now
   pub left : from_first kind text ≡ from_first kind fields.rest.now
@@ -82,14 +83,14 @@ pub record Awaits (P : ℕ → Type 0) (kind : ℕ) (later text : List ℕ) (fie
 placed : (P : ℕ → Type 0) (kind : ℕ) (later text : List ℕ) (before after : FieldReader) (e : Element) → IsMark P kind later → StandsHere before after e → Awaits P kind later text before → from_first kind text ≡ from_first kind after.here.now
 placed P kind later text before after e m here h = h.left ∙ here.place kind (subst (λ (s : List ℕ). IsSome (schema_after kind s)) (sym h.ahead.schema_is) (comes P kind later m h.ahead.front h.ahead.others))
 
--- after a field of another type
+-- after a field of another type, the reader still awaits `kind`
 pub awaits_still : (P : ℕ → Type 0) (kind : ℕ) (later text : List ℕ) (before after : FieldReader) (e : Element) → IsMark P kind later → StandsHere before after e → e.kind ≢ kind → Awaits P kind later text before
     → P e.kind × Awaits P kind later text after
 awaits_still P kind later text before after e m here other h =
     let met = other_met P kind later m e.kind h.ahead.front after.schema.now h.ahead.others other (ap (schema_after e.kind) (sym h.ahead.schema_is) ∙ here.schema) in
     (met.0, record { ahead = met.1; left = placed P kind later text before after e m here h ∙ next_other kind after.here.now (e.kind, e.value.now) after.rest.now here.here other })
 
--- the field itself
+-- after the field of type `kind`, the reader has noted where it begins
 pub awaits_met : (P : ℕ → Type 0) (kind : ℕ) (later text : List ℕ) (before after : FieldReader) (e : Element) → IsMark P kind later → StandsHere before after e → e.kind ≡ kind → Awaits P kind later text before
     → (after.schema.now ≡ later) × (from_first kind text ≡ Some after.here.now)
 awaits_met P kind later text before after e m here is h = (
@@ -97,7 +98,7 @@ awaits_met P kind later text before after e m here is h = (
   placed P kind later text before after e m here h ∙ next_is kind after.here.now (e.kind, e.value.now) after.rest.now here.here is,
 )
 
--- no type, before one that needs the previous field
+-- no type is allowed before a type that needs the previous field
 abbrev pub Never : ℕ → Type 0
 Never k = ⊥
 
@@ -112,14 +113,14 @@ nothing_comes before after e here none = none_is_not_some after.schema.now (ap (
 
 -- ---- a Data
 
--- MetaInfo, Content and SignatureInfo
+-- the types of MetaInfo, Content and SignatureInfo
 abbrev IsEarly : ℕ → Type 0
 IsEarly k = (k ≢ 23) × (k ≢ 20 → k ≢ 21 → k ≢ 22 → ⊥)
 
 value_mark : IsMark IsEarly 23 []
 value_mark = record { tail = λ k loose. refl; apart = λ k early. early.0; near = λ near k early. absurd cc }
 
--- the octets from the SignatureValue on
+-- the reader of a Data notes the octets from the SignatureValue on
 abbrev pub DataMark : List ℕ → FieldReader → Option (List ℕ) → List ℕ → Type 0
 DataMark text fields None from = Awaits IsEarly 23 [] text fields
 DataMark text fields (Some value) from = (fields.schema.now ≡ []) × (from_first 23 text ≡ Some from)
@@ -149,7 +150,7 @@ data_value text before after e (Some value) from here a b c h = absurd (nothing_
 
 -- ---- an Interest
 
--- the fields before ApplicationParameters
+-- the fields before the ApplicationParameters
 abbrev IsFront : ℕ → Type 0
 IsFront k = (k ≢ 36) × (needs_previous_field k ≡ false)
 
@@ -169,7 +170,8 @@ info_mark = record { tail = λ k loose. none_after k 46 [] refl loose refl; apar
 signature_mark : IsMark Never 46 []
 signature_mark = record { tail = λ k loose. refl; apart = λ k never. absurd never; near = λ near k never. never }
 
--- the octets from the ApplicationParameters, and from the InterestSignatureValue on
+-- the reader of an Interest notes the octets from the ApplicationParameters on, and those from the
+-- InterestSignatureValue on
 abbrev pub InterestMark : List ℕ → FieldReader → Option (List ℕ) → Option PlainSignatureInfo → Option (List ℕ) → List ℕ → List ℕ → Type 0
 InterestMark text fields None None None p v = Awaits IsFront 36 (44 ∷ 46 ∷ []) text fields
 InterestMark text fields None None (Some value) p v = ⊥
@@ -246,7 +248,7 @@ interest_value text before after e (Some q) (Some i) None p v here is h =
     (met.0, (h.0, h.1, h.2, met.1))
 interest_value text before after e (Some q) (Some i) (Some w) p v here is h = absurd (nothing_comes before after e here h.0)
 
--- what was noted, of the fields that are there
+-- the noted positions of the fields that are present, after the last field
 pub interest_last : {A B C : Type 0} (f : A → List ℕ) (g : B → PlainSignatureInfo) (k : C → List ℕ) (text : List ℕ) (fields : FieldReader) (a : Option A) (b : Option B) (c : Option C) (p v : List ℕ)
     → InterestMark text fields (option_map f a) (option_map g b) (option_map k c) p v → (X : Type 0) → (from_first 36 text ≡ Some p → X) → OnSome a X × OnSome c (IsSignedAt text p v)
 interest_last f g k text fields None None None p v h X there = (tt, tt)

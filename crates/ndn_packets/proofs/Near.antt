@@ -1,4 +1,4 @@
--- Full names that are not far behind a name.
+-- Full names that are near a name in canonical order.
 use Rattle.std.proofs.Common.{◌≡◌, ◌≢◌, ℕ, zero, suc, ◌<◌, ◌≤◌, Bool, true, false, List, [], ◌∷◌, ◌++◌, length, get_or, drop, refl, sym, ap, ◌∙◌, arith, inl, inr, append_assoc}
 use Rattle.std.specs.Prelude.{◌&&◌, nat_lt, slice_get, Option, None, Some}
 use Rattle.std.specs.declared.cmp.Ordering.{Ordering}
@@ -22,7 +22,7 @@ both_true : (a b : Bool) → (a && b) ≡ true → (a ≡ true) × (b ≡ true)
 both_true true b e = (refl, e)
 both_true false b e = absurd cc
 
--- no greater type comes before a lesser one
+-- a component that is not greater than another one has no greater type
 kind_of_lesser : (c d : Field) → component_cmp c d ≢ Greater → c.0 ≤ d.0
 kind_of_lesser c d h =
     elim (cases_lt d.0 c.0) [
@@ -64,7 +64,7 @@ between (n ∷ name) (c ∷ u) (d ∷ v) flag e low high =
         let here : is_eq (component_cmp n c) ≡ true = ap is_eq o in
         (λ k. (here k && s.0 k) && s.1 k)
 
--- ---- what stands after a name
+-- ---- the full names that follow a name
 
 pub after_front : (name rest : List Field) → drop (length name) (name ++ rest) ≡ rest
 after_front [] rest = refl

@@ -1,4 +1,4 @@
--- Values that are numbers.
+-- Values that are NonNegativeIntegers.
 use Rattle.std.proofs.Common.{◌≡◌, ℕ, List, Ok, Err, ap}
 use Rattle.ndn_tlv.specs.Number.{IsNni}
 use Rattle.ndn_tlv.specs.Reading.{on_result, nni_at}

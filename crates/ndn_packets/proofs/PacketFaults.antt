@@ -1,4 +1,4 @@
--- Readers of packets tell the first fault.
+-- Readers of packets report the first fault.
 use Rattle.std.proofs.Common.{◌≡◌, ◌≢◌, ℕ, Bool, true, false, cond, eqb, List, [], ◌∷◌, map, Option, Some, None, Result, Ok, Err, refl, sym, ap, ◌∙◌, ◌⊎◌, inl, inr, eq-eqb}
 use Rattle.std.specs.Prelude.{◌↔◌, IsErr}
 use Rattle.std.specs.Str.{bytes_eq}

@@ -1,4 +1,4 @@
--- The two laws: what is read is in the grammar, and what is in the grammar is read.
+-- Every frame that is read is in the grammar, and every frame in the grammar is read.
 use Rattle.std.proofs.Common.{◌≡◌, ℕ, ◌≤◌, ◌⊎◌, true, cond, ltb, List, [], ◌∷◌, length, Option, Some, None, Result, Ok, Err, refl, sym, ap, subst, ◌∙◌, arith, inl, inr}
 use Rattle.std.specs.Prelude.{IfOk}
 use Rattle.std.proofs.lemmas.Bool.{ltb-false, le-ltb, ne_eqb, cases_eq}
@@ -41,7 +41,7 @@ only_found text outer fits e =
 pub only_again : (text value : List ℕ) (kind : ℕ) → IsElement text kind value → only_element text ≡ Ok (kind, value)
 only_again text value kind outer = rw (element_alone text value kind outer) refl
 
--- ---- packets, which their own element holds
+-- ---- packets as one element
 
 pub interest_of_found : (text value : List ℕ) (i : PlainInterest) → IsBytes text → IsElement text 5 value → interest_of text value ≡ Ok i → IsInterest text i
 interest_of_found text value i fits outer e =
@@ -53,7 +53,7 @@ data_of_found text value d fits outer e =
     let g = guard_ok (ltb 8800 (length text)) TooLong (data_at value) d e in
     data_found text value d (record { outer = outer; short = ltb-false _ _ g.0; octets = fits }) g.1
 
--- an Interest or a Data of this text
+-- `f` is an Interest or a Data with the octets `text`
 abbrev IsPacketOf : List ℕ → PlainFrame → Type 0
 IsPacketOf text f = ((i : PlainInterest) × IsInterest text i × (AnInterest text i ≡ f)) ⊎ ((d : PlainData) × IsData text d × (AData text d ≡ f))
 
@@ -156,7 +156,7 @@ again_with text token Idle h = link_again_in text token None None (framed_with t
 pub framed_again : (text : List ℕ) (f : PlainFramed) → IsFramed text f → framed_at text ≡ Ok f
 framed_again text f h = again_with text f.token f.frame h
 
--- the frame of it
+-- `frame_at` and `token_at` return the two parts of what `framed_at` returns
 
 pub frame_of_framed : (text : List ℕ) (f : PlainFramed) → framed_at text ≡ Ok f → frame_at text ≡ Ok f.frame
 unfolding frame_at

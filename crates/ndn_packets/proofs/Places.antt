@@ -1,4 +1,4 @@
--- Where the fields of a schema stand among elements.
+-- The positions of the fields of a schema among elements.
 use Rattle.std.proofs.Common.{◌≡◌, ◌≢◌, ℕ, ◌⊎◌, Bool, true, false, cond, eqb, List, [], ◌∷◌, ◌++◌, Option, None, Some, refl, sym, ap, subst, ◌∙◌, append_assoc, inl, inr}
 use Rattle.std.specs.List.{AllByRecursion}
 use Rattle.std.proofs.lemmas.Bool.{eqb-false}
@@ -12,11 +12,12 @@ use Rattle.ndn_packets.proofs.FieldLists.{Lacks}
 abbrev pub Others : ℕ → List Field → Type 0
 Others kind fields = AllByRecursion (λ f. f.0 ≢ kind) fields
 
--- no field is of a type that stands in this part of a schema
+-- the type of no field is in `schema`
 abbrev pub Earlier : List ℕ → List Field → Type 0
 Earlier schema fields = AllByRecursion (λ f. Lacks f.0 schema) fields
 
--- a schema around a type: what stands before it does not stand from it on, and nothing does where the type is a type that needs the previous field
+-- `kind` in a schema: no type in `before` recurs from `kind` on, and `before` is empty if `kind`
+-- needs the previous field
 pub record IsAround (before : List ℕ) (kind : ℕ) (later : List ℕ) : Type 0 where
   pub apart : AllByRecursion (λ k. Lacks k (kind ∷ later)) before
   pub near : needs_previous_field kind ≡ true → before ≡ []
@@ -39,7 +40,7 @@ not_nothing (k ∷ front) later kind e = cc
 around_counts : (before later : List ℕ) (kind : ℕ) → IsAround before kind later → Counts kind later (before ++ kind ∷ later)
 around_counts before later kind h = (before, refl, lacks_kind kind later before h.apart, h.near)
 
--- where another type of the schema stands: before the type, as the type, or after it
+-- the position of another type in the schema: before `kind`, at `kind`, or after it
 abbrev StandsBefore : List ℕ → ℕ → List ℕ → List ℕ → ℕ → List ℕ → Type 0
 StandsBefore before kind later front k after = (between : List ℕ) × (before ≡ front ++ k ∷ between) × (after ≡ between ++ kind ∷ later)
 
@@ -68,18 +69,18 @@ stands (b ∷ before) later (f ∷ front) after kind k e =
           inr (inr ((h.0.0, h.0.1), (none, λ lacks. h.1.1 lacks.1)))
     ]
 
--- what a type that stands before another one says of both
+-- a type before `kind` does not recur from `kind` on, and `kind` follows the types in between
 before_is : (before later front between : List ℕ) (kind k : ℕ) → IsAround before kind later → before ≡ front ++ k ∷ between → Lacks k (kind ∷ later) × IsAround between kind later
 before_is before later front between kind k around is =
     let apart = following_all (λ j. Lacks j (kind ∷ later)) front (k ∷ between) (subst (AllByRecursion (λ j. Lacks j (kind ∷ later))) is around.apart) in
     (apart.0, record { apart = apart.1; near = λ follows. absurd (not_nothing front between k (sym is ∙ around.near follows)) })
 
--- ---- the first element of a type that only types that need the previous field stand after
+-- ---- the first element of a type that is followed only by types that need the previous field
 
 abbrev pub AllNeedPrevious : List ℕ → Type 0
 AllNeedPrevious kinds = AllByRecursion (λ k. needs_previous_field k ≡ true) kinds
 
--- the first element of a type is the field of this type
+-- the first element of type `kind` is the field of that type
 pub record Met (ignores : ℕ → Bool) (kind : ℕ) (later : List ℕ) (elements fields : List Field) : Type 0 where
   pub front : List Field
   pub value : List ℕ
@@ -92,7 +93,7 @@ pub record Met (ignores : ℕ → Bool) (kind : ℕ) (later : List ℕ) (element
   pub earlier : Earlier (kind ∷ later) early
   pub following : Fields ignores later back late
 
--- or there is none, and then no field of this type or of one after it
+-- there is no element of type `kind`, and no field of that type or of a later type
 abbrev pub Missed : ℕ → List ℕ → List Field → List Field → Type 0
 Missed kind later elements fields = Others kind elements × Earlier (kind ∷ later) fields
 
@@ -161,12 +162,12 @@ meet ignores before later kind (e ∷ elements) fields around all_need_previous 
     let other : e.0 ≢ kind = λ is. h.0 later (subst (λ k. Counts k later (before ++ kind ∷ later)) (sym is) (around_counts before later kind around)) in
     met_other ignores kind later e elements fields other (meet ignores before later kind elements fields around all_need_previous h.2)
 
--- ---- the element that a field is
+-- ---- the position of a field among the elements
 
 cons_is : (x y : Field) (xs ys : List Field) → x ∷ xs ≡ y ∷ ys → (x ≡ y) × (xs ≡ ys)
 cons_is x y xs ys e = (cc, cc)
 
--- the element is the first one of the type, and another value there changes this field alone
+-- the first element of type `kind` is the field, and another value there changes this field alone
 pub record StandsAt (ignores : ℕ → Bool) (schema : List ℕ) (kind : ℕ) (value : List ℕ) (elements early late : List Field) : Type 0 where
   pub front : List Field
   pub back : List Field
@@ -235,7 +236,7 @@ field_at ignores before later kind value (e ∷ elements) fields early late arou
       again = λ w. inr (h.0, h.1, r.again w);
     }
 
--- ---- types that are known
+-- ---- known types
 
 lacks : ℕ → List ℕ → Bool
 lacks kind [] = true
@@ -277,7 +278,7 @@ pub has_following : (kind : ℕ) (front back : List Field) → Has kind back →
 has_following kind [] back h = h
 has_following kind (f ∷ front) back h = inr (has_following kind front back h)
 
--- after fields of other types
+-- a field of type `kind` comes after fields of other types
 pub has_back : (kind : ℕ) (front back : List Field) → Others kind front → Has kind (front ++ back) → Has kind back
 has_back kind [] back others h = h
 has_back kind (f ∷ front) back others (inl h) = absurd (others.0 h)
@@ -328,7 +329,7 @@ earlier_front schema prefix fresh hint nonce lifetime h =
     (all_both P (flag 18 fresh) _ (earlier_flag schema 18 fresh h.1.0)
     (all_both P (optional 30 hint) _ (earlier_optional schema 30 hint h.1.1.0) (h.1.1.1.0, earlier_optional schema 12 lifetime h.1.1.1.1.0)))
 
--- the HopLimit and what stands before it and after it
+-- no type before the HopLimit recurs as the HopLimit or after it
 pub hop_apart : AllByRecursion (λ k. Lacks k (34 ∷ 36 ∷ 44 ∷ 46 ∷ [])) (33 ∷ 18 ∷ 30 ∷ 10 ∷ 12 ∷ [])
 unfolding lacks all_lack
 hop_apart = all_lack-true (33 ∷ 18 ∷ 30 ∷ 10 ∷ 12 ∷ []) (34 ∷ 36 ∷ 44 ∷ 46 ∷ []) refl
@@ -355,7 +356,7 @@ meet_info ignores elements fields h = meet ignores [] (46 ∷ []) 44 elements fi
 pub meet_signature : (ignores : ℕ → Bool) (elements fields : List Field) → Fields ignores (46 ∷ []) elements fields → Met ignores 46 [] elements fields ⊎ Missed 46 [] elements fields
 meet_signature ignores elements fields h = meet ignores [] [] 46 elements fields (first_around 46 []) tt h
 
--- the HopLimit is the first element of its type, and no ApplicationParameters stand before it
+-- the HopLimit is the first element of its type, and no ApplicationParameters come before it
 pub hop_at : (ignores : ℕ → Bool) (value : List ℕ) (elements early late : List Field) → Earlier (34 ∷ 36 ∷ 44 ∷ 46 ∷ []) early → Fields ignores interest_schema elements (early ++ (34, value) ∷ late)
     → (s : StandsAt ignores interest_schema 34 value elements early late) × Others 36 s.front
 hop_at ignores value elements early late earlier h =

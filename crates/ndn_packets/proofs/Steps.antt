@@ -1,4 +1,4 @@
--- Readers step by step: what each step that succeeded has found.
+-- What each successful step of a reader has found.
 use Rattle.std.proofs.Common.{◌≡◌, ◌≢◌, ℕ, ◌≤◌, Bool, true, false, cond, eqb, List, [], ◌∷◌, ◌++◌, length, Option, Some, None, Result, Ok, Err, refl, ap, subst, ◌∙◌}
 use Rattle.std.specs.List.{AllByRecursion, flat_map}
 use Rattle.std.proofs.lemmas.Bool.{eqb-true}
@@ -68,7 +68,7 @@ IsBytes-value f rest h = IsBytes-back (spelling (length f.1)) f.1 (IsBytes-back 
 pub IsBytes-inside : (text value : List ℕ) (kind : ℕ) → IsBytes text → IsElement text kind value → IsBytes value
 IsBytes-inside text value kind fits outer = IsBytes-back (spelling (length value)) value (IsBytes-back (spelling kind) (spelling (length value) ++ value) (subst IsBytes outer.1 fits))
 
--- octets that are one element, of at most the length of a packet
+-- octets that are one element, no longer than a packet may be
 pub record IsOne (text : List ℕ) (kind : ℕ) (value : List ℕ) : Type 0 where
   pub outer : IsElement text kind value
   pub short : length text ≤ 8800
@@ -81,7 +81,7 @@ pub IsBytes-fields : (fields : List Field) → IsBytes (flat_map element fields)
 IsBytes-fields [] h = tt
 IsBytes-fields (f ∷ fields) h = (IsBytes-value f (flat_map element fields) h, IsBytes-fields fields (IsBytes-back (element f) (flat_map element fields) h))
 
--- ---- the name in front
+-- ---- the name at the beginning
 
 pub value_ok : {A F : Type 0} (r : Result A F) (y : A) → on_result (λ x. good x) (λ _. Err BadField) r ≡ Ok y → r ≡ Ok y
 value_ok (Ok x) y e = ap (λ z. Ok z) (ok_is x y e)

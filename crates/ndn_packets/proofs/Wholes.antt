@@ -1,4 +1,4 @@
--- A packet inside a link packet is a frame alone.
+-- A packet inside a link packet is a frame by itself.
 use Rattle.std.proofs.Common.{◌≡◌, ℕ, ◌≤◌, true, false, cond, eqb, ltb, List, [], ◌∷◌, length, Option, None, Some, Result, Ok, Err, refl, sym, ap, subst, ◌∙◌, arith}
 use Rattle.std.proofs.lemmas.Bool.{eqb-true, ltb-false, le-ltb}
 use Rattle.ndn_tlv.specs.declared.fault.TlvFault.{TlvFault}
@@ -51,7 +51,7 @@ packet_alone text f e =
     let h = packet_holds text b.0 f b.2 in
     (h.0, h.1, rw (le-ltb 9000 (length text) (omega (arith, h.1)), b.1, h.2, b.2) refl)
 
--- the octets are the packet, and no more
+-- the octets are exactly the packet
 abbrev IsAlone : List ℕ → PlainFrame → Type 0
 IsAlone own f = (only_element own >>= packet_of own) ≡ Ok f
 
@@ -118,7 +118,7 @@ frame_alone text own f e h =
 pub interest_alone : (text whole : List ℕ) (i : PlainInterest) → frame_at text ≡ Ok (AnInterest whole i) → frame_at whole ≡ Ok (AnInterest whole i)
 interest_alone text whole i e = (packet_alone whole (AnInterest whole i) (frame_alone text whole (AnInterest whole i) e refl)).2
 
--- it fits a packet
+-- an Interest is no longer than a packet may be
 pub interest_short : (text whole : List ℕ) (i : PlainInterest) → frame_at text ≡ Ok (AnInterest whole i) → length whole ≤ 8800
 interest_short text whole i e = (packet_alone whole (AnInterest whole i) (frame_alone text whole (AnInterest whole i) e refl)).1
 
@@ -128,6 +128,6 @@ data_alone text whole d e = (packet_alone whole (AData whole d) (frame_alone tex
 pub data_short : (text whole : List ℕ) (d : PlainData) → frame_at text ≡ Ok (AData whole d) → length whole ≤ 8800
 data_short text whole d e = (packet_alone whole (AData whole d) (frame_alone text whole (AData whole d) e refl)).1
 
--- its received octets are one element, which is the packet
+-- the received octets of a Data are one element, which is the Data
 pub data_packet : (text whole : List ℕ) (d : PlainData) → frame_at text ≡ Ok (AData whole d) → (only_element whole >>= packet_of whole) ≡ Ok (AData whole d)
 data_packet text whole d e = frame_alone text whole (AData whole d) e refl

@@ -1,4 +1,4 @@
--- A link packet with a PIT token that is put around octets.
+-- A link packet with a PIT token that is wrapped around octets.
 use Rattle.std.proofs.Common.{◌≡◌, ℕ, ◌+◌, ◌-◌, ◌≤◌, List, ◌++◌, length, take, drop, Some, None, refl, sym, ap, ◌∙◌, append_assoc, append-nil, arith}
 use Rattle.std.proofs.lemmas.List.{length-append, length-drop, take-append-le, drop-append-le}
 use Rattle.std.proofs.Math.Seq.{drop-append_seam, take-append_seam}
@@ -9,7 +9,7 @@ use Rattle.ndn_packets.specs.Writing.{lp_text, link_start}
 
 pub ruleset start_lengths = (header_lengths, element_fits, length-append)
 
--- the octets before a packet, and the packet, are the link packet
+-- the start of the link packet followed by the packet is the whole link packet
 start_whole : (token packet : List ℕ) → link_start token (length packet) ++ packet ≡ lp_text (Some token) None packet
 start_whole token packet =
     let value = element (98, token) ++ element (80, packet) in
@@ -18,7 +18,7 @@ start_whole token packet =
     omega (arith, length-append (element (98, token)) (element (80, packet)), length-element 80 packet, length-append (spelling 80) (spelling (length packet))) in
     rw same (simp (append_assoc, append-nil))
 
--- octets that are turned by the length of a packet, after these were appended
+-- rotating the octets from `start` on moves the appended octets in front of the packet
 turned : (old added : List ℕ) (start n : ℕ) → start ≤ length old → n ≡ length old - start
     → take start (old ++ added) ++ (drop n (drop start (old ++ added)) ++ take n (drop start (old ++ added))) ≡ take start old ++ (added ++ drop start old)
 turned old added start n within is =

@@ -1,4 +1,4 @@
--- What is written is in the grammar: what all packets share, and Data.
+-- What is written is in the grammar: the common parts of all packets, and Data.
 use Rattle.std.proofs.Common.{rules, ◌≡◌, ◌≢◌, ℕ, zero, suc, ◌+◌, ◌^◌, ◌<◌, ◌≤◌, Bool, true, false, cond, ltb, List, [], ◌∷◌, ◌++◌, length, Option, Some, None, refl, sym, ap, subst, ◌∙◌, append_assoc, arith, inl, inr, Bor}
 use Rattle.std.specs.Prelude.{slice_index, unwrap_or, IfSome}
 use Rattle.std.specs.Option.{option_map}
@@ -50,7 +50,7 @@ IsBytes-high_first : (k n : ℕ) → IsBytes (bytes_high_first k n)
 IsBytes-high_first zero n = bytes_of_nothing
 IsBytes-high_first (suc k) n = IsBytes-cons (byte_at k n) (bytes_high_first k n) (byte_at-below k n) (IsBytes-high_first k n)
 
--- a digest of SHA-256
+-- a SHA-256 digest consists of octets
 IsBytes-digest_bytes : (h : List ℕ) (n : ℕ) → IsBytes (digest_bytes h n)
 unfolding digest_bytes
 IsBytes-digest_bytes h zero = bytes_of_nothing
@@ -60,7 +60,7 @@ pub IsBytes-sha256 : (m : List ℕ) → IsBytes (sha256 m)
 unfolding sha256
 IsBytes-sha256 m = IsBytes-digest_bytes (final_hash initial_hash_256 m) 8
 
--- numbers
+-- the big-endian form of a number consists of octets
 IsBytes-wide : (w : Width) (n : ℕ) → IsBytes (to_be_bytes w n)
 IsBytes-wide w n = IsBytes-high_first (byte_len w) n
 
@@ -86,7 +86,7 @@ IsBytes-shortest n =
     (IsBytes-test n (2 ^ 16) (to_be_bytes w16 n) _ (λ _. IsBytes-wide w16 n)
     (IsBytes-test n (2 ^ 32) (to_be_bytes w32 n) _ (λ _. IsBytes-wide w32 n) (IsBytes-wide w64 n)))
 
--- elements
+-- an element consists of octets if its value does
 pub IsBytes-element : (f : Field) → IsBytes f.1 → IsBytes (element f)
 IsBytes-element f h = IsBytes-append (spelling f.0) (spelling (length f.1) ++ f.1) (IsBytes-spelling f.0) (IsBytes-append (spelling (length f.1)) f.1 (IsBytes-spelling (length f.1)) h)
 
@@ -125,7 +125,7 @@ length-value f = omega (arith, length-append (spelling f.0) (spelling (length f.
 abbrev pub IsType : ℕ → Type 0
 IsType kind = (1 ≤ kind) × (kind < 2 ^ 32)
 
--- elements are whole that stand in a text whose length is a number
+-- elements in a text have valid lengths if the length of the text is below 2^64
 pub sized : (fields : List Field) → AllByRecursion (λ f. IsType f.0) fields → length (octets fields) < 2 ^ 64 → AllByRecursion IsField fields
 sized [] types short = tt
 sized (f ∷ fields) types short =
@@ -138,12 +138,12 @@ abbrev pub InOrder : List ℕ → List Field → Type 0
 InOrder schema [] = Unit {0}
 InOrder schema (f ∷ fields) = (later : List ℕ) × Counts f.0 later schema × InOrder later fields
 
--- fields in the order of their schema are all of its fields among themselves
+-- fields in the order of their schema are exactly the fields of that schema
 pub in_order : (ignores : ℕ → Bool) (schema : List ℕ) (fields : List Field) → InOrder schema fields → Fields ignores schema fields fields
 in_order ignores schema [] h = refl
 in_order ignores schema (f ∷ fields) h = inl (h.0, fields, h.1, refl, in_order ignores h.0 fields h.2)
 
--- what holds of the types of a schema holds of those of its fields
+-- what holds of each type in a schema holds of the types after one of them
 all_following : (P : ℕ → Type 0) (front : List ℕ) (kind : ℕ) (later : List ℕ) → AllByRecursion P (front ++ kind ∷ later) → P kind × AllByRecursion P later
 all_following P [] kind later h = h
 all_following P (k ∷ front) kind later h = all_following P front kind later h.1
@@ -157,12 +157,12 @@ types_of P schema (f ∷ fields) h all =
 pub leads : (schema : List ℕ) (kind : ℕ) (value : List ℕ) (fields : List Field) → InOrder schema fields → InOrder (kind ∷ schema) ((kind, value) ∷ fields)
 leads schema kind value fields h = (schema, ([], refl, tt, λ _. refl), h)
 
--- a schema does not begin with a type that needs the previous field
+-- the first type of a schema does not need the previous field
 abbrev IsLoose : List ℕ → Type 0
 IsLoose [] = Unit {0}
 IsLoose (k ∷ schema) = needs_previous_field k ≡ false
 
--- a type may be put before a schema
+-- the type `kind` may come before the types in `schema`
 abbrev pub Precedes : ℕ → List ℕ → Type 0
 Precedes kind schema = AllByRecursion (λ k. k ≢ kind) schema × IsLoose schema
 
@@ -171,7 +171,7 @@ counts_following first kind later schema p h =
     let other = (all_following (λ k. k ≢ first) h.0 kind later (subst (AllByRecursion (λ k. k ≢ first)) h.1 p.0)).0 in
     (first ∷ h.0, ap (λ (ks : List ℕ). first ∷ ks) h.1, ((λ same. other (sym same)), h.2), λ follows. absurd (both_tests (needs_previous_field kind) (subst IsLoose (h.1 ∙ ap (λ (front : List ℕ). front ++ kind ∷ later) (h.3 follows)) p.1) follows))
 
--- a field that may be absent, and a flag, before others
+-- an optional field may come before others, and so may a flag
 pub maybe : (schema : List ℕ) (kind : ℕ) (value : Option (List ℕ)) (fields : List Field) → Precedes kind schema → InOrder schema fields → InOrder (kind ∷ schema) (optional kind value ++ fields)
 maybe schema kind (Some v) fields p h = leads schema kind v fields h
 maybe schema kind None [] p h = tt
@@ -265,7 +265,7 @@ info_written signed time seq time_fits seq_fits short =
 
 -- ---- packets
 
--- the elements of a packet, and its fields as its grammar groups them
+-- a written packet is in the grammar, given its elements and their fields
 unfoldable pub packet_written : (kind : ℕ) (schema : List ℕ) (name_value : List ℕ) (elements fields : List Field) → IsType kind → AllByRecursion IsType schema → InOrder schema elements → elements ≡ fields
     → AreBytes ((7, name_value) ∷ elements) → length (element (kind, octets ((7, name_value) ∷ elements))) ≤ 8800 → IsPacket (element (kind, octets ((7, name_value) ∷ elements))) kind is_even_high schema name_value fields
 packet_written kind schema name_value elements fields is types order same fits short =
@@ -283,7 +283,7 @@ packet_written kind schema name_value elements fields is types order same fits s
 
 -- ---- Data
 
--- a MetaInfo that may be absent
+-- a written MetaInfo, which may be absent, is in the grammar
 meta_written : (freshness final_block : Option ℕ) → IfSome freshness (λ k. k < 2 ^ 64) → IsMetaInfo (octets (meta_fields freshness final_block)) (unwrap_or freshness 0)
 meta_written freshness final_block fits =
     let final_value = option_map (λ n. element (50, shortest_nni n)) final_block in
@@ -319,7 +319,7 @@ bytes_of_meta freshness final_block = of_fields (meta_fields freshness final_blo
     of_fields [] h = tt
     of_fields (f ∷ fields) h = IsBytes-octets (f ∷ fields) h
 
--- what is cut off in front of the field of a type, where no field before it has that type
+-- the cut before the first field of type `kind` in what is written
 pub cut_written : (kind : ℕ) (value : List ℕ) (before following : List Field) → AllByRecursion IsField (before ++ (kind, value) ∷ following) → AllByRecursion (λ f. f.0 ≢ kind) before
     → IsCut kind (octets (before ++ (kind, value) ∷ following)) (octets before) (octets ((kind, value) ∷ following))
 cut_written kind value before following fit first =
@@ -404,7 +404,7 @@ data_covered signed name freshness meta content sign_fits name_fits meta_fits co
       refl,
     )
 
--- a Data that a writer does not refuse
+-- without a refusal, each of the checks has passed
 pub not_refused : (b : Bool) (fault : WriteFault) (others : Option WriteFault) → cond b (Some fault) others ≡ None → (b ≡ false) × (others ≡ None)
 not_refused true fault others e = absurd cc
 not_refused false fault others e = (refl, e)

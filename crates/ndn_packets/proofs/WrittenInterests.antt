@@ -1,4 +1,5 @@
--- An Interest that is written is in the grammar, and its signature is of the octets that it covers.
+-- An Interest that is written is in the grammar, and its signature is over the octets that it
+-- covers.
 use Rattle.std.proofs.Common.{rules, ◌≡◌, ◌≢◌, ℕ, ◌^◌, ◌<◌, ◌≤◌, Bool, true, false, cond, eqb, ltb, List, [], ◌∷◌, ◌++◌, length, Option, Some, None, refl, sym, ap, subst, ◌∙◌, append_assoc, ne_eqb, arith}
 use Rattle.std.specs.Prelude.{◌||◌, not, unwrap_or, IfSome, OnSome}
 use Rattle.std.specs.Option.{option_map}
@@ -50,7 +51,8 @@ bytes_with name (f ∷ later) h =
     let digest = digest_of (f ∷ later) in
     subst IsBytes (sym (flat_map-append element name (digest ∷ []))) (IsBytes-append (octets name) (octets (digest ∷ [])) h (IsBytes-octets (digest ∷ []) (IsBytes-sha256 (octets (f ∷ later)), tt)))
 
--- the digest is the only one, and it is of the elements from the parameters on
+-- no field before `later` is ApplicationParameters, so the octets from the parameters on are those
+-- of `later`
 no_parameters : (front later : List Field) → AllByRecursion (λ f. f.0 ≢ 36) front → from_parameters (front ++ later) ≡ from_parameters later
 no_parameters [] later h = refl
 no_parameters (f ∷ front) later h = rw (ne_eqb f.0 36 h.0) (no_parameters front later h.1)
@@ -66,7 +68,7 @@ hop_value i = option_map (λ limit. limit ∷ []) i.hop_limit
 abbrev early : PlainInterest → Option ℕ → List Field
 early i lifetime = flag 33 i.can_be_prefix ++ (flag 18 i.must_be_fresh ++ ((10, i.nonce) ∷ (number 12 lifetime ++ optional 34 (hop_value i))))
 
--- the same, before others
+-- the fields before the ApplicationParameters
 abbrev before : PlainInterest → Option ℕ → List Field → List Field
 before i lifetime later = flag 33 i.can_be_prefix ++ (flag 18 i.must_be_fresh ++ ((10, i.nonce) ∷ (number 12 lifetime ++ (optional 34 (hop_value i) ++ later))))
 
@@ -119,7 +121,7 @@ is_octet (Some n) = (n, refl, refl)
 interest_types : AllByRecursion IsType interest_schema
 interest_types = search rules
 
--- the fields from the parameters on, of this Interest
+-- the fields of an Interest from the ApplicationParameters on
 record Ends (i : PlainInterest) (later : List Field) : Type 0 where
   info : Option (List ℕ)
   value : Option (List ℕ)
@@ -129,7 +131,7 @@ record Ends (i : PlainInterest) (later : List Field) : Type 0 where
   digested : IsDigested i.name later i.parameters
   signed : IsSigned info value i.signature
 
--- what is known of its other fields
+-- what the other fields of the Interest must satisfy
 record Fits (i : PlainInterest) (lifetime : Option ℕ) : Type 0 where
   is_name : IsName i.name
   named : i.name ≢ []
@@ -175,7 +177,7 @@ interest_written i lifetime later ends fits short =
       signature = ends.signed;
     }
 
--- the octets that a signature covers, where there are all three of the last fields
+-- the octets that a signature covers, if the last three fields are all present
 interest_covered : (i : PlainInterest) (lifetime : Option ℕ) (name : List Field) (digest p info value : List ℕ) → i.name ≡ name ++ (2, digest) ∷ []
     → (ends : Ends i ((36, p) ∷ (44, info) ∷ (46, value) ∷ [])) → Fits i lifetime → length (text_of i lifetime ((36, p) ∷ (44, info) ∷ (46, value) ∷ [])) ≤ 8800
     → CoversInterest i.name (text_of i lifetime ((36, p) ∷ (44, info) ∷ (46, value) ∷ [])) (octets name) (octets ((36, p) ∷ (44, info) ∷ []))
@@ -220,7 +222,7 @@ asked w sign = record {
   signature = option_map (λ signed. record { info = info_asked signed w.time w.seq; value = interest_value w signed }) sign;
 }
 
--- why it is not refused
+-- the conditions under which an Interest is not refused
 record IsGood (w : InterestWriter) (sign : Option Sign) : Type 0 where
   named : components w.name ≢ []
   none : digests_in (components w.name) ≡ []
@@ -239,7 +241,7 @@ fits_of w sign is good = record {
   hop_below = is.hop_limit;
 }
 
--- a SignatureInfo is no longer than the Interest that it stands in
+-- a SignatureInfo is no longer than the Interest that contains it
 info_inside : (front : List Field) (p info : List ℕ) (following : List Field) → length info ≤ length (element (5, octets (front ++ (36, p) ∷ (44, info) ∷ following)))
 info_inside front p info following =
     let later : List Field = (36, p) ∷ (44, info) ∷ following in
@@ -306,7 +308,7 @@ is_good w e =
     let bad = neither (is_nil (components w.name)) (not (is_nil (digests_in (components w.name)))) name.0 in
     record { named = not_nil (components w.name) bad.0; none = nothing (digests_in (components w.name)) bad.1; few = ltb-false _ _ sizes.0; short = ltb-false _ _ sizes.1 }
 
--- a SignatureTime and a SignatureSeqNum are written where there is a signature
+-- a SignatureTime and a SignatureSeqNum are written only with a signature
 times_of : (w : InterestWriter) (sign : Option Sign) → OnSome sign (IsU64 w.time) → OnSome sign (IsU64 w.seq) → OnSome sign (IsU64 w.time × IsU64 w.seq)
 times_of w None time seq = tt
 times_of w (Some signed) time seq = (time, seq)

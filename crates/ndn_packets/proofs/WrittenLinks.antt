@@ -1,4 +1,4 @@
--- A packet in a link packet that is written is in the grammar, and reading it gives its token back.
+-- A packet in a link packet that is written is in the grammar, and reading it returns its token.
 use Rattle.std.proofs.Common.{rules, ◌≡◌, ℕ, ◌+◌, ◌^◌, ◌<◌, ◌≤◌, List, [], ◌∷◌, ◌++◌, length, Option, Some, None, Ok, refl, arith, inl, inr}
 use Rattle.std.specs.Prelude.{IfSome}
 use Rattle.std.specs.Option.{option_map}
@@ -23,7 +23,7 @@ use Rattle.ndn_packets.proofs.FieldLists.{AreBytes}
 use Rattle.ndn_packets.proofs.Packets.{framed_again}
 use Rattle.ndn_packets.proofs.Written.{length-element, IsBytes-element, IsBytes-octets, all_append, in_order, last, number_fits, bytes_of_number}
 
--- without a token it is the packet or the Nack
+-- ---- without a token: the packet or the Nack alone
 
 pub bare_text : (packet : List ℕ) → lp_text None None packet ≡ packet
 bare_text packet = refl
@@ -161,12 +161,12 @@ data_written None None whole d sizes bytes is none = (is, inl (refl, refl))
 data_written (Some token) None whole d sizes bytes is none =
     (is, inr (link_written ((98, token) ∷ []) (Some token) None whole (token_written token sizes bytes) is.fields.short is.fields.octets))
 
--- a token and what is known of it, from a reference to it
+-- what holds of a borrowed token holds of its value
 pub token_now : (P : List ℕ → Type 0) (token : Option (Bor (List ℕ))) → IfSome token (λ t. P t.now) → IfSome (option_map (λ t. t.now) token) P
 token_now P None h = tt
 token_now P (Some t) h = h
 
--- ---- it is read
+-- ---- reading what was written
 
 pub lp_interest_read : (token : Option (List ℕ)) (whole : List ℕ) (i : PlainInterest) → IfSome token IsToken → IfSome token AreOctets → IsInterest whole i
     → framed_at (lp_text token None whole) ≡ Ok (framed_with token (AnInterest whole i))
@@ -183,7 +183,7 @@ pub lp_nack_read : (token : Option (List ℕ)) (reason : ℕ) (whole : List ℕ)
 lp_nack_read token reason whole i sizes bytes fits is =
     framed_again (lp_text token (Some reason) whole) (framed_with token (ANack reason whole i)) (interest_written token (Some reason) whole i sizes bytes fits is)
 
--- ---- its length
+-- ---- the length of what was written
 
 token_long : (token : List ℕ) → IsToken token → length (element (98, token)) ≤ 34
 token_long token sizes = omega (arith, sizes, exact.length-element 98 token, length-spelling_one 98 (omega arith), length-spelling_one (length token) (omega (arith, sizes)))

@@ -7,23 +7,24 @@ use Rattle.ndn_names.specs.Name.{IsPrefix}
 use Rattle.ndn_names.specs.Order.{component_cmp, name_cmp}
 use Rattle.ndn_names.specs.declared.component_type.TheConstants.{IMPLICIT_SHA256_DIGEST}
 
--- a name with the implicit digest of its Data after it
+-- a name followed by the implicit digest of its Data
 abbrev pub full_name : List Field → List ℕ → List Field
 full_name name digest = name ++ (IMPLICIT_SHA256_DIGEST, digest) ∷ []
 
--- The Interest's name is the Data's name or its full name or, where the Interest has CanBePrefix, a
--- prefix of either.
+-- The Interest's name is the Data's name, the Data's full name or, if the Interest has CanBePrefix,
+-- a prefix of either.
 abbrev pub Answers : List Field → List ℕ → List Field → Bool → Type 0
 Answers name digest asked can_be_prefix =
     (asked ≡ name) ⊎ ((asked ≡ full_name name digest)
     ⊎ ((can_be_prefix ≡ true) × (IsPrefix asked name ⊎ IsPrefix asked (full_name name digest))))
 
--- what of this needs no digest
+-- the cases of `Answers` that need no digest
 abbrev pub AnswersByName : List Field → List Field → Bool → Type 0
 AnswersByName name asked can_be_prefix =
     (asked ≡ name) ⊎ ((can_be_prefix ≡ true) × IsPrefix asked name)
 
--- the digest that a name requires, where it is the Data's name and a digest after it
+-- the implicit digest that the Interest's name requires: its last component, if the components
+-- before it are the Data's name
 abbrev pub AsksFor : List Field → List Field → Option (List ℕ) → Type 0
 AsksFor name asked None = (digest : List ℕ) → asked ≡ full_name name digest → ⊥
 AsksFor name asked (Some digest) = asked ≡ full_name name digest

@@ -10,8 +10,8 @@ use Rattle.ndn_names.specs.declared.first_of_type.FirstOfType.{FirstOfType}
 use Rattle.ndn_packets.specs.Packet.{PlainSignature, PlainFrame, AnInterest, AData, ANack, Idle}
 use Rattle.ndn_packets.specs.declared.types.TheConstants.{APPLICATION_PARAMETERS, DATA, INTEREST, INTEREST_SIGNATURE_INFO, INTEREST_SIGNATURE_VALUE, SIGNATURE_VALUE}
 
--- Octets are cut in front of the first element of this type: before it are whole elements of other
--- types, after it anything.
+-- The cut before the first element of this type: before it are whole elements of other types, after
+-- it any octets.
 pub record IsCut (kind : ℕ) (octets before from : List ℕ) : Type 0 where
   pub others : List Field
   pub value : List ℕ
@@ -22,7 +22,7 @@ pub record IsCut (kind : ℕ) (octets before from : List ℕ) : Type 0 where
   pub from_is : from ≡ element (kind, value) ++ after
   pub octets_are : octets ≡ before ++ from
 
--- The octets from there on, as a reader finds them that looks at no more than n elements.
+-- The octets from the cut on. The reader looks at no more than n elements.
 unfoldable pub from_within : ℕ → ℕ → List ℕ → Option (List ℕ)
 from_within zero kind octets = None
 from_within (suc n) kind octets =
@@ -32,17 +32,19 @@ from_within (suc n) kind octets =
 unfoldable pub from_first : ℕ → List ℕ → Option (List ℕ)
 from_first kind octets = from_within (length octets) kind octets
 
--- of a Data: from its Name up to, and without, the SignatureValue
+-- The signature of a Data covers the octets from its Name up to, but not including, the
+-- SignatureValue.
 pub record CoversData (text covered : List ℕ) : Type 0 where
   pub value : List ℕ
   pub from_signature : List ℕ
   pub outer : IsElement text DATA value
   pub cut : IsCut SIGNATURE_VALUE value covered from_signature
 
--- Of an Interest of this name: first the components before the digest of parameters, which is the
--- last one, and second its octets from the ApplicationParameters up to, and without, the
--- InterestSignatureValue. That is the first one after the first InterestSignatureInfo after the
--- first ApplicationParameters: the one that counts.
+-- The signature of an Interest covers two parts. The first part is the components of its name
+-- before the digest of parameters, which is the last component. The second part is the octets from
+-- the ApplicationParameters up to, but not including, the InterestSignatureValue. The first
+-- ApplicationParameters, the first InterestSignatureInfo after them, and the first
+-- InterestSignatureValue after that count.
 pub record CoversInterest (name : List Field) (text first second : List ℕ) : Type 0 where
   pub components : List Field
   pub digest : List ℕ
@@ -61,15 +63,16 @@ pub record CoversInterest (name : List Field) (text first second : List ℕ) : T
   pub first_is : first ≡ flat_map element components
   pub second_is : second ≡ to_info ++ to_signature
 
--- The octets that the signature of a packet covers, in two parts; those of a Data are all in the
--- first.
+-- The octets that the signature of a packet covers, in two parts. The second part is empty for a
+-- Data.
 abbrev pub Covered : PlainFrame → List ℕ → List ℕ → Type 0
 Covered (AnInterest whole i) first second = CoversInterest i.name whole first second
 Covered (AData whole d) first second = CoversData whole first × (second ≡ [])
 Covered (ANack reason whole i) first second = ⊥
 Covered Idle first second = ⊥
 
--- the two parts are what the signature of a packet covers, or there is no such
+-- the two parts are what the signature of the packet covers; with `None`, the signature covers
+-- nothing
 abbrev pub AreParts : PlainFrame → Option Parts → Type 0
 AreParts packet None = (first second : List ℕ) → Covered packet first second → ⊥
 AreParts packet (Some parts) = Covered packet parts.first.now parts.second.now
@@ -80,14 +83,14 @@ EndsInDigest name =
     (front : List Field) × (digest : List ℕ)
     × (name ≡ front ++ (PARAMETERS_SHA256_DIGEST, digest) ∷ [])
 
--- The octets are those of a Data up to the element of its signature's value.
+-- The octets of a Data up to the element of its SignatureValue.
 abbrev pub EndsBeforeValue : List ℕ → List ℕ → List ℕ → Type 0
 EndsBeforeValue value text covered =
     (after : List ℕ) × IsElement text DATA (covered ++ (element (SIGNATURE_VALUE, value) ++ after))
 
--- The octets end where the element of a signature's value begins, in an Interest of this name: the
--- first ones are all components before the digest of parameters, and the second ones begin where
--- the octets of that digest do.
+-- The two parts end before the element of the signature's value, in an Interest of this name. The
+-- first part is all components before the digest of parameters. The second part begins where the
+-- octets covered by that digest begin.
 pub record EndsAtSignature (name : List Field) (value text first second : List ℕ) : Type 0 where
   pub components : List Field
   pub early : List ℕ
@@ -102,15 +105,16 @@ pub record EndsAtSignature (name : List Field) (value text first second : List �
   pub outer : IsElement text INTEREST
       (early ++ (second ++ (element (INTEREST_SIGNATURE_VALUE, value) ++ after)))
 
--- ---- as a reader notes it
+-- ---- covered octets as a reader notes them
 
--- the second part is what a signature of an Interest of this name covers after the first one, or
--- there is no such
+-- `second` is the second part that the signature of an Interest with this name covers; with `None`,
+-- the signature covers nothing
 abbrev pub HoldsSecond : List Field → List ℕ → Option (List ℕ) → Type 0
 HoldsSecond name text None = (first second : List ℕ) → CoversInterest name text first second → ⊥
 HoldsSecond name text (Some second) = (first : List ℕ) × CoversInterest name text first second
 
--- the octets are from the ApplicationParameters, and from the InterestSignatureValue on
+-- `from_parameters` begins at the ApplicationParameters, and `from_value` at the
+-- InterestSignatureValue
 abbrev pub IsSignedAt : List ℕ → List ℕ → List ℕ → Type 0
 IsSignedAt octets from_parameters from_value =
     (from_info : List ℕ)
@@ -118,7 +122,8 @@ IsSignedAt octets from_parameters from_value =
     × (from_first INTEREST_SIGNATURE_INFO from_parameters ≡ Some from_info)
     × (from_first INTEREST_SIGNATURE_VALUE from_info ≡ Some from_value)
 
--- the octets between, where there is a signature and the digest is the last component
+-- the octets from the ApplicationParameters up to the InterestSignatureValue, if there is a
+-- signature and the digest is the last component
 abbrev pub second_part : Option PlainSignature → Option FirstOfType → List ℕ → List ℕ
     → Option (List ℕ)
 second_part None digest from_parameters from_value = None

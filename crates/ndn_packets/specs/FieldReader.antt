@@ -1,4 +1,4 @@
--- What a reader of fields has left.
+-- The fields that a reader of fields has not returned yet.
 use Rattle.std.specs.Prelude.{◌≡◌, ◌≢◌, [], ◌∷◌, ℕ, Bool, List, Result, Ok, Err, Option, None, Some, IsSome}
 use Rattle.ndn_tlv.specs.Element.{Field}
 use Rattle.ndn_tlv.specs.Reading.{element_at, elements_of}
@@ -20,21 +20,21 @@ ignored_by rules.SignatureInfo = is_ignored_in_signature_info
 abbrev pub fields_left : FieldReader → List (Result Field PacketFault)
 fields_left f = fields_from (ignored_by f.rules) f.schema.now (elements_of f.rest.now)
 
--- a step returns the first of what was left: a field, the end or a fault
+-- a step returns the first of the remaining fields, the end or a fault
 abbrev pub IsNextField : FieldReader → FieldReader → Result (Option Element) PacketFault → Type 0
 IsNextField before after (Ok None) = fields_left before ≡ []
 IsNextField before after (Ok (Some e)) =
     fields_left before ≡ Ok (e.kind, e.value.now) ∷ fields_left after
 IsNextField before after (Err fault) = fields_left before ≡ Err fault ∷ []
 
--- the place of the field e that a reader just returned: its octets and those after it; nothing
--- before it is of a type that could still come
+-- The position of the field `e` that the reader just returned. `here` is the octets from `e` on. No
+-- element before `e` has a type that could still come.
 pub record StandsHere (before after : FieldReader) (e : Element) : Type 0 where
   pub here : Ok ((e.kind, e.value.now), after.rest.now) ≡ element_at after.here.now
   pub schema : schema_after e.kind before.schema.now ≡ Some after.schema.now
   pub place : (kind : ℕ) → IsSome (schema_after kind before.schema.now)
       → from_first kind before.rest.now ≡ from_first kind after.here.now
 
--- the rest of the octets follows a Name, and has the first element of each other type
+-- `rest` is the octets after a Name: the first element of every other type is in `rest`
 abbrev pub OthersAfter : List ℕ → List ℕ → Type 0
 OthersAfter octets rest = (kind : ℕ) → kind ≢ NAME → from_first kind octets ≡ from_first kind rest

@@ -1,24 +1,25 @@
 -- Which elements of a list are the fields of a schema (NDN Packet Format 0.3, "Considerations for
--- Evolvability of TLV-Based Encoding"). What is ignored inside a MetaInfo and a SignatureInfo is
--- this profile's choice.
+-- Evolvability of TLV-Based Encoding"). This profile chooses which elements are ignored inside a
+-- MetaInfo and a SignatureInfo.
 use Rattle.std.specs.Prelude.{◌≡◌, ◌≢◌, ℕ, ◌⊎◌, ◌%◌, List, [], ◌∷◌, ◌++◌, Bool, true, nat_le, ◌==◌, ◌&&◌, ◌||◌}
 use Rattle.std.specs.List.{AllByRecursion}
 use Rattle.ndn_tlv.specs.Element.{Field}
 use Rattle.ndn_packets.specs.declared.types.TheConstants.{APPLICATION_PARAMETERS, CAN_BE_PREFIX, CONTENT, CONTENT_TYPE, FINAL_BLOCK_ID, FORWARDING_HINT, FRESHNESS_PERIOD, HOP_LIMIT, INTEREST_LIFETIME, INTEREST_SIGNATURE_INFO, INTEREST_SIGNATURE_VALUE, KEY_LOCATOR, META_INFO, MUST_BE_FRESH, NONCE, SIGNATURE_INFO, SIGNATURE_NONCE, SIGNATURE_SEQ_NUM, SIGNATURE_TIME, SIGNATURE_TYPE, SIGNATURE_VALUE, VALIDITY_PERIOD}
 
--- the types that are ignored where an element is no field: even ones from 32 on
+-- the types of elements that are ignored if they are not fields: even types from 32 on
 abbrev pub is_even_high : ℕ → Bool
 is_even_high kind = nat_le 32 kind && (kind % 2 == 0)
 
--- in a MetaInfo also those of the types 128 to 252
+-- the types that are ignored in a MetaInfo: also those from 128 to 252
 abbrev pub is_ignored_in_meta_info : ℕ → Bool
 is_ignored_in_meta_info kind = is_even_high kind || (nat_le 128 kind && nat_le kind 252)
 
--- in a SignatureInfo also a ValidityPeriod
+-- the types that are ignored in a SignatureInfo: also the ValidityPeriod
 abbrev pub is_ignored_in_signature_info : ℕ → Bool
 is_ignored_in_signature_info kind = is_even_high kind || kind == VALIDITY_PERIOD
 
--- the fields of an Interest and of a Data after their Name, of a MetaInfo and of a SignatureInfo
+-- the types of the fields of an Interest and of a Data after their Name, of a MetaInfo and of a
+-- SignatureInfo
 abbrev pub interest_schema : List ℕ
 interest_schema =
     CAN_BE_PREFIX ∷ MUST_BE_FRESH ∷ FORWARDING_HINT ∷ NONCE ∷ INTEREST_LIFETIME ∷ HOP_LIMIT
@@ -34,20 +35,20 @@ abbrev pub info_schema : List ℕ
 info_schema =
     SIGNATURE_TYPE ∷ KEY_LOCATOR ∷ SIGNATURE_NONCE ∷ SIGNATURE_TIME ∷ SIGNATURE_SEQ_NUM ∷ []
 
--- the types that count only where the last field is the one before them in the schema, with ignored
--- elements between them or without: InterestSignatureInfo and InterestSignatureValue
+-- InterestSignatureInfo and InterestSignatureValue count only if the field before them has the
+-- preceding type of the schema. Ignored elements in between do not matter.
 abbrev pub needs_previous_field : ℕ → Bool
 needs_previous_field kind = kind == INTEREST_SIGNATURE_INFO || kind == INTEREST_SIGNATURE_VALUE
 
--- the type is in the schema where it counts, and these types come after it
+-- the type `kind` counts in the schema, and the types in `later` come after it
 abbrev pub Counts : ℕ → List ℕ → List ℕ → Type 0
 Counts kind later schema =
     (front : List ℕ) × (schema ≡ front ++ kind ∷ later) × AllByRecursion (λ k. k ≢ kind) front
     × (needs_previous_field kind ≡ true → front ≡ [])
 
--- The fields of a schema among elements: an element is one where its type is in the schema after
--- those of all fields before it, and a type that needs the previous field right after the last of
--- them. Every other element has to be one that is ignored.
+-- The fields of a schema among elements. An element is a field if the schema lists its type after
+-- the types of all earlier fields. If the type needs the previous field, it must directly follow
+-- the type of the last field in the schema. Every other element must be one that is ignored.
 abbrev pub Fields : (ℕ → Bool) → List ℕ → List Field → List Field → Type 0
 Fields ignores schema [] fields = fields ≡ []
 Fields ignores schema (e ∷ elements) fields =

@@ -1,5 +1,5 @@
--- The first fault among elements, apart from the functions that read them (NDN Packet Format 0.3,
--- "Considerations for Evolvability of TLV-Based Encoding").
+-- The first fault among elements, defined without the functions that read them (NDN Packet Format
+-- 0.3, "Considerations for Evolvability of TLV-Based Encoding").
 use Rattle.std.specs.Prelude.{◌≡◌, ◌⊎◌, ◌↔◌, ℕ, List, [], ◌∷◌, ◌++◌, map, Result, Ok, Err, Bool, true, false}
 use Rattle.ndn_tlv.specs.declared.fault.TlvFault.{TlvFault}
 use Rattle.ndn_tlv.specs.Element.{Field}
@@ -8,8 +8,8 @@ use Rattle.ndn_packets.specs.declared.fault.PacketFault.TheVariants.{Tlv, Critic
 use Rattle.ndn_packets.specs.Fields.{Counts}
 use Rattle.ndn_packets.specs.Reading.{fields_from, read_fields}
 
--- Each of the elements is a field of the schema, whose value is taken, or is ignored. After them
--- these types may still come, and this has been taken.
+-- Each element is either ignored, or a field of the schema whose value is accepted. After the
+-- elements, the types in `later` may still come, and `t` is the state.
 abbrev pub Passes : {S : Type 0} → (S → Field → Result S PacketFault) → (ℕ → Bool) → List ℕ → S
     → List Field → List ℕ → S → Type 0
 Passes take ignores schema s [] later t = (later ≡ schema) × (t ≡ s)
@@ -19,15 +19,15 @@ Passes {S} take ignores schema s (e ∷ elements) later t =
     ⊎ (((next : List ℕ) → Counts e.0 next schema → ⊥) × (ignores e.0 ≡ true)
     × Passes take ignores schema s elements later t)
 
--- All of the elements can be read and pass, and this has been taken.
+-- All of the elements can be read and pass, and `t` is the state after them.
 abbrev pub AllPass : {S : Type 0} → (S → Field → Result S PacketFault) → (ℕ → Bool) → List ℕ → S
     → List (Result Field TlvFault) → List Field → S → Type 0
 AllPass {S} take ignores schema s elements plain t =
     (elements ≡ map (λ e. Ok e) plain)
     × ((later : List ℕ) × Passes take ignores schema s plain later t)
 
--- The fault of the next element: that it cannot be read is reported before that its type is neither
--- a field's nor ignored, and this before what is wrong with its value.
+-- The fault of the next element. An element that cannot be read is reported first, then a type that
+-- is neither a field's nor ignored, then a fault in the value.
 abbrev pub HasFault : {S : Type 0} → (S → Field → Result S PacketFault) → (ℕ → Bool) → List ℕ → S
     → Result Field TlvFault → PacketFault → Type 0
 HasFault take ignores schema s (Err unreadable) fault = fault ≡ Tlv unreadable
@@ -36,7 +36,7 @@ HasFault take ignores schema s (Ok e) fault =
     × (fault ≡ CriticalUnknown))
     ⊎ ((next : List ℕ) × Counts e.0 next schema × (take s e ≡ Err fault))
 
--- The elements before the first one with a fault are fields or ignored.
+-- All elements before the first one with a fault are fields or ignored.
 pub record FirstFault {S : Type 0} (take : S → Field → Result S PacketFault) (ignores : ℕ → Bool)
     (schema : List ℕ) (s : S) (elements : List (Result Field TlvFault))
     (fault : PacketFault) : Type 0 where
@@ -49,7 +49,7 @@ pub record FirstFault {S : Type 0} (take : S → Field → Result S PacketFault)
   pub passes : Passes take ignores schema s before later taken
   pub faulty : HasFault take ignores later taken next fault
 
--- the fields of a schema are read to this fault exactly where it is the first one
+-- reading the fields of a schema returns a fault exactly where it is the first fault
 abbrev pub TellsFirstFault : {S : Type 0} → (S → Field → Result S PacketFault) → (ℕ → Bool)
     → List ℕ → S → Type 0
 TellsFirstFault take ignores schema s =

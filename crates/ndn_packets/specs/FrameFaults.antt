@@ -1,4 +1,4 @@
--- The first fault of a frame, defined by its elements, independently of the functions that read it
+-- The first fault of a frame, defined by its elements and without the functions that read it
 -- (NDNLPv2, "Packet Format", "Fragmentation", "Network Nack", "PIT Token").
 use Rattle.std.specs.Prelude.{◌≡◌, ◌≢◌, ◌⊎◌, ℕ, ◌<◌, ◌≤◌, List, [], ◌∷◌, ◌++◌, length, map, Option, None, Some, IsSome, Result, Ok, Err, IsErr, false}
 use Rattle.std.specs.List.{AllByRecursion}
@@ -16,18 +16,18 @@ use Rattle.ndn_packets.specs.declared.types.TheConstants.{DATA, FRAGMENT, FRAG_C
 
 -- ---- packets
 
--- The octets are not one element: it cannot be read, or octets follow it.
+-- The octets are not exactly one element: no element can be read, or octets follow it.
 abbrev pub OuterFault : List ℕ → PacketFault → Type 0
 OuterFault text fault =
     ((unreadable : TlvFault) × (element_at text ≡ Err unreadable) × (fault ≡ Tlv unreadable))
     ⊎ ((e : Field) × (rest : List ℕ) × (element_at text ≡ Ok (e, rest)) × (rest ≢ [])
     × (fault ≡ BadField))
 
--- they are this one
+-- the octets are exactly the element `e`
 abbrev pub IsAlone : List ℕ → Field → Type 0
 IsAlone text e = element_at text ≡ Ok (e, [])
 
--- That a packet is too long comes before the fault of its value.
+-- A packet that is too long is reported before any fault in its value.
 abbrev pub LongOr : List ℕ → PacketFault → Type 0 → Type 0
 LongOr text fault Otherwise =
     ((8800 < length text) × (fault ≡ TooLong)) ⊎ ((length text ≤ 8800) × Otherwise)
@@ -38,7 +38,7 @@ NoInterest text e fault = LongOr text fault (InterestFault (elements_of e.1) fau
 abbrev pub NoData : List ℕ → Field → PacketFault → Type 0
 NoData text e fault = LongOr text fault (DataFault (elements_of e.1) fault)
 
--- the octets, which are this element, are neither an Interest nor a Data
+-- the octets are exactly the element `e`, which is neither a valid Interest nor a valid Data
 abbrev pub NoPacket : List ℕ → Field → PacketFault → Type 0
 NoPacket text e fault =
     ((e.0 ≡ INTEREST) × NoInterest text e fault)
@@ -47,7 +47,7 @@ NoPacket text e fault =
 
 -- ---- link packets
 
--- the content of a Fragment beside a Nack, which has to be an Interest, or without one
+-- The Fragment's content has a fault. With a Nack the content must be an Interest.
 abbrev pub NoneInside : Option ℕ → List ℕ → Field → PacketFault → Type 0
 NoneInside None text e fault = NoPacket text e fault
 NoneInside (Some reason) text e fault =
@@ -62,15 +62,15 @@ IsKnown kind =
     (kind ≡ SEQUENCE)
     ⊎ ((kind ≡ FRAG_INDEX) ⊎ ((kind ≡ FRAG_COUNT) ⊎ ((kind ≡ PIT_TOKEN) ⊎ (kind ≡ NACK))))
 
--- A header field may not follow these: it is a known one that is among them, a PitToken not of 1 to
--- 32 octets, or an unknown one that is not ignored.
+-- The header field `h` may not follow the fields in `before`: `h` is a known field that is already
+-- there, a PitToken not of 1 to 32 octets, or an unknown field that is not ignored.
 abbrev pub IsRefused : List Field → Field → Type 0
 IsRefused before h =
     (IsKnown h.0 × (headers_of h.0 before ≢ []))
     ⊎ (((h.0 ≡ PIT_TOKEN) × ((length h.1 < 1) ⊎ (32 < length h.1)))
     ⊎ ((IsKnown h.0 → ⊥) × (is_ignored_header h.0 ≡ false)))
 
--- the value is no number, or one above the limit
+-- the value is not a number, or is a number above the limit
 abbrev pub IsAbove : ℕ → List ℕ → PacketFault → Type 0
 IsAbove limit value fault =
     (IsErr (nni_at value) × (fault ≡ BadField))
@@ -83,20 +83,20 @@ HeaderValueFault h fault =
     ⊎ ((h.0 ≡ NACK)
     × FirstFault take_nack_field is_even_high nack_schema 0 (elements_of h.1) fault))
 
--- That it is not allowed there is reported before what is wrong with its value.
+-- A header field that is not allowed is reported before a fault in its value.
 abbrev pub HeaderFault : List Field → Field → PacketFault → Type 0
 HeaderFault before h fault =
     (IsRefused before h × (fault ≡ LpField))
     ⊎ ((IsRefused before h → ⊥) × HeaderValueFault h fault)
 
--- nothing may follow a Fragment
+-- no element may follow a Fragment
 abbrev pub FollowerFault : List (Result Field TlvFault) → PacketFault → Type 0
 FollowerFault [] fault = ⊥
 FollowerFault (Err unreadable ∷ after) fault = fault ≡ Tlv unreadable
 FollowerFault (Ok e ∷ after) fault = fault ≡ LpField
 
--- The fault of what follows header fields that have none, where these have a Nack of this reason or
--- none: a Nack needs a Fragment, and a fault inside a Fragment is reported before one after it.
+-- The fault of what follows valid header fields, where `nack` is the reason of the Nack among them,
+-- if any. A Nack needs a Fragment. A fault inside a Fragment is reported before a fault after it.
 abbrev pub AfterHeaders : List Field → Option ℕ → List (Result Field TlvFault) → PacketFault
     → Type 0
 AfterHeaders headers nack [] fault = IsSome nack × (fault ≡ BadField)
@@ -107,7 +107,7 @@ AfterHeaders headers nack (Ok e ∷ after) fault =
     × (FragmentFault nack e.1 fault
     ⊎ (((other : PacketFault) → FragmentFault nack e.1 other → ⊥) × FollowerFault after fault)))
 
--- The first fault of a link packet, by the elements of its value.
+-- The first fault of a link packet, defined by the elements of its value.
 pub record LinkFault (elements : List (Result Field TlvFault)) (fault : PacketFault) : Type 0 where
   pub headers : List Field
   pub nack : Option ℕ
@@ -120,7 +120,7 @@ pub record LinkFault (elements : List (Result Field TlvFault)) (fault : PacketFa
 
 -- ---- frames
 
--- The first fault of octets that are no frame.
+-- The first fault of octets that are not a frame.
 abbrev pub FaultOf : List ℕ → PacketFault → Type 0
 FaultOf text fault =
     ((9000 < length text) × (fault ≡ TooLong))

@@ -1,5 +1,5 @@
--- Reading octets of a link from left to right, with the first fault that is met (NDNLPv2, "Packet
--- Format", "Fragmentation", "Network Nack", "PIT Token").
+-- Reading a frame from left to right, up to the first fault (NDNLPv2, "Packet Format",
+-- "Fragmentation", "Network Nack", "PIT Token").
 use Rattle.std.specs.Prelude.{ℕ, List, [], ◌∷◌, length, Option, None, Some, Result, Ok, Err, Bool, true, false, is_some, nat_lt, nat_le, ◌==◌, ◌&&◌, ◌||◌, not, if◌then◌else◌}
 use Rattle.ndn_tlv.specs.declared.fault.TlvFault.{TlvFault}
 use Rattle.ndn_tlv.specs.Element.{Field}
@@ -14,27 +14,27 @@ use Rattle.ndn_packets.specs.declared.types.TheConstants.{DATA, FRAGMENT, FRAG_C
 
 -- ---- packets
 
--- the one element that a text is
+-- the only element of a text
 abbrev pub only_element : List ℕ → Result Field PacketFault
 only_element text =
     on_result (λ x. if is_nil x.1 then Ok x.0 else Err BadField) (λ f. Err (Tlv f))
     (element_at text)
 
--- the Interest and the Data of these octets, which are one element with this value
+-- the Interest or the Data of the octets `text`, which are one element with this value
 abbrev pub interest_of : List ℕ → List ℕ → Result PlainInterest PacketFault
 interest_of text value = if nat_lt 8800 (length text) then Err TooLong else interest_at value
 
 abbrev pub data_of : List ℕ → List ℕ → Result PlainData PacketFault
 data_of text value = if nat_lt 8800 (length text) then Err TooLong else data_at value
 
--- the packet of these octets, which are this element
+-- the packet in the octets `text`, which are the element `outer`
 abbrev pub packet_of : List ℕ → Field → Result PlainFrame PacketFault
 packet_of text outer =
     if outer.0 == INTEREST then (interest_of text outer.1 >>= λ i. Ok (AnInterest text i)) else (
     if outer.0 == DATA then (data_of text outer.1 >>= λ d. Ok (AData text d)) else
     Err BadField)
 
--- the Interest inside a Nack
+-- the Interest of a Nack, in octets which are the element `outer`
 abbrev pub nacked_of : ℕ → List ℕ → Field → Result PlainFrame PacketFault
 nacked_of reason text outer =
     if outer.0 == INTEREST then (interest_of text outer.1 >>= λ i. Ok (ANack reason text i))
@@ -42,7 +42,7 @@ nacked_of reason text outer =
 
 -- ---- link packets
 
--- of a Nack: its NackReason
+-- the NackReason of a Nack
 abbrev pub take_nack_field : ℕ → Field → Result ℕ PacketFault
 take_nack_field reason f = nni_value_at f.1
 
@@ -50,7 +50,7 @@ unfoldable pub nack_at : List ℕ → Result ℕ PacketFault
 nack_at value =
     read_fields take_nack_field 0 (fields_from is_even_high nack_schema (elements_of value))
 
--- of header fields: which ones have been met, the token, and the Nack's reason
+-- the state after header fields: which have been read, the token, and the Nack's reason
 pub record LinkSoFar : Type 0 where
   pub sequence : Bool
   pub frag_index : Bool
@@ -70,7 +70,7 @@ no_headers_yet = record {
 abbrev pub is_token : List ℕ → Bool
 is_token value = nat_le 1 (length value) && nat_le (length value) 32
 
--- whether a header field is not allowed here: a known one comes once, and a token has from 1 to 32
+-- whether a header field is refused: a known field may come once only, and a token has 1 to 32
 -- octets
 abbrev pub is_refused_header : LinkSoFar → Field → Bool
 is_refused_header s h =
@@ -81,11 +81,11 @@ is_refused_header s h =
     if h.0 == NACK then is_some s.nack else
     not (is_ignored_header h.0)))))
 
--- a number that is at most this one
+-- the value must be a number that is at most `limit`
 abbrev pub at_most : ℕ → List ℕ → LinkSoFar → Result LinkSoFar PacketFault
 at_most limit value s = nni_value_at value >>= λ n. if nat_lt limit n then Err Fragmented else Ok s
 
--- with a header field that is allowed here
+-- the state after one more header field, which is not refused
 abbrev pub with_header : LinkSoFar → Field → Result LinkSoFar PacketFault
 with_header s h =
     if h.0 == SEQUENCE then Ok (record s { sequence = true }) else (
@@ -98,23 +98,23 @@ with_header s h =
 abbrev pub take_header : LinkSoFar → Field → Result LinkSoFar PacketFault
 take_header s h = if is_refused_header s h then Err LpField else with_header s h
 
--- the packet in a Fragment, beside a Nack of this reason or without one
+-- the packet in a Fragment, with a Nack of this reason or without one
 abbrev pub fragment_at : Option ℕ → List ℕ → Result PlainFrame PacketFault
 fragment_at None text = only_element text >>= packet_of text
 fragment_at (Some reason) text = only_element text >>= nacked_of reason text
 
--- nothing may follow a Fragment
+-- no element may follow a Fragment
 abbrev pub last_of : PlainFramed → List (Result Field TlvFault) → Result PlainFramed PacketFault
 last_of framed [] = Ok framed
 last_of framed (Err f ∷ elements) = Err (Tlv f)
 last_of framed (Ok e ∷ elements) = Err LpField
 
--- a link packet without a Fragment
+-- the content of a link packet without a Fragment
 abbrev pub no_fragment : Option (List ℕ) → Option ℕ → Result PlainFramed PacketFault
 no_fragment token None = Ok (framed_with token Idle)
 no_fragment token (Some reason) = Err BadField
 
--- the content of a link packet, after these header fields
+-- the content of a link packet whose header fields so far gave the state `s`
 abbrev pub link_from : LinkSoFar → List (Result Field TlvFault) → Result PlainFramed PacketFault
 link_from s [] = no_fragment s.token s.nack
 link_from s (Err f ∷ elements) = Err (Tlv f)
@@ -128,21 +128,21 @@ link_at value = link_from no_headers_yet (elements_of value)
 
 -- ---- frames
 
--- the content of these octets, which are this element
+-- the content of the octets `text`, which are the element `outer`
 abbrev pub outer_of : List ℕ → Field → Result PlainFramed PacketFault
 outer_of text outer =
     if outer.0 == LINK_PACKET then link_at outer.1
     else (packet_of text outer >>= λ frame. Ok (framed_with None frame))
 
--- the frame that a text is, and the token beside it
+-- the frame in a text, with its PIT token
 unfoldable pub framed_at : List ℕ → Result PlainFramed PacketFault
 framed_at text =
     if nat_lt 9000 (length text) then Err TooLong else (only_element text >>= outer_of text)
 
--- the frame alone
+-- the frame in a text, without its PIT token
 unfoldable pub frame_at : List ℕ → Result PlainFrame PacketFault
 frame_at text = framed_at text >>= λ framed. Ok framed.frame
 
--- the token beside a frame, none where there is no frame
+-- the PIT token of a frame, `None` if the text is not a frame
 unfoldable pub token_at : List ℕ → Option (List ℕ)
 token_at text = on_result (λ framed. framed.token) (λ _. None) (framed_at text)

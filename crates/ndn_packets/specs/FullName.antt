@@ -1,5 +1,6 @@
--- Full names, as a name and the implicit digest of its Data, and their octets, of which the last 34
--- are the digest component (NDN Packet Format 0.3, "Name", "Implicit Digest Component").
+-- Full names and their octets. A full name is a name and the implicit digest of its Data. The last
+-- 34 of its octets are the digest component (NDN Packet Format 0.3, "Name", "Implicit Digest
+-- Component").
 use Rattle.std.specs.Prelude.{◌≡◌, ℕ, ◌-◌, ◌≤◌, List, [], ◌∷◌, length, take, drop, Bool, true, nat_lt, ◌&&◌, ◌||◌, refl}
 use Rattle.std.specs.Coded.{Coded, code_by, coded×, coded_list, coded_ℕ}
 use Rattle.std.specs.List.{AllByRecursion}
@@ -13,7 +14,7 @@ pub record PlainFullName : Type 0 where
   pub name : List Field
   pub digest : List ℕ
 
--- its components: those of the name and the digest
+-- the components of a full name: those of the name, then the digest
 abbrev pub all_components : PlainFullName → List Field
 all_components f = full_name f.name f.digest
 
@@ -22,14 +23,15 @@ full_name_code =
     code_by (List Field × List ℕ) (coded× name_code (coded_list coded_ℕ))
     (λ f. (f.name, f.digest)) (λ p. record { name = p.0; digest = p.1 }) (λ _. refl)
 
--- ---- names before full names
+-- ---- names that full names follow in canonical order
 
--- nothing, or first a component whose type is at most that of an implicit digest
+-- the list is empty, or the type of its first component is at most that of an implicit digest
 abbrev pub starts_small : List Field → Bool
 starts_small [] = true
 starts_small (c ∷ cs) = nat_lt c.0 PARAMETERS_SHA256_DIGEST
 
--- Not far behind a name: only among these there are full names that answer it.
+-- The full name is near the name in canonical order: every full name that answers an Interest for
+-- the name is near it.
 abbrev pub is_near : List Field → Bool → List Field → Bool
 is_near name can_be_prefix full =
     begins_with name full && (can_be_prefix || starts_small (drop (length name) full))
@@ -55,6 +57,6 @@ pub record IsFullName (full : List ℕ) : Type 0 where
   pub whole : full ≡ octets_of (full_name_in full)
   pub fields : AllByRecursion IsField (full_name_in full)
 
--- what they show
+-- the name and the digest in the octets
 abbrev pub shown : List ℕ → PlainFullName
 shown full = record { name = name_in full; digest = digest_in full }

@@ -1,5 +1,5 @@
--- The packets of this profile as whole texts (NDN Packet Format 0.3, "Interest Packet" and "Data
--- Packet").
+-- The packets of this profile, as complete octet sequences (NDN Packet Format 0.3, "Interest
+-- Packet" and "Data Packet").
 use Rattle.std.specs.Prelude.{◌≡◌, ◌≢◌, ℕ, ◌<◌, ◌≤◌, List, [], ◌∷◌, ◌++◌, length, Option, None, Some, Bool, unwrap_or, slice_index, flat_map, ◌==◌, if◌then◌else◌}
 use Rattle.ndn_tlv.specs.Number.{IsNni}
 use Rattle.sha2.specs.Sha256.{sha256}
@@ -12,8 +12,9 @@ use Rattle.ndn_packets.specs.Fields.{Fields, is_even_high, is_ignored_in_meta_in
 use Rattle.ndn_packets.specs.Packet.{PlainLocator, Missing, KeyName, Digest, Other, PlainSignatureInfo, PlainSignature, PlainInterest, PlainData}
 use Rattle.ndn_packets.specs.declared.types.TheConstants.{APPLICATION_PARAMETERS, CAN_BE_PREFIX, CONTENT, CONTENT_TYPE, DATA, FINAL_BLOCK_ID, FORWARDING_HINT, FRESHNESS_PERIOD, HOP_LIMIT, INTEREST, INTEREST_LIFETIME, INTEREST_SIGNATURE_INFO, INTEREST_SIGNATURE_VALUE, KEY_DIGEST, KEY_LOCATOR, META_INFO, MUST_BE_FRESH, NAME, NONCE, SIGNATURE_INFO, SIGNATURE_NONCE, SIGNATURE_SEQ_NUM, SIGNATURE_TIME, SIGNATURE_TYPE, SIGNATURE_VALUE}
 
--- the text is at most 8,800 octets, one element of this type, which begins with a Name; of the
--- elements after it these are the fields of the schema, and all others are ignored
+-- The text is one element of this type, at most 8,800 octets long, whose value begins with a Name.
+-- `fields` are the fields of the schema among the elements after the Name. All other elements are
+-- ignored.
 pub record IsPacket (text : List ℕ) (kind : ℕ) (ignores : ℕ → Bool) (schema : List ℕ)
     (name_value : List ℕ) (fields : List Field) : Type 0 where
   pub value : List ℕ
@@ -24,12 +25,12 @@ pub record IsPacket (text : List ℕ) (kind : ℕ) (ignores : ℕ → Bool) (sch
   pub short : length text ≤ 8800
   pub octets : (i : ℕ) → slice_index text i < 256
 
--- a NonNegativeInteger that may be absent
+-- an optional NonNegativeInteger
 abbrev pub IsNumber : Option (List ℕ) → Option ℕ → Type 0
 IsNumber None n = n ≡ None
 IsNumber (Some value) n = (k : ℕ) × IsNni value k × (n ≡ Some k)
 
--- an octet that may be absent
+-- an optional value of one octet
 abbrev pub IsOctet : Option (List ℕ) → Option ℕ → Type 0
 IsOctet None n = n ≡ None
 IsOctet (Some value) n = (k : ℕ) × (value ≡ k ∷ []) × (n ≡ Some k)
@@ -39,11 +40,11 @@ abbrev pub NamesKey : List ℕ → List Field → Type 0
 NamesKey value name =
     (name_value : List ℕ) × IsElement value NAME name_value × IsNameValue name_value name
 
--- or exactly one KeyDigest
+-- the value of a KeyLocator is exactly one KeyDigest
 abbrev pub DigestsKey : List ℕ → Type 0
 DigestsKey value = (digest : List ℕ) × IsElement value KEY_DIGEST digest
 
--- the key that a KeyLocator names, which may be absent
+-- the key that an optional KeyLocator names
 abbrev pub IsLocator : Option (List ℕ) → PlainLocator → Type 0
 IsLocator None locator = locator ≡ Missing
 IsLocator (Some value) Missing = ⊥
@@ -52,8 +53,8 @@ IsLocator (Some value) Digest = DigestsKey value
 IsLocator (Some value) Other =
     ((name : List Field) → NamesKey value name → ⊥) × (DigestsKey value → ⊥)
 
--- MetaInfo = [ContentType] [FreshnessPeriod] [FinalBlockId], of which the FreshnessPeriod is read,
--- 0 where there is none
+-- MetaInfo = [ContentType] [FreshnessPeriod] [FinalBlockId]. Only the FreshnessPeriod is returned;
+-- it is 0 if absent.
 pub record IsMetaInfo (text : List ℕ) (freshness : ℕ) : Type 0 where
   pub content_type : Option (List ℕ)
   pub period : Option (List ℕ)
@@ -85,24 +86,23 @@ pub record IsSignatureInfo (text : List ℕ) (s : PlainSignatureInfo) : Type 0 w
   pub time : IsNumber time_value s.time
   pub seq : IsNumber seq_value s.seq
 
--- the elements from the first of ApplicationParameters on, which is the one that counts, to the
--- packet's end
+-- the elements from the first ApplicationParameters, which count, to the end of the packet
 abbrev pub from_parameters : List Field → List Field
 from_parameters [] = []
 from_parameters (e ∷ elements) =
     if e.0 == APPLICATION_PARAMETERS then e ∷ elements else from_parameters elements
 
--- The name of an Interest without parameters has no digest of them. That of one with parameters has
--- exactly one, at any place: SHA-256 of the octets from them to the packet's end. The elements are
--- all those after the Name.
+-- The name of an Interest without parameters has no digest of parameters. The name of an Interest
+-- with parameters has exactly one, at any position: SHA-256 of the octets from the parameters to
+-- the end of the packet. `elements` are all elements after the Name.
 abbrev pub IsDigested : List Field → List Field → Option (List ℕ) → Type 0
 IsDigested name elements None = digests_in name ≡ []
 IsDigested name elements (Some parameters) =
     digests_in name
     ≡ (PARAMETERS_SHA256_DIGEST, sha256 (flat_map element (from_parameters elements))) ∷ []
 
--- An Interest is signed where it has both an InterestSignatureInfo and an InterestSignatureValue.
--- The first alone has to be right too.
+-- An Interest is signed if it has both an InterestSignatureInfo and an InterestSignatureValue. An
+-- InterestSignatureInfo without an InterestSignatureValue must be valid too.
 abbrev pub IsSigned : Option (List ℕ) → Option (List ℕ) → Option PlainSignature → Type 0
 IsSigned None value signature = signature ≡ None
 IsSigned (Some info_value) None signature =
@@ -115,7 +115,7 @@ IsSigned (Some info_value) (Some value) signature =
 
 -- Interest = Name [CanBePrefix] [MustBeFresh] [ForwardingHint] Nonce [InterestLifetime] [HopLimit]
 -- [ApplicationParameters [InterestSignatureInfo [InterestSignatureValue]]]. The lifetime is 4,000
--- milliseconds where there is none.
+-- milliseconds if InterestLifetime is absent.
 pub record IsInterest (text : List ℕ) (i : PlainInterest) : Type 0 where
   pub name_value : List ℕ
   pub hint : Option (List ℕ)
@@ -141,7 +141,7 @@ pub record IsInterest (text : List ℕ) (i : PlainInterest) : Type 0 where
   pub digested : IsDigested i.name fields.elements i.parameters
   pub signature : IsSigned info_value signature_value i.signature
 
--- a MetaInfo that may be absent
+-- an optional MetaInfo
 abbrev pub IsFreshness : Option (List ℕ) → ℕ → Type 0
 IsFreshness None freshness = freshness ≡ 0
 IsFreshness (Some value) freshness = IsMetaInfo value freshness

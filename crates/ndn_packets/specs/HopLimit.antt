@@ -1,4 +1,5 @@
--- The place of the HopLimit of an Interest (NDN Packet Format 0.3, "Interest Packet", "HopLimit").
+-- The position of the HopLimit in an Interest (NDN Packet Format 0.3, "Interest Packet",
+-- "HopLimit").
 use Rattle.std.specs.Prelude.{◌≡◌, ℕ, ◌+◌, ◌-◌, List, length, Option, None, Some, Result, Ok, Err, is_some, slice_set, ◌==◌, ◌&&◌, if◌then◌else◌}
 use Rattle.std.specs.Borrow.{LendsIf, MutBor, Fml, Array, u8}
 use Rattle.ndn_tlv.specs.Reading.{on_result, element_at}
@@ -13,8 +14,8 @@ use Rattle.ndn_packets.specs.declared.types.TheConstants.{HOP_LIMIT}
 abbrev pub HasHopLimit : List ℕ → ℕ → Type 0
 HasHopLimit text limit = (i : PlainInterest) × IsInterest text i × (i.hop_limit ≡ Some limit)
 
--- The place of the HopLimit's octet, which is the third of its element, after the type and the
--- length, in an Interest that has one; else the end of the octets.
+-- The index of the HopLimit's octet in an Interest, or the length of the text if there is no
+-- HopLimit. The octet is the third of its element, after the type and the length.
 abbrev pub place_from : List ℕ → Option (List ℕ) → ℕ
 place_from text None = length text
 place_from text (Some from) = (length text - length from) + 2
@@ -33,12 +34,12 @@ place_in text (Err fault) = length text
 abbrev pub hop_place : List ℕ → ℕ
 hop_place text = place_in text (frame_at text)
 
--- the text with this octet there
+-- the text with `octet` in place of the HopLimit's octet
 abbrev pub with_octet : List ℕ → ℕ → List ℕ
 with_octet text octet = slice_set text (hop_place text) octet
 
--- that octet is borrowed: it has afterwards the value that the borrower left, and all other octets
--- are unchanged
+-- The HopLimit's octet is borrowed: afterwards it has the value that the borrower left, and all
+-- other octets are unchanged.
 abbrev pub LendsHopLimit : MutBor (List ℕ) → Option (MutBor ℕ) → Fml
 LendsHopLimit octets limit = LendsIf (Array u8 0) u8 octets limit (with_octet octets.now) octets.now
 

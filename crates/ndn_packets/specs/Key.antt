@@ -1,4 +1,4 @@
--- The keys of Interests, by which tables store pending Interests (NFD Developer's Guide, "Pending
+-- The keys of Interests. The PIT stores pending Interests by key (NFD Developer's Guide, "Pending
 -- Interest Table").
 use Rattle.std.specs.Prelude.{◌≡◌, Bool, true, false, List, ◌++◌, refl}
 use mathlib.Core.Path.{ap}
@@ -35,14 +35,14 @@ key_of i = record {
   must_be_fresh = i.must_be_fresh;
 }
 
--- by name in canonical order, then by CanBePrefix, then by MustBeFresh; a flag that is not set
--- comes first
+-- Keys are ordered by name in canonical order, then by CanBePrefix, then by MustBeFresh; an unset
+-- flag comes before a set one.
 abbrev pub key_cmp : PlainKey → PlainKey → Ordering
 key_cmp =
     then_cmp (on (λ k. k.name) name_cmp)
     (then_cmp (on (λ k. k.can_be_prefix) bool_cmp) (on (λ k. k.must_be_fresh) bool_cmp))
 
--- keys as the keys of finite maps
+-- an encoding of keys, so that finite maps can use them as keys
 abbrev pub key_code : Coded PlainKey
 key_code =
     code_by (List Field × (Bool × Bool))
@@ -56,7 +56,7 @@ key_cmp-total =
     (then_total (on_total (λ (k : PlainKey). k.can_be_prefix) bool_cmp_total)
     (on_total (λ (k : PlainKey). k.must_be_fresh) bool_cmp_total))
 
--- flags that tie
+-- two flags that compare as equal are equal
 pub bool_tie : (a b : Bool) → bool_cmp a b ≡ Equal → a ≡ b
 bool_tie true true e = refl
 bool_tie true false e = absurd cc
@@ -72,14 +72,14 @@ key_cmp-antisymmetric x y e =
     let fresh : x.must_be_fresh ≡ y.must_be_fresh = bool_tie _ _ b.1 in
     λ i. record { name = names i; can_be_prefix = prefixes i; must_be_fresh = fresh i }
 
--- views of keys compare, and are hashed, as what they show
+-- views of keys compare and hash as the keys that they show
 abbrev pub key_view_cmp : Key → Key → Ordering
 key_view_cmp = on plain_key key_cmp
 
 pub key_view_cmp-total : IsTotalOrder key_view_cmp
 key_view_cmp-total = on_total plain_key key_cmp-total
 
--- what a key feeds to a hash: its name and its flags
+-- what a key writes to a hasher: its name, then its flags
 abbrev pub key_writes : PlainKey → HashWrites
 key_writes k = name_writes k.name ++ (bool k.can_be_prefix ++ bool k.must_be_fresh)
 

@@ -1,5 +1,5 @@
--- Link packets and frames as whole texts (NDNLPv2, "Packet Format", "Fragmentation", "Network
--- Nack", "PIT Token").
+-- Link packets and frames, as complete octet sequences (NDNLPv2, "Packet Format", "Fragmentation",
+-- "Network Nack", "PIT Token").
 use Rattle.std.specs.Prelude.{◌≡◌, ℕ, ◌<◌, ◌≤◌, ◌⊎◌, ◌%◌, List, [], ◌∷◌, ◌++◌, length, filter, Option, None, Some, Bool, true, nat_lt, nat_le, unwrap_or, slice_index, ◌==◌, ◌&&◌}
 use Rattle.std.specs.List.{AllByRecursion}
 use Rattle.ndn_tlv.specs.Number.{IsNni}
@@ -14,14 +14,14 @@ use Rattle.ndn_packets.specs.declared.types.TheConstants.{FRAGMENT, FRAG_COUNT, 
 abbrev pub known_headers : List ℕ
 known_headers = SEQUENCE ∷ FRAG_INDEX ∷ FRAG_COUNT ∷ PIT_TOKEN ∷ NACK ∷ []
 
--- other header fields are ignored where their types are from 800 to 959 and divisible by 4
+-- an unknown header field is ignored if its type is from 801 to 959 and divisible by 4
 abbrev pub is_ignored_header : ℕ → Bool
 is_ignored_header kind = nat_lt NACK kind && (nat_le kind 959 && (kind % 4 == 0))
 
 abbrev pub nack_schema : List ℕ
 nack_schema = NACK_REASON ∷ []
 
--- Nack = [NackReason], which is 0 where there is none
+-- Nack = [NackReason]. The reason is 0 if NackReason is absent.
 pub record IsNack (text : List ℕ) (reason : ℕ) : Type 0 where
   pub reason_value : Option (List ℕ)
   pub elements : List Field
@@ -29,11 +29,11 @@ pub record IsNack (text : List ℕ) (reason : ℕ) : Type 0 where
   pub recognised : Fields is_even_high nack_schema elements (optional NACK_REASON reason_value)
   pub number : (n : Option ℕ) × IsNumber reason_value n × (reason ≡ unwrap_or n 0)
 
--- a PIT token has from 1 to 32 octets
+-- a PIT token has 1 to 32 octets
 abbrev pub IsToken : List ℕ → Type 0
 IsToken token = (1 ≤ length token) × (length token ≤ 32)
 
--- What a header field may be. The packet is one fragment of one.
+-- A valid header field. FragIndex and FragCount must say that the packet is the only fragment.
 abbrev pub IsHeader : Field → Type 0
 IsHeader h =
     (h.0 ≡ SEQUENCE)
@@ -43,21 +43,21 @@ IsHeader h =
     ⊎ (((h.0 ≡ NACK) × ((reason : ℕ) × IsNack h.1 reason))
     ⊎ (is_ignored_header h.0 ≡ true)))))
 
--- the header fields of one type
+-- the header fields with the type `kind`
 abbrev pub headers_of : ℕ → List Field → List Field
 headers_of kind headers = filter (λ h. h.0 == kind) headers
 
--- the reason of the Nack among header fields, if one is there
+-- the reason of the Nack among the header fields, if there is a Nack
 abbrev pub IsNackOf : List Field → Option ℕ → Type 0
 IsNackOf headers None = headers_of NACK headers ≡ []
 IsNackOf headers (Some reason) =
     (value : List ℕ) × (headers_of NACK headers ≡ (NACK, value) ∷ []) × IsNack value reason
 
--- the PIT token among header fields, if one is there
+-- the PIT token among the header fields, if there is one
 abbrev pub IsTokenOf : List Field → Option (List ℕ) → Type 0
 IsTokenOf headers token = headers_of PIT_TOKEN headers ≡ optional PIT_TOKEN token
 
--- LpPacket: header fields in any order, each known one once at most, and then at most one Fragment
+-- LpPacket: header fields in any order, each known one at most once, then at most one Fragment.
 pub record IsLinkPacket (text : List ℕ) (token : Option (List ℕ)) (nack : Option ℕ)
     (fragment : Option (List ℕ)) : Type 0 where
   pub value : List ℕ
@@ -71,8 +71,8 @@ pub record IsLinkPacket (text : List ℕ) (token : Option (List ℕ)) (nack : Op
   pub short : length text ≤ 9000
   pub octets : (i : ℕ) → slice_index text i < 256
 
--- A frame with a token or without one is a packet, which has none; or a link packet around one;
--- around an Interest, with a Nack or without; or one with neither Fragment nor Nack.
+-- A frame with an optional PIT token. A bare packet has no token. Otherwise the frame is a link
+-- packet around a Data, around an Interest with or without a Nack, or without Fragment and Nack.
 abbrev pub IsFrameWith : List ℕ → Option (List ℕ) → PlainFrame → Type 0
 IsFrameWith text token (AnInterest whole i) =
     IsInterest whole i
@@ -87,6 +87,6 @@ IsFrameWith text token Idle = IsLinkPacket text token None None
 abbrev pub IsFramed : List ℕ → PlainFramed → Type 0
 IsFramed text framed = IsFrameWith text framed.token framed.frame
 
--- with any token or none
+-- a frame with any PIT token or without one
 abbrev pub IsFrame : List ℕ → PlainFrame → Type 0
 IsFrame text frame = (token : Option (List ℕ)) × IsFrameWith text token frame

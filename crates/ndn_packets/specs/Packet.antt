@@ -1,4 +1,4 @@
--- Packets as plain data, without where they lie in memory.
+-- Packets as plain data, without their positions in memory.
 use Rattle.std.specs.Prelude.{ℕ, List, Option, None, Some, Bool, filter, ◌==◌}
 use Rattle.ndn_tlv.specs.Element.{Field}
 use Rattle.ndn_names.specs.declared.component_type.TheConstants.{PARAMETERS_SHA256_DIGEST}
@@ -42,15 +42,15 @@ pub record PlainData : Type 0 where
   pub content : Option (List ℕ)
   pub signature : PlainSignature
 
--- The content of a frame: a packet with its received octets, which are its own element without what
--- the link put around it, or nothing.
+-- The content of a frame: a packet with its received octets, or nothing. The received octets are
+-- the packet's own element, without the link packet around it.
 pub data PlainFrame : Type 0 where
   AnInterest : (whole : List ℕ) (interest : PlainInterest) → PlainFrame
   AData : (whole : List ℕ) (packet : PlainData) → PlainFrame
   ANack : (reason : ℕ) (whole : List ℕ) (interest : PlainInterest) → PlainFrame
   Idle : PlainFrame
 
--- a frame, and the PIT token beside it, if one is there
+-- a frame with its PIT token, if it has one
 pub record PlainFramed : Type 0 where
   pub token : Option (List ℕ)
   pub frame : PlainFrame
@@ -58,7 +58,7 @@ pub record PlainFramed : Type 0 where
 abbrev pub framed_with : Option (List ℕ) → PlainFrame → PlainFramed
 framed_with token frame = record { token = token; frame = frame }
 
--- an Interest, with a Nack of a reason or without one
+-- an Interest, with a Nack or without one
 abbrev pub interest_frame : Option ℕ → List ℕ → PlainInterest → PlainFrame
 interest_frame None whole i = AnInterest whole i
 interest_frame (Some reason) whole i = ANack reason whole i

@@ -1,5 +1,5 @@
--- The first fault of a packet and of a SignatureInfo, defined by their elements, independently of
--- the functions that read them (NDN Packet Format 0.3, "Interest Packet" and "Data Packet").
+-- The first fault of a packet and of a SignatureInfo, defined by their elements and without the
+-- functions that read them (NDN Packet Format 0.3, "Interest Packet" and "Data Packet").
 use Rattle.std.specs.Prelude.{◌≡◌, ◌≢◌, ◌⊎◌, ℕ, List, [], ◌∷◌, Option, None, Some, Result, Ok, Err, IsErr}
 use Rattle.ndn_tlv.specs.declared.fault.TlvFault.{TlvFault}
 use Rattle.ndn_tlv.specs.Element.{Field}
@@ -13,7 +13,7 @@ use Rattle.ndn_packets.specs.Reading.{take_info_field, no_info_yet, InfoSoFar, t
 use Rattle.ndn_packets.specs.FirstFault.{FirstFault, AllPass}
 use Rattle.ndn_packets.specs.declared.types.TheConstants.{NAME}
 
--- All elements of a SignatureInfo pass, and none is a SignatureType.
+-- All elements of a SignatureInfo pass, but none is a SignatureType.
 pub record InfoEndsWrong (elements : List (Result Field TlvFault))
     (fault : PacketFault) : Type 0 where
   pub plain : List Field
@@ -28,14 +28,15 @@ InfoFault elements fault =
     FirstFault take_info_field is_ignored_in_signature_info info_schema no_info_yet elements fault
     ⊎ InfoEndsWrong elements fault
 
--- The elements begin with a Name of these components, and these follow it.
+-- The elements begin with a Name of these components, and `later` are the elements after it.
 pub record Leads (elements : List (Result Field TlvFault)) (name : List Field)
     (later : List (Result Field TlvFault)) : Type 0 where
   pub value : List ℕ
   pub front : elements ≡ Ok (NAME, value) ∷ later
   pub name_is : name_at value ≡ Ok name
 
--- They do not: there is none, the first cannot be read, is no Name, or its value is not a name's.
+-- The elements do not begin with a valid Name: there is no element, or the first one cannot be
+-- read, is not a Name, or has a value that is not a name.
 abbrev pub NameFault : List (Result Field TlvFault) → PacketFault → Type 0
 NameFault [] fault = fault ≡ NoName
 NameFault (Err unreadable ∷ later) fault = fault ≡ Tlv unreadable
@@ -43,7 +44,7 @@ NameFault (Ok e ∷ later) fault =
     ((e.0 ≢ NAME) × (fault ≡ NoName))
     ⊎ ((e.0 ≡ NAME) × IsErr (name_at e.1) × (fault ≡ BadField))
 
--- what is wrong with the digests of parameters in a name, where these elements follow it
+-- the fault of the digests of parameters in a name, where `elements` follow the name
 abbrev pub DigestFault : List Field → List Field → Option (List ℕ) → PacketFault → Type 0
 DigestFault name elements None fault = (digests_in name ≢ []) × (fault ≡ DigestWithout)
 DigestFault name elements (Some parameters) fault =
@@ -51,8 +52,8 @@ DigestFault name elements (Some parameters) fault =
     ⊎ ((digests_in name ≢ []) × (IsDigested name elements (Some parameters) → ⊥)
     × (fault ≡ DigestWrong))
 
--- All elements after the Name pass. That none is a Nonce comes before what is wrong with the
--- digests.
+-- All elements after the Name pass, but something is missing or wrong. A missing Nonce is reported
+-- before a fault of the digests.
 pub record InterestEndsWrong (name : List Field) (later : List (Result Field TlvFault))
     (fault : PacketFault) : Type 0 where
   pub plain : List Field
@@ -62,7 +63,7 @@ pub record InterestEndsWrong (name : List Field) (later : List (Result Field Tlv
   pub faulty : ((taken.nonce ≡ None) × (fault ≡ NoNonce))
       ⊎ ((taken.nonce ≢ None) × DigestFault name plain taken.parameters fault)
 
--- What is wrong after the Name of an Interest, which may not be empty.
+-- The fault after the Name of an Interest, or that the Name is empty.
 abbrev pub AfterInterestName : List Field → List (Result Field TlvFault) → PacketFault → Type 0
 AfterInterestName name later fault =
     ((name ≡ []) × (fault ≡ NoName))
@@ -76,7 +77,7 @@ InterestFault elements fault =
     ⊎ ((name : List Field) × (later : List (Result Field TlvFault)) × Leads elements name later
     × AfterInterestName name later fault)
 
--- All elements after the Name pass, and none is a SignatureInfo or none a SignatureValue.
+-- All elements after the Name pass, but there is no SignatureInfo or no SignatureValue.
 pub record DataEndsWrong (later : List (Result Field TlvFault)) (fault : PacketFault) : Type 0 where
   pub plain : List Field
   pub taken : DataSoFar

@@ -1,5 +1,5 @@
--- Reading packets from left to right, with the first fault that is met (NDN Packet Format 0.3,
--- "Interest Packet" and "Data Packet").
+-- Reading packets from left to right, up to the first fault (NDN Packet Format 0.3, "Interest
+-- Packet" and "Data Packet").
 use Rattle.std.specs.Prelude.{ℕ, List, [], ◌∷◌, length, Option, None, Some, Result, Ok, Err, Bool, true, false, ◌==◌, not, if◌then◌else◌}
 use Rattle.std.specs.List.{filter_map, flat_map}
 use Rattle.std.specs.Result.{result_ok}
@@ -17,15 +17,15 @@ use Rattle.ndn_packets.specs.Fields.{is_even_high, is_ignored_in_meta_info, is_i
 use Rattle.ndn_packets.specs.Packet.{digests_in, PlainLocator, Missing, KeyName, Digest, Other, PlainSignatureInfo, PlainSignature, PlainInterest, PlainData}
 use Rattle.ndn_packets.specs.declared.types.TheConstants.{APPLICATION_PARAMETERS, CAN_BE_PREFIX, CONTENT, CONTENT_TYPE, FRESHNESS_PERIOD, HOP_LIMIT, INTEREST_LIFETIME, INTEREST_SIGNATURE_INFO, INTEREST_SIGNATURE_VALUE, KEY_DIGEST, KEY_LOCATOR, META_INFO, MUST_BE_FRESH, NAME, NONCE, SIGNATURE_INFO, SIGNATURE_SEQ_NUM, SIGNATURE_TIME, SIGNATURE_TYPE}
 
--- the rest of a schema after a type that counts in it
+-- the part of a schema after the type `kind`, if `kind` counts in the schema
 abbrev pub schema_after : ℕ → List ℕ → Option (List ℕ)
 schema_after kind [] = None
 schema_after kind (first ∷ schema) =
     if first == kind then Some schema
     else (if needs_previous_field kind then None else schema_after kind schema)
 
--- The fields of a schema among elements, in the schema's order, up to the end or to the first
--- element that cannot be read or is refused, which is then the last.
+-- The fields of a schema among the elements, in the schema's order. The list ends with the
+-- elements, or with the first element that cannot be read or is refused.
 abbrev pub fields_from : (ℕ → Bool) → List ℕ → List (Result Field TlvFault)
     → List (Result Field PacketFault)
 fields_from ignores schema [] = []
@@ -35,25 +35,25 @@ fields_from ignores schema (Ok e ∷ elements) =
     (if ignores e.0 then fields_from ignores schema elements else Err CriticalUnknown ∷ [])
     (schema_after e.0 schema)
 
--- what has been read, after each of the fields in turn
+-- the state after all fields are taken in order
 abbrev pub read_fields : {S : Type 0} → (S → Field → Result S PacketFault) → S
     → List (Result Field PacketFault) → Result S PacketFault
 read_fields take s [] = Ok s
 read_fields take s (Err f ∷ fields) = Err f
 read_fields take s (Ok f ∷ fields) = take s f >>= λ t. read_fields take t fields
 
--- the value of the first element, which has to be a Name, and what follows it
+-- the value of the first element, which must be a Name, and the elements after it
 abbrev pub name_first : List (Result Field TlvFault)
     → Result (List ℕ × List (Result Field TlvFault)) PacketFault
 name_first [] = Err NoName
 name_first (Err f ∷ elements) = Err (Tlv f)
 name_first (Ok e ∷ elements) = if e.0 == NAME then Ok (e.1, elements) else Err NoName
 
--- a value that is a name
+-- the components of a value that is a name
 abbrev pub name_value_at : List ℕ → Result (List Field) PacketFault
 name_value_at value = on_result (λ name. Ok name) (λ _. Err BadField) (name_at value)
 
--- the name that the first element has to be, and what follows it
+-- the name in the first element, which must be a Name, and the elements after it
 abbrev pub leading_name_at : List (Result Field TlvFault)
     → Result (List Field × List (Result Field TlvFault)) PacketFault
 leading_name_at elements = do
@@ -65,7 +65,7 @@ abbrev pub is_nil : {A : Type 0} → List A → Bool
 is_nil [] = true
 is_nil (x ∷ xs) = false
 
--- a value that is a number
+-- the number in a value that is a NonNegativeInteger
 abbrev pub nni_value_at : List ℕ → Result ℕ PacketFault
 nni_value_at value = on_result (λ n. Ok n) (λ _. Err BadField) (nni_at value)
 
@@ -73,8 +73,8 @@ abbrev pub found_or : {A : Type 0} → PacketFault → Option A → Result A Pac
 found_or fault None = Err fault
 found_or fault (Some x) = Ok x
 
--- of a MetaInfo: its FreshnessPeriod. Its ContentType has to be a number too, and no type but these
--- and 26 comes here.
+-- Takes a field of a MetaInfo and keeps the FreshnessPeriod. A ContentType must be a number. The
+-- only other type that comes here is 26 (FinalBlockId).
 abbrev pub take_meta_field : ℕ → Field → Result ℕ PacketFault
 take_meta_field freshness f =
     if f.0 == CONTENT_TYPE then (nni_value_at f.1 >>= λ _. Ok freshness) else (
@@ -85,8 +85,8 @@ meta_at value =
     read_fields take_meta_field 0
     (fields_from is_ignored_in_meta_info meta_schema (elements_of value))
 
--- the key that a KeyLocator names: its first element, and the octets after it, of which there must
--- be none
+-- the key that a KeyLocator names, given its first element; any octets after that element make it
+-- `Other`
 abbrev pub locator_of : Field → List ℕ → PlainLocator
 locator_of e rest =
     if not (is_nil rest) then Other else (
@@ -96,7 +96,7 @@ locator_of e rest =
 unfoldable pub locator_at : List ℕ → PlainLocator
 locator_at value = on_result (λ x. locator_of x.0 x.1) (λ _. Other) (element_at value)
 
--- of a SignatureInfo: its SignatureType, KeyLocator, SignatureTime and SignatureSeqNum
+-- the fields of a SignatureInfo that have been read
 pub record InfoSoFar : Type 0 where
   pub kind : Option ℕ
   pub locator : PlainLocator
@@ -121,8 +121,7 @@ info_at value = do
   kind ← found_or BadField s.kind
   Ok (record { kind = kind; locator = s.locator; time = s.time; seq = s.seq })
 
--- of an Interest: its CanBePrefix, MustBeFresh, Nonce, InterestLifetime, HopLimit,
--- ApplicationParameters, InterestSignatureInfo and InterestSignatureValue
+-- the fields of an Interest that have been read
 pub record InterestSoFar : Type 0 where
   pub can_be_prefix : Bool
   pub must_be_fresh : Bool
@@ -145,7 +144,7 @@ no_fields_yet = record {
   value = None;
 }
 
--- a value of one octet
+-- the octet in a value of one octet
 abbrev pub octet_at : List ℕ → Result ℕ PacketFault
 octet_at [] = Err BadField
 octet_at (k ∷ []) = Ok k
@@ -171,18 +170,18 @@ take_interest_field s f =
     if f.0 == INTEREST_SIGNATURE_VALUE then Ok (record s { value = Some f.1 }) else
     Ok s)))))))
 
--- the elements from the first of ApplicationParameters on
+-- the elements from the first ApplicationParameters on, up to one that cannot be read
 abbrev pub parameters_on : List (Result Field TlvFault) → List (Result Field TlvFault)
 parameters_on [] = []
 parameters_on (Err f ∷ elements) = []
 parameters_on (Ok e ∷ elements) =
     if e.0 == APPLICATION_PARAMETERS then Ok e ∷ elements else parameters_on elements
 
--- the octets of the elements that can be read, as they came: a number has one spelling
+-- the octets of the elements that can be read, as received: each number has only one encoding
 abbrev pub octets_of_read : List (Result Field TlvFault) → List ℕ
 octets_of_read elements = flat_map element (filter_map result_ok elements)
 
--- what is wrong with the digests of parameters in a name, where the right one is this
+-- the fault of the digests of parameters in a name, where `right` is the correct digest
 abbrev pub digest_fault : Option (List ℕ) → List Field → List ℕ → Option PacketFault
 digest_fault None [] right = None
 digest_fault None (d ∷ digests) right = Some DigestWithout
@@ -191,7 +190,8 @@ digest_fault (Some parameters) (d ∷ []) right =
     if bytes_eq d.1 right then None else Some DigestWrong
 digest_fault (Some parameters) (d ∷ e ∷ digests) right = Some DigestWrong
 
--- the same, where this is the first of them
+-- the fault of the digests of parameters in a name, given the first of them, where `right` is the
+-- correct digest
 abbrev pub fault_by : Option (List ℕ) → Option FirstOfType → List ℕ → Option PacketFault
 fault_by None None right = None
 fault_by None (Some first) right = Some DigestWithout
@@ -228,7 +228,7 @@ interest_at value = do
       (digest_fault s.parameters (digests_in name)
       (sha256 (octets_of_read (parameters_on first.1))))
 
--- of a Data: its FreshnessPeriod, its Content, its SignatureInfo and its SignatureValue
+-- the fields of a Data that have been read
 pub record DataSoFar : Type 0 where
   pub freshness : ℕ
   pub content : Option (List ℕ)

@@ -1,4 +1,4 @@
--- What readers have found so far, without where it lies in memory.
+-- What readers have found so far, without its positions in memory.
 use Rattle.std.specs.Option.{option_map}
 use Rattle.ndn_packets.specs.declared.data.DataFields.{DataFields}
 use Rattle.ndn_packets.specs.declared.interest.InterestFields.{InterestFields}

@@ -1,6 +1,6 @@
 -- What writers write (NDN Packet Format 0.3, "Interest Packet", "Data Packet", "Signature", "Signed
--- Interest"; NDNLPv2, "Network Nack", "PIT Token"): the fields that are asked for, each in its
--- shortest form.
+-- Interest"; NDNLPv2, "Network Nack", "PIT Token"): the requested fields, each in its shortest
+-- form.
 use Rattle.std.specs.Prelude.{◌≡◌, ℕ, ◌<◌, List, [], ◌∷◌, ◌++◌, ◌+◌, ◌-◌, ◌^◌, min, length, replicate, Option, None, Some, IfSome, OnSome, slice_index, Bool, nat_lt, unwrap_or, ⊤, ◌||◌, not, if◌then◌else◌}
 use Rattle.std.specs.Option.{option_map}
 use Rattle.std.specs.Borrow.{Bor}
@@ -64,12 +64,12 @@ value_of (sign.Hmac name key) covered = Mac key.now covered
 
 -- ---- Interests
 
--- the ApplicationParameters: a signed Interest has some, if only empty ones
+-- the ApplicationParameters: a signed Interest always has them, even if empty
 abbrev pub parameters_of : Option Sign → Option (List ℕ) → Option (List ℕ)
 parameters_of None parameters = parameters
 parameters_of (Some signed) parameters = Some (unwrap_or parameters [])
 
--- what the signature of an Interest covers after its name's components
+-- the fields that the signature of an Interest covers, apart from the components of its name
 abbrev pub covered_fields : InterestWriter → Sign → List Field
 covered_fields w signed =
     (APPLICATION_PARAMETERS, unwrap_or (option_map (λ p. p.now) w.parameters) [])
@@ -85,7 +85,7 @@ later_fields w None = optional APPLICATION_PARAMETERS (option_map (λ p. p.now) 
 later_fields w (Some signed) =
     covered_fields w signed ++ (INTEREST_SIGNATURE_VALUE, interest_value w signed) ∷ []
 
--- the fields before them
+-- the fields between the Name and the ApplicationParameters
 abbrev pub early_fields : InterestWriter → List Field
 early_fields w =
     flag CAN_BE_PREFIX w.can_be_prefix
@@ -94,12 +94,12 @@ early_fields w =
     ∷ (number INTEREST_LIFETIME w.lifetime
     ++ optional HOP_LIMIT (option_map (λ limit. limit ∷ []) w.hop_limit))))
 
--- the name, and after it a digest, where there are fields from the ApplicationParameters on
+-- the name, followed by a digest if there are fields from the ApplicationParameters on
 abbrev pub name_with : List ℕ → List Field → List Field → List Field
 name_with digest name [] = name
 name_with digest name (f ∷ fields) = name ++ (PARAMETERS_SHA256_DIGEST, digest) ∷ []
 
--- the digest is that of their octets
+-- the name with its digest of the fields from the ApplicationParameters on
 abbrev pub interest_name : InterestWriter → List Field
 interest_name w =
     name_with (sha256 (octets (later_fields w w.sign))) (components w.name) (later_fields w w.sign)
@@ -111,7 +111,7 @@ interest_fields w =
 abbrev pub interest_text : InterestWriter → List ℕ
 interest_text w = element (INTEREST, octets (interest_fields w))
 
--- the Interest that is asked for
+-- the Interest that the writer is asked for
 abbrev pub interest_asked : InterestWriter → PlainInterest
 interest_asked w = record {
   name = interest_name w;
@@ -127,7 +127,7 @@ interest_asked w = record {
   }) w.sign;
 }
 
--- a signature of it is of the octets that it covers
+-- the signature of the written Interest is over the octets that it covers
 abbrev pub SignsInterest : InterestWriter → Sign → Type 0
 SignsInterest w signed =
     Covered (AnInterest (interest_text w) (interest_asked w)) (octets (components w.name))
@@ -136,7 +136,7 @@ SignsInterest w signed =
 abbrev pub is_bad_name : List Field → Bool
 is_bad_name name = is_nil name || not (is_nil (digests_in name))
 
--- why an Interest is not written, but for memory
+-- why an Interest is not written, except when memory runs out
 abbrev pub interest_refusal : InterestWriter → Option WriteFault
 interest_refusal w =
     if is_bad_name (components w.name) then Some BadName else (
@@ -146,22 +146,22 @@ interest_refusal w =
 
 -- ---- Data
 
--- a MetaInfo, where it has a field
+-- the value of a MetaInfo, if it has a field
 abbrev pub meta_of : List Field → Option (List ℕ)
 meta_of [] = None
 meta_of (f ∷ fields) = Some (octets (f ∷ fields))
 
--- as FinalBlockId one component, a segment number
+-- the FinalBlockId, if there is a last segment: one component, its segment number
 abbrev pub last_fields : Option ℕ → List Field
 last_fields last =
     optional FINAL_BLOCK_ID (option_map (λ n. element (SEGMENT, shortest_nni n)) last)
 
--- FreshnessPeriod and FinalBlockId
+-- the fields of a MetaInfo: FreshnessPeriod and FinalBlockId
 abbrev pub meta_fields : Option ℕ → Option ℕ → List Field
 meta_fields freshness last =
     number FRESHNESS_PERIOD freshness ++ last_fields last
 
--- what the signature of a Data covers
+-- the fields that the signature of a Data covers
 abbrev pub data_fields : Sign → List Field → Option (List ℕ) → Option (List ℕ) → List Field
 data_fields signed name meta content =
     (NAME, octets name)
@@ -187,7 +187,7 @@ meta_asked w = meta_of (meta_fields w.freshness w.last)
 abbrev pub content_asked : DataWriter → Option (List ℕ)
 content_asked w = option_map (λ c. c.now) w.content
 
--- what the signature of a Data covers, and all fields of it
+-- the fields of the requested Data that its signature covers, and all of its fields
 abbrev pub fields_covered : DataWriter → List Field
 fields_covered w = data_fields w.sign (components w.name) (meta_asked w) (content_asked w)
 
@@ -197,7 +197,7 @@ fields_asked w = signed_fields w.sign (components w.name) (meta_asked w) (conten
 abbrev pub data_text : DataWriter → List ℕ
 data_text w = signed_data w.sign (components w.name) (meta_asked w) (content_asked w)
 
--- a Data of this name, FreshnessPeriod, MetaInfo and Content
+-- the Data with this name, FreshnessPeriod, MetaInfo and Content
 abbrev pub plain_data_of : Sign → List Field → ℕ → Option (List ℕ) → Option (List ℕ) → PlainData
 plain_data_of signed name freshness meta content =
     record {
@@ -215,7 +215,7 @@ data_asked w =
     plain_data_of w.sign (components w.name) (unwrap_or w.freshness 0) (meta_asked w)
     (content_asked w)
 
--- why a Data is not written, but for memory
+-- why a Data is not written, except when memory runs out
 abbrev pub data_refusal : DataWriter → Option WriteFault
 data_refusal w = if nat_lt 8800 (length (data_text w)) then Some TooLong else None
 
@@ -235,7 +235,7 @@ reply_of name content = record {
   sign = sign.Digest;
 }
 
--- its signature is of the octets that it covers
+-- the signature of the reply is over the octets that it covers
 abbrev pub SignsReply : List Field → List ℕ → Type 0
 SignsReply name content =
     Covered (AData (reply_text name content) (reply_asked name content))
@@ -243,11 +243,11 @@ SignsReply name content =
 
 -- ---- Nacks
 
--- the header field of a Nack of this reason
+-- the header field of a Nack with this reason
 abbrev pub nack_field : ℕ → List ℕ
 nack_field reason = element (NACK, element (NACK_REASON, shortest_nni reason))
 
--- a link packet with a Nack of this reason around octets
+-- a link packet with a Nack of this reason around the octets of an Interest
 abbrev pub nack_text : ℕ → List ℕ → List ℕ
 nack_text reason interest =
     element (
@@ -257,26 +257,27 @@ nack_text reason interest =
 
 -- ---- link packets
 
--- the header field of a Nack of this reason, if one is asked for
+-- the header field of a Nack, if a reason is given
 abbrev pub nack_headers : Option ℕ → List Field
 nack_headers None = []
 nack_headers (Some reason) = (NACK, octets ((NACK_REASON, shortest_nni reason) ∷ [])) ∷ []
 
--- a PIT token and a Nack of a reason, those of both that are asked for
+-- the header fields of a link packet: the PIT token and the Nack, each if given
 abbrev pub lp_headers : Option (List ℕ) → Option ℕ → List Field
 lp_headers token nack = optional PIT_TOKEN token ++ nack_headers nack
 
--- a packet, in a link packet where there are header fields
+-- the packet, inside a link packet if there are header fields
 abbrev pub in_link : List Field → List ℕ → List ℕ
 in_link [] packet = packet
 in_link (h ∷ headers) packet =
     element (LINK_PACKET, octets ((h ∷ headers) ++ (FRAGMENT, packet) ∷ []))
 
--- a packet with these
+-- the packet, inside a link packet if a token or a Nack is given
 abbrev pub lp_text : Option (List ℕ) → Option ℕ → List ℕ → List ℕ
 lp_text token nack packet = in_link (lp_headers token nack) packet
 
--- the value of a link packet with them, and the link packet, also where there is neither
+-- the value of a link packet with an optional token and an optional Nack, and the link packet
+-- itself, which exists even without both
 abbrev pub link_value : Option (List ℕ) → Option ℕ → List ℕ → List ℕ
 link_value token nack packet =
     (octets (optional PIT_TOKEN token) ++ octets (nack_headers nack)) ++ element (FRAGMENT, packet)
@@ -284,7 +285,7 @@ link_value token nack packet =
 abbrev pub link_text : Option (List ℕ) → Option ℕ → List ℕ → List ℕ
 link_text token nack packet = element (LINK_PACKET, link_value token nack packet)
 
--- the octets before a packet of this length in a link packet with this PIT token
+-- the octets of a link packet with this PIT token before a packet of length `packet_len`
 abbrev pub link_start : List ℕ → ℕ → List ℕ
 link_start token packet_len =
     let token_field = element (PIT_TOKEN, token) in
@@ -294,11 +295,11 @@ link_start token packet_len =
 
 -- ---- lengths
 
--- the number is the length of the octets, or the greatest `usize` where they are longer
+-- `n` is the length of the octets, or the greatest `usize` if they are longer
 abbrev pub IsLength : ℕ → List ℕ → Type 0
 IsLength n octets = n ≡ min (length octets) (2 ^ 64 - 1)
 
--- ---- what the types of a writer's fields say
+-- ---- what the types of a writer's fields guarantee
 
 abbrev pub AreOctets : List ℕ → Type 0
 AreOctets octets = (i : ℕ) → slice_index octets i < 256
@@ -306,7 +307,7 @@ AreOctets octets = (i : ℕ) → slice_index octets i < 256
 abbrev pub IsU64 : Option ℕ → Type 0
 IsU64 n = IfSome n (λ k. k < 2 ^ 64)
 
--- the name of a key is octets
+-- the name of a key consists of octets
 abbrev pub IsSoundSign : Sign → Type 0
 IsSoundSign sign.Digest = ⊤
 IsSoundSign (sign.Hmac name key) = AreOctets (octets (components name))
@@ -331,6 +332,6 @@ pub record SoundInterest (w : InterestWriter) : Type 0 where
 
 -- ---- a name before its digest is known
 
--- zeros are in the place of the digest
+-- the name with zeros in place of the digest
 abbrev pub zeroed_name : InterestWriter → List Field
 zeroed_name w = name_with (replicate 32 0) (components w.name) (later_fields w w.sign)

@@ -15,18 +15,18 @@ use sha2::{Digest, Sha256};
 impl Data<'_> {
     ghost use Rattle.ndn_packets.specs.View.{IsReadData};
 
-    /// The implicit digest: SHA-256 of the whole packet.
+    /// Returns the implicit digest: SHA-256 of the whole packet.
     pub fn digest(&self) -> [u8; 32]
         ensures exact { result ≡ sha256 self.now.whole.now }
-        // Those octets are the Data.
+        // The octets of `self.whole` are the Data.
         ensures packet { IsReadData self.now }
     {
         Sha256::digest(self.whole)
     }
 
-    /// Whether the Data answers an Interest of this name: its name or its full name, with the
-    /// implicit digest as last component, is the Interest's or, where the Interest has CanBePrefix,
-    /// begins with it. The digest is computed only where the answer depends on it.
+    /// Returns whether the Data answers an Interest for the name `asked`. It does if `asked` is the
+    /// Data's name, its full name (the name and the implicit digest) or, with CanBePrefix, a prefix
+    /// of either. The digest is computed only if the answer depends on it.
     pub fn answers(&self, asked: Name<'_>, can_be_prefix: bool) -> bool
         ensures exact { IsTrue result
             ↔ Answers (components self.now.name) (sha256 self.now.whole.now)
@@ -34,7 +34,7 @@ impl Data<'_> {
         ensures test { result
             ≡ answers (components self.now.name) (sha256 self.now.whole.now)
             (components asked.entry) can_be_prefix }
-        // The name and the digest are those of one Data.
+        // The name and the digest belong to the same Data.
         ensures packet { IsReadData self.now }
     {
         match self.asked_digest(asked) {
@@ -43,8 +43,9 @@ impl Data<'_> {
         }
     }
 
-    /// As `answers`, where this is the implicit digest: for one that looks at many Interests, and
-    /// computes it once. Where `asked_digest` answers `None` for all of them, any 32 octets serve.
+    /// Returns what `answers` returns, if `digest` is the implicit digest. A caller that looks at
+    /// many Interests can thus compute the digest once. If `asked_digest` returns `None` for all of
+    /// them, any 32 octets will do.
     pub fn answers_with(&self, digest: &[u8; 32], asked: Name<'_>, can_be_prefix: bool) -> bool
         ensures exact { IsTrue result
             ↔ Answers (components self.now.name) digest.now (components asked.entry)
@@ -59,8 +60,8 @@ impl Data<'_> {
         }
     }
 
-    /// The implicit digest that this name requires, where it is the Data's name and a digest after
-    /// it, right or wrong. For no other name does an answer depend on the digest.
+    /// Returns the last component of `asked`, right or wrong, if it is an implicit digest that
+    /// follows the Data's name. For any other name the answer does not depend on the digest.
     pub fn asked_digest<'n>(&self, asked: Name<'n>) -> Option<&'n [u8]>
         ensures { AsksFor (components self.now.name) (components asked.entry)
             (option_map (λ digest. digest.now) result) }
@@ -79,7 +80,7 @@ impl Data<'_> {
         Some(last.value)
     }
 
-    /// Whether the name is the Interest's or, with CanBePrefix, begins with it.
+    /// Returns whether `asked` is the Data's name or, with CanBePrefix, a prefix of it.
     fn answers_by_name(&self, asked: Name<'_>, can_be_prefix: bool) -> bool
         ensures { IsTrue result
             ↔ AnswersByName (components self.now.name) (components asked.entry) can_be_prefix }
@@ -88,8 +89,8 @@ impl Data<'_> {
     }
 }
 
-/// Law: what the tests `answers` and `begins_with` mean. A name that is not the Data's with a
-/// digest after it is answered whatever the digest is.
+/// Law: what the tests `answers` and `begins_with` mean. If a name is not the Data's name followed
+/// by a digest, the answer is the same for every digest.
 pub fn answers_can_be_tested()
     ensures answers { (name asked : List Field) (digest : List ℕ) (can_be_prefix : Bool)
         → IsTrue (answers name digest asked can_be_prefix)

@@ -1,16 +1,16 @@
-//! Numbers that the standards assign to commands, their replies and lists: TLV-TYPEs. The Name, and
-//! other fields that packets have too, are among those of packets.
+//! Numbers that the standards assign to commands, their replies and datasets: TLV-TYPEs. The types
+//! of the Name, and of other fields that packets have too, are in `types`.
 
 ghost use Rattle.std.specs.Prelude.{◌≡◌};
 
-/// The parameters of a command of a node, and the body of its reply (NFD Management, "Control
+/// The parameters of a command to a node, and the body of the reply (NFD Management, "Control
 /// Command", ControlParameters).
 pub const CONTROL_PARAMETERS: u32 = 104;
 
-/// The parameters of a command of a repository (repo-ng, RepoCommandParameter).
+/// The parameters of a command to a repository (repo-ng, RepoCommandParameter).
 pub const REPO_COMMAND_PARAMETER: u32 = 201;
 
-/// The fields of parameters, beside the Name (NFD Management, "Control Command",
+/// The fields of ControlParameters, except the Name (NFD Management, "Control Command",
 /// ControlParameters).
 pub const FACE_ID: u32 = 105;
 
@@ -26,26 +26,27 @@ pub const ORIGIN: u32 = 111;
 
 pub const COUNT: u32 = 132;
 
-/// A reply of a node and its fields (NFD Management, "Control Command", ControlResponse).
+/// The reply of a node and its fields (NFD Management, "Control Command", ControlResponse).
 pub const CONTROL_RESPONSE: u32 = 101;
 
 pub const STATUS_CODE: u32 = 102;
 
 pub const STATUS_TEXT: u32 = 103;
 
-/// A reply of a repository and its status code (repo-ng, RepoCommandResponse).
+/// The reply of a repository and its status code (repo-ng, RepoCommandResponse).
 pub const REPO_COMMAND_RESPONSE: u32 = 207;
 
 pub const REPO_STATUS_CODE: u32 = 208;
 
-/// An entry of a list, and a next hop in it (NFD Management, "FIB Dataset", "Strategy Choice
+/// An entry of a dataset, and a next hop in it (NFD Management, "FIB Dataset", "Strategy Choice
 /// Dataset").
 pub const ENTRY: u32 = 128;
 
 pub const NEXT_HOP: u32 = 129;
 
-/// Law: these are the numbers that the standards assign (NFD Management, "Control Command", "FIB
-/// Dataset" and "Strategy Choice Dataset"; repo-ng, RepoCommandParameter and RepoCommandResponse).
+/// Law: these constants are the numbers that the standards assign (NFD Management, "Control
+/// Command", "FIB Dataset" and "Strategy Choice Dataset"; repo-ng, RepoCommandParameter and
+/// RepoCommandResponse).
 pub fn command_types_are_as_assigned()
     ensures parameters { (CONTROL_PARAMETERS ≡ 104) × (REPO_COMMAND_PARAMETER ≡ 201) }
     ensures fields { (FACE_ID ≡ 105) × (COST ≡ 106) × (STRATEGY ≡ 107) × (FLAGS ≡ 108)

@@ -10,7 +10,7 @@ use crate::field_writer::DIGEST_COMPONENT_LEN;
 use crate::interest::Interest;
 use ndn_tlv::first_element;
 
-/// The covered octets, which are the first ones and then the second ones.
+/// The covered octets: `first` followed by `second`.
 #[derive(Clone, Copy, Debug, PartialEq, Eq)]
 pub struct Parts<'a> {
     pub first: &'a [u8],
@@ -23,8 +23,8 @@ impl<'a> Data<'a> {
     ghost use Rattle.ndn_packets.specs.View.{plain_data};
     ghost use Rattle.ndn_packets.specs.Covered.{Covered};
 
-    /// The octets that the signature covers, as they were received: those from the Name up to the
-    /// SignatureValue. The second part is empty. A Data always has them.
+    /// Returns the octets that the signature covers, as received: those from the Name up to the
+    /// SignatureValue, all in the first part. A Data always has them.
     pub fn signed_parts(&self) -> Option<Parts<'a>>
         ensures { IsSomeAnd result (λ parts. Covered
             (AData self.now.whole.now (plain_data self.now)) parts.first.now parts.second.now) }
@@ -43,10 +43,10 @@ impl<'a> Interest<'a> {
     ghost use Rattle.ndn_packets.specs.View.{plain_interest};
     ghost use Rattle.ndn_packets.specs.Covered.{AreParts, EndsInDigest};
 
-    /// The octets that the signature covers, as they were received: those of the name's components
-    /// before the digest of parameters, and those from the ApplicationParameters up to the
-    /// InterestSignatureValue. `None` where the Interest is not signed, or the digest of parameters
-    /// is not the last component.
+    /// Returns the octets that the signature covers, as received. The first part is the name's
+    /// components before the digest of parameters, and the second part is the octets from the
+    /// ApplicationParameters up to the InterestSignatureValue. Returns `None` if the Interest is
+    /// not signed, or if the digest of parameters is not the last component.
     pub fn signed_parts(&self) -> Option<Parts<'a>>
         ensures exact { AreParts (AnInterest self.now.whole.now (plain_interest self.now)) result }
         ensures when { IsSome result
@@ -61,7 +61,7 @@ impl<'a> Interest<'a> {
     }
 }
 
-/// The octets from the first element of this type on.
+/// Returns the octets from the first element of type `kind` on.
 pub(crate) fn from_first(octets: &[u8], kind: u32) -> Option<&[u8]>
     ensures exact { option_map (λ from. from.now) result ≡ from_first kind octets.now }
     ensures within { IfSome result (λ from. length from.now ≤ length octets.now) }
@@ -76,7 +76,7 @@ pub(crate) fn from_first(octets: &[u8], kind: u32) -> Option<&[u8]>
     None
 }
 
-/// The octets before their end.
+/// Returns `octets` without its last octets, as many as `end` has.
 #[inline(always)]
 pub(crate) fn octets_before<'a>(octets: &'a [u8], end: &[u8]) -> &'a [u8]
     requires { length end.now ≤ length octets.now }
@@ -85,10 +85,10 @@ pub(crate) fn octets_before<'a>(octets: &'a [u8], end: &[u8]) -> &'a [u8]
     &octets[..octets.len() - end.len()]
 }
 
-/// Law: a Data has covered octets, and an Interest has some exactly where it is signed and the
-/// digest of its parameters is the last component. They end where the element of the signature's
-/// value begins. Those of an Interest are all of its name before the digest, and then begin where
-/// the octets of the digest do.
+/// Law: a Data has covered octets, and an Interest has them exactly if it is signed and the digest
+/// of its parameters is the last component. The covered octets end where the element of the
+/// signature's value begins. The covered octets of an Interest are all of its name before the
+/// digest, followed by a second part that begins where the octets covered by the digest begin.
 pub fn signed_packets_have_covered_octets()
     ensures data { (text : List ℕ) (d : PlainData) → IsData text d
         → (covered : List ℕ) × Covered (AData text d) covered [] }
@@ -102,7 +102,7 @@ pub fn signed_packets_have_covered_octets()
         → EndsAtSignature i.name s.value text first second }
 {}
 
-/// Law: what the signature of a packet covers has one reading.
+/// Law: the octets that the signature of a packet covers are unique.
 pub fn covered_octets_have_one_reading()
     ensures { (packet : PlainFrame) (first second other_first other_second : List ℕ)
         → Covered packet first second → Covered packet other_first other_second

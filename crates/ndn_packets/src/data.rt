@@ -19,18 +19,18 @@ use crate::types::{CONTENT, META_INFO, SIGNATURE_INFO, SIGNATURE_VALUE};
 use ndn_names::Name;
 use ndn_tlv::Element;
 
-/// A Data, a view of the octets that it was read from (NDN Packet Format 0.3, "Data Packet").
+/// A Data: a view of the octets that it was read from (NDN Packet Format 0.3, "Data Packet").
 #[derive(Clone, Copy, Debug, PartialEq, Eq)]
 pub struct Data<'a> {
     /// The name, which may be empty.
     pub name: Name<'a>,
-    /// The FreshnessPeriod in milliseconds, 0 where the packet has none.
+    /// The FreshnessPeriod in milliseconds, 0 if absent.
     pub freshness: u64,
-    /// The value of the Content, `None` where the packet has none, which an empty one is not.
+    /// The value of the Content, `None` if absent. An empty Content is not `None`.
     pub content: Option<&'a [u8]>,
     /// The signature, which is not verified.
     pub signature: Signature<'a>,
-    /// The received octets of the whole packet, its type and length among them, at most 8,800.
+    /// The received octets of the whole packet, including its type and length, at most 8,800.
     pub whole: &'a [u8],
     /// The octets that the signature covers: those from the Name up to the SignatureValue.
     pub(crate) covered: &'a [u8],
@@ -45,14 +45,14 @@ pub struct Data<'a> {
 
 const FIELDS: [u32; 4] = [META_INFO, CONTENT, SIGNATURE_INFO, SIGNATURE_VALUE];
 
-/// The fields of a Data that were read so far.
+/// The fields of a Data that have been read so far.
 #[derive(Clone, Copy)]
 struct DataFields<'a> {
     freshness: u64,
     content: Option<&'a [u8]>,
     info: Option<SignatureInfo<'a>>,
     value: Option<&'a [u8]>,
-    /// The octets from the SignatureValue on, where it is there.
+    /// The octets from the SignatureValue on, once it has been read.
     from_value: &'a [u8],
 }
 
@@ -64,7 +64,7 @@ impl<'a> Data<'a> {
     ghost use Rattle.ndn_packets.specs.declared.types.TheConstants.{DATA};
 
     #[tactic(auto, unfolding(crate::specs::Reading::data_at))]
-    /// Reads the Data that this element is.
+    /// Reads the Data in this element.
     #[inline(always)]
     pub(crate) fn read(outer: Element<'a>) -> Result<Data<'a>, PacketFault>
         requires { outer.kind ≡ DATA }
@@ -92,7 +92,7 @@ impl<'a> Data<'a> {
 }
 
 #[tactic(auto, using(crate::proofs::Marks::data_first, crate::proofs::Marks::data_still, crate::proofs::Marks::data_value))]
-/// The fields after the Name.
+/// Reads the fields after the Name.
 #[inline(always)]
 fn fields_of(rest: &[u8]) -> Result<DataFields<'_>, PacketFault>
     ensures walk { on_result (λ f. Ok (so_far f)) Err result

@@ -22,7 +22,7 @@ use ndn_tlv::{
     Memory, nni_element_len, put_element, put_header, put_nni_element, put_number_field,
 };
 
-/// A Data to write (NDN Packet Format 0.3, "Data Packet").
+/// A Data that is to be written (NDN Packet Format 0.3, "Data Packet").
 #[derive(Clone, Copy, Debug)]
 pub struct DataWriter<'a> {
     /// The name, which may be empty.
@@ -33,7 +33,7 @@ pub struct DataWriter<'a> {
     pub last: Option<u64>,
     /// The value of the Content.
     pub content: Option<&'a [u8]>,
-    /// The signature.
+    /// How the Data is signed.
     pub sign: Sign<'a>,
 }
 
@@ -47,26 +47,26 @@ impl DataWriter<'_> {
     ghost use Rattle.ndn_tlv.specs.Writing.{octets, Puts, optional};
     ghost use Rattle.ndn_packets.specs.Writing.{fields_covered, fields_asked, meta_fields, meta_asked, data_text, data_asked, data_refusal, IsLength, IsU64, SoundData};
 
-    /// Appends the Data, its fields in the standard's order and in their shortest forms, and none
-    /// that is not asked for: without a FreshnessPeriod and a last segment there is no MetaInfo.
+    /// Appends the Data with only the requested fields, in the standard's order and in their
+    /// shortest forms. Without a FreshnessPeriod and a last segment there is no MetaInfo.
     ///
-    /// Refuses it with the first fault in the order of `WriteFault`, and then appends nothing;
-    /// `BadName` never occurs.
+    /// If the Data is refused, returns the first fault in the order of `WriteFault` and appends
+    /// nothing. `BadName` never occurs.
     pub fn write(&self, out: &mut Vec<u8>) -> Result<(), WriteFault>
         ensures ok { OnOk result (out.new.items ≡ out.old.items ++ data_text self.now) }
         ensures err { OnErr result (out.new.items ≡ out.old.items) }
-        // Which fault it is: where there is no cause, memory was refused.
+        // The fault is the reason for a refusal or, if there is none, that memory ran out.
         ensures fault { MatchOption (data_refusal self.now)
             (IfErr result (λ fault. fault ≡ WriteFault.Memory))
             (λ fault. result ≡ Err fault) }
-        // Where there is room, memory is not refused.
+        // If the capacity of `out` suffices, memory does not run out.
         ensures room { data_refusal self.now ≡ None
             → vec_len out.old + length (data_text self.now) ≤ vec_capacity out.old → IsOk result }
         ensures capacity { vec_capacity out.old ≤ vec_capacity out.new }
-        // What is written is in the grammar, and is what was asked for.
+        // The written Data is in the grammar, and is what was asked for.
         ensures reads_back { data_refusal self.now ≡ None
             → IsData (data_text self.now) (data_asked self.now) }
-        // The signature is of the octets that it covers.
+        // The signature is over the octets that it covers.
         ensures signed { data_refusal self.now ≡ None
             → Covered (AData (data_text self.now) (data_asked self.now))
             (octets (fields_covered self.now)) [] }
@@ -80,7 +80,7 @@ impl DataWriter<'_> {
     }
 
     #[tactic(auto, using(crate::proofs::Lengths::fields_are_long))]
-    /// The length of the value of the MetaInfo, 0 where there is none.
+    /// Returns the length of the value of the MetaInfo in octets, 0 if there is none.
     fn meta_len(&self) -> usize
         ensures exact { result ≡ length (octets (meta_fields self.now.freshness self.now.last)) }
         ensures small { result ≤ 70 }
@@ -91,7 +91,7 @@ impl DataWriter<'_> {
     }
 
     #[tactic(auto, using(crate::proofs::DataWriting::meta_absent, crate::proofs::DataWriting::meta_present))]
-    /// The length of the MetaInfo, 0 where there is none.
+    /// Returns the length of the MetaInfo in octets, 0 if there is none.
     fn meta_field_len(&self) -> usize
         ensures len { IsLength result (octets (optional META_INFO (meta_asked self.now))) }
         ensures freshness { IsU64 self.now.freshness }
@@ -103,10 +103,10 @@ impl DataWriter<'_> {
         }
     }
 
-    /// The length of what the signature covers. It stops at `usize::MAX`.
+    /// Returns the length in octets of what the signature covers, at most `usize::MAX`.
     fn covered_len(&self) -> usize
         ensures len { IsLength result (octets (fields_covered self.now)) }
-        // The proofs that what is written is a packet need this.
+        // The proofs that a written Data is in the grammar need `SoundData`.
         ensures sound { SoundData self.now }
     {
         name_element_len(self.name)
@@ -115,10 +115,10 @@ impl DataWriter<'_> {
             .saturating_add(element_len(SIGNATURE_INFO, info_len(self.sign, None, None)))
     }
 
-    /// The length of the packet's value. It stops at `usize::MAX`.
+    /// Returns the length of the packet's value in octets, at most `usize::MAX`.
     fn value_len(&self) -> usize
         ensures len { IsLength result (octets (fields_asked self.now)) }
-        // The proofs that what is written is a packet need this.
+        // The proofs that a written Data is in the grammar need `SoundData`.
         ensures sound { SoundData self.now }
     {
         self.covered_len()
@@ -126,7 +126,8 @@ impl DataWriter<'_> {
     }
 
     #[tactic(auto, using(crate::proofs::DataWriting::meta_absent, crate::proofs::DataWriting::meta_put))]
-    /// Appends the MetaInfo, where there is one, or some octets of it.
+    /// Appends the MetaInfo, if there is one. If memory runs out, some octets may have been
+    /// appended.
     fn put_meta(&self, out: &mut Vec<u8>) -> Result<(), Memory>
         ensures { Puts out.old out.new result (octets (optional META_INFO (meta_asked self.now))) }
     {
@@ -141,7 +142,7 @@ impl DataWriter<'_> {
     }
 
     #[tactic(auto, using(crate::proofs::DataWriting::covered_put))]
-    /// Appends what the signature covers, or some octets of it.
+    /// Appends what the signature covers. If memory runs out, some octets may have been appended.
     fn put_covered(&self, out: &mut Vec<u8>) -> Result<(), Memory>
         ensures { Puts out.old out.new result (octets (fields_covered self.now)) }
     {
@@ -152,8 +153,8 @@ impl DataWriter<'_> {
         Ok(())
     }
 
-    /// Appends the Data, or some octets of it. Its length is reserved first: where it is greater
-    /// than any memory has, that is refused.
+    /// Appends the Data. If memory runs out, some octets may have been appended. The length is
+    /// reserved first, so a length beyond any memory is refused at once.
     fn put_parts(&self, out: &mut Vec<u8>, value_len: usize) -> Result<(), Memory>
         requires { IsLength value_len (octets (fields_asked self.now)) }
         ensures { Puts out.old out.new result (data_text self.now) }
@@ -167,7 +168,7 @@ impl DataWriter<'_> {
         Ok(())
     }
 
-    /// Appends the Data, of any length. When memory runs out, nothing is appended.
+    /// Appends the Data, of any length. If memory runs out, nothing is appended.
     fn put(&self, out: &mut Vec<u8>, value_len: usize) -> Result<(), Memory>
         requires { IsLength value_len (octets (fields_asked self.now)) }
         ensures ok { OnOk result (out.new.items ≡ out.old.items ++ data_text self.now) }
@@ -186,7 +187,7 @@ impl DataWriter<'_> {
 }
 
 #[tactic(auto, using(crate::proofs::DataWriting::last_is_short, crate::proofs::DataWriting::last_is_long))]
-/// The length of a FinalBlockId, 0 where there is none.
+/// Returns the length of a FinalBlockId in octets, 0 if there is none.
 fn last_len(last: Option<u64>) -> usize
     ensures exact { result ≡ length (octets (last_fields last)) }
     ensures small { result ≤ 44 }
@@ -198,7 +199,7 @@ fn last_len(last: Option<u64>) -> usize
     }
 }
 
-/// Appends a FinalBlockId, where there is one, or some octets of it.
+/// Appends a FinalBlockId, if there is one. If memory runs out, some octets may have been appended.
 fn put_last(out: &mut Vec<u8>, last: Option<u64>) -> Result<(), Memory>
     ensures { Puts out.old out.new result (octets (last_fields last)) }
 {
@@ -210,21 +211,21 @@ fn put_last(out: &mut Vec<u8>, last: Option<u64>) -> Result<(), Memory>
     Ok(())
 }
 
-/// Appends a Data of a name and a Content, without MetaInfo, signed with DigestSha256, of any
-/// length. When memory runs out, nothing is appended.
+/// Appends a Data with this name and Content, without MetaInfo, signed with DigestSha256, of any
+/// length. If memory runs out, nothing is appended.
 pub fn put_reply(out: &mut Vec<u8>, name: Name<'_>, content: &[u8]) -> Result<(), Memory>
     ensures ok { OnOk result
         (out.new.items ≡ out.old.items ++ reply_text (components name.entry) content.now) }
     ensures err { OnErr result (out.new.items ≡ out.old.items) }
-    // Where there is room, memory is not refused.
+    // If the capacity of `out` suffices, memory does not run out.
     ensures room { vec_len out.old + length (reply_text (components name.entry) content.now)
         ≤ vec_capacity out.old → IsOk result }
     ensures capacity { vec_capacity out.old ≤ vec_capacity out.new }
-    // What is written is in the grammar, where it is no longer than a packet may be.
+    // The written Data is in the grammar, if it is no longer than a packet may be.
     ensures reads_back { length (reply_text (components name.entry) content.now) ≤ 8800
         → IsData (reply_text (components name.entry) content.now)
         (reply_asked (components name.entry) content.now) }
-    // The signature is of the octets that it covers.
+    // The signature is over the octets that it covers.
     ensures signed { length (reply_text (components name.entry) content.now) ≤ 8800
         → SignsReply (components name.entry) content.now }
 {
@@ -232,7 +233,8 @@ pub fn put_reply(out: &mut Vec<u8>, name: Name<'_>, content: &[u8]) -> Result<()
     reply.put(out, reply.value_len())
 }
 
-/// A Data of a name and a Content, without MetaInfo, signed with DigestSha256.
+/// Returns the writer of a Data with this name and Content, without MetaInfo, signed with
+/// DigestSha256.
 fn reply<'a>(name: Name<'a>, content: &'a [u8]) -> DataWriter<'a>
     ensures { result ≡ reply_of name.entry content.entry }
 {

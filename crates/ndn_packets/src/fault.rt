@@ -4,55 +4,54 @@ use thiserror::Error;
 /// Why octets are not a frame of this profile: the first fault from the left (NDN Packet Format
 /// 0.3, "Interest Packet" and "Data Packet"; NDNLPv2, "Packet Format").
 ///
-/// The order is: `TooLong` above 9,000 octets, the outer element, octets after it, its type,
-/// `TooLong` above 8,800 octets, the Name, the elements after it one after the other, then a field
-/// that is missing, and last the digest of an Interest's parameters. Of an element `Tlv` is
-/// reported first (never `BadInteger`), then `CriticalUnknown`, then the fault of its value; a
-/// MetaInfo, a SignatureInfo and an InterestSignatureInfo report the faults of their own elements
-/// in this order, and the last two then a missing SignatureType. Of a header field of a link packet
-/// `Tlv` is reported first, then `LpField`, then the fault of its value; a Nack reports those of
-/// its own elements, and a Fragment those of the packet in it, from the outer element on.
+/// Faults are ranked as follows: `TooLong` above 9,000 octets, the outer element, octets after it,
+/// its type, `TooLong` above 8,800 octets, the Name, the elements after the Name in order, then a
+/// missing field, and last the digest of an Interest's parameters. For one element, `Tlv` comes
+/// first (never `BadInteger`), then `CriticalUnknown`, then a fault in its value. A MetaInfo, a
+/// SignatureInfo and an InterestSignatureInfo report the faults of their own elements in this
+/// order; a missing SignatureType comes last. For one header field of a link packet, `Tlv` comes
+/// first, then `LpField`, then a fault in its value. A Nack reports the faults of its own elements.
+/// A Fragment reports the faults of the packet in it, from the outer element on.
 #[derive(Clone, Copy, Debug, PartialEq, Eq, Error)]
 pub enum PacketFault {
-    /// An element cannot be read, even one that this profile does not know.
+    /// An element cannot be read, whether or not this profile knows its type.
     #[error("{0}")]
     Tlv(TlvFault),
-    /// A packet does not begin with a Name, or an Interest's Name is empty.
+    /// A packet does not begin with a Name, or the Name of an Interest is empty.
     #[error("the packet does not begin with a name, or an Interest's name is empty")]
     NoName,
-    /// An element is not a field, or comes too late to be one, and its type is odd or below 32; but
-    /// the types 128 to 252 in a MetaInfo, and 253 in a SignatureInfo, are ignored.
+    /// An element is not a field, or comes too late to be one, and its type is odd or below 32.
+    /// Types 128 to 252 in a MetaInfo, and 253 in a SignatureInfo, are ignored instead.
     #[error("an element is unknown or out of order, and may not be ignored")]
     CriticalUnknown,
-    /// A field other than the Name and the Nonce is missing, or a field has a value that is not of
-    /// its form; or the outer type is none of 5, 6 and 100, or octets follow the outer element; or
-    /// a Fragment has something else than one packet, or beside a Nack than one Interest, or a Nack
-    /// has no Fragment.
+    /// A field other than the Name and the Nonce is missing, or the value of a field is malformed.
+    /// Or the outer type is none of 5, 6 and 100, or octets follow the outer element. Or a Fragment
+    /// is not exactly one packet (with a Nack, exactly one Interest), or a Nack has no Fragment.
     #[error("a field is missing, or its value is malformed")]
     BadField,
     /// An Interest has no Nonce.
     #[error("the Interest has no Nonce")]
     NoNonce,
-    /// An Interest with ApplicationParameters has no digest of them in its name.
+    /// An Interest has ApplicationParameters, but its name has no digest of them.
     #[error("the name has no digest of the ApplicationParameters")]
     DigestMissing,
-    /// An Interest with ApplicationParameters has more than one digest of them in its name, or one
-    /// that is not SHA-256 of the octets from them on.
+    /// An Interest has ApplicationParameters, but its name has more than one digest of them, or the
+    /// digest is not SHA-256 of the octets from the ApplicationParameters on.
     #[error("the name's digest is not the one of the ApplicationParameters")]
     DigestWrong,
-    /// An Interest without ApplicationParameters has a digest of them in its name.
+    /// An Interest has no ApplicationParameters, but its name has a digest of parameters.
     #[error("the name has a digest of ApplicationParameters that are not there")]
     DigestWithout,
     /// A link packet is one of several fragments: its FragIndex is above 0, or its FragCount above
     /// 1.
     #[error("the packet is one of several fragments")]
     Fragmented,
-    /// A link packet has a header field twice that this profile knows, an element after its
-    /// Fragment, a PitToken that is not of 1 to 32 octets, or a header field that this profile does
-    /// not know and whose type is not from 800 to 959 and divisible by 4.
+    /// A header field that this profile knows comes twice in a link packet, or an element follows
+    /// the Fragment, or a PitToken is not of 1 to 32 octets, or the type of an unknown header field
+    /// is not from 800 to 959 and divisible by 4.
     #[error("the link packet has a header field that it may not have")]
     LpField,
-    /// The octets are more than 9,000, or those of a packet more than 8,800.
+    /// The octets are more than 9,000, or a packet has more than 8,800.
     #[error("the packet is longer than 8800 octets, or the frame than 9000")]
     TooLong,
 }
@@ -61,8 +60,8 @@ impl PacketFault {
     ghost use Rattle.std.specs.Prelude.{◌≡◌};
     ghost use Rattle.ndn_packets.specs.FaultName.{packet_name};
 
-    /// The name of the fault, as scripts and the client print it: a `Tlv` has the name of its own
-    /// fault after it.
+    /// Returns the name of the fault, as scripts and the client print it. The name of a `Tlv` is
+    /// followed by the name of the fault that it contains.
     pub fn name(self) -> &'static str
         ensures { result.now ≡ packet_name self }
     {
@@ -86,11 +85,11 @@ impl PacketFault {
     }
 }
 
-/// Why a packet is not written. Of several faults the first in this order is reported.
+/// Why a packet is not written: the first of these faults that applies.
 #[derive(Clone, Copy, Debug, PartialEq, Eq, Error)]
 pub enum WriteFault {
-    /// The name of an Interest is empty, or has a digest of parameters, which only the writer
-    /// knows.
+    /// The name of an Interest is empty, or has a digest of parameters, which only the writer may
+    /// add.
     #[error("the Interest's name is empty, or has a digest of ApplicationParameters")]
     BadName,
     /// The name would have more than 64 components, or the packet more than 8,800 octets.
@@ -105,7 +104,7 @@ impl WriteFault {
     ghost use Rattle.std.specs.Prelude.{◌≡◌};
     ghost use Rattle.ndn_packets.specs.FaultName.{write_name};
 
-    /// The name of the fault, as the client prints it.
+    /// Returns the name of the fault, as the client prints it.
     pub fn name(self) -> &'static str
         ensures { result.now ≡ write_name self }
     {

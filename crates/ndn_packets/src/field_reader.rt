@@ -18,11 +18,11 @@ use ndn_names::component_type::PARAMETERS_SHA256_DIGEST;
 use ndn_names::{FirstOfType, Name};
 use ndn_tlv::{Element, first_element, nni_of};
 
-/// Goes over the fields of a schema among the elements of a value, in the schema's order.
+/// An iterator over the fields of a schema, in the schema's order, among the elements of a value.
 #[derive(Drop)]
 pub struct FieldReader<'a> {
     rules: Rules,
-    /// The octets that begin with the field that was given last.
+    /// The octets from the last returned field on.
     pub here: &'a [u8],
     rest: &'a [u8],
     schema: &'a [u32],
@@ -44,7 +44,7 @@ impl<'a> FieldReader<'a> {
         }
     }
 
-    /// The next field. Elements that are none are ignored or refused.
+    /// Returns the next field. Elements that are not fields are ignored or refused.
     #[inline(always)]
     pub fn next(&mut self) -> Result<Option<Element<'a>>, PacketFault>
         ensures walk { IsNextField self.old self.new result }
@@ -68,7 +68,7 @@ impl<'a> FieldReader<'a> {
     }
 }
 
-/// The rest of a schema after a type that counts in it.
+/// Returns the part of `schema` after the type `kind`, if `kind` counts in it.
 #[inline(always)]
 fn rest_of_schema(schema: &[u32], kind: u32) -> Option<&[u32]>
     ensures { option_map (λ s. s.now) result ≡ schema_after kind schema.now }
@@ -84,7 +84,7 @@ fn rest_of_schema(schema: &[u32], kind: u32) -> Option<&[u32]>
     None
 }
 
-/// The value of the Name that the first element has to be, and the octets after it.
+/// Returns the value of the first element, which must be a Name, and the octets after it.
 #[inline(always)]
 fn leading_value(value: &[u8]) -> Result<(&[u8], &[u8]), PacketFault>
     ensures exact { on_result (λ x. Ok (x.0.now, elements_of x.1.now)) Err result
@@ -101,7 +101,7 @@ fn leading_value(value: &[u8]) -> Result<(&[u8], &[u8]), PacketFault>
     Ok((first.value, rest))
 }
 
-/// The name that the first element has to be, and the octets after it.
+/// Returns the name in the first element, which must be a Name, and the octets after it.
 #[inline(always)]
 pub fn leading_name(value: &[u8]) -> Result<(Name<'_>, &[u8]), PacketFault>
     ensures exact { on_result (λ x. Ok (components x.0, elements_of x.1.now)) Err result
@@ -115,8 +115,8 @@ pub fn leading_name(value: &[u8]) -> Result<(Name<'_>, &[u8]), PacketFault>
     }
 }
 
-/// The name that the first element has to be, its first digest of parameters, and the octets after
-/// it.
+/// Returns the name in the first element, which must be a Name, the first digest of parameters in
+/// it, and the octets after it.
 #[inline(always)]
 pub fn digested_name(
     value: &[u8],
@@ -134,7 +134,7 @@ pub fn digested_name(
     }
 }
 
-/// The number of a value that is a NonNegativeInteger.
+/// Returns the number in a value that is a NonNegativeInteger.
 #[inline(always)]
 pub fn number(value: &[u8]) -> Result<u64, PacketFault>
     ensures { result ≡ nni_value_at value.now }
@@ -142,8 +142,8 @@ pub fn number(value: &[u8]) -> Result<u64, PacketFault>
     nni_of(value).map_err(|_| PacketFault::BadField)
 }
 
-/// Law: among the fields of packets, and of the values that have fields, the first fault is
-/// reported: before it are fields whose values have none, and elements that are ignored.
+/// Law: among the fields of packets, and of values that have fields, the first fault is reported.
+/// All elements before it are valid fields or are ignored.
 pub fn fields_tell_the_first_fault()
     ensures interest { TellsFirstFault take_interest_field is_even_high interest_schema
         no_fields_yet }
@@ -154,9 +154,9 @@ pub fn fields_tell_the_first_fault()
     ensures nack { TellsFirstFault take_nack_field is_even_high nack_schema 0 }
 {}
 
-/// Law: of the value of a packet or of a SignatureInfo the first fault is reported: of an Interest
-/// and a Data that of the Name, then the first one among the fields, then a field that is missing,
-/// and of an Interest last the digest of its parameters.
+/// Law: the first fault of the value of a packet or of a SignatureInfo is reported. In an Interest
+/// or a Data a fault of the Name comes first, then the first fault among the fields, then a missing
+/// field; in an Interest a fault of the digest of its parameters comes last.
 pub fn packets_tell_the_first_fault()
     ensures interest { (value : List ℕ) (fault : PacketFault) → (interest_at value ≡ Err fault)
         ↔ InterestFault (elements_of value) fault }

@@ -1,4 +1,4 @@
-//! What the writers of packets share: lengths that are known before anything is written, and
+//! What the writers of packets share: lengths that are computed before anything is written, and
 //! fields.
 
 ghost use Rattle.std.specs.Prelude.{◌≡◌, ◌<◌, ◌≤◌, ◌+◌, ◌^◌, ◌++◌, ℕ, IfSome, List, drop, length, take, option_map};
@@ -21,21 +21,22 @@ use ndn_tlv::{
 /// The length of a SHA-256 digest, in octets.
 pub const DIGEST_LEN: usize = 32;
 
-/// The length of a component that is a digest: its type, its length and the digest, in octets.
+/// The length of a component that is a digest, in octets, including its type and length.
 pub const DIGEST_COMPONENT_LEN: usize = 34;
 
-/// The length of octets.
+/// Returns the length of `octets`.
 #[inline(always)]
 pub fn octets_len(octets: &[u8]) -> usize
     ensures len { IsLength result octets.now }
-    // The proofs that what is written is a packet need that octets are below 256.
+    // The proofs that a written packet is in the grammar need that octets are below 256.
     ensures sound { AreOctets octets.now }
 {
     octets.len()
 }
 
 #[tactic(auto, using(ndn_tlv::proofs::Lengths::header_lengths, crate::proofs::Lengths::element_is_long))]
-/// The length of an element whose value has this length. It stops at `usize::MAX`.
+/// Returns the length in octets of an element whose value has length `value_len`, at most
+/// `usize::MAX`.
 #[inline(always)]
 pub fn element_len(kind: u32, value_len: usize) -> usize
     ensures { (value : List ℕ) → IsLength value_len value
@@ -45,7 +46,7 @@ pub fn element_len(kind: u32, value_len: usize) -> usize
     header_len.saturating_add(value_len)
 }
 
-/// The length of a field that may be absent. It stops at `usize::MAX`.
+/// Returns the length of an optional field in octets, at most `usize::MAX`.
 #[inline(always)]
 pub fn optional_len(kind: u32, value: Option<&[u8]>) -> usize
     ensures len { IsLength result (octets (optional kind (option_map (λ v. v.now) value.entry))) }
@@ -57,7 +58,7 @@ pub fn optional_len(kind: u32, value: Option<&[u8]>) -> usize
     }
 }
 
-/// The length of a number's field that may be absent.
+/// Returns the length of an optional NonNegativeInteger field in octets.
 #[inline(always)]
 pub fn number_field_len(kind: u32, asked: Option<u64>) -> usize
     ensures exact { result ≡ length (octets (number kind asked)) }
@@ -70,7 +71,7 @@ pub fn number_field_len(kind: u32, asked: Option<u64>) -> usize
     }
 }
 
-/// The length of an element that is a Name. It stops at `usize::MAX`.
+/// Returns the length of the Name element in octets, at most `usize::MAX`.
 pub fn name_element_len(name: Name<'_>) -> usize
     ensures len { IsLength result (element (NAME, octets (components name.entry))) }
     ensures sound { AreOctets (octets (components name.entry)) }
@@ -78,7 +79,7 @@ pub fn name_element_len(name: Name<'_>) -> usize
     element_len(NAME, octets_len(name.as_octets()))
 }
 
-/// The SignatureType.
+/// Returns the SignatureType.
 #[inline(always)]
 fn kind_of(sign: Sign<'_>) -> u64
     ensures { result ≡ kind_of sign.entry }
@@ -89,7 +90,7 @@ fn kind_of(sign: Sign<'_>) -> u64
     }
 }
 
-/// The length of the KeyLocator, 0 where there is none. It stops at `usize::MAX`.
+/// Returns the length of the KeyLocator in octets, 0 if there is none, at most `usize::MAX`.
 fn locator_len(sign: Sign<'_>) -> usize
     ensures len { IsLength result (octets (locator_fields sign.entry)) }
     ensures sound { IsSoundSign sign.entry }
@@ -101,8 +102,8 @@ fn locator_len(sign: Sign<'_>) -> usize
 }
 
 #[tactic(auto, using(crate::proofs::Lengths::info_is_long))]
-/// The length of the value of a SignatureInfo, or an InterestSignatureInfo. It stops at
-/// `usize::MAX`.
+/// Returns the length in octets of the value of a SignatureInfo, or of an InterestSignatureInfo, at
+/// most `usize::MAX`.
 pub fn info_len(sign: Sign<'_>, time: Option<u64>, seq: Option<u64>) -> usize
     ensures len { IsLength result (octets (info_fields sign.entry time seq)) }
     ensures time { IsU64 time }
@@ -115,7 +116,7 @@ pub fn info_len(sign: Sign<'_>, time: Option<u64>, seq: Option<u64>) -> usize
     locator_len(sign).saturating_add(numbers_len)
 }
 
-/// Appends a field, where it is there, or some octets of it.
+/// Appends an optional field. If memory runs out, some octets may have been appended.
 #[inline(always)]
 pub fn put_optional(out: &mut Vec<u8>, kind: u32, value: Option<&[u8]>) -> Result<(), Memory>
     requires { 1 ≤ kind }
@@ -128,7 +129,7 @@ pub fn put_optional(out: &mut Vec<u8>, kind: u32, value: Option<&[u8]>) -> Resul
     }
 }
 
-/// Appends the KeyLocator, where there is one, or some octets of it.
+/// Appends the KeyLocator, if there is one. If memory runs out, some octets may have been appended.
 fn put_locator(out: &mut Vec<u8>, sign: Sign<'_>) -> Result<(), Memory>
     ensures { Puts out.old out.new result (octets (locator_fields sign.entry)) }
 {
@@ -139,7 +140,8 @@ fn put_locator(out: &mut Vec<u8>, sign: Sign<'_>) -> Result<(), Memory>
     Ok(())
 }
 
-/// Appends a SignatureInfo, or an InterestSignatureInfo, or some octets of it.
+/// Appends a SignatureInfo, or an InterestSignatureInfo. If memory runs out, some octets may have
+/// been appended.
 pub fn put_info(
     out: &mut Vec<u8>,
     kind: u32,
@@ -158,7 +160,7 @@ pub fn put_info(
     Ok(())
 }
 
-/// Puts these octets in place of as many others.
+/// Overwrites octets from index `place` on with `by`.
 pub fn overwrite(octets: &mut [u8], place: usize, by: &[u8])
     requires { place + length by.now ≤ length octets.old }
     ensures { octets.new

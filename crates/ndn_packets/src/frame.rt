@@ -17,63 +17,63 @@ use crate::link::read_link;
 use crate::types::{DATA, INTEREST, LINK_PACKET};
 use ndn_tlv::{Element, first_element};
 
-/// The content of a frame (NDN Packet Format 0.3, "Interest Packet" and "Data Packet"; NDNLPv2,
-/// "Network Nack"): a view of those octets, which takes no memory.
+/// The content of a frame: a view of the received octets, which allocates nothing (NDN Packet
+/// Format 0.3, "Interest Packet" and "Data Packet"; NDNLPv2, "Network Nack").
 #[derive(Clone, Copy, Debug, PartialEq, Eq)]
 pub enum Frame<'a> {
-    /// An element of type 5.
+    /// An Interest, an element of type 5.
     Interest(Interest<'a>),
-    /// An element of type 6.
+    /// A Data, an element of type 6.
     Data(Data<'a>),
     /// A link packet with a Nack.
     Nack {
-        /// The NackReason, 0 where there is none: `CONGESTION`, `DUPLICATE`, `NO_ROUTE` or another.
+        /// The NackReason, 0 if absent: `CONGESTION`, `DUPLICATE`, `NO_ROUTE` or another.
         reason: u64,
-        /// The Interest that is refused.
+        /// The Interest that the Nack refuses.
         interest: Interest<'a>,
     },
-    /// A link packet without a packet.
+    /// A link packet without a Fragment.
     Idle,
 }
 
-/// A frame, and the PIT token beside it: a view of octets of a link, which takes no memory.
+/// A frame with its PIT token: a view of the received octets, which allocates nothing.
 #[derive(Clone, Copy, Debug, PartialEq, Eq)]
 pub struct Framed<'a> {
-    /// The PIT token that a link packet carries, of 1 to 32 octets (NDNLPv2, "PIT Token").
+    /// The PIT token of the link packet, 1 to 32 octets (NDNLPv2, "PIT Token").
     pub token: Option<&'a [u8]>,
-    /// The content of the octets.
+    /// The content of the frame.
     pub frame: Frame<'a>,
 }
 
-/// The greatest length of the octets of a link, in octets.
+/// The greatest length of a frame, in octets.
 pub const MAX_FRAME: usize = 9000;
 
 /// The greatest length of an Interest or a Data, in octets.
 pub const MAX_PACKET: usize = 8800;
 
-/// Reads octets of a link (NDN Packet Format 0.3, "Interest Packet" and "Data Packet"; NDNLPv2,
-/// "Packet Format"): one Interest or one Data of this profile, or a link packet around one. Fields
-/// are in the order of the standard, and other elements among them are ignored where their types
-/// allow it. The digest of an Interest's ApplicationParameters has to be right. The octets are at
-/// most 9,000, and those of a packet at most 8,800. A packet's received octets are its own element,
-/// without the link packet's.
+/// Reads a frame (NDN Packet Format 0.3, "Interest Packet" and "Data Packet"; NDNLPv2, "Packet
+/// Format"): one Interest or one Data of this profile, or a link packet. Fields must be in the
+/// order of the standard. Other elements among them are ignored if their types allow it. The digest
+/// of an Interest's ApplicationParameters must be right. A frame has at most 9,000 octets, and a
+/// packet at most 8,800. The received octets of a packet are its own element, without the link
+/// packet around it.
 ///
-/// Refuses all else with the first fault from the left: see `PacketFault`. No signature is
-/// verified, and a PIT token is read and dropped: `read_lp` returns it.
+/// Returns the first fault from the left for anything else: see `PacketFault`. Signatures are not
+/// verified. A PIT token is checked but not returned: `read_lp` returns it.
 pub fn read_frame(octets: &[u8]) -> Result<Frame<'_>, PacketFault>
-    // What is read is in the grammar.
+    // Every frame that is read is in the grammar.
     ensures found { IfOk result (λ frame. IsFrame octets.now (plain_frame frame)) }
-    // What is in the grammar is read.
+    // Every frame in the grammar is read.
     ensures only { (frame : PlainFrame) → IsFrame octets.now frame
         → on_result (λ f. Ok (plain_frame f)) Err result ≡ Ok frame }
-    // Which fault it is.
+    // The fault is the first one.
     ensures fault { IfErr result (FaultOf octets.now) }
     ensures exact { on_result (λ f. Ok (plain_frame f)) Err result ≡ frame_at octets.now }
 {
     frame_of(octets)
 }
 
-// A packet without a link packet is read at its place in the result, here and in `framed_of`: a
+// A packet outside a link packet is constructed directly in the result, here and in `framed_of`: a
 // call of `packet_of` would copy it.
 #[tactic(auto, unfolding(crate::specs::FrameReading::frame_at, crate::specs::FrameReading::framed_at))]
 #[inline(always)]
@@ -92,20 +92,20 @@ fn frame_of(octets: &[u8]) -> Result<Frame<'_>, PacketFault>
     }
 }
 
-/// Reads octets of a link as `read_frame` does, and returns the PIT token beside their content
-/// (NDNLPv2, "PIT Token"): 1 to 32 octets, which a link packet carries once at most, in any place
-/// among its header fields. A packet without a link packet has none. The token is a view of the
-/// octets, and nothing takes memory.
+/// Reads a frame as `read_frame` does, and returns it with its PIT token (NDNLPv2, "PIT Token").
+/// The token has 1 to 32 octets. A link packet has at most one token, at any position among its
+/// header fields. A packet outside a link packet has no token. The token is a view of the octets,
+/// and nothing is allocated.
 ///
-/// Refuses all else with the first fault from the left: see `PacketFault`. A token of another
-/// length is an `LpField`, and so is a second one.
+/// Returns the first fault from the left for anything else: see `PacketFault`. A token of another
+/// length, or a second token, is an `LpField`.
 pub fn read_lp(octets: &[u8]) -> Result<Framed<'_>, PacketFault>
-    // What is read is in the grammar.
+    // Every frame that is read is in the grammar.
     ensures found { IfOk result (λ framed. IsFramed octets.now (plain_framed framed)) }
-    // What is in the grammar is read.
+    // Every frame in the grammar is read.
     ensures only { (framed : PlainFramed) → IsFramed octets.now framed
         → on_result (λ f. Ok (plain_framed f)) Err result ≡ Ok framed }
-    // Which fault it is.
+    // The fault is the first one.
     ensures fault { IfErr result (FaultOf octets.now) }
     ensures exact { on_result (λ f. Ok (plain_framed f)) Err result ≡ framed_at octets.now }
     ensures frame { on_result (λ f. Ok (plain_frame f.frame)) Err result ≡ frame_at octets.now }
@@ -138,7 +138,7 @@ fn framed_of(octets: &[u8]) -> Result<Framed<'_>, PacketFault>
     }
 }
 
-/// The one element that the octets are.
+/// Returns the element if the octets are exactly one element.
 #[inline(always)]
 pub(crate) fn only_element(octets: &[u8]) -> Result<Element<'_>, PacketFault>
     ensures exact { on_result (λ e. Ok (e.kind, e.value.now)) Err result ≡ only_element octets.now }
@@ -151,17 +151,17 @@ pub(crate) fn only_element(octets: &[u8]) -> Result<Element<'_>, PacketFault>
     Ok(element)
 }
 
-/// Whether a packet of these octets is longer than one may be.
+/// Returns whether these octets are too long for a packet.
 #[inline(always)]
 pub(crate) fn is_too_long(whole: &[u8]) -> bool
     ensures exact { result ≡ nat_lt 8800 (length whole.now) }
-    // That a packet in hand is one needs that octets are below 256.
+    // The proof that every packet in memory was read needs that octets are below 256.
     ensures octets { (i : ℕ) → slice_index whole.now i < 256 }
 {
     whole.len() > MAX_PACKET
 }
 
-/// The Interest or the Data that this element is.
+/// Reads the Interest or the Data in this element.
 #[inline(never)]
 pub(crate) fn packet_of(outer: Element<'_>) -> Result<Frame<'_>, PacketFault>
     ensures { on_result (λ f. Ok (plain_frame f)) Err result
@@ -174,7 +174,7 @@ pub(crate) fn packet_of(outer: Element<'_>) -> Result<Frame<'_>, PacketFault>
     }
 }
 
-/// The Interest inside a Nack of this reason, that this element is.
+/// Reads the Interest in this element as that of a Nack.
 pub(crate) fn nacked_of(reason: u64, outer: Element<'_>) -> Result<Frame<'_>, PacketFault>
     ensures { on_result (λ f. Ok (plain_frame f)) Err result
         ≡ nacked_of reason outer.entry.whole.now (outer.entry.kind, outer.entry.value.now) }
@@ -186,8 +186,8 @@ pub(crate) fn nacked_of(reason: u64, outer: Element<'_>) -> Result<Frame<'_>, Pa
     Ok(Frame::Nack { reason, interest })
 }
 
-/// Law: octets are one frame at most, which `frame_at` reads, with one token or none, which
-/// `framed_at` reads with it.
+/// Law: octets are at most one frame, with at most one token. `frame_at` reads the frame, and
+/// `framed_at` reads the frame with its token.
 pub fn frames_have_one_reading()
     ensures one { (text : List ℕ) (a b : PlainFrame) → IsFrame text a → IsFrame text b → a ≡ b }
     ensures exact { (text : List ℕ) (frame : PlainFrame) → ((i : ℕ) → slice_index text i < 256)
@@ -199,15 +199,15 @@ pub fn frames_have_one_reading()
         → ((framed_at text ≡ Ok framed) ↔ IsFramed text framed) }
 {}
 
-/// Law: of octets that are no frame the first fault is reported: that they are too long, then that
-/// of the outer element, and then the first one of the packet or of the link packet.
+/// Law: for octets that are not a frame, the first fault is reported: octets that are too long,
+/// then a fault of the outer element, then the first fault of the packet or of the link packet.
 pub fn frames_tell_the_first_fault()
     ensures { (text : List ℕ) (fault : PacketFault) → ((i : ℕ) → slice_index text i < 256)
         → ((frame_at text ≡ Err fault) ↔ FaultOf text fault) }
 {}
 
-/// Law: the received octets of every Interest and every Data in hand are that packet, also where it
-/// came in a link packet: only `read_frame` and `read_lp` make them.
+/// Law: the received octets of every Interest and every Data in memory are that packet, even if it
+/// came in a link packet, because only `read_frame` and `read_lp` create these values.
 pub fn packets_in_hand_are_read()
     ensures interest { (i : Interest) → IsReadInterest i }
     ensures data { (d : Data) → IsReadData d }

@@ -21,7 +21,8 @@ use std::marker::Model;
 /// "Implicit Digest Component").
 #[derive(Drop)]
 pub struct FullName {
-    // The TLV-VALUE of the full name, which may have 65 components and so be no `Name`.
+    // The TLV-VALUE of the full name, which may have 65 components and is then too long for a
+    // `Name`.
     octets: Vec<u8>,
 }
 
@@ -38,7 +39,7 @@ impl Model for FullName {
 }
 
 impl FullName {
-    /// The full name of a Data. The digest is computed here, and never again.
+    /// Returns the full name of a Data. The digest is computed only here.
     pub fn new(alloc: Global, packet: &Data<'_>) -> Result<FullName, Memory>
         ensures { IfOk result (λ f. f ≡ record {
           name = components packet.now.name;
@@ -54,7 +55,7 @@ impl FullName {
         Ok(FullName { octets })
     }
 
-    /// The TLV-VALUE of the full name.
+    /// Returns the TLV-VALUE of the full name.
     pub fn as_octets(&self) -> &[u8]
         ensures { IsElements result.now (all_components self.now) }
     {
@@ -68,8 +69,8 @@ impl FullName {
         self.octets.as_slice().cmp(other.octets.as_slice())
     }
 
-    /// Whether two are one full name. Digests of other Data differ, mostly in the first octet, so
-    /// they are compared before the names.
+    /// Returns whether the two full names are equal. Digests are compared before names, because the
+    /// digests of different Data mostly differ in the first octet.
     pub fn is_same(&self, other: &FullName) -> bool
         ensures { result ≡ eq_by_cmp name_cmp (all_components self.now) (all_components other.now) }
     {
@@ -78,7 +79,7 @@ impl FullName {
         digest_of(mine) == digest_of(its) && self.compare(other).is_eq()
     }
 
-    /// Whether it comes before the name of these octets in canonical order.
+    /// Returns whether the full name comes before the name in `octets` in canonical order.
     pub fn is_below(&self, octets: &[u8]) -> bool
         ensures { (name : List Field) → IsElements octets.now name
             → result ≡ is_lt (name_cmp (all_components self.now) name) }
@@ -86,7 +87,7 @@ impl FullName {
         self.octets.as_slice().cmp(octets).is_lt()
     }
 
-    /// Whether these are its octets.
+    /// Returns whether `octets` are the TLV-VALUE of the full name.
     pub fn is(&self, octets: &[u8]) -> bool
         ensures { (name : List Field) → IsElements octets.now name
             → IsTrue result ↔ (all_components self.now ≡ name) }
@@ -94,7 +95,7 @@ impl FullName {
         self.octets.as_slice() == octets
     }
 
-    /// Whether it begins with a name.
+    /// Returns whether the full name begins with `name`.
     pub fn is_under(&self, name: Name<'_>) -> bool
         ensures prefix { IsTrue result
             ↔ IsPrefix (components name.entry) (all_components self.now) }
@@ -103,8 +104,8 @@ impl FullName {
         self.octets.as_slice().starts_with(name.as_octets())
     }
 
-    /// Whether it is near enough behind a name for one like it to be of a Data that answers an
-    /// Interest of this name and flag.
+    /// Returns whether the full name is near `name` in canonical order: only near full names can
+    /// answer an Interest for `name` with this CanBePrefix.
     pub fn is_near(&self, name: Name<'_>, can_be_prefix: bool) -> bool
         ensures { result ≡ is_near (components name.entry) can_be_prefix
             (all_components self.now) }
@@ -121,7 +122,7 @@ impl FullName {
         }
     }
 
-    /// Whether this is the name before the digest.
+    /// Returns whether `name` is the full name without its digest.
     pub fn is_of(&self, name: Name<'_>) -> bool
         ensures { IsTrue result ↔ (components name.entry ≡ self.now.name) }
     {
@@ -129,7 +130,7 @@ impl FullName {
         name.as_octets() == &octets[..octets.len() - DIGEST_COMPONENT_LEN]
     }
 
-    /// Whether this is the name or the full name.
+    /// Returns whether `name` is the full name, with or without its digest.
     pub fn is_named(&self, name: Name<'_>) -> bool
         ensures { IsTrue result ↔ ((components name.entry ≡ self.now.name)
             ⊎ (components name.entry ≡ all_components self.now)) }
@@ -138,7 +139,7 @@ impl FullName {
     }
 }
 
-/// The implicit digest, which ends the octets of a full name.
+/// Returns the implicit digest at the end of the octets of a full name.
 fn digest_of(octets: &[u8]) -> &[u8]
     requires { 34 ≤ length octets.now }
     ensures { result.now ≡ digest_in octets.now }

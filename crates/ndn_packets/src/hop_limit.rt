@@ -1,4 +1,5 @@
-//! The HopLimit of an Interest, in place (NDN Packet Format 0.3, "Interest Packet", "HopLimit").
+//! Changing the HopLimit of an Interest in place (NDN Packet Format 0.3, "Interest Packet",
+//! "HopLimit").
 
 ghost use Rattle.std.specs.Prelude.{◌≡◌, ◌↔◌, ℕ, ◌<◌, Some, IsSome, IfSome, slice_index};
 ghost use Rattle.std.specs.Borrow.{sem};
@@ -11,27 +12,31 @@ use crate::frame::{Frame, read_frame};
 use crate::types::HOP_LIMIT;
 use ndn_tlv::first_element;
 
-/// The octet of the HopLimit, to change it, where the octets are one Interest that has a HopLimit.
+/// Borrows the HopLimit's octet, so that the caller can change it, if the octets are one Interest
+/// that has a HopLimit.
 pub fn hop_limit_mut(octets: &mut [u8]) -> Option<&mut u8>
-    // All other octets stay.
+    // All other octets stay unchanged.
     ensures* lends { sem 𝓛 (LendsHopLimit octets.entry result) }
-    // It is there where an Interest with a HopLimit is, and is that one's.
+    // The result is `Some` exactly if the octets are an Interest with a HopLimit, and its value is
+    // that HopLimit.
     ensures found { IfSome result (λ limit. HasHopLimit octets.entry.now limit.now) }
     ensures only { (limit : ℕ) → HasHopLimit octets.entry.now limit → IsSome result }
-    // Whatever is written there, the octets are still that Interest, with that HopLimit.
+    // Whatever octet is written, the octets are still that Interest, with the new HopLimit.
     ensures still { (i : PlainInterest) (old limit : ℕ) → limit < 256
         → IsInterest octets.entry.now i → i.hop_limit ≡ Some old
         → IsInterest (with_octet octets.entry.now limit) (with_limit i limit) }
 {
     let place = hop_place(octets);
-    // The contract of `get_mut` does not define the slice after the borrow.
+    // An index out of bounds is handled here, because the contract of `get_mut` does not define the
+    // slice after the borrow.
     if place >= octets.len() {
         return None;
     }
     Some(&mut octets[place])
 }
 
-/// The place of the HopLimit's octet in an Interest that has one; else the end of the octets.
+/// Returns the index of the HopLimit's octet in an Interest, or the length of `octets` if there is
+/// no HopLimit.
 fn hop_place(octets: &[u8]) -> usize
     ensures exact { result ≡ hop_place octets.now }
     // The proof of `hop_limit_mut` needs that octets are below 256.
@@ -49,7 +54,7 @@ fn hop_place(octets: &[u8]) -> usize
     };
     match from_first(outer.value, HOP_LIMIT) {
         None => end,
-        // After the type and the length, one octet each.
+        // The HopLimit follows its type and length, which are one octet each.
         Some(from) => end - from.len() + 2,
     }
 }

@@ -26,29 +26,29 @@ use ndn_names::{FirstOfType, Name};
 use ndn_tlv::Element;
 use sha2::{Digest, Sha256};
 
-/// An Interest, a view of the octets that it was read from (NDN Packet Format 0.3, "Interest
+/// An Interest: a view of the octets that it was read from (NDN Packet Format 0.3, "Interest
 /// Packet").
 #[derive(Clone, Copy, Debug, PartialEq, Eq)]
 pub struct Interest<'a> {
     /// The name, which is not empty.
     pub name: Name<'a>,
-    /// Whether the packet has a CanBePrefix.
+    /// Whether the packet has CanBePrefix.
     pub can_be_prefix: bool,
-    /// Whether the packet has a MustBeFresh.
+    /// Whether the packet has MustBeFresh.
     pub must_be_fresh: bool,
-    /// The value of the Nonce, 4 octets as they are in the packet.
+    /// The value of the Nonce: its 4 octets, in the order of the packet.
     pub nonce: [u8; 4],
-    /// The InterestLifetime in milliseconds, 4000 where the packet has none.
+    /// The InterestLifetime in milliseconds, 4000 if absent.
     pub lifetime: u64,
     /// The HopLimit, in hops.
     pub hop_limit: Option<u8>,
-    /// The value of the ApplicationParameters, whose digest is in the name.
+    /// The value of the ApplicationParameters. The name has their digest.
     pub parameters: Option<&'a [u8]>,
-    /// The signature of a signed Interest, which is not verified.
+    /// The signature, if the Interest is signed. It is not verified.
     pub signature: Option<Signature<'a>>,
-    /// The received octets of the whole packet, its type and length among them, at most 8,800.
+    /// The received octets of the whole packet, including its type and length, at most 8,800.
     pub whole: &'a [u8],
-    /// The octets that the signature covers from the ApplicationParameters on, where it covers any.
+    /// The covered octets from the ApplicationParameters on, if the signature covers any.
     pub(crate) covered: Option<&'a [u8]>,
     ghost covers: { ∥ HoldsSecond (components name) whole.now
         (option_map (λ c. c.now) covered) ∥₁ },
@@ -76,10 +76,10 @@ const FIELDS: [u32; 9] = [
     INTEREST_SIGNATURE_VALUE,
 ];
 
-/// The InterestLifetime of an Interest that has none, in milliseconds.
+/// The lifetime of an Interest without InterestLifetime, in milliseconds.
 const DEFAULT_LIFETIME: u64 = 4000;
 
-/// The fields of an Interest that were read so far.
+/// The fields of an Interest that have been read so far.
 #[derive(Clone, Copy)]
 struct InterestFields<'a> {
     can_be_prefix: bool,
@@ -88,11 +88,11 @@ struct InterestFields<'a> {
     lifetime: u64,
     hop_limit: Option<u8>,
     parameters: Option<&'a [u8]>,
-    /// The octets from the ApplicationParameters on, where they are there.
+    /// The octets from the ApplicationParameters on, once they have been read.
     from_parameters: &'a [u8],
     info: Option<SignatureInfo<'a>>,
     value: Option<&'a [u8]>,
-    /// The octets from the InterestSignatureValue on, where it is there.
+    /// The octets from the InterestSignatureValue on, once it has been read.
     from_value: &'a [u8],
 }
 
@@ -104,7 +104,7 @@ impl<'a> Interest<'a> {
     ghost use Rattle.ndn_packets.specs.FrameReading.{interest_of};
     ghost use Rattle.ndn_packets.specs.declared.types.TheConstants.{INTEREST};
 
-    /// The key of the Interest.
+    /// Returns the key of the Interest.
     pub fn key(&self) -> Key<'a>
         ensures { plain_key result ≡ key_of (plain_interest self.now) }
     {
@@ -116,7 +116,7 @@ impl<'a> Interest<'a> {
     }
 
     #[tactic(auto, using(crate::proofs::Rules::nil_tests), unfolding(crate::specs::Reading::interest_at))]
-    /// Reads the Interest that this element is.
+    /// Reads the Interest in this element.
     #[inline(always)]
     pub(crate) fn read(outer: Element<'a>) -> Result<Interest<'a>, PacketFault>
         requires { outer.kind ≡ INTEREST }
@@ -154,8 +154,8 @@ impl<'a> Interest<'a> {
     }
 }
 
-/// What is wrong with the digests of parameters in a name, of which this is the first one. These
-/// are the octets from the parameters on.
+/// Returns the fault of the digests of parameters in a name. `digest` is the first of these
+/// digests. `from_parameters` are the octets from the ApplicationParameters on.
 #[inline(always)]
 fn digest_fault(
     digest: Option<FirstOfType<'_>>,
@@ -180,8 +180,8 @@ fn digest_fault(
     }
 }
 
-/// The octets that a signature covers from the ApplicationParameters on: those before its value,
-/// where the digest of parameters is the name's last component.
+/// Returns the covered octets from the ApplicationParameters up to the InterestSignatureValue, if
+/// there is a signature and the digest of parameters is the name's last component.
 #[inline(always)]
 fn second_part<'a>(
     signature: Option<Signature<'_>>,
@@ -204,7 +204,8 @@ fn second_part<'a>(
     }
 }
 
-/// The signature of an Interest that has an InterestSignatureInfo and an InterestSignatureValue.
+/// Returns the signature, if the Interest has an InterestSignatureInfo and an
+/// InterestSignatureValue.
 #[inline(always)]
 fn signature_of<'a>(
     info: Option<SignatureInfo<'a>>,
@@ -220,7 +221,7 @@ fn signature_of<'a>(
 }
 
 #[tactic(auto, using(crate::proofs::Marks::interest_first, crate::proofs::Marks::interest_still, crate::proofs::Marks::interest_parameters, crate::proofs::Marks::interest_info, crate::proofs::Marks::interest_value))]
-/// The fields after the Name.
+/// Reads the fields after the Name.
 #[inline(always)]
 fn fields_of(rest: &[u8]) -> Result<InterestFields<'_>, PacketFault>
     ensures walk { on_result (λ f. Ok (interest_so_far f)) Err result
@@ -267,7 +268,7 @@ fn fields_of(rest: &[u8]) -> Result<InterestFields<'_>, PacketFault>
     Ok(found)
 }
 
-/// The value of a flag, which has no octets.
+/// Reads the value of a flag, which must be empty.
 #[inline(always)]
 fn is_set(value: &[u8]) -> Result<bool, PacketFault>
     ensures { result ≡ (if is_nil value.now then Ok true else Err BadField) }
@@ -279,7 +280,7 @@ fn is_set(value: &[u8]) -> Result<bool, PacketFault>
     }
 }
 
-/// The value of a Nonce.
+/// Reads the value of a Nonce, which must have 4 octets.
 #[inline(always)]
 fn nonce_of(value: &[u8]) -> Result<[u8; 4], PacketFault>
     ensures { result ≡ (if length value.now == 4 then Ok value.now else Err BadField) }
@@ -290,7 +291,7 @@ fn nonce_of(value: &[u8]) -> Result<[u8; 4], PacketFault>
     }
 }
 
-/// The value of one octet.
+/// Reads a value of one octet.
 #[inline(always)]
 fn octet(value: &[u8]) -> Result<u8, PacketFault>
     ensures { result ≡ octet_at value.now }

@@ -23,30 +23,32 @@ use ndn_names::{MAX_COMPONENTS, Name};
 use ndn_tlv::{Memory, put_element, put_flag, put_header, put_number_field};
 use sha2::{Digest, Sha256};
 
-/// An Interest to write (NDN Packet Format 0.3, "Interest Packet").
+/// An Interest that is to be written (NDN Packet Format 0.3, "Interest Packet").
 #[derive(Clone, Copy, Debug)]
 pub struct InterestWriter<'a> {
-    /// The name, without the digest of parameters, which is put after it where there are some.
+    /// The name without the digest of parameters. The writer appends the digest if there are
+    /// parameters.
     pub name: Name<'a>,
     pub can_be_prefix: bool,
     pub must_be_fresh: bool,
-    /// The value of the Nonce, 4 octets as they are in the packet.
+    /// The value of the Nonce: its 4 octets, in the order of the packet.
     pub nonce: [u8; 4],
     /// The InterestLifetime in milliseconds.
     pub lifetime: Option<u64>,
     /// The HopLimit, in hops.
     pub hop_limit: Option<u8>,
-    /// The value of the ApplicationParameters. A signed Interest without any gets empty ones.
+    /// The value of the ApplicationParameters. A signed Interest without parameters gets empty
+    /// ones.
     pub parameters: Option<&'a [u8]>,
-    /// The signature, where there is one.
+    /// How the Interest is signed, if at all.
     pub sign: Option<Sign<'a>>,
-    /// The SignatureTime of a signature, in milliseconds since 1970.
+    /// The SignatureTime, in milliseconds since 1970. It is written only with a signature.
     pub time: Option<u64>,
-    /// The SignatureSeqNum of a signature.
+    /// The SignatureSeqNum. It is written only with a signature.
     pub seq: Option<u64>,
 }
 
-/// The lengths that the headers of an Interest and of its name state, in octets.
+/// The lengths of the name's value and of the Interest's value, in octets.
 #[derive(Clone, Copy)]
 struct Lengths {
     name: usize,
@@ -64,26 +66,27 @@ impl InterestWriter<'_> {
     ghost use Rattle.ndn_tlv.specs.Element.{element};
 
     #[tactic(auto, using(crate::proofs::WrittenInterests::interest_reads_back))]
-    /// Appends the Interest, its fields in the standard's order and in their shortest forms, and
-    /// none that is not asked for.
+    /// Appends the Interest with only the requested fields, in the standard's order and in their
+    /// shortest forms.
     ///
-    /// Refuses it with the first fault in the order of `WriteFault`, and then appends nothing.
+    /// If the Interest is refused, returns the first fault in the order of `WriteFault` and appends
+    /// nothing.
     pub fn write(&self, out: &mut Vec<u8>) -> Result<(), WriteFault>
         ensures ok { OnOk result (out.new.items ≡ out.old.items ++ interest_text self.now) }
         ensures err { OnErr result (out.new.items ≡ out.old.items) }
-        // Which fault it is: where there is no cause, memory was refused.
+        // The fault is the reason for a refusal or, if there is none, that memory ran out.
         ensures fault { MatchOption (interest_refusal self.now)
             (IfErr result (λ fault. fault ≡ WriteFault.Memory))
             (λ fault. result ≡ Err fault) }
-        // Where there is room, memory is not refused.
+        // If the capacity of `out` suffices, memory does not run out.
         ensures room { interest_refusal self.now ≡ None
             → vec_len out.old + length (interest_text self.now) ≤ vec_capacity out.old
             → IsOk result }
         ensures capacity { vec_capacity out.old ≤ vec_capacity out.new }
-        // What is written is in the grammar, and is what was asked for.
+        // The written Interest is in the grammar, and is what was asked for.
         ensures reads_back { interest_refusal self.now ≡ None
             → IsInterest (interest_text self.now) (interest_asked self.now) }
-        // A signature is of the octets that it covers.
+        // The signature, if there is one, is over the octets that it covers.
         ensures signed { interest_refusal self.now ≡ None
             → IfSome self.now.sign (SignsInterest self.now) }
     {
@@ -99,7 +102,7 @@ impl InterestWriter<'_> {
         Ok(done?)
     }
 
-    /// Why the Interest is not written, but for memory.
+    /// Returns why the Interest is not written, except when memory runs out.
     #[inline(always)]
     fn refusal(&self, lengths: Lengths) -> Option<WriteFault>
         requires { IsLength lengths.value (octets (interest_fields self.now)) }
@@ -114,8 +117,8 @@ impl InterestWriter<'_> {
         None
     }
 
-    /// The number of components of the name, with the digest of the parameters, where an Interest
-    /// may be written with it.
+    /// Returns the number of components of the written name, including the digest of parameters, or
+    /// `None` if an Interest may not have this name.
     #[inline(always)]
     fn component_count(&self) -> Option<usize>
         ensures { MatchOption result (is_bad_name (components self.now.name) ≡ true)
@@ -129,7 +132,7 @@ impl InterestWriter<'_> {
         Some(count + usize::from(self.has_digest()))
     }
 
-    /// Whether there are ApplicationParameters, whose digest is then in the name.
+    /// Returns whether the written Interest has ApplicationParameters, and so a digest in its name.
     #[inline(always)]
     fn has_digest(&self) -> bool
         ensures { result ≡ not (is_nil (later_fields self.now self.now.sign)) }
@@ -137,7 +140,7 @@ impl InterestWriter<'_> {
         self.parameters.is_some() || self.sign.is_some()
     }
 
-    /// The length of the name's value. It stops at `usize::MAX`.
+    /// Returns the length of the name's value in octets, at most `usize::MAX`.
     #[inline(always)]
     fn name_len(&self) -> usize
         ensures len { IsLength result (octets (interest_name self.now)) }
@@ -151,8 +154,8 @@ impl InterestWriter<'_> {
         }
     }
 
-    /// The length of the fields between the name and the ApplicationParameters. It stops at
-    /// `usize::MAX`.
+    /// Returns the length in octets of the fields between the name and the ApplicationParameters,
+    /// at most `usize::MAX`.
     #[inline(always)]
     fn early_len(&self) -> usize
         ensures len { IsLength result (octets (early_fields self.now)) }
@@ -168,7 +171,8 @@ impl InterestWriter<'_> {
             .saturating_add(octet_field_len(HOP_LIMIT, self.hop_limit))
     }
 
-    /// The length of the fields from the ApplicationParameters on. It stops at `usize::MAX`.
+    /// Returns the length in octets of the fields from the ApplicationParameters on, at most
+    /// `usize::MAX`.
     #[inline(always)]
     fn later_len(&self) -> usize
         ensures len { IsLength result (octets (later_fields self.now self.now.sign)) }
@@ -188,7 +192,7 @@ impl InterestWriter<'_> {
         }
     }
 
-    /// The value of the ApplicationParameters, empty where none are asked for.
+    /// Returns the value of the ApplicationParameters, empty if none were given.
     #[inline(always)]
     fn parameter_octets(&self) -> &[u8]
         ensures { result.now ≡ unwrap_or (option_map (λ p. p.now) self.now.parameters) [] }
@@ -199,12 +203,12 @@ impl InterestWriter<'_> {
         }
     }
 
-    /// The lengths that are written. They stop at `usize::MAX`.
+    /// Returns the lengths that the headers state, each at most `usize::MAX`.
     #[inline(always)]
     fn lengths(&self) -> Lengths
         ensures name { IsLength result.name (octets (interest_name self.now)) }
         ensures value { IsLength result.value (octets (interest_fields self.now)) }
-        // The proofs that what is written is a packet need this.
+        // The proofs that a written Interest is in the grammar need `SoundInterest`.
         ensures sound { SoundInterest self.now }
     {
         let name = self.name_len();
@@ -214,7 +218,8 @@ impl InterestWriter<'_> {
         Lengths { name, value }
     }
 
-    /// Appends the fields from the ApplicationParameters on, or some octets of them.
+    /// Appends the fields from the ApplicationParameters on. If memory runs out, some octets may
+    /// have been appended.
     #[inline(always)]
     fn put_later(&self, out: &mut Vec<u8>) -> Result<(), Memory>
         ensures { Puts out.old out.new result (octets (later_fields self.now self.now.sign)) }
@@ -230,7 +235,8 @@ impl InterestWriter<'_> {
         }
     }
 
-    /// Appends what the signature covers after the name's components, or some octets of it.
+    /// Appends what the signature covers after the name's components. If memory runs out, some
+    /// octets may have been appended.
     fn put_covered(&self, out: &mut Vec<u8>, sign: Sign<'_>) -> Result<(), Memory>
         ensures ok { OnOk result
             (out.new.items ≡ out.old.items ++ octets (covered_fields self.now sign.entry)) }
@@ -243,7 +249,7 @@ impl InterestWriter<'_> {
         put_info(out, INTEREST_SIGNATURE_INFO, sign, self.time, self.seq)
     }
 
-    /// The value of the signature, which covers the name's components and these octets.
+    /// Returns the value of the signature, which covers the name's components and `covered`.
     fn signature_value(&self, sign: Sign<'_>, covered: &[u8]) -> [u8; DIGEST_LEN]
         requires { covered.now ≡ octets (covered_fields self.now sign) }
         ensures { result ≡ interest_value self.now sign.entry }
@@ -251,8 +257,8 @@ impl InterestWriter<'_> {
         sign.value(self.name.as_octets(), covered)
     }
 
-    /// Appends the name's element, or some octets of it. Where it has a digest of parameters, that
-    /// is still zeros.
+    /// Appends the Name element. If memory runs out, some octets may have been appended. A digest
+    /// of parameters is first written as zeros.
     #[inline(always)]
     fn put_name(&self, out: &mut Vec<u8>, name_len: usize) -> Result<(), Memory>
         requires len { IsLength name_len (octets (interest_name self.now)) }
@@ -267,7 +273,8 @@ impl InterestWriter<'_> {
         Ok(())
     }
 
-    /// Appends the fields between the name and the ApplicationParameters, or some octets of them.
+    /// Appends the fields between the name and the ApplicationParameters. If memory runs out, some
+    /// octets may have been appended.
     #[inline(always)]
     fn put_early(&self, out: &mut Vec<u8>) -> Result<(), Memory>
         ensures { Puts out.old out.new result (octets (early_fields self.now)) }
@@ -280,7 +287,7 @@ impl InterestWriter<'_> {
         Ok(())
     }
 
-    /// Appends the fields of the Interest, or some octets of them.
+    /// Appends the fields of the Interest. If memory runs out, some octets may have been appended.
     #[inline(always)]
     fn put_fields(&self, out: &mut Vec<u8>, name_len: usize) -> Result<(), Memory>
         requires len { IsLength name_len (octets (interest_name self.now)) }
@@ -298,7 +305,7 @@ impl InterestWriter<'_> {
         Ok(())
     }
 
-    /// Appends the Interest, or some octets of it.
+    /// Appends the Interest. If memory runs out, some octets may have been appended.
     #[inline(always)]
     fn put_parts(&self, out: &mut Vec<u8>, lengths: Lengths) -> Result<(), Memory>
         requires name { IsLength lengths.name (octets (interest_name self.now)) }
@@ -316,7 +323,7 @@ impl InterestWriter<'_> {
     }
 }
 
-/// Puts the digest of the octets from `start` on over those that end at `digest_end`.
+/// Overwrites the 32 octets that end at `digest_end` with the digest of the octets from `start` on.
 fn put_digest(octets: &mut [u8], digest_end: usize, start: usize)
     requires after { 32 ≤ digest_end }
     requires before { digest_end ≤ start }
@@ -329,7 +336,7 @@ fn put_digest(octets: &mut [u8], digest_end: usize, start: usize)
     overwrite(octets, digest_end - DIGEST_LEN, &digest);
 }
 
-/// The number of a name's components, where none is a digest of parameters.
+/// Returns the number of a name's components, or `None` if one is a digest of parameters.
 #[inline(always)]
 fn count_without_digest(name: Name<'_>) -> Option<usize>
     ensures exact { MatchOption result (is_nil (digests_in (components name.entry)) ≡ false)
@@ -347,7 +354,7 @@ fn count_without_digest(name: Name<'_>) -> Option<usize>
     Some(count)
 }
 
-/// The length of a flag, 0 where it is not set.
+/// Returns the length of a flag in octets, 0 if it is not set.
 #[inline(always)]
 fn flag_len(kind: u32, set: bool) -> usize
     ensures { IsLength result (octets (flag kind set)) }
@@ -355,7 +362,7 @@ fn flag_len(kind: u32, set: bool) -> usize
     if set { element_len(kind, 0) } else { 0 }
 }
 
-/// The length of an octet's field that may be absent.
+/// Returns the length in octets of an optional field whose value is one octet.
 #[inline(always)]
 fn octet_field_len(kind: u32, octet: Option<u8>) -> usize
     ensures len { IsLength result (octets (optional kind (option_map (λ n. n ∷ []) octet))) }
@@ -367,7 +374,8 @@ fn octet_field_len(kind: u32, octet: Option<u8>) -> usize
     }
 }
 
-/// Appends an octet's field, where it is there, or some octets of it.
+/// Appends an optional field whose value is one octet. If memory runs out, some octets may have
+/// been appended.
 #[inline(always)]
 fn put_octet_field(out: &mut Vec<u8>, kind: u32, octet: Option<u8>) -> Result<(), Memory>
     requires { 1 ≤ kind }

@@ -9,15 +9,15 @@ use ndn_names::Name;
 use std::cmp::Ordering;
 use std::hash::{Hash, Hasher};
 
-/// The key of an Interest: Interests of one key ask for the same Data (NFD Developer's Guide,
-/// "Pending Interest Table").
+/// The key of an Interest. Interests with the same key ask for the same Data (NFD Developer's
+/// Guide, "Pending Interest Table").
 #[derive(Clone, Copy, Debug)]
 pub struct Key<'a> {
     /// The name.
     pub name: Name<'a>,
-    /// Whether the Interest has a CanBePrefix.
+    /// Whether the Interest has CanBePrefix.
     pub can_be_prefix: bool,
-    /// Whether the Interest has a MustBeFresh.
+    /// Whether the Interest has MustBeFresh.
     pub must_be_fresh: bool,
 }
 
@@ -26,7 +26,7 @@ impl Key<'_> {
     ghost use Rattle.ndn_packets.specs.Key.{plain_key, key_cmp};
 
     /// Compares by name in canonical order (NDN Packet Format 0.3, "Name", "Canonical Order"), then
-    /// by CanBePrefix, then by MustBeFresh, a flag that is not set first.
+    /// by CanBePrefix, then by MustBeFresh. An unset flag comes before a set one.
     pub fn compare(&self, other: Key<'_>) -> Ordering
         ensures { result ≡ key_cmp (plain_key self.now) (plain_key other.entry) }
     {
@@ -88,7 +88,7 @@ impl Hash for Key<'_> {
     }
 }
 
-/// Law: keys can be the keys of maps in this order, which ties only equal keys.
+/// Law: maps can use Interest keys in this order. Keys that compare as equal are equal.
 pub fn interest_keys_can_be_keys()
     ensures total { IsTotalOrder key_cmp }
     ensures antisymmetric { IsAntisymmetric key_cmp }

@@ -1,5 +1,5 @@
-//! Interests, Data and link packets of the Named Data Networking packet format, read in place and
-//! written.
+//! Interests, Data and link packets of the Named Data Networking packet format: reading them in
+//! place, and writing them.
 #![tactic(auto)]
 
 mod answers;

@@ -31,8 +31,8 @@ const MAX_IGNORED: u32 = 959;
 /// The greatest length of a PitToken, in octets.
 const MAX_TOKEN: usize = 32;
 
-/// The header fields that were read so far: which of those that may come once, the PIT token, and
-/// the reason of a Nack.
+/// The header fields that have been read so far: whether Sequence, FragIndex and FragCount were
+/// there, the PIT token, and the reason of a Nack.
 #[derive(Clone, Copy)]
 struct Headers<'a> {
     sequence: bool,
@@ -48,7 +48,7 @@ impl<'a> Headers<'a> {
     ghost use Rattle.ndn_packets.specs.FrameReading.{is_refused_header, with_header};
     ghost use Rattle.ndn_packets.specs.SoFar.{link_so_far};
 
-    /// Whether a header field is not allowed after these.
+    /// Returns whether `field` is not allowed after the header fields in `self`.
     fn refuse(self, field: Element<'_>) -> bool
         ensures { result
             ≡ is_refused_header (link_so_far self.entry) (field.entry.kind, field.entry.value.now) }
@@ -63,7 +63,7 @@ impl<'a> Headers<'a> {
         }
     }
 
-    /// These header fields and a further one that is allowed after them.
+    /// Returns the header fields in `self` and `field`, which is allowed after them.
     fn with(self, field: Element<'a>) -> Result<Headers<'a>, PacketFault>
         ensures { on_result (λ h. Ok (link_so_far h)) Err result
             ≡ with_header (link_so_far self.entry) (field.entry.kind, field.entry.value.now) }
@@ -87,14 +87,15 @@ impl<'a> Headers<'a> {
     }
 }
 
-/// Whether a header field that this profile does not know is ignored (NDNLPv2, "Packet Format").
+/// Returns whether a header field that this profile does not know is ignored (NDNLPv2, "Packet
+/// Format").
 fn is_ignored_header(kind: u32) -> bool
     ensures { result ≡ is_ignored_header kind }
 {
     kind > NACK && kind <= MAX_IGNORED && kind % 4 == 0
 }
 
-/// Refuses a number that is above the limit: the packet is one of several fragments.
+/// Refuses a number above `limit`, because the packet is then one of several fragments.
 fn check_at_most(limit: u64, value: &[u8]) -> Result<(), PacketFault>
     ensures { (s : LinkSoFar) → on_result (λ _. Ok s) Err result ≡ at_most limit value.now s }
 {
@@ -105,7 +106,7 @@ fn check_at_most(limit: u64, value: &[u8]) -> Result<(), PacketFault>
 }
 
 #[tactic(auto, unfolding(crate::specs::FrameReading::nack_at))]
-/// The reason of a Nack's value.
+/// Returns the reason in a Nack's value.
 fn nack_reason(value: &[u8]) -> Result<u64, PacketFault>
     ensures { result ≡ nack_at value.now }
 {
@@ -155,7 +156,7 @@ pub(crate) fn read_link(value: &[u8]) -> Result<Framed<'_>, PacketFault>
     }
 }
 
-/// The packet in a Fragment, beside a Nack of this reason or without one.
+/// Reads the packet in a Fragment, with a Nack of this reason or without one.
 fn fragment_of(nack: Option<u64>, fragment: &[u8]) -> Result<Frame<'_>, PacketFault>
     ensures { on_result (λ f. Ok (plain_frame f)) Err result ≡ fragment_at nack fragment.now }
 {
@@ -179,10 +180,10 @@ fn check_last(after: &[u8]) -> Result<(), PacketFault>
     Err(PacketFault::LpField)
 }
 
-/// Appends a packet with a PIT token and with a Nack of a reason, those of both that are given: a
-/// link packet (NDNLPv2, "PIT Token", "Network Nack"), or the packet alone where neither is given.
-/// The token is 1 to 32 octets, and comes before the Nack. The NackReason is always written, also
-/// 0. When memory runs out, nothing is appended.
+/// Appends a packet with a PIT token and a Nack, each if given, in a link packet (NDNLPv2, "PIT
+/// Token", "Network Nack"). Without both, appends the packet alone. The token has 1 to 32 octets,
+/// and comes before the Nack. The NackReason is always written, even if it is 0. If memory runs
+/// out, nothing is appended.
 pub fn put_lp(
     out: &mut Vec<u8>,
     token: Option<&[u8]>,
@@ -193,16 +194,16 @@ pub fn put_lp(
     ensures ok { OnOk result (out.new.items
         ≡ out.old.items ++ lp_text (option_map (λ t. t.now) token.entry) nack packet.now) }
     ensures err { OnErr result (out.new.items ≡ out.old.items) }
-    // Where there is room, memory is not refused.
+    // If the capacity of `out` suffices, memory does not run out.
     ensures room { vec_len out.old
         + length (lp_text (option_map (λ t. t.now) token.entry) nack packet.now)
         ≤ vec_capacity out.old → IsOk result }
     ensures capacity { vec_capacity out.old ≤ vec_capacity out.new }
-    // Around octets that are one Interest it is that Interest with the token and the Nack.
+    // If `packet` is one Interest, the result reads as that Interest with the token and the Nack.
     ensures reads_back { (i : PlainInterest) → IsInterest packet.now i
         → IsFramed (lp_text (option_map (λ t. t.now) token.entry) nack packet.now)
         (framed_with (option_map (λ t. t.now) token.entry) (interest_frame nack packet.now i)) }
-    // Around octets that are one Data it is, without a Nack, that Data with the token.
+    // If `packet` is one Data and there is no Nack, the result reads as that Data with the token.
     ensures reads_back_data { (d : PlainData) → IsData packet.now d → nack ≡ None
         → IsFramed (lp_text (option_map (λ t. t.now) token.entry) nack packet.now)
         (framed_with (option_map (λ t. t.now) token.entry) (AData packet.now d)) }
@@ -215,16 +216,16 @@ pub fn put_lp(
     done
 }
 
-/// Puts a link packet with this PIT token around the octets from a place on, which are a packet
-/// (NDNLPv2, "PIT Token"). The token is 1 to 32 octets. They stay bare where there is none. When
-/// memory runs out, the octets stay as they were.
+/// Wraps the packet in `out` from index `start` on in a link packet with a PIT token of 1 to 32
+/// octets (NDNLPv2, "PIT Token"). Without a token, `out` stays unchanged. If memory runs out, the
+/// octets stay unchanged.
 pub fn wrap(out: &mut Vec<u8>, start: usize, token: Option<&[u8]>) -> Result<(), Memory>
     requires start { start ≤ vec_len out.old }
     requires is_token { IfSome token (λ t. IsToken t.now) }
     ensures ok { OnOk result (out.new.items ≡ take start out.old.items
         ++ lp_text (option_map (λ t. t.now) token.entry) None (drop start out.old.items)) }
     ensures err { OnErr result (out.new.items ≡ out.old.items) }
-    // Where there is room, memory is not refused.
+    // If the capacity of `out` suffices, memory does not run out.
     ensures room { start + length (lp_text (option_map (λ t. t.now) token.entry) None
         (drop start out.old.items)) ≤ vec_capacity out.old → IsOk result }
     ensures capacity { vec_capacity out.old ≤ vec_capacity out.new }
@@ -236,7 +237,7 @@ pub fn wrap(out: &mut Vec<u8>, start: usize, token: Option<&[u8]>) -> Result<(),
 }
 
 #[tactic(auto, using(crate::proofs::Wrapping::wrapped, crate::proofs::Wrapping::wrapped_len))]
-/// Puts a link packet with a PIT token around the octets from a place on.
+/// Wraps the packet in `out` from index `start` on in a link packet with a PIT token.
 fn wrap_with(out: &mut Vec<u8>, start: usize, token: &[u8]) -> Result<(), Memory>
     requires start { start ≤ vec_len out.old }
     requires is_token { IsToken token.now }
@@ -258,8 +259,8 @@ fn wrap_with(out: &mut Vec<u8>, start: usize, token: &[u8]) -> Result<(), Memory
 }
 
 #[tactic(auto, using(crate::proofs::Wrapping::start_lengths))]
-/// Appends the octets before a packet of this length in a link packet with a PIT token, or some of
-/// them.
+/// Appends the octets that come before a packet of length `packet_len` in a link packet with a PIT
+/// token. If memory runs out, some octets may have been appended.
 fn put_link_start(out: &mut Vec<u8>, token: &[u8], packet_len: usize) -> Result<(), Memory>
     requires is_token { IsToken token.now }
     requires in_memory { packet_len < 2 ^ 63 }
@@ -272,23 +273,25 @@ fn put_link_start(out: &mut Vec<u8>, token: &[u8], packet_len: usize) -> Result<
     Ok(())
 }
 
-/// Appends a Nack of a reason around an Interest's octets: a link packet (NDNLPv2, "Network Nack").
-/// The NackReason is always written, also 0. When memory runs out, nothing is appended.
+/// Appends a link packet with a Nack of this reason around an Interest's octets (NDNLPv2, "Network
+/// Nack"). The NackReason is always written, even if it is 0. If memory runs out, nothing is
+/// appended.
 pub fn put_nack(out: &mut Vec<u8>, reason: u64, interest: &[u8]) -> Result<(), Memory>
     ensures ok { OnOk result (out.new.items ≡ out.old.items ++ nack_text reason interest.now) }
     ensures err { OnErr result (out.new.items ≡ out.old.items) }
-    // Where there is room, memory is not refused.
+    // If the capacity of `out` suffices, memory does not run out.
     ensures room { vec_len out.old + length (nack_text reason interest.now) ≤ vec_capacity out.old
         → IsOk result }
     ensures capacity { vec_capacity out.old ≤ vec_capacity out.new }
-    // Around octets that are one Interest it is a Nack of that reason and Interest.
+    // If `interest` is one Interest, the result reads as a Nack with that reason for that Interest.
     ensures reads_back { (i : PlainInterest) → IsInterest interest.now i
         → IsFrame (nack_text reason interest.now) (ANack reason interest.now i) }
 {
     put_lp(out, None, Some(reason), interest)
 }
 
-/// Appends a packet with a PIT token and a Nack, or some octets of it.
+/// Appends a packet with a PIT token and a Nack. If memory runs out, some octets may have been
+/// appended.
 fn put_lp_parts(
     out: &mut Vec<u8>,
     token: Option<&[u8]>,
@@ -308,8 +311,8 @@ fn put_lp_parts(
 }
 
 #[tactic(auto, using(crate::proofs::NackWriting::link_put, crate::proofs::NackWriting::link_parts))]
-/// Appends a link packet, or some octets of it. Its length is reserved first: where it is greater
-/// than any memory has, that is refused.
+/// Appends a link packet. If memory runs out, some octets may have been appended. The length is
+/// reserved first, so a length beyond any memory is refused at once.
 fn put_link(
     out: &mut Vec<u8>,
     token: Option<&[u8]>,
@@ -334,7 +337,7 @@ fn put_link(
     Ok(())
 }
 
-/// The length of the value of a link packet. It stops at `usize::MAX`.
+/// Returns the length of the value of a link packet in octets, at most `usize::MAX`.
 fn link_value_len(token: Option<&[u8]>, nack: Option<u64>, packet: &[u8]) -> usize
     ensures len { IsLength result
         (link_value (option_map (λ t. t.now) token.entry) nack packet.now) }
@@ -346,7 +349,7 @@ fn link_value_len(token: Option<&[u8]>, nack: Option<u64>, packet: &[u8]) -> usi
         .saturating_add(element_len(FRAGMENT, packet.len()))
 }
 
-/// The length of the header field of a Nack, 0 where there is none, in octets.
+/// Returns the length of the header field of a Nack in octets, 0 if there is none.
 fn nack_header_len(nack: Option<u64>) -> usize
     ensures len { IsLength result (octets (nack_headers nack)) }
     ensures sound { IsU64 nack }
@@ -357,7 +360,8 @@ fn nack_header_len(nack: Option<u64>) -> usize
     }
 }
 
-/// Appends the header fields of a link packet, or some octets of them.
+/// Appends the header fields of a link packet. If memory runs out, some octets may have been
+/// appended.
 fn put_headers(out: &mut Vec<u8>, token: Option<&[u8]>, nack: Option<u64>) -> Result<(), Memory>
     ensures { Puts out.old out.new result
         (octets (optional PIT_TOKEN (option_map (λ t. t.now) token.entry))
@@ -371,7 +375,7 @@ fn put_headers(out: &mut Vec<u8>, token: Option<&[u8]>, nack: Option<u64>) -> Re
 }
 
 #[tactic(auto, using(ndn_tlv::proofs::Lengths::element_put))]
-/// Appends the header field of a Nack of a reason, or some octets of it.
+/// Appends the header field of a Nack. If memory runs out, some octets may have been appended.
 fn put_reason(out: &mut Vec<u8>, reason: u64) -> Result<(), Memory>
     ensures { Puts out.old out.new result (nack_field reason) }
 {

@@ -4,20 +4,20 @@ ghost use Rattle.ndn_packets.specs.FieldReader.{ignored_by};
 
 use crate::types::{INTEREST_SIGNATURE_INFO, INTEREST_SIGNATURE_VALUE, VALIDITY_PERIOD};
 
-/// Where fields are: which of the elements among them are ignored (NDN Packet Format 0.3,
+/// The value that contains elements. It decides which elements are ignored (NDN Packet Format 0.3,
 /// "Considerations for Evolvability of TLV-Based Encoding").
 #[derive(Clone, Copy)]
 pub enum Rules {
-    /// After the Name of a packet: even types from 32 on are ignored.
+    /// The value of a packet after its Name: even types from 32 on are ignored.
     Packet,
-    /// In a MetaInfo, where the types 128 to 252 are ignored too.
+    /// The value of a MetaInfo: the types 128 to 252 are ignored too.
     MetaInfo,
-    /// In a SignatureInfo, where a ValidityPeriod is ignored too.
+    /// The value of a SignatureInfo: a ValidityPeriod is ignored too.
     SignatureInfo,
 }
 
 impl Rules {
-    /// Whether an element of this type, which is no field, is ignored.
+    /// Returns whether an element of this type that is not a field is ignored.
     #[inline(always)]
     pub fn ignores(self, kind: u32) -> bool
         ensures { result ≡ ignored_by self kind }
@@ -31,8 +31,8 @@ impl Rules {
     }
 }
 
-/// Whether a type counts only where the last field is the one before it in the schema, with ignored
-/// elements between them or without.
+/// Returns whether a type counts only if the field before it has the preceding type of the schema.
+/// Ignored elements in between do not matter.
 #[inline(always)]
 pub fn needs_previous_field(kind: u32) -> bool
     ensures { result ≡ needs_previous_field kind }

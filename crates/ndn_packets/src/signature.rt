@@ -22,18 +22,18 @@ use sha2::{Digest, Sha256};
 pub enum Locator<'a> {
     /// There is no KeyLocator.
     Missing,
-    /// It is exactly one Name, which may be empty: the name of the key.
+    /// The value is exactly one Name, which may be empty: the name of the key.
     Name(Name<'a>),
-    /// It is exactly one KeyDigest, of any length.
+    /// The value is exactly one KeyDigest, of any length.
     Digest,
-    /// It is something else, a Name that is none among it.
+    /// The value is anything else, for example a malformed Name.
     Other,
 }
 
-/// A signature as it is in a packet (NDN Packet Format 0.3, "Signature").
+/// The signature of a packet (NDN Packet Format 0.3, "Signature").
 #[derive(Clone, Copy, Debug, PartialEq, Eq)]
 pub struct Signature<'a> {
-    /// The SignatureType, any number below 2^64: none is refused as unknown.
+    /// The SignatureType, any number below 2^64. Unknown types are not refused.
     pub kind: u64,
     /// The KeyLocator.
     pub locator: Locator<'a>,
@@ -41,18 +41,18 @@ pub struct Signature<'a> {
     pub time: Option<u64>,
     /// The SignatureSeqNum.
     pub seq: Option<u64>,
-    /// The value of the SignatureValue, of any length, the empty one among them.
+    /// The value of the SignatureValue, of any length, possibly empty.
     pub value: &'a [u8],
 }
 
-/// How a packet is signed that is written.
+/// How a written packet is signed.
 #[derive(Clone, Copy, Debug)]
 pub enum Sign<'a> {
     /// DigestSha256: the value is SHA-256 of the covered octets (NDN Packet Format 0.3,
     /// "DigestSha256").
     Digest,
-    /// HmacWithSha256: the value is the covered octets' HMAC with SHA-256 under a key of any
-    /// length, whose name is the KeyLocator (NDN Packet Format 0.3, "SignatureHmacWithSha256").
+    /// HmacWithSha256: the value is the HMAC with SHA-256 of the covered octets, under a key of any
+    /// length. The KeyLocator is the key's name (NDN Packet Format 0.3, "SignatureHmacWithSha256").
     Hmac {
         /// The key's name.
         name: Name<'a>,
@@ -65,7 +65,7 @@ impl Sign<'_> {
     ghost use Rattle.std.specs.Prelude.{◌≡◌, ◌++◌};
     ghost use Rattle.ndn_packets.specs.Writing.{value_of};
 
-    /// The value of a signature that covers two slices, one after the other.
+    /// Returns the value of a signature that covers `first` followed by `second`.
     pub(crate) fn value(self, first: &[u8], second: &[u8]) -> [u8; 32]
         ensures { result ≡ value_of self.entry (first.now ++ second.now) }
     {
@@ -95,7 +95,7 @@ impl<'a> SignatureInfo<'a> {
     ghost use Rattle.ndn_packets.specs.Packet.{plain_signature, signed_with};
     ghost use Rattle.ndn_packets.specs.SoFar.{plain_info};
 
-    /// The signature of this SignatureInfo and the value of a SignatureValue.
+    /// Returns the signature with this SignatureInfo and the given value of its SignatureValue.
     #[inline(always)]
     pub fn with_value(self, value: &'a [u8]) -> Signature<'a>
         ensures { plain_signature result ≡ signed_with (plain_info self.entry) value.entry.now }
@@ -110,7 +110,7 @@ impl<'a> SignatureInfo<'a> {
     }
 }
 
-/// The fields of a SignatureInfo that were read so far.
+/// The fields of a SignatureInfo that have been read so far.
 #[derive(Clone, Copy)]
 struct InfoFields<'a> {
     kind: Option<u64>,
@@ -128,7 +128,7 @@ const FIELDS: [u32; 5] = [
 ];
 
 #[tactic(auto, unfolding(crate::specs::Reading::locator_at))]
-/// The key that the value of a KeyLocator names.
+/// Returns the key that the value of a KeyLocator names.
 fn locator_of(value: &[u8]) -> Locator<'_>
     ensures { plain_locator result ≡ locator_at value.now }
 {
@@ -165,7 +165,7 @@ pub(crate) fn signature_info(value: &[u8]) -> Result<SignatureInfo<'_>, PacketFa
     })
 }
 
-/// The fields of a SignatureInfo.
+/// Reads the fields of a SignatureInfo.
 fn fields_of(value: &[u8]) -> Result<InfoFields<'_>, PacketFault>
     ensures { on_result (λ f. Ok (info_so_far f)) Err result
         ≡ read_fields take_info_field no_info_yet

@@ -2,15 +2,15 @@
 
 ghost use Rattle.std.specs.Prelude.{◌≡◌};
 
-/// Packets (NDN Packet Format 0.3, "TLV-TYPE Number Assignments").
+/// The types of packets (NDN Packet Format 0.3, "TLV-TYPE Number Assignments").
 pub const INTEREST: u32 = 5;
 
 pub const DATA: u32 = 6;
 
-/// The Name of a packet, or of a key.
+/// The Name of a packet or of a key.
 pub const NAME: u32 = 7;
 
-/// The fields of an Interest after its Name, in their order.
+/// The fields of an Interest after its Name, in order.
 pub const CAN_BE_PREFIX: u32 = 33;
 
 pub const MUST_BE_FRESH: u32 = 18;
@@ -29,7 +29,7 @@ pub const INTEREST_SIGNATURE_INFO: u32 = 44;
 
 pub const INTEREST_SIGNATURE_VALUE: u32 = 46;
 
-/// The fields of a Data after its Name, in their order.
+/// The fields of a Data after its Name, in order.
 pub const META_INFO: u32 = 20;
 
 pub const CONTENT: u32 = 21;
@@ -38,14 +38,14 @@ pub const SIGNATURE_INFO: u32 = 22;
 
 pub const SIGNATURE_VALUE: u32 = 23;
 
-/// The fields of a MetaInfo, in their order.
+/// The fields of a MetaInfo, in order.
 pub const CONTENT_TYPE: u32 = 24;
 
 pub const FRESHNESS_PERIOD: u32 = 25;
 
 pub const FINAL_BLOCK_ID: u32 = 26;
 
-/// The fields of a SignatureInfo, in their order.
+/// The fields of a SignatureInfo, in order.
 pub const SIGNATURE_TYPE: u32 = 27;
 
 pub const KEY_LOCATOR: u32 = 28;
@@ -56,11 +56,10 @@ pub const SIGNATURE_TIME: u32 = 40;
 
 pub const SIGNATURE_SEQ_NUM: u32 = 42;
 
-/// An element that a SignatureInfo may have beside its fields (NDN Certificate Format 2.0,
-/// "ValidityPeriod"), which is ignored.
+/// An element that is ignored in a SignatureInfo (NDN Certificate Format 2.0, "ValidityPeriod").
 pub const VALIDITY_PERIOD: u32 = 253;
 
-/// What a KeyLocator may be, beside a Name.
+/// The type of the element that a KeyLocator may have instead of a Name.
 pub const KEY_DIGEST: u32 = 29;
 
 /// A link packet and its fields (NDNLPv2, "Packet Format").
@@ -94,9 +93,9 @@ pub const DUPLICATE: u64 = 100;
 
 pub const NO_ROUTE: u64 = 150;
 
-/// Law: these are the numbers that the standards assign (NDN Packet Format 0.3, "TLV-TYPE Number
-/// Assignments" and "Signature"; NDNLPv2, "Packet Format" and "Network Nack"; NDN Certificate
-/// Format 2.0 for the ValidityPeriod).
+/// Law: these constants are the numbers that the standards assign (NDN Packet Format 0.3, "TLV-TYPE
+/// Number Assignments" and "Signature"; NDNLPv2, "Packet Format" and "Network Nack"; NDN
+/// Certificate Format 2.0 for the ValidityPeriod).
 pub fn packet_types_are_as_assigned()
     ensures packets { (INTEREST ≡ 5) × (DATA ≡ 6) × (NAME ≡ 7) }
     ensures interest { (CAN_BE_PREFIX ≡ 33) × (MUST_BE_FRESH ≡ 18) × (FORWARDING_HINT ≡ 30)

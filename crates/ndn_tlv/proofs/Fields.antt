@@ -1,4 +1,4 @@
--- What reading an element, and one element after another, says of the octets.
+-- What reading an element, or successive elements, tells about the octets.
 use Rattle.std.proofs.Common.{◌≡◌, ◌≢◌, ℕ, zero, suc, ◌-◌, ◌^◌, ◌<◌, ◌≤◌, ◌⊎◌, Bool, true, false, cond, ltb, eqb, List, [], ◌∷◌, ◌++◌, length, take, drop, map, Result, Ok, Err, refl, sym, ap, subst, ◌∙◌, append_assoc, arith, inl, inr}
 use Rattle.std.specs.List.{flat_map, AllByRecursion}
 use Rattle.std.specs.Int.{Width, w16, w32, w64, byte_len, from_be_bytes}
@@ -81,7 +81,7 @@ element_is : (bytes : List ℕ) → element_at bytes ≡ (type_at bytes >>= valu
 unfolding element_at
 element_is bytes = refl
 
--- an element in front is read
+-- an element at the front is read
 pub element_again : (f : Field) (rest : List ℕ) → IsField f → element_at (element f ++ rest) ≡ Ok (f, rest)
 unfolding element_at
 element_again f rest ok =
@@ -89,7 +89,7 @@ element_again f rest ok =
     let long : ltb (length (f.1 ++ rest)) (length f.1) ≡ false = le-ltb _ _ (omega (arith, length-append f.1 rest)) in
     ap element_at regrouped ∙ rw (type_again f.0 (spelling (length f.1) ++ (f.1 ++ rest)) ok.0 ok.1, number_again (length f.1) (f.1 ++ rest) ok.2, long, take_at f.1 rest (length f.1) refl, drop_at f.1 rest (length f.1) refl) refl
 
--- what is read is an element in front
+-- what is read is an element at the front
 pub element_found : (bytes : List ℕ) (f : Field) (rest : List ℕ) → IsBytes bytes → element_at bytes ≡ Ok (f, rest) → IsField f × (bytes ≡ element f ++ rest)
 element_found bytes f rest fits e =
     let a = bind_ok (type_at bytes) valued (f, rest) (sym (element_is bytes) ∙ e) in
@@ -108,7 +108,7 @@ element_found bytes f rest fits e =
     let whole : bytes ≡ element (kind.0, value) ++ after = t.2 ∙ ap (λ (x : List ℕ). spelling kind.0 ++ x) (inner ∙ sym (append_assoc (spelling (length value)) value after)) ∙ sym (append_assoc (spelling kind.0) (spelling (length value) ++ value) after) in
     subst (λ (y : Field × List ℕ). IsField y.0 × (bytes ≡ element y.0 ++ y.1)) (done_is made (f, rest) g.1) ((t.0, t.1, omega (arith, size, n.0)), whole)
 
--- ---- where no element can be read
+-- ---- octets at which no element can be read
 
 number_faults : (bytes : List ℕ) (f : TlvFault) → NumberFault bytes f → ElementFault bytes f
 number_faults bytes Truncated h = inl h
@@ -156,9 +156,9 @@ element_fault bytes f fits e =
           ]
     ]
 
--- ---- one element after another
+-- ---- elements in sequence
 
--- a test or the other way
+-- what holds of both alternatives holds of the chosen one
 chosen : {R : Type 0} (c : Bool) (x y : R) (P : R → Type 0) → P x → P y → P (cond c x y)
 chosen true x y P p q = p
 chosen false x y P p q = q
@@ -185,7 +185,7 @@ number_leaves (b ∷ bytes) x e =
     let all = chosen (ltb b 253) (done (b, bytes)) (cond (eqb b 253) (long_number_at w16 253 bytes) (cond (eqb b 254) (long_number_at w32 (2 ^ 16) bytes) (long_number_at w64 (2 ^ 32) bytes))) (Leaves (length bytes)) one more in
     omega (arith, all x e)
 
--- an element takes some octets
+-- an element has at least one octet
 pub element_leaves : (bytes : List ℕ) (x : Field × List ℕ) → element_at bytes ≡ Ok x → length x.1 < length bytes
 element_leaves bytes x e =
     let a = bind_ok (type_at bytes) valued x (sym (element_is bytes) ∙ e) in
@@ -205,7 +205,7 @@ same_next : (r : Result (Field × List ℕ) TlvFault) (k g : List ℕ → List I
 same_next (Ok x) k g h = ap (λ (l : List Item). Ok x.0 ∷ l) (h x refl)
 same_next (Err f) k g h = refl
 
--- the bound on the number of elements does not matter
+-- the limit on the number of elements does not matter
 within_same : (n m : ℕ) (bytes : List ℕ) → length bytes ≤ n → length bytes ≤ m → elements_within n bytes ≡ elements_within m bytes
 unfolding elements_within
 within_same zero zero bytes p q = refl
@@ -245,7 +245,7 @@ elements_of-err (b ∷ bytes) f ne e = elements_of-next b bytes ∙ ap (on_resul
 abbrev pub read : Field → Result Field TlvFault
 read f = Ok f
 
--- the join of elements is read as these
+-- the concatenation of elements is read as these elements
 pub elements_again : (fields : List Field) → AllByRecursion IsField fields → elements_of (flat_map element fields) ≡ map (λ f. read f) fields
 elements_again [] ok = elements_of-nil
 elements_again (f ∷ fields) ok =
@@ -280,7 +280,7 @@ reads_same (f ∷ fs) (g ∷ gs) e =
     let others = reads_same fs gs is.1 in
     cc
 
--- a text that is read without a fault is the join of what was read
+-- a text that is read without a fault is the concatenation of the elements that are read
 pub elements_read : (bytes : List ℕ) (fields : List Field) → IsBytes bytes → elements_of bytes ≡ map (λ f. read f) fields → IsElements bytes fields
 elements_read [] [] fits e = (tt, refl)
 elements_read [] (f ∷ fields) fits e = let no = elements_of-nil in absurd cc
@@ -298,11 +298,11 @@ elements_found bytes fields fits short e = elements_read bytes fields fits e
 pub elements_exact : (bytes : List ℕ) (fields : List Field) → IsElements bytes fields → elements_of bytes ≡ map (λ f. read f) fields
 elements_exact bytes fields p = ap elements_of p.1 ∙ elements_again fields p.0
 
--- lists of elements with one text are equal
+-- lists of elements with the same octets are equal
 pub elements_same : (fs gs : List Field) → AllByRecursion IsField fs → AllByRecursion IsField gs → flat_map element fs ≡ flat_map element gs → fs ≡ gs
 elements_same fs gs p q e = reads_same fs gs (sym (elements_again fs p) ∙ ap elements_of e ∙ elements_again gs q)
 
--- ---- what a reader of the first element returned
+-- ---- the result of a reader of the first element
 
 abbrev pub seen : ℕ → List ℕ → List ℕ → Result (Field × List ℕ) TlvFault
 seen kind value rest = Ok ((kind, value), rest)
@@ -331,7 +331,7 @@ never_refused bytes f exact kind value rest ok e =
     let no : refused f ≡ seen kind value rest = exact ∙ element_front bytes kind value rest ok e in
     cc
 
--- ---- going over all elements
+-- ---- iterating over all elements
 
 pub elements_of-empty : (bytes : List ℕ) → length bytes ≡ 0 → elements_of bytes ≡ []
 elements_of-empty [] e = elements_of-nil
@@ -343,7 +343,7 @@ elements_of-last bytes f some h = rw elements_of-nil (h (λ e. some (ap length e
 pub length-elements_of-last : (bytes : List ℕ) (f : TlvFault) → elements_of bytes ≡ Err f ∷ elements_of [] → length (elements_of []) < length (elements_of bytes)
 length-elements_of-last bytes f e = rw e (omega arith)
 
--- no more elements than octets
+-- there are no more elements than octets
 length-within : (n : ℕ) (bytes : List ℕ) → length (elements_within n bytes) ≤ n
 unfolding elements_within
 length-within zero bytes = omega arith
@@ -361,7 +361,7 @@ next_refused (Err f) fault e = let same : f ≡ fault = cc in ap (λ (d : TlvFau
 not_nothing : (b : ℕ) (bytes : List ℕ) → b ∷ bytes ≡ [] → ⊥
 not_nothing b bytes e = cc
 
--- what stands where the elements of a text end in a fault
+-- The text after the fields `fields` begins with no element, because of this fault.
 pub record EndsInFault (text : List ℕ) (fields : List Field) (fault : TlvFault) : Type 0 where
   pub rest : List ℕ
   pub parts : text ≡ flat_map element fields ++ rest

@@ -1,4 +1,4 @@
--- Lengths of elements, and what is left of octets to which some are appended.
+-- Lengths of elements, and the octets that remain after some are appended.
 use Rattle.std.proofs.Common.{◌≡◌, ℕ, ◌+◌, ◌<◌, ◌≤◌, List, ◌++◌, length, take, sym, ap, ◌∙◌, append_assoc, arith}
 use Rattle.std.proofs.lemmas.List.{length-append, take-take, take_at}
 use Rattle.ndn_tlv.specs.Number.{shortest_nni, spelling}
@@ -13,7 +13,7 @@ pub ruleset header_lengths = (length-spelling_nine, length-shortest_eight)
 
 pub ruleset element_lengths = (length-spelling_nine, length-shortest_eight, length-element)
 
--- an element whose type has one octet
+-- an upper bound for the length of an element whose type has one octet
 pub element_fits : (kind : ℕ) (value : List ℕ) → kind < 253 → length (element (kind, value)) ≤ length value + 10
 element_fits kind value lt = omega (arith, length-element kind value, length-spelling_one kind lt, length-spelling_nine (length value))
 
@@ -23,11 +23,11 @@ number_fits kind n lt =
     let one = length-spelling_one (length (shortest_nni n)) (omega (arith, few)) in
     omega (arith, few, one, length-element kind (shortest_nni n), length-spelling_one kind lt)
 
--- what stands after the header of an element is its value
+-- an element is its header followed by its value
 pub element_put : (old : List ℕ) (kind len : ℕ) (value : List ℕ) → len ≡ length value → (old ++ (spelling kind ++ spelling len)) ++ value ≡ old ++ element (kind, value)
 element_put old kind len value is = rw is (simp append_assoc)
 
--- what is left of octets to which some are appended, and others after these
+-- the old octets remain when octets are appended in two steps
 pub begins_more : (old front new tail : List ℕ) (n m : ℕ) → n ≡ length old → m ≡ length front → front ≡ old ++ tail → take m new ≡ front → take n new ≡ old
 begins_more old front new tail n m at following is begins =
     let short : n ≤ m = omega (arith, ap length is, length-append old tail) in

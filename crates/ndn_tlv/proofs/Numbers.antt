@@ -1,4 +1,4 @@
--- The shortest form of a number, and what reading a number says of the octets.
+-- The shortest form of a number, and what reading a number tells about the octets.
 use Rattle.std.proofs.Common.{◌≡◌, ◌≢◌, ℕ, zero, suc, ◌+◌, ◌-◌, ◌^◌, ◌<◌, ◌≤◌, ◌⊎◌, Bool, true, false, cond, ltb, List, [], ◌∷◌, ◌++◌, length, get_or, take, drop, Result, Ok, Err, refl, sym, ap, subst, ◌∙◌, arith, inl, inr}
 use Rattle.std.specs.Int.{Width, w16, w32, w64, byte_len, from_be_bytes, to_be_bytes}
 use Rattle.std.proofs.lemmas.Bool.{cases_lt, lt-ltb, le-ltb, ltb-true, ltb-false}
@@ -51,7 +51,7 @@ unfolding zeros
 length-zeros zero = refl
 length-zeros (suc n) = ap suc (length-zeros n)
 
--- ---- integers of a fixed number of octets
+-- ---- integers with a fixed number of octets
 
 pub record IsWide (w : Width) (limit : ℕ) : Type 0 where
   pub len : (n : ℕ) → length (to_be_bytes w n) ≡ byte_len w
@@ -187,7 +187,7 @@ form_beats text n (inr (inr (inr f))) =
       | inr a ↦ beats_same text n (f.1 ∙ sym (spelling_nine n a))
     ]
 
--- `spelling` is what `Spells` says
+-- a text that `Spells` a number is the `spelling` of the number
 pub Spells-is : (text : List ℕ) (n : ℕ) → Spells text n → (n < 2 ^ 64) × (text ≡ spelling n)
 Spells-is text n s =
     let below = form_below text n s.0 in
@@ -201,7 +201,7 @@ Spells-spelling n h = (form_of_spelling n h, λ other f. (form_beats other n f).
 pub Spells-from : (text : List ℕ) (n : ℕ) → (n < 2 ^ 64) × (text ≡ spelling n) → Spells text n
 Spells-from text n p = rw p.1 (Spells-spelling n p.0)
 
--- no spelling begins another
+-- no encoding of a number is a prefix of another one
 pub spelling_head : (n : ℕ) (x : List ℕ) → ((n < 253) × (spelling n ++ x ≡ n ∷ x)) ⊎ (((253 ≤ n) × (n < 2 ^ 16) × (spelling n ++ x ≡ 253 ∷ (to_be_bytes w16 n ++ x))) ⊎ (((2 ^ 16 ≤ n) × (n < 2 ^ 32) × (spelling n ++ x ≡ 254 ∷ (to_be_bytes w32 n ++ x))) ⊎ ((2 ^ 32 ≤ n) × (spelling n ++ x ≡ 255 ∷ (to_be_bytes w64 n ++ x)))))
 spelling_head n x =
     elim (cases_lt n 253) [
@@ -217,7 +217,7 @@ spelling_head n x =
 
 -- ---- reading
 
--- a test before a step
+-- a step succeeds only if the test before it does not refuse
 pub guard_ok : {A : Type 0} (b : Bool) (d : TlvFault) (r : Result A TlvFault) (y : A) → cond b (Err d) r ≡ Ok y → (b ≡ false) × (r ≡ Ok y)
 guard_ok true d r y e = absurd cc
 guard_ok false d r y e = (refl, e)
@@ -240,7 +240,7 @@ long_again w limit wide least n rest lt le =
     let long : ltb (length (to_be_bytes w n ++ rest)) (byte_len w) ≡ false = le-ltb _ _ (omega (arith, length-append (to_be_bytes w n) rest)) in
     rw (long, take_at (to_be_bytes w n) rest (byte_len w) len, drop_at (to_be_bytes w n) rest (byte_len w) len, wide.again n lt, le-ltb n least le) refl
 
--- the octets in front are those of the number
+-- the octets at the front are those of the number
 long_front : (w : Width) (limit : ℕ) (wide : IsWide w limit) (bytes : List ℕ) → IsBytes bytes → byte_len w ≤ length bytes → (from_be_bytes w (take (byte_len w) bytes) < limit) × (bytes ≡ to_be_bytes w (from_be_bytes w (take (byte_len w) bytes)) ++ drop (byte_len w) bytes)
 long_front w limit wide bytes fits long =
     let front = wide.back (take (byte_len w) bytes) (omega (arith, length-take (byte_len w) bytes)) (IsBytes-take (byte_len w) bytes fits) in
@@ -257,7 +257,7 @@ long_found w limit wide least bytes n rest fits e =
     let least_is : least ≤ v = ltb-false _ _ h.0 in
     (subst (λ (m : ℕ). bytes ≡ to_be_bytes w m ++ rest) is.0 (subst (λ (r : List ℕ). bytes ≡ to_be_bytes w v ++ r) is.1 front.1), rw (← is.0) front.0, rw (← is.0) least_is)
 
--- what stands where the octets after a first octet are no number
+-- why the octets after a first octet do not form a number
 abbrev LongFault : Width → ℕ → ℕ → List ℕ → TlvFault → Type 0
 LongFault w limit least bytes f =
     ((f ≡ Truncated) × ((missing : List ℕ) × (n : ℕ) × (missing ≢ []) × (n < limit) × (bytes ++ missing ≡ to_be_bytes w n)))
@@ -315,7 +315,7 @@ number_at-nil : number_at [] ≡ Err Truncated
 unfolding number_at
 number_at-nil = refl
 
--- what is spelled is read
+-- an encoded number is read
 pub number_again : (n : ℕ) (rest : List ℕ) → n < 2 ^ 64 → number_at (spelling n ++ rest) ≡ Ok (n, rest)
 number_again n rest h =
     elim (spelling_head n rest) [
@@ -325,7 +325,7 @@ number_again n rest h =
       | inr (inr (inr a)) ↦ ap number_at a.1 ∙ number_at-255 (to_be_bytes w64 n ++ rest) ∙ long_again w64 (2 ^ 64) wide64 (2 ^ 32) n rest h a.0
     ]
 
--- what is read is spelled so
+-- what is read is the shortest encoding of the number
 pub number_found : (bytes : List ℕ) (n : ℕ) (rest : List ℕ) → IsBytes bytes → number_at bytes ≡ Ok (n, rest) → (n < 2 ^ 64) × (bytes ≡ spelling n ++ rest)
 number_found [] n rest fits e = let no = number_at-nil in absurd cc
 number_found (b ∷ bytes) n rest fits e =
@@ -347,7 +347,7 @@ number_found (b ∷ bytes) n rest fits e =
           (t.1, rw (a, spelling_nine n t.2) (ap (λ (x : List ℕ). 255 ∷ x) t.0))
     ]
 
--- where a number cannot be read
+-- a number whose encoding is too long cannot be read
 too_long : (bytes text rest : List ℕ) (n : ℕ) → bytes ≡ text ++ rest → IsForm text n → length (spelling n) < length text → BeginsTooLong bytes
 too_long bytes text rest n e form lt = (text, rest, n, e, form, λ s. omega (arith, ap length (Spells-is text n s).1))
 
@@ -379,7 +379,7 @@ number_fault (b ∷ bytes) f fits e =
           rw a (long_number_fault w64 (2 ^ 64) (2 ^ 32) 255 bytes f wide64.len (λ n h. inr (inr (inr (h, refl)))) (λ n h. omega (arith, length-spelling_five n h)) (long_fault w64 (2 ^ 64) wide64 (2 ^ 32) bytes f (IsBytes-rest b bytes fits) (sym (number_at-255 bytes) ∙ at)))
     ]
 
--- ---- what a reader of a number returned, seen by a view
+-- ---- the result of a reader of a number, as plain data
 
 pub number_of-found : {X : Type 0} (view : X → ℕ × List ℕ) (r : Result X TlvFault) (bytes : List ℕ) → IsBytes bytes → on_result (λ x. Ok (view x)) Err r ≡ number_at bytes → IfOk r (λ x. (text : List ℕ) × Spells text (view x).0 × (bytes ≡ text ++ (view x).1))
 number_of-found view (Ok x) bytes fits e =

@@ -1,4 +1,4 @@
--- Octets that are one element.
+-- Octets that are exactly one element.
 use Rattle.std.proofs.Common.{◌≡◌, ◌≢◌, ℕ, List, [], ◌∷◌, length, refl, ap, ◌∙◌, arith, false}
 use Rattle.std.specs.Prelude.{None, Some, Result, Ok, Err, ◌==◌, if◌then◌else◌}
 use Rattle.ndn_tlv.specs.declared.fault.TlvFault.{TlvFault}

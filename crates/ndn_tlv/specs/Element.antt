@@ -7,18 +7,18 @@ use Rattle.ndn_tlv.specs.Number.{spelling}
 abbrev pub Field : Type 0
 Field = ℕ × List ℕ
 
--- the types from 1 to 2 ^ 32 - 1, and values whose length is a number
+-- the type is from 1 to 2^32 - 1, and the length of the value is below 2^64
 abbrev pub IsField : Field → Type 0
 IsField f = (1 ≤ f.0) × (f.0 < 2 ^ 32) × (length f.1 < 2 ^ 64)
 
--- the octets of an element: its type, the length of its value, its value
+-- the octets of an element: its type, the length of its value, and its value
 abbrev pub element : Field → List ℕ
 element f = spelling f.0 ++ (spelling (length f.1) ++ f.1)
 
--- the text is one element of this type and value
+-- the text is exactly one element with this type and value
 abbrev pub IsElement : List ℕ → ℕ → List ℕ → Type 0
 IsElement text kind value = IsField (kind, value) × (text ≡ element (kind, value))
 
--- the text is the join of these elements
+-- the text is the concatenation of these elements
 abbrev pub IsElements : List ℕ → List Field → Type 0
 IsElements text fields = AllByRecursion IsField fields × (text ≡ flat_map element fields)

@@ -1,4 +1,4 @@
--- Elements one after another, as an iterator returns them.
+-- Successive elements, as an iterator returns them.
 use Rattle.std.specs.Prelude.{ℕ, List, Result, Ok, Err}
 use Rattle.ndn_tlv.specs.declared.element.Element.{Element}
 use Rattle.ndn_tlv.specs.declared.elements.Elements.{Elements}
@@ -15,10 +15,10 @@ abbrev pub field_or_fault : Result Element TlvFault → Result Field TlvFault
 field_or_fault (Ok e) = Ok (field e)
 field_or_fault (Err f) = Err f
 
--- the octets that are still to be read
+-- the remaining octets of an iterator
 abbrev pub octets_left : Elements → List ℕ
 octets_left s = s.rest.now
 
--- what is still to come
+-- the elements that an iterator has not returned yet
 abbrev pub elements_left : Elements → List (Result Field TlvFault)
 elements_left s = elements_of (octets_left s)

@@ -1,5 +1,5 @@
--- The fields of a value by their types: the first of a type counts, and what follows an element
--- that cannot be read is ignored (NFD Management, "Control Command").
+-- The fields of a value, found by their types: the first field of each type counts, and everything
+-- from the first element that cannot be read is ignored (NFD Management, "Control Command").
 use Rattle.std.specs.Prelude.{ℕ, List, [], ◌∷◌, Option, None, Some, Result, Ok, Err, ◌==◌, if◌then◌else◌}
 use Rattle.ndn_tlv.specs.declared.fault.TlvFault.{TlvFault}
 use Rattle.ndn_tlv.specs.Element.{Field}
@@ -7,13 +7,13 @@ use Rattle.ndn_tlv.specs.Element.{Field}
 abbrev pub Elements : Type 0
 Elements = List (Result Field TlvFault)
 
--- the value of the first field of a type
+-- the value of the first field of this type
 abbrev pub first_of : ℕ → Elements → Option (List ℕ)
 first_of kind [] = None
 first_of kind (Err fault ∷ es) = None
 first_of kind (Ok e ∷ es) = if e.0 == kind then Some e.1 else first_of kind es
 
--- the value of the one element that is there, of this type
+-- the value of the only element, if it has this type
 abbrev pub single : ℕ → Elements → Option (List ℕ)
 single kind [] = None
 single kind (Err fault ∷ es) = None

@@ -1,9 +1,9 @@
--- Numbers as octets (NDN Packet Format 0.3, "Type-Length-Value (TLV) Encoding").
+-- Encodings of numbers (NDN Packet Format 0.3, "Type-Length-Value (TLV) Encoding").
 use Rattle.std.specs.Prelude.{◌≡◌, ℕ, ◌<◌, ◌≤◌, ◌^◌, ◌⊎◌, List, [], ◌∷◌, length, nat_lt, if◌then◌else◌}
 use Rattle.std.specs.Int.{w16, w32, w64, to_be_bytes}
 
--- The forms of a VAR-NUMBER: one octet up to 252, or 253, 254 or 255 and then 2, 4 or 8 octets in
--- network order.
+-- The encodings of a number as a VAR-NUMBER: one octet up to 252; or 253, 254 or 255, followed by
+-- 2, 4 or 8 octets in network order.
 abbrev pub IsForm : List ℕ → ℕ → Type 0
 IsForm text n =
     ((n < 253) × (text ≡ n ∷ []))
@@ -11,11 +11,11 @@ IsForm text n =
     ⊎ (((n < 2 ^ 32) × (text ≡ 254 ∷ to_be_bytes w32 n))
     ⊎ ((n < 2 ^ 64) × (text ≡ 255 ∷ to_be_bytes w64 n))))
 
--- the text is the shortest VAR-NUMBER of n
+-- the text is the shortest VAR-NUMBER encoding of n
 abbrev pub Spells : List ℕ → ℕ → Type 0
 Spells text n = IsForm text n × ((other : List ℕ) → IsForm other n → length text ≤ length other)
 
--- that text, of a number below 2 ^ 64
+-- the shortest VAR-NUMBER encoding of a number below 2^64
 unfoldable pub spelling : ℕ → List ℕ
 spelling n =
     if nat_lt n 253 then n ∷ [] else (
@@ -23,7 +23,8 @@ spelling n =
     if nat_lt n (2 ^ 32) then 254 ∷ to_be_bytes w32 n else
     255 ∷ to_be_bytes w64 n))
 
--- the text is a NonNegativeInteger: n in 1, 2, 4 or 8 octets in network order, the shortest or not
+-- the text is a NonNegativeInteger: n in 1, 2, 4 or 8 octets in network order, not necessarily the
+-- shortest
 abbrev pub IsNni : List ℕ → ℕ → Type 0
 IsNni text n =
     ((n < 2 ^ 8) × (text ≡ n ∷ []))
@@ -31,7 +32,7 @@ IsNni text n =
     ⊎ (((n < 2 ^ 32) × (text ≡ to_be_bytes w32 n))
     ⊎ ((n < 2 ^ 64) × (text ≡ to_be_bytes w64 n))))
 
--- the shortest of them, of a number below 2 ^ 64
+-- the shortest NonNegativeInteger encoding of a number below 2^64
 unfoldable pub shortest_nni : ℕ → List ℕ
 shortest_nni n =
     if nat_lt n (2 ^ 8) then n ∷ [] else (

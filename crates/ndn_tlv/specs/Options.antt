@@ -1,4 +1,4 @@
--- What may be absent, in steps.
+-- Sequences of steps that return optional values.
 use Rattle.std.specs.Prelude.{Option, None, Some}
 
 infixl 10 ◌>>=◌

@@ -1,5 +1,5 @@
--- Reading from left to right, with the first fault that is met (NDN Packet Format 0.3,
--- "Type-Length-Value (TLV) Encoding").
+-- Reading from left to right, up to the first fault (NDN Packet Format 0.3, "Type-Length-Value
+-- (TLV) Encoding").
 use Rattle.std.specs.Prelude.{◌≡◌, ◌≢◌, ℕ, zero, suc, ◌<◌, ◌≤◌, ◌^◌, ◌⊎◌, List, [], ◌∷◌, ◌++◌, length, take, drop, Result, Ok, Err, nat_lt, ◌==◌, slice_index, if◌then◌else◌}
 use Rattle.std.specs.List.{flat_map, AllByRecursion}
 use Rattle.std.specs.Int.{Width, w16, w32, w64, byte_len, from_be_bytes}
@@ -13,14 +13,15 @@ abbrev pub ◌>>=◌ : {A B F : Type 0} → Result A F → (A → Result B F) �
 (Ok x) >>= f = f x
 (Err e) >>= f = Err e
 
--- the number after 253, 254 or 255, where smaller numbers have a shorter form
+-- the number after a first octet of 253, 254 or 255, and the octets after it; numbers below `least`
+-- have a shorter form
 abbrev pub long_number_at : Width → ℕ → List ℕ → Result (ℕ × List ℕ) TlvFault
 long_number_at w least bytes =
     if nat_lt (length bytes) (byte_len w) then Err Truncated else (
     if nat_lt (from_be_bytes w (take (byte_len w) bytes)) least then Err NotShortest else
     Ok (from_be_bytes w (take (byte_len w) bytes), drop (byte_len w) bytes))
 
--- a VAR-NUMBER and the octets after it
+-- the VAR-NUMBER at the front, and the octets after it
 unfoldable pub number_at : List ℕ → Result (ℕ × List ℕ) TlvFault
 number_at [] = Err Truncated
 number_at (b ∷ bytes) =
@@ -29,7 +30,7 @@ number_at (b ∷ bytes) =
     if b == 254 then long_number_at w32 (2 ^ 16) bytes else
     long_number_at w64 (2 ^ 32) bytes))
 
--- a value that is a NonNegativeInteger
+-- the number in a value that is a NonNegativeInteger
 unfoldable pub nni_at : List ℕ → Result ℕ TlvFault
 nni_at value =
     if length value == 1 then Ok (slice_index value 0) else (
@@ -38,14 +39,14 @@ nni_at value =
     if length value == 8 then Ok (from_be_bytes w64 value) else
     Err BadInteger)))
 
--- a number that is a type
+-- a VAR-NUMBER that is a valid type, and the octets after it
 abbrev pub type_at : List ℕ → Result (ℕ × List ℕ) TlvFault
 type_at bytes = do
   kind ← number_at bytes
   if kind.0 == 0 then Err TypeZero
       else (if nat_lt kind.0 (2 ^ 32) then Ok kind else Err TypeTooLarge)
 
--- an element and the octets after it
+-- the element at the front, and the octets after it
 unfoldable pub element_at : List ℕ → Result (Field × List ℕ) TlvFault
 element_at bytes = do
   kind ← type_at bytes
@@ -57,22 +58,22 @@ abbrev pub on_result : {A F C : Type 0} → (A → C) → (F → C) → Result A
 on_result f g (Ok x) = f x
 on_result f g (Err e) = g e
 
--- at most n elements
+-- the elements of a text in order, at most n of them
 unfoldable pub elements_within : ℕ → List ℕ → List (Result Field TlvFault)
 elements_within zero bytes = []
 elements_within (suc n) [] = []
 elements_within (suc n) (b ∷ bytes) =
     on_result (λ x. Ok x.0 ∷ elements_within n x.1) (λ f. Err f ∷ []) (element_at (b ∷ bytes))
 
--- the elements of a text in order, up to its end or to the first fault, which is then the last
+-- the elements of a text in order, up to its end or to the first fault, which is then the last item
 unfoldable pub elements_of : List ℕ → List (Result Field TlvFault)
 elements_of bytes = elements_within (length bytes) bytes
 
--- the octets that are there begin a form of some number and end within it
+-- the octets end within the encoding of some number
 abbrev pub IsCutNumber : List ℕ → Type 0
 IsCutNumber bytes = (missing : List ℕ) × (n : ℕ) × (missing ≢ []) × IsForm (bytes ++ missing) n
 
--- the octets begin with a number in a form that is not its shortest
+-- the octets begin with a number that is not in its shortest form
 abbrev pub BeginsTooLong : List ℕ → Type 0
 BeginsTooLong bytes =
     (text rest : List ℕ) × (n : ℕ) × (bytes ≡ text ++ rest) × IsForm text n × (Spells text n → ⊥)
@@ -85,13 +86,13 @@ NumberFault bytes TypeZero = ⊥
 NumberFault bytes TypeTooLarge = ⊥
 NumberFault bytes BadInteger = ⊥
 
--- a type, and then octets with this property
+-- the octets begin with a type, and the octets after it have the property P
 abbrev pub AfterType : List ℕ → (List ℕ → Type 0) → Type 0
 AfterType bytes P =
     (text rest : List ℕ) × (kind : ℕ) × (bytes ≡ text ++ rest) × Spells text kind × (1 ≤ kind)
     × (kind < 2 ^ 32) × P rest
 
--- a length of more octets than follow it
+-- the octets begin with a length that is greater than the number of octets after it
 abbrev pub IsCutValue : List ℕ → Type 0
 IsCutValue bytes =
     (text rest : List ℕ) × (n : ℕ) × (bytes ≡ text ++ rest) × Spells text n × (length rest < n)
@@ -106,7 +107,7 @@ ElementFault bytes TypeTooLarge =
     (text rest : List ℕ) × (kind : ℕ) × (bytes ≡ text ++ rest) × Spells text kind × (2 ^ 32 ≤ kind)
 ElementFault bytes BadInteger = ⊥
 
--- the text is these elements, and then octets that begin with none for this cause
+-- the text begins with these elements, and then no element can be read because of this fault
 abbrev pub EndsInFault : List ℕ → List Field → TlvFault → Type 0
 EndsInFault text fields fault =
     (rest : List ℕ) × (text ≡ flat_map element fields ++ rest) × AllByRecursion IsField fields

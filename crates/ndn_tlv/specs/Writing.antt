@@ -1,4 +1,4 @@
--- Elements one after another as octets, and calls that append octets.
+-- Successive elements as octets, and calls that append octets.
 use Rattle.std.specs.Prelude.{◌≡◌, ℕ, ◌≤◌, ◌+◌, List, [], ◌∷◌, ◌++◌, length, take, vec_len, flat_map, Result, OnOk, IsOk, Option, None, Some, Bool, true, false}
 use Rattle.std.specs.Option.{option_map}
 use Rattle.std.specs.Global.{Vec}
@@ -10,22 +10,22 @@ use Rattle.ndn_tlv.specs.Element.{Field, element}
 abbrev pub octets : List Field → List ℕ
 octets fields = flat_map element fields
 
--- a field that may be absent
+-- an optional field
 abbrev pub optional : ℕ → Option (List ℕ) → List Field
 optional kind None = []
 optional kind (Some value) = (kind, value) ∷ []
 
--- a field without octets, which is there or not
+-- a flag: a field with an empty value, which is present if the flag is set
 abbrev pub flag : ℕ → Bool → List Field
 flag kind true = (kind, []) ∷ []
 flag kind false = []
 
--- a field that is a NonNegativeInteger and may be absent
+-- an optional field whose value is a NonNegativeInteger
 abbrev pub number : ℕ → Option ℕ → List Field
 number kind n = optional kind (option_map shortest_nni n)
 
--- These octets are appended, where memory is not refused; else some octets of them may be. Where
--- there is room, memory is not refused.
+-- The octets are appended unless memory runs out. If it does, some octets may still have been
+-- appended. If the capacity suffices, memory does not run out.
 pub record Puts (old new : Vec ℕ) (result : Result (Unit {0}) Memory) (octets : List ℕ) : Type 0
   where
     pub ok : OnOk result (new.items ≡ old.items ++ octets)

@@ -9,15 +9,15 @@ use crate::fault::TlvFault;
 use crate::memory::Memory;
 use crate::number::{leading_number, put_number};
 
-/// A view of an element in a buffer, which it borrows (NDN Packet Format 0.3, "Type-Length-Value
-/// (TLV) Encoding").
+/// A view of an element in a buffer, which the element borrows (NDN Packet Format 0.3,
+/// "Type-Length-Value (TLV) Encoding").
 #[derive(Clone, Copy, Debug)]
 pub struct Element<'a> {
-    /// The TLV-TYPE, from 1 on.
+    /// The TLV-TYPE, at least 1.
     pub kind: u32,
-    /// The octets of the TLV-VALUE.
+    /// The TLV-VALUE.
     pub value: &'a [u8],
-    /// All octets of the element, the type and the length too.
+    /// All octets of the element, including its type and length.
     pub whole: &'a [u8],
     ghost spelled: { IsElement whole.now kind value.now },
 }
@@ -36,7 +36,7 @@ fn leading_type(octets: &[u8]) -> Result<(u32, &[u8]), TlvFault>
     Ok((kind as u32, rest))
 }
 
-/// A type, a value and the octets after it.
+/// Returns the type and the value of the first element, and the octets after it.
 #[tactic(auto, unfolding(crate::specs::Reading::element_at))]
 #[inline(always)]
 fn leading_field(octets: &[u8]) -> Result<(u32, &[u8], &[u8]), TlvFault>
@@ -51,24 +51,24 @@ fn leading_field(octets: &[u8]) -> Result<(u32, &[u8], &[u8]), TlvFault>
     Ok((kind, value, rest))
 }
 
-/// Reads the element at the front of the octets, and returns the octets after it.
+/// Reads the element at the front of the octets. Returns the element and the octets after it.
 ///
-/// Refuses octets that do not begin with an element, with the first fault from the left: see
+/// Returns the first fault from the left if the octets do not begin with an element: see
 /// `TlvFault`.
 #[inline(always)]
 pub fn first_element<'a>(octets: &'a [u8]) -> Result<(Element<'a>, &'a [u8]), TlvFault>
-    // The octets begin with what is read.
+    // The octets begin with the element that is read.
     ensures found { IfOk result (λ x. IsElement x.0.whole.now x.0.kind x.0.value.now
         × (octets.now ≡ x.0.whole.now ++ x.1.now) × (length x.1.now < length octets.now)) }
-    // What the octets begin with is read.
+    // Every element at the front of the octets is read.
     ensures only { (kind : ℕ) (value rest : List ℕ) → IsField (kind, value)
         → octets.now ≡ element (kind, value) ++ rest
         → IsOkAnd result (λ x. (x.0.kind ≡ kind) × (x.0.value.now ≡ value) × (x.1.now ≡ rest)) }
-    // Which fault it is.
+    // The fault is the first one.
     ensures fault { IfErr result (ElementFault octets.now) }
     ensures exact { on_result (λ x. Ok ((x.0.kind, x.0.value.now), x.1.now)) Err result
         ≡ element_at octets.now }
-    // One step through all elements of the octets.
+    // A step of an iteration over all elements of the octets.
     ensures walk { MatchResult result
         (λ x. elements_of octets.now ≡ Ok (x.0.kind, x.0.value.now) ∷ elements_of x.1.now)
         (λ e. octets.now ≢ [] → elements_of octets.now ≡ Err e ∷ []) }
@@ -78,7 +78,8 @@ pub fn first_element<'a>(octets: &'a [u8]) -> Result<(Element<'a>, &'a [u8]), Tl
     Ok((Element { kind, value, whole }, rest))
 }
 
-/// Appends an element, or leaves what was there and some octets of it.
+/// Appends an element. If memory runs out, `out` keeps its old octets, but others may have been
+/// appended.
 #[inline(always)]
 fn put_parts(out: &mut Vec<u8>, kind: u32, value: &[u8]) -> Result<(), Memory>
     ensures ok { OnOk result (out.new.items ≡ out.old.items ++ element (kind, value.now)) }
@@ -94,8 +95,7 @@ fn put_parts(out: &mut Vec<u8>, kind: u32, value: &[u8]) -> Result<(), Memory>
 }
 
 /// Appends an element: the shortest forms of its type and of its value's length, and its value (NDN
-/// Packet Format 0.3, "Type-Length-Value (TLV) Encoding"). When memory runs out, nothing is
-/// appended.
+/// Packet Format 0.3, "Type-Length-Value (TLV) Encoding"). If memory runs out, nothing is appended.
 #[inline(always)]
 pub fn put_element(out: &mut Vec<u8>, kind: u32, value: &[u8]) -> Result<(), Memory>
     requires { 1 ≤ kind }
@@ -114,7 +114,7 @@ pub fn put_element(out: &mut Vec<u8>, kind: u32, value: &[u8]) -> Result<(), Mem
     done
 }
 
-/// Law: a text is the join of at most one list of elements, which `elements_of` reads.
+/// Law: a text is the concatenation of at most one list of elements, which `elements_of` returns.
 pub fn elements_have_one_reading()
     ensures one { (text : List ℕ) (xs ys : List Field) → IsElements text xs → IsElements text ys
         → xs ≡ ys }

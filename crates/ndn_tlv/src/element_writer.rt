@@ -9,7 +9,8 @@ use crate::integer::{nni_len, put_nni};
 use crate::memory::Memory;
 use crate::number::{number_len, put_number};
 
-/// Appends the type of an element and the length of its value, or some octets of them.
+/// Appends the type of an element and the length of its value. If memory runs out, some octets may
+/// have been appended.
 #[inline(always)]
 pub fn put_header(out: &mut Vec<u8>, kind: u32, value_len: usize) -> Result<(), Memory>
     ensures { Puts out.old out.new result (spelling kind ++ spelling value_len) }
@@ -19,7 +20,8 @@ pub fn put_header(out: &mut Vec<u8>, kind: u32, value_len: usize) -> Result<(), 
     Ok(())
 }
 
-/// Appends an element whose value is a number, or some octets of it.
+/// Appends an element whose value is a number. If memory runs out, some octets may have been
+/// appended.
 #[inline(always)]
 pub fn put_nni_element(out: &mut Vec<u8>, kind: u32, number: u64) -> Result<(), Memory>
     ensures { Puts out.old out.new result (element (kind, shortest_nni number)) }
@@ -29,7 +31,8 @@ pub fn put_nni_element(out: &mut Vec<u8>, kind: u32, number: u64) -> Result<(), 
     Ok(())
 }
 
-/// Appends a number's field, where it is there, or some octets of it.
+/// Appends an optional field whose value is a number. If memory runs out, some octets may have been
+/// appended.
 #[inline(always)]
 pub fn put_number_field(out: &mut Vec<u8>, kind: u32, asked: Option<u64>) -> Result<(), Memory>
     ensures { Puts out.old out.new result (octets (number kind asked)) }
@@ -40,7 +43,7 @@ pub fn put_number_field(out: &mut Vec<u8>, kind: u32, asked: Option<u64>) -> Res
     }
 }
 
-/// Appends a flag, where it is set, or some octets of it.
+/// Appends a flag if it is set. If memory runs out, some octets may have been appended.
 #[inline(always)]
 pub fn put_flag(out: &mut Vec<u8>, kind: u32, set: bool) -> Result<(), Memory>
     requires { 1 ≤ kind }
@@ -53,12 +56,12 @@ pub fn put_flag(out: &mut Vec<u8>, kind: u32, set: bool) -> Result<(), Memory>
 }
 
 #[tactic(auto, using(crate::proofs::Lengths::element_lengths))]
-/// The length of an element whose value is a number.
+/// Returns the length in octets of an element whose value is a number.
 #[inline(always)]
 pub fn nni_element_len(kind: u32, number: u64) -> usize
     ensures exact { result ≡ length (element (kind, shortest_nni number)) }
     ensures small { result ≤ 26 }
-    // The proofs that what is written is a packet need that numbers are below 2^64.
+    // The proofs that a written packet is in the grammar need that numbers are below 2^64.
     ensures sound { number < 2 ^ 64 }
 {
     let value_len = nni_len(number);
@@ -66,7 +69,7 @@ pub fn nni_element_len(kind: u32, number: u64) -> usize
 }
 
 #[tactic(auto, using(crate::proofs::Lengths::element_lengths))]
-/// The length of an element.
+/// Returns the length of an element in octets.
 pub fn element_len(kind: u32, value: &[u8]) -> usize
     ensures exact { result ≡ length (element (kind, value.now)) }
     ensures small { result < 2 ^ 63 + 18 }

@@ -5,15 +5,15 @@ ghost use Rattle.ndn_tlv.specs.Elements.{field_or_fault, octets_left, elements_l
 use crate::element::{Element, first_element};
 use crate::fault::TlvFault;
 
-/// The elements of some octets in order, up to the end or to the first fault, which is then the
-/// last item (NDN Packet Format 0.3, "Type-Length-Value (TLV) Encoding").
+/// An iterator over the elements of some octets, in order. The last item is the first fault, if
+/// there is one (NDN Packet Format 0.3, "Type-Length-Value (TLV) Encoding").
 #[derive(Clone, Copy, Debug)]
 pub struct Elements<'a> {
     rest: &'a [u8],
 }
 
 impl<'a> Elements<'a> {
-    /// Goes over all of the octets.
+    /// Returns an iterator over the elements of `octets`.
     pub fn new(octets: &'a [u8]) -> Elements<'a>
         ensures { octets_left result ≡ octets.now }
     {

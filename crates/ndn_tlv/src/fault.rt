@@ -1,15 +1,15 @@
 use thiserror::Error;
 
 /// Why octets are not a number or not an element (NDN Packet Format 0.3, "Type-Length-Value (TLV)
-/// Encoding"). Of several faults the first from the left is reported: the type's `Truncated` and
-/// `NotShortest`, then `TypeZero` and `TypeTooLarge`, the length's `Truncated` and `NotShortest`,
-/// the value's `Truncated`.
+/// Encoding"). The first fault from the left is reported, in this order: `Truncated` and
+/// `NotShortest` for the type, then `TypeZero` and `TypeTooLarge`, then `Truncated` and
+/// `NotShortest` for the length, and `Truncated` for the value.
 #[derive(Clone, Copy, Debug, PartialEq, Eq, Error)]
 pub enum TlvFault {
-    /// Octets are missing. The empty text is truncated too.
+    /// Octets are missing, or there are none at all.
     #[error("the octets end inside a number or an element")]
     Truncated,
-    /// A number takes more octets than it needs.
+    /// A number takes more octets than necessary.
     #[error("a number has a shorter form, as 0b in place of fd000b")]
     NotShortest,
     /// A TLV-TYPE is 0.

@@ -20,8 +20,8 @@ fn integer_of(value: &[u8]) -> Result<u64, TlvFault>
 }
 
 /// Reads a whole TLV-VALUE as a NonNegativeInteger (NDN Packet Format 0.3, "Non-Negative Integer
-/// Encoding"): 1, 2, 4 or 8 octets in network order, the shortest or not. Refuses a value of any
-/// other length (`BadInteger`).
+/// Encoding"): 1, 2, 4 or 8 octets in network order, not necessarily the shortest. Returns
+/// `BadInteger` for a value of any other length.
 pub fn nni_of(value: &[u8]) -> Result<u64, TlvFault>
     ensures found { IfOk result (IsNni value.now) }
     ensures only { (n : ℕ) → IsNni value.now n → result ≡ Ok n }
@@ -31,8 +31,8 @@ pub fn nni_of(value: &[u8]) -> Result<u64, TlvFault>
     integer_of(value)
 }
 
-/// Appends the shortest NonNegativeInteger of a number (NDN Packet Format 0.3, "Non-Negative
-/// Integer Encoding"): 1, 2, 4 or 8 octets. When memory runs out, nothing is appended.
+/// Appends the shortest NonNegativeInteger encoding of a number (NDN Packet Format 0.3,
+/// "Non-Negative Integer Encoding"): 1, 2, 4 or 8 octets. If memory runs out, nothing is appended.
 #[tactic(auto, unfolding(crate::specs::Number::shortest_nni))]
 #[inline(always)]
 pub fn put_nni(out: &mut Vec<u8>, number: u64) -> Result<(), Memory>
@@ -57,8 +57,8 @@ pub fn put_nni(out: &mut Vec<u8>, number: u64) -> Result<(), Memory>
     Ok(())
 }
 
-/// The length of the shortest NonNegativeInteger of a number, in octets: 1, 2, 4 or 8 (NDN Packet
-/// Format 0.3, "Non-Negative Integer Encoding").
+/// Returns the length of the shortest NonNegativeInteger encoding of a number, in octets: 1, 2, 4
+/// or 8 (NDN Packet Format 0.3, "Non-Negative Integer Encoding").
 #[tactic(auto, unfolding(crate::specs::Number::shortest_nni))]
 #[inline(always)]
 pub fn nni_len(number: u64) -> usize

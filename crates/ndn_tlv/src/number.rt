@@ -7,7 +7,7 @@ ghost use Rattle.ndn_tlv.specs.Reading.{number_at, long_number_at, NumberFault, 
 use crate::fault::TlvFault;
 use crate::memory::Memory;
 
-/// The octets of a number after its first octet, and what follows them.
+/// Returns the number after the first octet of its encoding, and the octets after the number.
 fn two_octets(octets: &[u8]) -> Result<(u64, &[u8]), TlvFault>
     ensures { on_result (λ x. Ok (x.0, x.1.now)) Err result ≡ long_number_at w16 253 octets.now }
 {
@@ -68,37 +68,37 @@ pub(crate) fn leading_number(octets: &[u8]) -> Result<(u64, &[u8]), TlvFault>
     }
 }
 
-/// Reads the VAR-NUMBER at the front of the octets, and returns the octets after it (NDN Packet
-/// Format 0.3, "Type-Length-Value (TLV) Encoding").
+/// Reads the VAR-NUMBER at the front of the octets. Returns the number and the octets after it (NDN
+/// Packet Format 0.3, "Type-Length-Value (TLV) Encoding").
 ///
-/// Refuses octets that end before the number does (`Truncated`, the empty text included), and a
-/// number that has a shorter form (`NotShortest`).
+/// Returns `Truncated` if the octets end before the number does, or are empty, and `NotShortest` if
+/// the number has a shorter form.
 pub fn number_of(octets: &[u8]) -> Result<(u64, &[u8]), TlvFault>
-    // The octets begin with what is read, in its shortest form.
+    // The octets begin with the number that is read, in its shortest form.
     ensures found { IfOk result
         (λ x. (text : List ℕ) × Spells text x.0 × (octets.now ≡ text ++ x.1.now)) }
-    // A number in its shortest form at the front is read.
+    // Every number in its shortest form at the front of the octets is read.
     ensures only { (n : ℕ) (text rest : List ℕ) → Spells text n → octets.now ≡ text ++ rest
         → IsOkAnd result (λ x. (x.0 ≡ n) × (x.1.now ≡ rest)) }
-    // Which fault it is.
+    // The fault is the first one.
     ensures fault { IfErr result (NumberFault octets.now) }
     ensures exact { on_result (λ x. Ok (x.0, x.1.now)) Err result ≡ number_at octets.now }
 {
     leading_number(octets)
 }
 
-/// Law: no spelling of a number begins another one's.
+/// Law: no encoding of a number is a prefix of the encoding of another number.
 pub fn no_spelling_begins_another()
     ensures { (a b x y : List ℕ) (m n : ℕ) → Spells a m → Spells b n → a ++ x ≡ b ++ y
         → (a ≡ b) × (m ≡ n) }
 {}
 
-/// Law: each number below 2^64 has one spelling, which `spelling` computes.
+/// Law: each number below 2^64 has exactly one shortest encoding, which `spelling` computes.
 pub fn each_number_has_one_spelling()
     ensures { (text : List ℕ) (n : ℕ) → Spells text n ↔ ((n < 2 ^ 64) × (text ≡ spelling n)) }
 {}
 
-/// Appends a first octet and the others, or nothing.
+/// Appends the first octet and the other octets. If memory runs out, nothing is appended.
 #[inline(always)]
 fn put_long(out: &mut Vec<u8>, first: u8, others: &[u8]) -> Result<(), Memory>
     requires { length others.now ≤ 8 }
@@ -114,8 +114,8 @@ fn put_long(out: &mut Vec<u8>, first: u8, others: &[u8]) -> Result<(), Memory>
     Ok(())
 }
 
-/// Appends the shortest VAR-NUMBER of a number (NDN Packet Format 0.3, "Type-Length-Value (TLV)
-/// Encoding"): 1, 3, 5 or 9 octets. When memory runs out, nothing is appended.
+/// Appends the shortest VAR-NUMBER encoding of a number (NDN Packet Format 0.3, "Type-Length-Value
+/// (TLV) Encoding"): 1, 3, 5 or 9 octets. If memory runs out, nothing is appended.
 #[tactic(auto, unfolding(crate::specs::Number::spelling))]
 #[inline(always)]
 pub fn put_number(out: &mut Vec<u8>, number: u64) -> Result<(), Memory>
@@ -136,8 +136,8 @@ pub fn put_number(out: &mut Vec<u8>, number: u64) -> Result<(), Memory>
     }
 }
 
-/// The length of the shortest VAR-NUMBER of a number, in octets: 1, 3, 5 or 9 (NDN Packet Format
-/// 0.3, "Type-Length-Value (TLV) Encoding").
+/// Returns the length of the shortest VAR-NUMBER encoding of a number, in octets: 1, 3, 5 or 9 (NDN
+/// Packet Format 0.3, "Type-Length-Value (TLV) Encoding").
 #[tactic(auto, unfolding(crate::specs::Number::spelling))]
 #[inline(always)]
 pub fn number_len(number: u64) -> usize

@@ -1,4 +1,4 @@
-//! What signatures cover, HopLimits in place, and which Data answer.
+//! The octets that signatures cover, changing a HopLimit in place, and which names a Data answers.
 
 use crate::packets::packet;
 use crate::rows::check_rows;
@@ -8,7 +8,7 @@ use std::alloc::Global;
 use std::test::*;
 use test_support::{digest_of, octets};
 
-/// The two parts that a packet's signature covers.
+/// Returns the two parts that a packet's signature covers.
 fn covered(alloc: Global, input: &str) -> Option<String> {
     let octets = packet(alloc, input)?;
     let parts = match read_frame(&octets).ok()? {
@@ -63,7 +63,7 @@ fn hop_limit_of(octets: &[u8]) -> Option<u8> {
     }
 }
 
-/// Whether a HopLimit is lent, which then is 6.
+/// Borrows the HopLimit, if the octets have one, and sets it to 6. Returns whether there was one.
 fn lends(octets: &mut [u8]) -> bool {
     match hop_limit_mut(octets) {
         Some(lent) => {
@@ -74,7 +74,7 @@ fn lends(octets: &mut [u8]) -> bool {
     }
 }
 
-/// The HopLimit that an Interest had, and its octets with one that is 6.
+/// Returns the original HopLimit of an Interest, and the octets with a HopLimit of 6.
 fn lent_shown(alloc: Global, limit: Option<u8>, octets: &[u8]) -> Option<String> {
     if hop_limit_of(octets) != Some(6) {
         return None;
@@ -83,7 +83,7 @@ fn lent_shown(alloc: Global, limit: Option<u8>, octets: &[u8]) -> Option<String>
     format!(in alloc; "{limit:?}, then {octets}").ok()
 }
 
-/// The HopLimit alone, where the octets are as they came.
+/// Returns the HopLimit, if the octets are unchanged.
 fn kept_shown(alloc: Global, limit: Option<u8>, octets: &[u8], input: &str) -> Option<String> {
     if packet(alloc, input)?.as_slice() != octets {
         return None;
@@ -91,8 +91,8 @@ fn kept_shown(alloc: Global, limit: Option<u8>, octets: &[u8], input: &str) -> O
     format!(in alloc; "{limit:?}").ok()
 }
 
-/// The HopLimit of an Interest, and its octets once that is 6; the HopLimit alone where it is not
-/// lent.
+/// Returns the HopLimit of an Interest, and its octets after the HopLimit is set to 6. If no
+/// HopLimit can be borrowed, returns only what is read as HopLimit.
 fn lent(alloc: Global, input: &str) -> Option<String> {
     let mut octets = packet(alloc, input)?;
     let limit = hop_limit_of(&octets);
@@ -119,11 +119,12 @@ fn hop_limits_in_place(rt: HostRuntime) {
     check_rows(&rt, rt.alloc(), rows, lent);
 }
 
-/// A Data: its Name /A, its Content "x", a SignatureInfo of SignatureType 0, an empty signature.
+/// A Data with the Name /A, the Content "x", a SignatureInfo of SignatureType 0 and an empty
+/// signature.
 const DATA: &str = "060f0703080141150178 16031b0100 1700";
 
-/// Whether the Data answers an Interest of a name without CanBePrefix, and with it; whether it does
-/// the same where its digest is given; and what the name asks for.
+/// Returns whether the Data answers an Interest for a name without CanBePrefix and with it, whether
+/// the answers are the same if the digest is given, and the digest that the name asks for.
 fn answers(alloc: Global, input: &str) -> Option<String> {
     let asked = NameBuf::from_uri(alloc, input).ok()?;
     let octets = octets(alloc, DATA)?;
@@ -145,13 +146,13 @@ fn answers_shown(alloc: Global, data: Data<'_>, asked: Name<'_>) -> Option<Strin
     format!(in alloc; "{exactly} {as_prefix} {same} {wanted}").ok()
 }
 
-/// The implicit digest of a Data.
+/// Returns the implicit digest of a Data.
 fn digest(alloc: Global, input: &str) -> Option<String> {
     let digest = digest_of(&octets(alloc, input)?)?;
     hex::encode(alloc, digest.as_slice()).ok()
 }
 
-/// SHA-256 of the Data, by another program.
+/// SHA-256 of the Data, as computed by another program.
 #[test]
 fn implicit_digest(rt: HostRuntime) {
     let rows = "

@@ -22,7 +22,7 @@ const READ: [PacketFault; 11] = [
 
 const WRITTEN: [WriteFault; 3] = [WriteFault::BadName, WriteFault::TooLong, WriteFault::Memory];
 
-/// The message of the reading fault of this name.
+/// Returns the message of the reading fault with this name.
 fn read_fault(alloc: Global, name: &str) -> Option<String> {
     for fault in READ {
         if fault.name() == name {
@@ -32,7 +32,7 @@ fn read_fault(alloc: Global, name: &str) -> Option<String> {
     None
 }
 
-/// The message of the writing fault of this name.
+/// Returns the message of the writing fault with this name.
 fn write_fault(alloc: Global, name: &str) -> Option<String> {
     for fault in WRITTEN {
         if fault.name() == name {

@@ -9,12 +9,13 @@ use ndn_packets::{put_lp, read_lp, wrap};
 use std::alloc::Global;
 use std::test::*;
 
-/// The token beside a frame.
+/// Returns the PIT token of a frame.
 fn token(alloc: Global, input: &str) -> Option<String> {
     value_text(alloc, read_lp(&packet(alloc, input)?).ok()?.token)
 }
 
-/// What is written around an Interest with a token and a Nack of this reason, or without one.
+/// Returns what is written around an Interest with a token, and with a Nack for this reason or
+/// without one.
 fn with_token(alloc: Global, reason: &str) -> Option<String> {
     let interest = b"\x05\x0b\x07\x03\x08\x01\x41\x0a\x04\x01\x02\x03\x04";
     let mut out = Vec::new(alloc);
@@ -22,8 +23,8 @@ fn with_token(alloc: Global, reason: &str) -> Option<String> {
     hex::encode(alloc, &out).ok()
 }
 
-/// Whether two octets and an Interest are these octets, once the Interest is in a link packet with
-/// this token, or bare without one.
+/// Returns whether `wanted` is two octets, followed by an Interest in a link packet with this
+/// token, or by the bare Interest without a token.
 fn wraps(alloc: Global, token: Option<&[u8]>, wanted: &[u8]) -> bool
     requires { IfSome token (λ t. IsToken t.now) }
 {
@@ -59,8 +60,8 @@ fn link_packets(rt: HostRuntime) {
     check_rows(&rt, rt.alloc(), rows, cut);
 }
 
-/// Sequence, FragIndex, FragCount and PitToken, in any order. With a Fragment and without one the
-/// fault is the same, here and below.
+/// Sequence, FragIndex, FragCount and PitToken, in any order. In this test and those below, the
+/// fault is the same with a Fragment and without one.
 #[test]
 fn header_fields(rt: HostRuntime) {
     let rows = "
@@ -74,7 +75,7 @@ fn header_fields(rt: HostRuntime) {
     check_rows(&rt, rt.alloc(), rows, outcome);
 }
 
-/// FragIndex is 0, and FragCount at most 1.
+/// FragIndex must be 0, and FragCount at most 1.
 #[test]
 fn only_whole_packets_are_read(rt: HostRuntime) {
     let rows = "
@@ -133,7 +134,7 @@ no Nack -> 64136202a1b2500d050b07030801410a0401020304
     check_rows(&rt, rt.alloc(), rows, with_token);
 }
 
-/// The octets before the packet stay, and without a token the packet too.
+/// The octets before the packet stay unchanged, and without a token so does the packet.
 #[test]
 fn octets_in_a_link_packet(rt: HostRuntime) {
     let bare = b"\xfe\xff\x05\x0b\x07\x03\x08\x01\x41\x0a\x04\x01\x02\x03\x04";
@@ -143,7 +144,7 @@ fn octets_in_a_link_packet(rt: HostRuntime) {
     assert!(rt; wraps(rt.alloc(), Some(b"\xa1\xb2"), wrapped));
 }
 
-/// A known field twice.
+/// A header field that this profile knows occurs twice.
 #[test]
 fn a_known_field_twice(rt: HostRuntime) {
     let rows = "
@@ -159,7 +160,7 @@ fn a_known_field_twice(rt: HostRuntime) {
     check_rows(&rt, rt.alloc(), rows, outcome);
 }
 
-/// Other fields: from 800 to 959, and divisible by 4. They may be repeated.
+/// Unknown header fields with types from 800 to 959 that are divisible by 4. They may be repeated.
 #[test]
 fn other_header_fields(rt: HostRuntime) {
     let rows = "
@@ -187,7 +188,7 @@ fn other_header_fields(rt: HostRuntime) {
     check_rows(&rt, rt.alloc(), rows, outcome);
 }
 
-/// The first of two faults is reported, in both orders.
+/// Of two faulty header fields, the first one is reported, in either order of the fields.
 #[test]
 fn the_first_header_fault(rt: HostRuntime) {
     let rows = "

@@ -118,7 +118,7 @@ fn faults_of_interests(rt: HostRuntime) {
     check_rows(&rt, rt.alloc(), rows, outcome);
 }
 
-/// An Interest with all fields, and one with elements that are ignored.
+/// An Interest with all fields, and an Interest with elements that are ignored.
 #[test]
 fn fields_of_interests(rt: HostRuntime) {
     let rows = "
@@ -130,7 +130,8 @@ fn fields_of_interests(rt: HostRuntime) {
     check_rows(&rt, rt.alloc(), rows, fields);
 }
 
-/// A digest of parameters in the name, and no parameters; and a digest of a Data in its place.
+/// A name with a digest of parameters in an Interest without parameters, and a name with an
+/// implicit digest instead.
 #[test]
 fn digests_without_parameters(rt: HostRuntime) {
     let rows = "
@@ -140,7 +141,7 @@ fn digests_without_parameters(rt: HostRuntime) {
     check_rows(&rt, rt.alloc(), rows, outcome);
 }
 
-/// Interests with ApplicationParameters, whose digest is between two components.
+/// Interests with ApplicationParameters whose digest is between two name components.
 #[test]
 fn parameters_of_interests(rt: HostRuntime) {
     let rows = "
@@ -163,7 +164,7 @@ fn parameters_of_interests(rt: HostRuntime) {
     check_rows(&rt, rt.alloc(), rows, fields);
 }
 
-/// The digest twice, and never.
+/// A name with two digests of the parameters, and a name without any.
 #[test]
 fn digests_of_parameters(rt: HostRuntime) {
     let rows = "
@@ -199,8 +200,8 @@ fn faults_of_parameters(rt: HostRuntime) {
     check_rows(&rt, rt.alloc(), rows, outcome);
 }
 
-/// A signed command of the management protocol, whose digest and HMAC with the key "key" were
-/// computed apart from this library.
+/// A signed command of the management protocol. Its digest and its HMAC with the key "key" were
+/// computed by another program.
 const COMMAND: &str =
     "0598075008096c6f63616c686f737408036e66640803666962080b6164642d6e657874686f70080a680807030801416901020220b3efe71974da9dc26e88d0c074c8f0ff34ea85c38b109d9e9c6400b87694f2f20a040102030424002c1a1b01041c0f070d08036f707308034b45590801312804000f42402e20d113cf38056af9bbbec876471f4b51934978ef69345464b05cb762148eaa5dbb";
 
@@ -216,7 +217,8 @@ fn signed_interest(rt: HostRuntime) {
     check_rows(&rt, rt.alloc(), rows, cut);
 }
 
-/// The outcome of a packet with this octet at a place, unless it has it there already.
+/// Returns the outcome of a packet after the octet at index `place` is replaced, unless it already
+/// has that value.
 fn outcome_with(packet: &mut [u8], place: usize, octet: u8) -> Option<&'static str> {
     let one = packet.get_mut(place)?;
     let old = *one;
@@ -229,8 +231,8 @@ fn outcome_with(packet: &mut [u8], place: usize, octet: u8) -> Option<&'static s
     Some(outcome)
 }
 
-/// How many packets with an octet set so, between two places, have this outcome, or the outcome of
-/// one that has another.
+/// Replaces each octet from index `first` to `last` by `octet` in turn. Returns how many of these
+/// packets have the outcome `wanted`, or the first other outcome.
 fn outcomes(
     packet: &mut [u8],
     first: usize,
@@ -251,9 +253,9 @@ fn outcomes(
     Ok(count)
 }
 
-/// The first and the last place, an octet and an outcome: how many packets have this outcome
-/// that are the command with one of these octets set to that one, or the outcome of one that has
-/// another.
+/// The input is the first and the last index, an octet and an outcome. Replaces each octet of the
+/// command from the first to the last index in turn. Returns how many of these packets have this
+/// outcome, or the first other outcome.
 fn changed(alloc: Global, input: &str) -> Option<String> {
     let mut words = input.split(' ');
     let first = words.next()?.parse::<usize>().ok()?;
@@ -400,7 +402,7 @@ fn unknown_elements(rt: HostRuntime) {
     check_rows(&rt, rt.alloc(), rows, outcome);
 }
 
-/// A Data with all fields, and which of them are read.
+/// A Data with all fields, and the fields that are read from it.
 #[test]
 fn fields_of_data(rt: HostRuntime) {
     let rows = "
@@ -428,7 +430,7 @@ fn key_locators(rt: HostRuntime) {
     check_rows(&rt, rt.alloc(), rows, fields);
 }
 
-/// The length of the Content of a Data, and of the whole Data.
+/// Returns the length of the Content of a Data, and of the whole Data.
 fn lengths(alloc: Global, input: &str) -> Option<String> {
     let octets = packet(alloc, input)?;
     match read_frame(&octets).ok()? {
@@ -463,7 +465,7 @@ fn packet_size_limit(rt: HostRuntime) {
     check_rows(&rt, rt.alloc(), rows, lengths);
 }
 
-/// How the key of one Interest compares with that of another.
+/// Returns how the keys of two Interests compare.
 fn keys(alloc: Global, input: &str) -> Option<String> {
     let (one, other) = input.split_once(' ')?;
     let (one, other) = (packet(alloc, one)?, packet(alloc, other)?);

@@ -8,7 +8,7 @@ use std::alloc::Global;
 use std::test::*;
 use test_support::octets;
 
-/// What a writer appended to an octet, or its fault where that is nothing.
+/// Returns what a writer appended to an octet, or its fault if it appended nothing.
 fn appended(alloc: Global, fault: Option<&str>, out: &[u8]) -> Option<String> {
     let written = out.strip_prefix(&[9])?;
     match fault {
@@ -21,7 +21,7 @@ fn appended(alloc: Global, fault: Option<&str>, out: &[u8]) -> Option<String> {
     }
 }
 
-/// How to sign, where that is asked for: by a digest, or by the key "key" of a name.
+/// Returns how to sign: not at all, with a digest, or with the key "key" under a name.
 fn sign<'a>(asked: &str, key_name: &'a [u8]) -> Option<Option<Sign<'a>>> {
     match asked {
         "-" => Some(None),
@@ -33,14 +33,14 @@ fn sign<'a>(asked: &str, key_name: &'a [u8]) -> Option<Option<Sign<'a>>> {
     }
 }
 
-/// What is written for an Interest, or the fault.
+/// Returns what is written for an Interest, or the fault.
 fn written_interest(alloc: Global, writer: &InterestWriter<'_>) -> Option<String> {
     let mut out = vec![in alloc; 9].ok()?;
     let fault = writer.write(&mut out).err().map(|fault| fault.name());
     appended(alloc, fault, &out)
 }
 
-/// The same for the fields in columns.
+/// Returns what is written for an Interest whose fields are in columns, or the fault.
 fn interest_in(alloc: Global, columns: &[&str]) -> Option<String> {
     let [
         name,
@@ -73,20 +73,20 @@ fn interest_in(alloc: Global, columns: &[&str]) -> Option<String> {
     written_interest(alloc, &writer)
 }
 
-/// The Interest that is written for a row of its fields, or the fault.
+/// Returns what is written for an Interest whose fields are in a row, or the fault.
 fn interest(alloc: Global, input: &str) -> Option<String> {
     let columns: Vec<&str> = input.split(", ").collect(alloc).ok()?;
     interest_in(alloc, columns.as_slice())
 }
 
-/// What is written for a Data, or the fault.
+/// Returns what is written for a Data, or the fault.
 fn written(alloc: Global, writer: &DataWriter<'_>) -> Option<String> {
     let mut out = vec![in alloc; 9].ok()?;
     let fault = writer.write(&mut out).err().map(|fault| fault.name());
     appended(alloc, fault, &out)
 }
 
-/// The same for the fields in columns.
+/// Returns what is written for a Data whose fields are in columns, or the fault.
 fn data_in(alloc: Global, columns: &[&str]) -> Option<String> {
     let [name, freshness, last, content, key] = columns else {
         return None;
@@ -103,13 +103,13 @@ fn data_in(alloc: Global, columns: &[&str]) -> Option<String> {
     written(alloc, &writer)
 }
 
-/// The Data that is written for a row of its fields, or the fault.
+/// Returns what is written for a Data whose fields are in a row, or the fault.
 fn data(alloc: Global, input: &str) -> Option<String> {
     let columns: Vec<&str> = input.split(", ").collect(alloc).ok()?;
     data_in(alloc, columns.as_slice())
 }
 
-/// What is written for a reply, or the fault.
+/// Returns what is written for a reply, or the fault.
 fn written_reply(alloc: Global, name: Name<'_>, content: &[u8]) -> Option<String> {
     let mut out = vec![in alloc; 9].ok()?;
     let done = put_reply(&mut out, name, content);
@@ -122,7 +122,7 @@ fn reply(alloc: Global, input: &str) -> Option<String> {
     written_reply(alloc, Name::read(&name).ok()?, &content)
 }
 
-/// What is written for a Nack, or the fault.
+/// Returns what is written for a Nack, or the fault.
 fn written_nack_of(alloc: Global, reason: u64, interest: &[u8]) -> Option<String> {
     let mut out = vec![in alloc; 9].ok()?;
     let done = put_nack(&mut out, reason, interest);
@@ -164,7 +164,7 @@ fn refused_interests(rt: HostRuntime) {
     check_rows(&rt, rt.alloc(), rows, interest);
 }
 
-/// The management command of the tests of reading.
+/// The management command from the tests of reading.
 #[test]
 fn command_signed_by_a_key(rt: HostRuntime) {
     let rows = "
@@ -232,7 +232,7 @@ fn lengths_of_data(rt: HostRuntime) {
     check_rows(&rt, rt.alloc(), rows, interest);
 }
 
-/// Whether what was shown begins so, or memory was refused.
+/// Returns whether the text begins with `begin`. If memory ran out, the result is true as well.
 fn begins_or_memory(shown: Option<String>, begin: &str) -> bool {
     match shown {
         None => true,
@@ -240,7 +240,7 @@ fn begins_or_memory(shown: Option<String>, begin: &str) -> bool {
     }
 }
 
-/// If memory is refused, nothing is appended.
+/// If memory runs out, nothing is appended.
 #[test]
 fn refused_memory(rt: HostRuntime) {
     let signed = interest(rt.alloc(), "080141, false, false, -, -, -, digest, -, -");
@@ -250,14 +250,14 @@ fn refused_memory(rt: HostRuntime) {
     assert!(rt; begins_or_memory(nack(rt.alloc(), "150, 050b07030801410a0401020304"), "64"));
 }
 
-/// The Interest of the Name /A.
+/// An Interest with the Name /A.
 const PLAIN: &[u8] = b"\x05\x0b\x07\x03\x08\x01A\x0a\x04\x01\x02\x03\x04";
 
-/// The Nack of the reason NoRoute around it.
+/// A Nack with the reason NoRoute around the Interest `PLAIN`.
 const NACK: &[u8] =
     b"\x64\x18\xfd\x03\x20\x05\xfd\x03\x21\x01\x96\x50\x0d\x05\x0b\x07\x03\x08\x01A\x0a\x04\x01\x02\x03\x04";
 
-/// Appends an Interest and a Data of this name.
+/// Appends an Interest and a Data with this name.
 fn put_both(out: &mut Vec<u8>, name: Name<'_>) -> Option<()> {
     let interest = InterestWriter {
         name,
@@ -282,8 +282,8 @@ fn put_both(out: &mut Vec<u8>, name: Name<'_>) -> Option<()> {
     data.write(out).ok()
 }
 
-/// The length and the capacity of an output with room for 200 octets, once all writers appended to
-/// it.
+/// Returns the length and the capacity of an output with room for 200 octets, after all writers
+/// have appended to it.
 fn filled_room(alloc: Global) -> Option<(usize, usize)> {
     let name = Name::read(b"\x08\x01A").ok()?;
     let mut out = Vec::with_capacity(alloc, 200).ok()?;
@@ -293,7 +293,8 @@ fn filled_room(alloc: Global) -> Option<(usize, usize)> {
     (out.starts_with(PLAIN) && out.ends_with(NACK)).then_some((out.len(), out.capacity()))
 }
 
-/// The output's earlier octets stay, and if it has room nothing is allocated.
+/// The earlier octets of an output stay unchanged. If the output has enough capacity, nothing is
+/// allocated.
 #[test]
 fn room_is_used(rt: HostRuntime) {
     assert!(rt; filled_room(rt.alloc()) == Some((13 + 49 + 49 + 26, 200)));

@@ -2,7 +2,7 @@ use Rattle.std.proofs.Common.{◌≡◌, length}
 use Rattle.ndn_packets.specs.Covered.{from_first}
 use Rattle.ndn_packets.proofs.covered.from_first.Given as goal
 
--- what is left is cut where the octets are
+-- the first element of the type in the remaining input is the first one in all octets
 abbrev pub invariant-loop-element : goal.invariant-loop-element
 invariant-loop-element l = from_first l.kind l.rest ≡ from_first l.kind l.octets
 

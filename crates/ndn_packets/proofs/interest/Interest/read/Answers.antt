@@ -34,7 +34,7 @@ read_whole : (text value : List ℕ) (name : List Field) (later : List (Result F
 unfolding interest_at
 read_whole text value name later s nonce short named some read made right = rw (short, named, some, read, made, right) refl
 
--- the Interest that is made
+-- the Interest that is returned
 abbrev made : (c : After-second_part) → PlainInterest
 made c =
     let found = c.in_ok-found.found in
@@ -56,7 +56,7 @@ is_read c =
 pub returns-clause-exact : goal.returns-clause-exact
 returns-clause-exact c = sym (is_read c.before)
 
--- where there is a signature, the places that the reader of fields noted are those of its parts
+-- if there is a signature, the positions that the reader of fields noted are those of its parts
 noted : {A B C : Type 0} (f : A → PlainSignature) (g : B → PlainSignatureInfo) (h : C → List ℕ) (s : Option A) (info : Option B) (value : Option C) (X : Type 0) → option_map f s ≡ signature_of (option_map g info) (option_map h value) → OnSome value X
     → OnSome s X × OnSome (option_map f s) X
 noted f g h None info value X is at = (tt, tt)
