@@ -1,4 +1,4 @@
--- Words taken apart at their backslashes.
+-- Splitting words at their backslashes.
 use Rattle.std.proofs.Common.{◌≡◌, ◌≢◌, ℕ, suc, ◌<◌, true, List, [], ◌∷◌, ◌++◌, length, take, drop, get_or, refl, sym, ap, ◌∙◌, append_assoc, arith}
 use Rattle.std.proofs.lemmas.Bool.{ne_eqb}
 use Rattle.ndn_names.proofs.TextReading.{Lacks}
@@ -14,7 +14,7 @@ pub lacks_from_places : (octet : ℕ) (text : List ℕ) → ((i : ℕ) → i < l
 lacks_from_places octet [] h = tt
 lacks_from_places octet (o ∷ text) h = (h 0 (omega arith), lacks_from_places octet text (λ i lt. h (suc i) (omega arith)))
 
--- an octet that is no backslash
+-- an octet other than a backslash is kept
 plain_octet : (o : ℕ) (word : List ℕ) → o ≢ 92 → unescaped (o ∷ word) ≡ o ∷ unescaped word
 unfolding unescaped
 plain_octet o [] other = refl
@@ -24,7 +24,8 @@ pub plain_front : (front word : List ℕ) → Lacks 92 front → unescaped (fron
 plain_front [] word h = refl
 plain_front (o ∷ front) word h = plain_octet o (front ++ word) h.0 ∙ ap (λ (w : List ℕ). o ∷ w) (plain_front front word h.1)
 
--- a backslash before an octet that it escapes, before another, and at the end
+-- a backslash is dropped before an octet that it escapes, and kept before another octet or at the
+-- end
 pub escaped_octet : (next : ℕ) (word : List ℕ) → is_escaped next ≡ true → unescaped (92 ∷ (next ∷ word)) ≡ next ∷ unescaped word
 unfolding unescaped
 escaped_octet next word h = rw h refl
@@ -39,7 +40,7 @@ pub escape_front : (following sign after : List ℕ) → 0 < length following �
 escape_front [] sign after some h is_sign is_after = absurd (omega arith)
 escape_front (next ∷ following) sign after some h is_sign is_after = rw (is_sign, is_after) (escaped_octet next following h)
 
--- what one round of the reading adds
+-- one round of the loop appends the octets that it read
 pub further : (word text before following sign after rest : List ℕ) → unescaped word ≡ text ++ unescaped rest → rest ≡ before ++ 92 ∷ following → Lacks 92 before → unescaped (92 ∷ following) ≡ sign ++ unescaped after
     → unescaped word ≡ ((text ++ before) ++ sign) ++ unescaped after
 further word text before following sign after rest e parts plain read =

@@ -1,4 +1,4 @@
--- Where the fault of a text stands that spells no entries.
+-- The line of the fault, for a text that spells no entries.
 use Rattle.std.proofs.Common.{◌≡◌, ◌≢◌, ℕ, zero, suc, ◌+◌, ◌≤◌, Bool, true, false, cond, eqb, leb, List, [], ◌∷◌, ◌++◌, Result, Ok, Err, refl, sym, ap, subst, ◌∙◌, inl, inr, arith}
 use Rattle.std.specs.Prelude.{⊤, Option, Some, None, nat_lt, length}
 use Rattle.std.specs.List.{AllByRecursion, count_by}
@@ -15,9 +15,9 @@ use Rattle.info_rules.proofs.TreeSpelling.{entries_again}
 use Rattle.info_rules.proofs.TreeSteps.{ok_is, ok_unless, word_found, open_found, close_found, block_closed, tokens_one, tokens_done, tokens_faulty}
 use Rattle.info_rules.proofs.TreeFinding.{entries_found, never_deep, whole_found}
 
--- ---- texts by whole lines
+-- ---- texts of whole lines
 
--- what octets end
+-- the tokens that these octets end
 ended : Mode → ℕ → List ℕ → List (ℕ × Token)
 ended mode line [] = []
 ended mode line (o ∷ text) = with_ended line (ended_by mode o) (ended (mode_after mode o) (line_after line o) text)
@@ -92,7 +92,7 @@ one_on : (On : ℕ → Type 0) (line : ℕ) (token : Option Token) (tokens : Lis
 one_on On line None tokens here all = all
 one_on On line (Some token) tokens here all = (here, all)
 
--- those of whole lines
+-- the lines of the tokens in whole lines
 within_lines : (n : ℕ) (mode : Mode) (line : ℕ) (inner : List ℕ) → line_at line inner ≤ n → AllOn (λ l. l ≤ n) (ended mode line (inner ++ 10 ∷ []))
 unfolding ended line_at
 within_lines n mode line [] h = one_on (λ l. l ≤ n) line (ended_by mode 10) [] h tt
@@ -100,7 +100,7 @@ within_lines n mode line (o ∷ inner) h =
     let here : line ≤ n = omega (arith, line_up line o, line_kept (line_after line o) inner) in
     one_on (λ l. l ≤ n) line (ended_by mode o) (ended (mode_after mode o) (line_after line o) (inner ++ 10 ∷ [])) here (within_lines n (mode_after mode o) (line_after line o) inner h)
 
--- those of a text
+-- the lines of the tokens in a text
 within_text : (n : ℕ) (mode : Mode) (line : ℕ) (text : List ℕ) → line_at line text ≤ n → AllOn (λ l. l ≤ n) (tokens_from mode line text)
 unfolding tokens_from line_at
 within_text n mode line [] h = one_on (λ l. l ≤ n) line (ended_at_end mode) [] h tt
@@ -108,7 +108,7 @@ within_text n mode line (o ∷ text) h =
     let here : line ≤ n = omega (arith, line_up line o, line_kept (line_after line o) text) in
     one_on (λ l. l ≤ n) line (ended_by mode o) (tokens_from (mode_after mode o) (line_after line o) text) here (within_text n (mode_after mode o) (line_after line o) text h)
 
--- those of a text that begins on a line
+-- the lines of the tokens in a text that begins on a given line
 from_line : (n : ℕ) (mode : Mode) (line : ℕ) (text : List ℕ) → n ≤ line → AllOn (λ l. n ≤ l) (tokens_from mode line text)
 unfolding tokens_from
 from_line n mode line [] h = one_on (λ l. n ≤ l) line (ended_at_end mode) [] h tt
@@ -116,9 +116,9 @@ from_line n mode line (o ∷ text) h =
     let next : n ≤ line_after line o = omega (arith, line_up line o) in
     one_on (λ l. n ≤ l) line (ended_by mode o) (tokens_from (mode_after mode o) (line_after line o) text) h (from_line n (mode_after mode o) (line_after line o) text next)
 
--- ---- where faults stand
+-- ---- the lines of faults
 
--- the line of a block that is too deep
+-- `On` holds for the line of a block that is too deep, if there is one
 abbrev DeepOn : (ℕ → Type 0) → Option ℕ → Type 0
 DeepOn On None = ⊤
 DeepOn On (Some line) = On line
@@ -175,7 +175,7 @@ fitting_err draft line Close fault e = by_depth (eqb draft.depth 0) e
     by_depth false e = absurd cc
 fitting_err draft line Broken fault e = cc
 
--- what is read behind a block that may be too deep
+-- the fault after a block that may be too deep
 unless_deep : {A : Type 0} (On : ℕ → Type 0) (deep : Option ℕ) (line : ℕ) (read : Result A RulesFault) (fault : RulesFault) → DeepOn On deep → (read ≡ Err fault → On fault.line) → unless_fault (deep_before deep line) read ≡ Err fault → On fault.line
 unless_deep On None line read fault h behind e = behind e
 unless_deep On (Some deep) line read fault h behind e = by_test (eqb deep line) e
@@ -221,7 +221,7 @@ whole_err On line draft fault here deep e =
     by_depth true e = by_deep draft.deep deep e
     by_depth false e = let same : syntax line ≡ fault = cc in at_fault On (syntax line) fault same here
 
--- the tokens up to the end of the text
+-- the entries after the end of the text
 abbrev ending : ℕ → Result PlainDraft RulesFault → Result (List PlainEntry) RulesFault
 ending line read = on_result (whole_of line) (λ fault. Err fault) read
 
@@ -232,9 +232,9 @@ ending_err On line tokens draft fault all here deep e = by_read (with_tokens dra
     by_read (Ok final) is e = whole_err On line final fault here (tokens_ok On tokens draft final all deep is) e
     by_read (Err told) is e = let same : told ≡ fault = cc in at_fault On told fault same (tokens_err On tokens draft told all deep is)
 
--- ---- lines before the fault
+-- ---- the lines before the fault
 
--- so many lines, as the reading sees them
+-- the reading of `n` whole lines
 record AreRead (n : ℕ) (front : List ℕ) : Type 0 where
   within : AllOn (λ l. l ≤ n) (ended Between 1 front)
   mode : mode_at Between front ≡ Between
@@ -275,7 +275,7 @@ tokens_stopped ((line, token) ∷ some) more draft fault e = by_next (with_token
     by_next (Ok next) is further = tokens_one draft next line token (some ++ more) is ∙ further next (sym (tokens_one draft next line token some is) ∙ e)
     by_next (Err told) is further = tokens_faulty draft line token (some ++ more) told is ∙ (sym (tokens_faulty draft line token some told is) ∙ e)
 
--- a block that was too deep on an earlier line is reported
+-- a block that is too deep is reported if it is on an earlier line
 deep_told : (n line deep : ℕ) (draft : PlainDraft) (tokens : List (ℕ × Token)) (fault : RulesFault) → draft.deep ≡ Some deep → deep ≤ n → n + 1 ≤ line → AllOn (λ l. n + 1 ≤ l) tokens → ending line (with_tokens draft tokens) ≡ Err fault → fault.line ≤ n
 deep_told n line deep draft [] fault is low here all e =
     let other : eqb deep line ≡ false = ne_eqb deep line (λ same. omega (arith, same)) in
@@ -289,7 +289,7 @@ deep_told n line deep draft ((at, token) ∷ tokens) fault is low here all e =
     let same : too_deep deep ≡ fault = cc in
     at_fault (λ l. l ≤ n) (too_deep deep) fault same low
 
--- ---- what closes the blocks that are open
+-- ---- closing the open blocks
 
 closers : ℕ → List ℕ
 closers zero = []
@@ -303,7 +303,7 @@ no_closer : (line : ℕ) → tokens_from Between line (closers zero) ≡ []
 unfolding closers tokens_from
 no_closer line = refl
 
--- the draft with all blocks closed
+-- closing braces that close all open blocks of the draft
 record AreClosed (draft : PlainDraft) (tokens : List (ℕ × Token)) : Type 0 where
   final : PlainDraft
   read : with_tokens draft tokens ≡ Ok final

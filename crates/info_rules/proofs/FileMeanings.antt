@@ -1,4 +1,4 @@
--- What rules and rule files mean.
+-- The meaning of rules and rule files.
 use Rattle.std.proofs.Common.{◌≡◌, ℕ, ◌≤◌, Bool, true, false, cond, List, [], ◌∷◌, ◌++◌, length, refl, sym, subst, inl, inr, arith}
 use Rattle.std.specs.Prelude.{◌⊎◌, ◌≢◌, Result, IfOk, MatchResult, Option, Some, None, Ok, Err, nat_lt, bytes_eq, codes, ◌||◌}
 use Rattle.std.specs.List.{AllByRecursion, flat_map}
@@ -104,7 +104,7 @@ word_anchor line text (inr (inl e)) = rw e refl
 word_anchor line text (inr (inr (inl e))) = rw e refl
 word_anchor line text (inr (inr (inr h))) = absurd h
 
--- a type that is taken
+-- a type that a trust anchor may have
 typed : (line : ℕ) (text : List ℕ) → anchor_type_in line text ≡ Ok (Some tt) → IsOneOf anchor_words text
 typed line text e = by_tests (bytes_eq text (codes "any")) (is_anchor_type text) refl e
   where
@@ -113,7 +113,7 @@ typed line text e = by_tests (bytes_eq text (codes "any")) (is_anchor_type text)
     by_tests false true is e = anchor_word text is
     by_tests false false is e = absurd cc
 
--- one key `type`, of a type that is taken
+-- exactly one key is `type`, and its value may be the type of a trust anchor
 abbrev HasType : List Block → Type 0
 HasType keys = (text : List ℕ) × HasValue (codes "type") keys text × IsOneOf anchor_words text
 
@@ -167,7 +167,7 @@ not_equal a b differ = by_test (bytes_eq a b) refl
     by_test true is = absurd (differ ((bytes_eq-Decides a b).0 is))
     by_test false is = refl
 
--- the id of a rule is not this one
+-- the rule does not have this id
 no_same : (id : List ℕ) (key : Block) (rule : PlainRule) → (id_key key >>= value_of) ≡ Some rule.id → rule.id ≢ id → same_id_faults id key ≡ []
 unfolding same_id_faults
 no_same id key rule e differ = by_key (id_key key) e
@@ -176,7 +176,7 @@ no_same id key rule e differ = by_key (id_key key) e
     by_key None e = absurd cc
     by_key (Some later) e = rw (e, not_equal rule.id id differ) refl
 
--- a key that is no rule has no id
+-- a key that is not a rule has no id
 no_id : (id : List ℕ) (key : Block) → is_word (codes "rule") key ≡ false → same_id_faults id key ≡ []
 unfolding same_id_faults id_key
 no_id id key not = rw not refl
@@ -260,7 +260,7 @@ file_meant entries rules (only, means, few, own, anchors) =
 pub one_meaning : (entries : List PlainEntry) (a b : List PlainRule) → IsRuleFile entries a → IsRuleFile entries b → a ≡ b
 one_meaning entries a b p q = ok_one (rules_in entries) a b (file_meant entries a p) (file_meant entries b q)
 
--- what is read of the entries, or the fault that is reported
+-- `read` is the rules that the entries give, or the fault that is reported
 abbrev IsReadOf : List PlainEntry → Result (List PlainRule) RulesFault → Type 0
 IsReadOf entries read = MatchResult read (λ rules. rules_in entries ≡ Ok rules) (λ fault. (rules_in entries ≡ Err fault) ⊎ (fault ≡ memory_fault))
 

@@ -1,4 +1,4 @@
--- The first rule that applies, by its place.
+-- The first rule that applies, by its position.
 use Rattle.std.proofs.Common.{◌≡◌, ℕ, ◌+◌, ◌<◌, ◌≤◌, List, [], ◌∷◌, ◌++◌, length, get_or, take, refl, subst, sym, ap, ◌∙◌, inl, inr}
 use Rattle.std.specs.Prelude.{Option, Some, None, slice_get, All}
 use Rattle.std.proofs.lemmas.List.{take_all, take_more}
@@ -16,7 +16,7 @@ within rules n rule e =
     none : (o : Option PlainRule) → o ≡ None → o ≡ Some rule → ⊥
     none o p q = cc
 
--- none of the first n rules applies
+-- none of the first `n` rules applies
 abbrev pub NoneOfFirst : List PlainRule → Kind → List Field → ℕ → Type 0
 NoneOfFirst rules kind name n = NoneApplies (take n rules) kind name
 
@@ -34,6 +34,6 @@ none_more rules kind name n rule low is other none =
 pub none_applies : (rules : List PlainRule) (kind : Kind) (name : List Field) (n : ℕ) → length rules ≤ n → NoneOfFirst rules kind name n → NoneApplies rules kind name
 none_applies rules kind name n all none = subst (λ (rs : List PlainRule). NoneApplies rs kind name) (take_all n rules all) none
 
--- the rule of this number
+-- the rule at position `n`
 pub chosen : (rules : List PlainRule) (kind : Kind) (name : List Field) (n : ℕ) (item rule : PlainRule) → item ≡ get_or rules n item → IsFirst rules kind name n rule → item ≡ rule
 chosen rules kind name n item rule is first = is ∙ get_or_from_slice_get rules n rule item first.there

@@ -1,4 +1,4 @@
--- What is found, by its parts.
+-- The parts of values that were read.
 use Rattle.std.proofs.Common.{◌≡◌, ℕ, List, refl, ap}
 use Rattle.std.specs.Prelude.{Option, Some, None, Ok, Err}
 use Rattle.std.specs.Option.{option_map, option_zip}
@@ -10,7 +10,7 @@ use Rattle.info_rules.specs.Keys.{on_option, first_of, named, value_of}
 use Rattle.info_rules.specs.Values.{given_in, read_at, value_in}
 use Rattle.info_rules.specs.Found.{Found, both, beside, needed, then_made, shown}
 
--- ---- what parts show
+-- ---- functions applied to values
 
 pub both_head : {A B C : Type 0} (r : A → C) (a : Found A) (b : Found B) → shown (λ (p : A × B). (r p.0, p.1)) (both a b) ≡ both (shown r a) b
 both_head r (Ok a) (Ok b) = refl
@@ -48,7 +48,7 @@ pub three_faulty : {A B C X Y Z W : Type 0} (r : A → X) (s : B → Y) (t : C �
     → Err fault ≡ shown q (both (shown r a) (both (shown s b) (shown t c)))
 three_faulty r s t q a b c fault e = rw (three_shown r s t a b c, e) refl
 
--- ---- what is read without a fault
+-- ---- values that were read without a fault
 
 pub both_ok : {A B : Type 0} (a : Found A) (b : Found B) (p : A × B) → both a b ≡ Ok p → (a ≡ Ok p.0) × (b ≡ Ok p.1)
 both_ok (Ok a) (Ok b) p e = let same : (a, b) ≡ p = cc in (ap (λ (q : _ × _). Ok q.0) same, ap (λ (q : _ × _). Ok q.1) same)
@@ -83,7 +83,7 @@ needed_ok line (Ok None) x e = absurd cc
 needed_ok line (Ok (Some a)) x e = let same : a ≡ x = cc in ap (λ y. Ok (Some y)) same
 needed_ok line (Err d) x e = absurd cc
 
--- a key of this word, with this text, which is read so
+-- a key is `word`, and its text is read as `x`
 pub record IsGiven (A : Type 0) (read : List ℕ → Option A) (word : List ℕ) (keys : List Block) (x : A) : Type 0 where
   pub key : Block
   pub text : List ℕ

@@ -1,4 +1,4 @@
--- Hierarchical keys, by a pattern.
+-- Hierarchical keys and their pattern.
 use Rattle.std.proofs.Common.{◌≡◌, ℕ, zero, suc, ◌+◌, ◌-◌, ◌<◌, ◌≤◌, List, [], ◌∷◌, ◌++◌, length, take, drop, subst, sym, refl, ap, ◌∙◌, ◌⊎◌, inl, inr, arith}
 use Rattle.std.specs.Prelude.{Some, sum}
 use Rattle.std.specs.List.{AllByRecursion}
@@ -13,7 +13,7 @@ use Rattle.name_patterns.specs.Match.{Passes, IsSplit, IsGreatestSplit, Match, p
 use Rattle.name_patterns.specs.Template.{OfGroup, part_of}
 use Rattle.info_rules.specs.Locator.{key_component, IsKeyOf, IsHierarchical, hierarchical_pattern}
 
--- the component KEY, and one to three more
+-- the atoms for the component KEY and for one to three more components
 abbrev late_atoms : List PlainAtom
 late_atoms = record { test = OneOf (key_component ∷ []); bounds = once } ∷ record { test = Anything; bounds = record { least = 1; most = Some 3 } } ∷ []
 
@@ -38,7 +38,7 @@ key_split prefix name h =
     let following : drop (length prefix) name ≡ key_component ∷ h.0 = ap (drop (length prefix)) h.1 ∙ drop_front prefix (key_component ∷ h.0) in
     (omega arith, tt, long, all_pass (take (length prefix) name), subst (λ (cs : List Field). IsSplit late_atoms cs (1 ∷ length h.0 ∷ [])) (sym following) (late_split h.0 h.2 h.3))
 
--- what a split of the late atoms is
+-- a split of components by the late atoms
 pub record Late (cs : List Field) (counts : List ℕ) : Type 0 where
   pub rest : List Field
   pub begins : cs ≡ key_component ∷ rest
@@ -68,7 +68,7 @@ late_of (c ∷ rest) (suc zero ∷ b ∷ more) s =
     key (inl e) = sym e
     key (inr x) = absurd x
 
--- what a split of the pattern is
+-- a split of a name by the whole pattern
 pub record Whole (name : List Field) (counts : List ℕ) : Type 0 where
   pub front : ℕ
   pub rest : List Field
@@ -116,7 +116,7 @@ first_less x y s t d = by d.0 d.5 d.6
     by [] e f = omega (arith, d.7, first_is x d.3 s d.1 e, first_is y d.4 t d.2 f)
     by (c ∷ common) e f = omega (arith, first_is x c s (common ++ d.3 ∷ d.1) e, first_is y c t (common ++ d.4 ∷ d.2) f)
 
--- what group 1 holds
+-- the components that group 1 captures
 group_one : (name : List Field) (front : ℕ) (late : List ℕ) (places : List (ℕ × ℕ)) → places ≡ places_of hierarchical_pattern name (front ∷ late) → part_of places name (OfGroup 1) ≡ take front name
 group_one name front late places e =
     let sum_is : sum (front ∷ []) - 0 ≡ front = grind arith in

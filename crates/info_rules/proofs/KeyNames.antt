@@ -1,4 +1,4 @@
--- Names of keys, by the place of their component KEY.
+-- The names of keys, by the position of their component KEY.
 use Rattle.std.proofs.Common.{◌≡◌, ℕ, zero, suc, ◌+◌, ◌<◌, ◌≤◌, List, [], ◌∷◌, ◌++◌, length, take, drop, false, subst, sym, refl, ap, ◌∙◌, arith}
 use Rattle.std.specs.Prelude.{Some, slice_get, Bool, IsTrue, ◌↔◌}
 use Rattle.std.proofs.lemmas.List.{length-append, length-drop}
@@ -11,7 +11,7 @@ at_end : (front rest : List Field) (c : Field) → slice_get (front ++ c ∷ res
 at_end [] rest c = refl
 at_end (x ∷ front) rest c = at_end front rest c
 
--- each name of a key has more components than its prefix by two to four
+-- the name of a key has two to four components more than its prefix
 pub key_len : (prefix name : List Field) (h : IsKeyOf prefix name) → length name ≡ length prefix + 1 + length h.0
 key_len prefix name h = ap length h.1 ∙ (length-append prefix (key_component ∷ h.0) ∙ omega arith)
 
@@ -30,7 +30,7 @@ key_here name place following there len some few =
     let long : length (drop (suc place) name) ≡ following = length-drop (suc place) name ∙ omega (arith, len) in
     (drop (suc place) name, split_at name place key_component there, omega (arith, long, some), omega (arith, long, few))
 
--- each prefix before a component KEY has more than so many components after that
+-- for each way to read the name as a key's name, at least `following` components follow KEY
 abbrev pub HasFollowing : List Field → ℕ → Type 0
 HasFollowing name following = (prefix : List Field) → IsKeyOf prefix name → length prefix + 1 + following ≤ length name
 

@@ -5,7 +5,7 @@ use Rattle.std.proofs.lemmas.Bool.Decides.{nat_tests}
 use Rattle.info_rules.specs.declared.fault.RulesFault.{RulesFault}
 use Rattle.info_rules.specs.Faults.{kind_number, sooner, after, IsAmong, NoneIsSooner}
 
--- one pair of numbers is less than another, by the first and then by the second
+-- the first pair of numbers is less than the second in lexicographic order
 abbrev less : ℕ → ℕ → ℕ → ℕ → Bool
 less a b c d = ltb a c || (eqb a c && ltb b d)
 
@@ -18,14 +18,14 @@ less_not a b c d h = grind (arith, nat_tests)
 less_itself : (a b : ℕ) → less a b a b ≡ false
 less_itself a b = grind (arith, nat_tests)
 
--- what is not sooner than a fault is not sooner than one that is not later
+-- if `a` is not sooner than `b`, and `b` is not sooner than `c`, `a` is not sooner than `c`
 along : (a b c : RulesFault) → sooner a b ≡ false → sooner b c ≡ false → sooner a c ≡ false
 along a b c h k = less_along a.line (kind_number a.kind) b.line (kind_number b.kind) c.line (kind_number c.kind) h k
 
 itself : (a : RulesFault) → sooner a a ≡ false
 itself a = less_itself a.line (kind_number a.kind)
 
--- which of two is reported
+-- `told` is the one of the two faults that is reported
 record IsTold (a b told : RulesFault) : Type 0 where
   one : (told ≡ a) ⊎ (told ≡ b)
   first : sooner a told ≡ false
@@ -38,7 +38,7 @@ told_of_two a b = by_test (sooner b a) refl
     by_test true e = record { one = inr refl; first = less_not b.line (kind_number b.kind) a.line (kind_number a.kind) e; second = itself b }
     by_test false e = record { one = inl refl; first = itself a; second = e }
 
--- what is reported of a fault and others
+-- `told` is the fault that is reported among `fault` and `faults`
 abbrev IsFirst : RulesFault → List RulesFault → RulesFault → Type 0
 IsFirst fault faults told = IsAmong told (fault ∷ faults) × NoneIsSooner told (fault ∷ faults)
 

@@ -1,4 +1,4 @@
--- Keys that are read without a fault: how many there are, and their ids.
+-- Keys that are read without a fault: their number and their ids.
 use Rattle.std.proofs.Common.{◌≡◌, ℕ, Bool, true, false, cond, List, [], ◌∷◌, ◌++◌, length, suc, refl, sym, ap, subst, ◌∙◌}
 use Rattle.std.specs.Prelude.{◌≢◌, Option, Some, None, Ok, Err, bytes_eq, codes, MatchOption}
 use Rattle.std.specs.List.{AllByRecursion, flat_map}
@@ -32,7 +32,7 @@ some_one x y e = cc
 ok_one : {A : Type 0} (x y : Found A) (a b : A) → x ≡ Ok a → y ≡ Ok b → x ≡ y → a ≡ b
 ok_one x y a b p q e = cc
 
--- what the first key and the others gave
+-- the value of the first key, and the values of the other keys
 pub head_gave : {A : Type 0} (f : Block → Found A) (key : Block) (keys : List Block) (all : List A) → each f (key ∷ keys) ≡ Ok all
     → (one : A) × (others : List A) × (f key ≡ Ok one) × (each f keys ≡ Ok others) × (one ∷ others ≡ all)
 unfolding each
@@ -84,7 +84,7 @@ id_of key rule is e =
     let same : given.text ≡ rule.id = is_text given.text read.0.0.0 given.means ∙ ap (λ (r : PlainRule). r.id) read.2 in
     rw (is, given.is_first, given.value) (ap Some same)
 
--- a rule that is not told has another id
+-- a rule without the fault `TwiceNamed` has another id
 other_id : (id : List ℕ) (key : Block) (rule : PlainRule) → is_word (codes "rule") key ≡ true → rule_in key ≡ Ok rule → same_id_faults id key ≡ [] → rule.id ≢ id
 unfolding same_id_faults
 other_id id key rule is e none same = by_key (id_key key) (id_of key rule is e) none
@@ -132,7 +132,7 @@ own_ids (key ∷ keys) rules none e =
         let none_more = repeated_none key keys gave.0.id (id_of key gave.0 is gave.2) one in
         subst HaveOwnIds gave.4 (none_has gave.0.id keys gave.1 none_more gave.3, further gave.1 gave.3)
 
--- ---- no fault
+-- ---- keys without a fault
 
 pub no_fault : (faults : List RulesFault) → after None faults ≡ None → faults ≡ []
 no_fault faults e = by_fault (after None faults) (least_of faults) e

@@ -1,4 +1,4 @@
--- A name has one match, and one name is made of it.
+-- A name has at most one match, and the match expands to one name.
 use Rattle.std.proofs.Common.{◌≡◌, ℕ, ◌<◌, ◌≤◌, false, List, [], ◌∷◌, ◌++◌, ◌⊎◌, inl, inr, length, subst, sym, refl, ap, ◌∙◌, arith}
 use Rattle.std.specs.Prelude.{Bool, IsTrue, ◌↔◌}
 use Rattle.ndn_tlv.specs.Element.{Field}
@@ -16,7 +16,7 @@ heads x y s t e = cc
 tails : (x y : ℕ) (s t : List ℕ) → x ∷ s ≡ y ∷ t → s ≡ t
 tails x y s t e = cc
 
--- where two lists first differ, one has more
+-- at the first difference of two lists, one of them has the greater element
 clash : (p q s t after before : List ℕ) (x y u v : ℕ) → p ++ x ∷ s ≡ q ++ v ∷ after → p ++ y ∷ t ≡ q ++ u ∷ before → x < y → u < v → ⊥
 clash [] [] s t after before x y u v e f low high = absurd (omega (arith, low, high, heads x v s after e, heads y u t before f))
 clash [] (b ∷ q) s t after before x y u v e f low high =

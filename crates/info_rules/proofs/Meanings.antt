@@ -1,4 +1,4 @@
--- Blocks that are read without a fault, and what their keys mean.
+-- Blocks that are read without a fault, and the meaning of their keys.
 use Rattle.std.proofs.Common.{◌≡◌, ℕ, ◌≤◌, Bool, true, false, cond, List, [], ◌∷◌, ◌++◌, length, map, suc, refl, ap, subst, ◌∙◌, inl, inr, arith}
 use Rattle.std.specs.Prelude.{⊤, Option, Some, None, Ok, Err, is_some, not, nat_lt, bytes_eq, ◌||◌}
 use Rattle.std.specs.List.{AllByRecursion, flat_map, list_any}
@@ -19,7 +19,7 @@ use Rattle.info_rules.specs.Meaning.{IsOneOf, HasOnly, Lacks, HasValue, OpensBlo
 use Rattle.info_rules.proofs.FoundParts.{beside_ok, value_ok}
 use Rattle.info_rules.proofs.Limits.{none_of_both, head_gave, no_key, no_fault}
 
--- ---- parts that are read
+-- ---- values that were read
 
 pub beside_again : {A : Type 0} (f : Option RulesFault) (g : Found A) (x : A) → f ≡ None → g ≡ Ok x → beside f g ≡ Ok x
 beside_again f g x p q = rw (p, q) refl
@@ -86,7 +86,7 @@ known_all : (forms : List PlainForm) (keys : List Block) → HasOnly (words_of f
 known_all forms [] h = refl
 known_all forms (key ∷ keys) h = rw (known_word forms key h.0, known_all forms keys h.1) refl
 
--- words of which each is one of these
+-- if all keys are among `few`, and every word of `few` is in `more`, all keys are among `more`
 pub only_of : (few more : List (List ℕ)) (keys : List Block) → ((word : List ℕ) → IsOneOf few word → IsOneOf more word) → HasOnly few keys → HasOnly more keys
 only_of few more [] among h = tt
 only_of few more (key ∷ keys) among h = (among key.0.key h.0, only_of few more keys among h.1)
@@ -103,7 +103,7 @@ not_among (w ∷ words) word e (inl is) =
     absurd cc
 not_among (w ∷ words) word e (inr h) = not_among words word (neither (bytes_eq word w) (list_any (λ (v : List ℕ). bytes_eq word v) words) e).1 h
 
--- a word that no key can be
+-- if the keys may only be certain words, no key is another word
 pub lacks : (words : List (List ℕ)) (word : List ℕ) (keys : List Block) → list_any (λ (w : List ℕ). bytes_eq word w) words ≡ false → HasOnly words keys → Lacks word keys
 lacks words word [] e h = refl
 lacks words word (key ∷ keys) e h = by_test (bytes_eq key.0.key word) refl (lacks words word keys e h.1)
@@ -114,7 +114,7 @@ lacks words word (key ∷ keys) e h = by_test (bytes_eq key.0.key word) refl (la
 
 -- ---- keys by the table
 
--- how often a word may stand
+-- the number of keys that are `word` is allowed
 abbrev pub Stands : Times → List ℕ → List Block → Type 0
 Stands Once word keys = others_of (named word keys) ≡ []
 Stands (UpTo most) word keys = length (named word keys) ≤ most
@@ -168,7 +168,7 @@ stand_again : (forms : List PlainForm) (keys : List Block) → Stand forms keys 
 stand_again [] keys h = refl
 stand_again (f ∷ forms) keys h = rw (stands_again f.word f.takes f.times keys h.0, stand_again forms keys h.1) refl
 
--- the keys of a block that has no others
+-- the keys of a block that allows no other keys
 pub fits : (block : BlockKind) (keys : List Block) → is_closed block ≡ true → after None (walk_faults block keys) ≡ None → HasOnly (words_of (table block)) keys × Stand (table block) keys
 unfolding walk_faults
 fits block keys closed e =
@@ -180,7 +180,7 @@ pub fits_again : (block : BlockKind) (keys : List Block) → is_closed block ≡
 unfolding walk_faults after
 fits_again block keys closed only often = rw (closed, known_all (table block) keys only, stand_again (table block) keys often) refl
 
--- those of a block of which the other keys are not looked at
+-- the keys of a block whose other keys are not checked
 pub fits_open : (block : BlockKind) (keys : List Block) → is_closed block ≡ false → after None (walk_faults block keys) ≡ None → Stand (table block) keys
 unfolding walk_faults
 fits_open block keys others e =
@@ -204,7 +204,7 @@ value_is key text e = by_block key.0.has_block refl e
     by_block true is e = absurd cc
     by_block false is e = (e, is)
 
--- the value that is read is that of the one key of its word
+-- the value that was read belongs to the only key that is `word`
 pub has : {A : Type 0} (kind : RulesFaultKind) (read : List ℕ → Option A) (word : List ℕ) (keys : List Block) (x : A) → value_in kind read word keys ≡ Ok (Some x) → others_of (named word keys) ≡ []
     → (text : List ℕ) × HasValue word keys text × (read text ≡ Some x)
 has kind read word keys x e once =
@@ -226,7 +226,7 @@ no_first : {A : Type 0} (xs : List A) → first_of xs ≡ None → xs ≡ []
 no_first [] e = refl
 no_first (x ∷ xs) e = absurd cc
 
--- no value is read where no key is this word
+-- no value is read if no key is `word`
 pub lacks_read : {A : Type 0} (kind : RulesFaultKind) (read : List ℕ → Option A) (word : List ℕ) (keys : List Block) → value_in kind read word keys ≡ Ok None → Lacks word keys
 unfolding value_in
 lacks_read {A = A} kind read word keys e = by_first (first_of (named word keys)) refl e
@@ -250,7 +250,7 @@ lacks_again kind read word keys h = rw h refl
 pub lacks_once : (word : List ℕ) (keys : List Block) → Lacks word keys → others_of (named word keys) ≡ []
 lacks_once word keys h = rw h refl
 
--- a word is there, and only once
+-- exactly one key is `word`
 pub one_there : (word : List ℕ) (keys : List Block) → is_there word keys ≡ true → others_of (named word keys) ≡ [] → (key : Block) × (named word keys ≡ key ∷ [])
 one_there word keys e once = by_first (first_of (named word keys)) refl e
   where
@@ -277,7 +277,7 @@ block_ok depth f key x e = by_block key.0.has_block refl e
 pub block_again : {A : Type 0} (depth : ℕ) (f : ℕ → List Block → Found A) (key : Block) (x : A) → OpensBlock key → f key.0.line (blocks_of depth key.1) ≡ Ok x → block_in depth f key ≡ Ok x
 block_again depth f key x h e = rw (h.0, h.1, e) refl
 
--- ---- blocks that stand at most once
+-- ---- blocks that may be given at most once
 
 pub first_gave : {A : Type 0} (f : Block → Found A) (word : List ℕ) (keys : List Block) (all : List A) (x : A) → others_of (named word keys) ≡ [] → each f (named word keys) ≡ Ok all → first_of all ≡ Some x
     → (key : Block) × (named word keys ≡ key ∷ []) × (f key ≡ Ok x)

@@ -1,4 +1,4 @@
--- What filters and key locators ask of a name.
+-- The requirements of filters and key locators on a name.
 use Rattle.std.proofs.Common.{◌≡◌, ℕ, Bool, true, false, cond, List, [], ◌∷◌, refl, sym, ap, subst, ◌∙◌, inl, inr}
 use Rattle.std.specs.Prelude.{◌⊎◌, Option, Some, None, Ok, not, bytes_eq, codes}
 use Rattle.std.specs.List.{filter_map, cons_option}
@@ -29,12 +29,12 @@ use Rattle.info_rules.proofs.WordMeanings.{name_means, name_meant, pattern_means
 
 -- ---- the form of a key
 
--- the keys that a block may have
+-- the keys that the block may have
 abbrev pub words_for : Tested → List (List ℕ)
 words_for PacketName = codes "type" ∷ codes "name" ∷ codes "relation" ∷ codes "regex" ∷ []
 words_for KeyName = codes "type" ∷ codes "name" ∷ codes "relation" ∷ codes "regex" ∷ codes "hyper-relation" ∷ []
 
--- those of one form
+-- the keys that a block may have in this form
 abbrev pub words_by : Form → List (List ℕ)
 words_by forms.Related = codes "type" ∷ codes "name" ∷ codes "relation" ∷ []
 words_by forms.Matching = codes "type" ∷ codes "regex" ∷ []
@@ -61,7 +61,7 @@ form_hyper : (key : Block) → key.0.key ≡ codes "hyper-relation" → form_of 
 unfolding form_of
 form_hyper key e = rw e refl
 
--- a key of no form, or of this one
+-- the key belongs to no form or to this form
 abbrev pub MayStand : Tested → Form → Block → Type 0
 MayStand tested form key = (form_of tested key ≡ None) ⊎ (form_of tested key ≡ Some form)
 
@@ -122,7 +122,7 @@ is_itself forms.Related = refl
 is_itself forms.Matching = refl
 is_itself forms.Hyper = refl
 
--- the form and the line of a key, where it is of another form
+-- the form and the line of a key, if the key belongs to another form
 abbrev other_by : Tested → Option Form → ℕ → Option Form → Option (Form × ℕ)
 other_by tested other line o = on_option (λ (form : Form). cond (is_other other form) (Some (form, line)) None) None o
 
@@ -149,7 +149,7 @@ no_other_again tested form [] may = refl
 no_other_again tested form (key ∷ keys) (inl none, may) = rw none (no_other_again tested form keys may)
 no_other_again tested form (key ∷ keys) (inr some, may) = rw (some, is_itself form) (no_other_again tested form keys may)
 
--- a key of the word of a form is there
+-- the keys contain a key of this form
 first_there : (tested : Tested) (form : Form) (word : List ℕ) (keys rest : List Block) (found : Block) → AllMayStand tested form keys → ((key : Block) → key.0.key ≡ word → form_of tested key ≡ Some form) → named word keys ≡ found ∷ rest
     → (line : ℕ) × (first_other tested None keys ≡ Some (form, line))
 first_there tested form word [] rest found may means e = absurd cc
@@ -166,7 +166,7 @@ first_there tested form word (key ∷ keys) rest found may means e = by_key (for
 
 -- ---- faults of forms
 
--- a form of which all keys are
+-- all keys that belong to a form belong to the same form
 abbrev HasForm : Tested → List Block → Type 0
 HasForm tested keys = (form : Form) × AllMayStand tested form keys
 
@@ -186,7 +186,7 @@ pub no_form_fault : (tested : Tested) (form : Form) (line at : ℕ) (keys : List
 unfolding form_fault
 no_form_fault tested form line at keys may first half = rw (first, no_other_again tested form keys may) half
 
--- ---- what is asked
+-- ---- the requirement that is read
 
 not_given : {A : Type 0} (kind : RulesFaultKind) (read : List ℕ → Option A) (word : List ℕ) (keys : List Block) (x : A) → Lacks word keys → value_in kind read word keys ≡ Ok (Some x) → ⊥
 not_given kind read word keys x none e = let nothing : value_in kind read word keys ≡ Ok None = lacks_again kind read word keys none in absurd cc
@@ -201,14 +201,14 @@ by_name forms.Related keys name only e = only
 by_name forms.Matching keys name only e = absurd (not_given kinds.BadValue (λ text. ok_of (name_in text)) (codes "name") keys name (lacks (words_by forms.Matching) (codes "name") keys refl only) e)
 by_name forms.Hyper keys name only e = absurd (not_given kinds.BadValue (λ text. ok_of (name_in text)) (codes "name") keys name (lacks (words_by forms.Hyper) (codes "name") keys refl only) e)
 
--- the words of these forms stand at most once
+-- each of these words is given at most once
 pub record StandOnce (keys : List Block) : Type 0 where
   pub type : others_of (named (codes "type") keys) ≡ []
   pub name : others_of (named (codes "name") keys) ≡ []
   pub relation : others_of (named (codes "relation") keys) ≡ []
   pub regex : others_of (named (codes "regex") keys) ≡ []
 
--- the type, the names, and one form
+-- the keys of a block with a requirement on a name: its type, its names and one form
 pub record IsAsked (tested : Tested) (keys : List Block) (names : Names) : Type 0 where
   pub form : Form
   pub only : HasOnly (words_by form) keys
@@ -264,7 +264,7 @@ test_means tested keys names test once asked made = by_names names.0.0 names.0.1
     by_names (Some name) None None en er ep made = absurd cc
     by_names None r None en er ep made = absurd cc
 
--- ---- and back
+-- ---- the converse
 
 may_related : (tested : Tested) (key : Block) → IsOneOf (words_by forms.Related) key.0.key → MayStand tested forms.Related key
 may_related tested key (inl e) = inl (form_type tested key e)
@@ -286,7 +286,7 @@ all_may : (tested : Tested) (form : Form) (keys : List Block) → ((key : Block)
 all_may tested form [] may only = tt
 all_may tested form (key ∷ keys) may only = (may key only.0, all_may tested form keys may only.1)
 
--- the names that are read, where no fault of a form is met
+-- the names that are read if the forms have no fault
 asked_again : (tested : Tested) (line : ℕ) (keys : List Block) (names : Names) → form_fault tested line keys ≡ None → HasValue (codes "type") keys (codes "name") → names_in keys ≡ Ok names → asked_in tested line keys ≡ Ok (test_of names)
 unfolding asked_in
 asked_again tested line keys names none type read =
@@ -311,7 +311,7 @@ pub lacks_hyper : (keys : List Block) (test : NameTest) → AsksOfName keys test
 lacks_hyper keys (tests.Related stands name) h = lacks (words_by forms.Related) (codes "hyper-relation") keys refl h.0
 lacks_hyper keys (tests.Matching pattern) h = lacks (words_by forms.Matching) (codes "hyper-relation") keys refl h.0
 
--- what is read of keys that ask for a name
+-- the test that is read from keys with this meaning
 pub test_meant : (tested : Tested) (line : ℕ) (keys : List Block) (test : NameTest) → AsksOfName keys test → asked_in tested line keys ≡ Ok (Some test)
 unfolding names_in
 test_meant tested line keys (tests.Related stands name) (only, type, given, how) =
@@ -332,7 +332,7 @@ test_meant tested line keys (tests.Matching pattern) (only, type, given) =
     let read : names_in keys ≡ Ok ((None, None), Some pattern) = rw (name, relation, regex_read) refl in
     asked_again tested line keys ((None, None), Some pattern) (no_form_fault tested forms.Matching line first.0 keys may first.1 refl) type read
 
--- how often the words stand where a name is asked for
+-- the words are given at most once in keys with this meaning
 pub once_there : (keys : List Block) (test : NameTest) → AsksOfName keys test → StandOnce keys
 once_there keys (tests.Related stands name) (only, type, given, how) = record {
   type = has_once (codes "type") keys (codes "name") type;

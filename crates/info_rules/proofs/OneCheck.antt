@@ -1,4 +1,4 @@
--- A checker says one thing of a packet.
+-- A checker gives only one result for a packet.
 use Rattle.std.proofs.Common.{◌≡◌, ℕ, List, [], ◌∷◌, subst, sym, ap, ◌∙◌, inl, inr}
 use Rattle.std.specs.Prelude.{Option, None, ◌≢◌}
 use Rattle.std.specs.List.{AllByRecursion}

@@ -1,4 +1,4 @@
--- Rules decide one thing of a packet.
+-- Rules give only one decision for a packet.
 use Rattle.std.proofs.Common.{◌≡◌, ℕ, ◌<◌, ◌≤◌, List, [], ◌++◌, length, get_or, take, subst, sym, refl, ap, ◌∙◌, ◌⊎◌, inl, inr, arith}
 use Rattle.std.specs.Prelude.{Option, Some, None, slice_get, All, Any, ◌==◌, if◌then◌else◌}
 use Rattle.std.proofs.lemmas.Bool.{cases_lt}
@@ -51,7 +51,7 @@ one_rule rules kind name n m a b p q = some_is (sym p.there ∙ (ap (slice_get r
 numbered : (n m : RuleNo) → n.0 ≡ m.0 → n ≡ m
 numbered n m e = λ i. record { 0 = e i }
 
--- ---- what checkers see
+-- ---- what the checkers see
 
 one_signature : (a b : PlainSignature) (o : Option PlainSignature) → o ≡ Some a → o ≡ Some b → a ≡ b
 one_signature a b o p q = some_is (sym p ∙ q)
@@ -113,7 +113,7 @@ one_unfit packet reasons.KeyUnknown b p q = absurd p
 one_unfit packet reasons.Tag b p q = absurd p
 one_unfit packet reasons.Replay b p q = absurd p
 
--- ---- what checkers say
+-- ---- the results of checkers
 
 abbrev reason_of : ℕ → Reason
 reason_of n =
@@ -149,7 +149,7 @@ passes_none keys checker signed a apart p q = none_is (one_check keys checker si
     none_is : None ≡ Some a → ⊥
     none_is e = cc
 
--- what holds of each holds of this one
+-- if `P` holds for all checkers, it holds for this checker
 here : (P : Checker → Type 0) (all : List Checker) (k : ℕ) (x : Checker) → All P all → k < length all → get_or all k x ≡ x → P x
 here P all k x every low is = subst P is (every k x low)
 

@@ -1,4 +1,4 @@
--- Results, and decisions of packets as they are shown.
+-- Results and decisions, as the specification sees them.
 use Rattle.std.proofs.Common.{◌≡◌, ℕ, List, get_or, subst, sym}
 use Rattle.std.specs.Prelude.{Result, Ok, Err, IfOk, MatchResult}
 use Rattle.hmac_keys.specs.KeyFile.{NamedKey}
@@ -22,7 +22,7 @@ pub decides_shown : (rules : List PlainRule) (keys : List NamedKey) (packet : Pa
 decides_shown rules keys (packets.Interest i) decision h = h
 decides_shown rules keys (packets.Data d) decision h = h
 
--- the first rule, as it stands among the others
+-- the first rule that applies, by its position among all rules
 pub first_item : (all : List PlainRule) (packet : Packet) (kind : Kind) (name : List Field) (n : ℕ) (item : PlainRule) → kind ≡ (seen_of packet).kind → name ≡ (seen_of packet).name → item ≡ get_or all n item → First all kind name n
     → IsFirst all (seen_of packet).kind (seen_of packet).name n item
 first_item all packet kind name n item kind_is name_is is first =

@@ -1,4 +1,4 @@
--- Cutting entries at those of a depth.
+-- Splitting entries at the entries of a given depth.
 use Rattle.std.proofs.Common.{◌≡◌, ℕ, suc, ◌+◌, ◌<◌, ◌≤◌, Bool, true, false, eqb, cond, List, [], ◌∷◌, ◌++◌, length, get_or, take, drop, map, refl, sym, ap, subst, ◌∙◌}
 use Rattle.std.specs.Prelude.{⊤}
 use Rattle.std.proofs.Math.Seq.{drop-cons}
@@ -22,7 +22,7 @@ lack_more depth entries i entry lt is e h =
     let grown : take (i + 1) entries ≡ take i entries ++ entry ∷ [] = take_more entries i entry lt ∙ ap (λ (x : Entry). take i entries ++ x ∷ []) (sym is) in
     subst (Lack depth) (sym grown) (lack_both depth (take i entries) entry h e)
 
--- entries in front of others, of which none is at this depth
+-- the result of `parted` for a list with several more entries in front, none of them at this depth
 abbrev pub following : ℕ → List PlainEntry → List Entry → List PlainEntry × List Block
 following depth front rest = (front ++ (parted depth (map entry_of rest)).0, (parted depth (map entry_of rest)).1)
 
@@ -64,7 +64,8 @@ past_front depth entries i none h =
     past_at depth entries i h ∙ ap (λ (l : List PlainEntry). (map entry_of (take i entries) ++ l, (parted depth (map entry_of (drop i entries))).1)) none
     ∙ ap (λ (l : List PlainEntry). (l, (parted depth (map entry_of (drop i entries))).1)) (append-nil (map entry_of (take i entries)))
 
--- an entry in front of parted ones, by whether it is of their depth
+-- the result of `parted` for a list with one more entry in front; the flag tells whether that entry
+-- is at the depth
 abbrev with_entry : PlainEntry → List PlainEntry × List Block → Bool → List PlainEntry × List Block
 with_entry entry rest b = cond b ([], (entry, rest.0) ∷ rest.1) (entry ∷ rest.0, rest.1)
 
@@ -72,7 +73,7 @@ is_here : (entry : PlainEntry) (rest : List PlainEntry × List Block) (b : Bool)
 is_here entry rest true none = refl
 is_here entry rest false none = absurd cc
 
--- the first key, where an entry of this depth is at the front
+-- the first key, if the first entry is at this depth
 pub first_key : (depth : ℕ) (entry : Entry) (after : List Entry) → (parted depth (map entry_of (entry ∷ after))).0 ≡ []
     → (parted depth (map entry_of (entry ∷ after))).1 ≡ (entry_of entry, (parted depth (map entry_of after)).0) ∷ (parted depth (map entry_of after)).1
 unfolding parted

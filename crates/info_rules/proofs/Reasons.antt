@@ -1,4 +1,4 @@
--- The greatest reason of several checkers, one after the other.
+-- The greatest reason of several checkers, found one by one.
 use Rattle.std.proofs.Common.{◌≡◌, ℕ, ◌+◌, ◌<◌, ◌≤◌, List, [], ◌∷◌, length, get_or, subst, sym, ap, ◌∙◌, inl, inr, arith, below_more}
 use Rattle.std.specs.Prelude.{Option, Some, None, unwrap_or}
 use Rattle.std.proofs.lemmas.List.{get_or_default}
@@ -10,7 +10,7 @@ use Rattle.info_rules.specs.Seen.{PlainSigned}
 use Rattle.info_rules.specs.Checks.{Checks}
 use Rattle.info_rules.specs.Decides.{reason_number, IsGreater, IsAtMost, IsGreatest}
 
--- the greatest reason of the first n checkers, where there is one
+-- the greatest reason of the first `n` checkers, if `n` is not 0
 abbrev pub SoFar : List NamedKey → List Checker → PlainSigned → ℕ → Option Reason → Type 0
 SoFar keys all signed n None = n ≡ 0
 SoFar keys all signed n (Some reason) =
@@ -20,7 +20,7 @@ SoFar keys all signed n (Some reason) =
 at_most : (keys : List NamedKey) (signed : PlainSigned) (less more : Reason) (checker : Checker) → reason_number less ≤ reason_number more → IsAtMost keys signed less checker → IsAtMost keys signed more checker
 at_most keys signed less more checker le h = (h.0, h.1, omega (arith, le, h.2))
 
--- one more checker, whose reason is the greater one
+-- one more checker, whose reason is at most the greatest reason
 with_reason : (keys : List NamedKey) (all : List Checker) (signed : PlainSigned) (n : ℕ) (checker : Checker) (reason greatest : Reason)
     → n < length all → checker ≡ get_or all n checker → Checks keys checker signed (Some reason) → reason_number reason ≤ reason_number greatest
     → ((k : ℕ) → k < n → (d : Checker) → IsAtMost keys signed greatest (get_or all k d))

@@ -1,4 +1,4 @@
--- How names stand to each other, by comparing and measuring them.
+-- Relations between names, by comparing names and their lengths.
 use Rattle.std.proofs.Common.{◌≡◌, ℕ, ◌+◌, List, [], ◌∷◌, ◌++◌, length, sym, ap, ◌∙◌, arith}
 use Rattle.std.specs.Prelude.{Bool, IsTrue, nat_lt, ◌↔◌, Option, Some, None, is_some, IfSome, IfNone}
 use Rattle.std.proofs.lemmas.List.{length-append, append-nil}

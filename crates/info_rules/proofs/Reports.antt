@@ -1,4 +1,4 @@
--- Noting faults one after the other.
+-- Adding faults to the report one by one.
 use Rattle.std.proofs.Common.{◌≡◌, List, [], ◌∷◌, ◌++◌, map, true, false, refl, sym, ap, ◌∙◌}
 use Rattle.std.specs.Prelude.{Option, ◌||◌}
 use Rattle.std.specs.List.{flat_map, list_any}
@@ -21,7 +21,7 @@ unfolding after
 after_append told [] ys = refl
 after_append told (x ∷ xs) ys = after_append (noted told x) xs ys
 
--- the faults of the first of several, and then those of the others
+-- adding the faults of the first element, then those of the others
 pub after_first : {A : Type 0} (f : A → List RulesFault) (told : Option RulesFault) (xs : List A) (x : A) (others : List A) → xs ≡ x ∷ others
     → after (after told (f x)) (flat_map f others) ≡ after told (flat_map f xs)
 after_first f told xs x others e = sym (after_append told (f x) (flat_map f others)) ∙ ap (λ l. after told (flat_map f l)) (sym e)
@@ -29,7 +29,7 @@ after_first f told xs x others e = sym (after_append told (f x) (flat_map f othe
 pub after_no : {A : Type 0} (f : A → List RulesFault) (told : Option RulesFault) (xs : List A) → xs ≡ [] → after told (flat_map f xs) ≡ told
 after_no f told xs e = ap (λ l. after told (flat_map f l)) e ∙ after_none told
 
--- a table that is shown knows the keys that it knows
+-- the specification's view of the table has the same keys
 known_shown : (key : Block) (forms : List Form) → list_any (λ (form : PlainForm). is_word form.word key) (map form_of forms) ≡ list_any (λ (form : Form). is_word form.0.now key) forms
 known_shown key [] = refl
 known_shown key (form ∷ forms) = ap (λ t. is_word form.0.now key || t) (known_shown key forms)
@@ -40,13 +40,13 @@ unknown_here key forms e = rw (known_shown key forms, e) refl
 pub known_here : (key : Block) (forms : List Form) → list_any (λ (form : Form). is_word form.0.now key) forms ≡ true → unknown_faults (map form_of forms) key ≡ []
 known_here key forms e = rw (known_shown key forms, e) refl
 
--- nothing is noted of the first of several
+-- the first element has no faults
 pub after_clean : {A : Type 0} (f : A → List RulesFault) (told : Option RulesFault) (xs : List A) (x : A) (others : List A) → xs ≡ x ∷ others → f x ≡ [] → after told (flat_map f others) ≡ after told (flat_map f xs)
 after_clean f told xs x others e none =
     let same : flat_map f xs ≡ flat_map f others = rw (e, none) refl in
     ap (after told) (sym same)
 
--- one fault is noted of it
+-- the first element has one fault
 pub after_noted : {A : Type 0} (f : A → List RulesFault) (told new : Option RulesFault) (xs : List A) (x : A) (others : List A) (fault : RulesFault) → xs ≡ x ∷ others → f x ≡ fault ∷ [] → new ≡ after told (fault ∷ [])
     → after new (flat_map f others) ≡ after told (flat_map f xs)
 after_noted f told new xs x others fault e one is =

@@ -1,4 +1,4 @@
--- What checkers, rules and rule files mean.
+-- The meaning of checkers, rules and rule files.
 use Rattle.std.proofs.Common.{◌≡◌, ℕ, true, false, List, [], ◌∷◌, refl, sym, ap, subst, inl, inr}
 use Rattle.std.specs.Prelude.{Option, Some, None, Ok, codes}
 use Rattle.info_rules.specs.declared.fault.RulesFaultKind.TheVariants as kinds
@@ -29,7 +29,7 @@ use Rattle.info_rules.proofs.CheckerMeanings.{ok_one, locator_means, locator_mea
 
 -- ---- checkers
 
--- the signatures that are taken, by the type that is read
+-- the key `sig-type` has the value for this signature type; without a type, the key is absent
 abbrev Takes : Option SignatureType → List Block → Type 0
 Takes None keys = Lacks (codes "sig-type") keys
 Takes (Some HmacSha256) keys = HasValue (codes "sig-type") keys (codes "hmac-sha256")
@@ -65,7 +65,7 @@ taken_once keys (Some Sha256) h = has_once (codes "sig-type") keys (codes "sha25
 taken_once keys (Some Asymmetric) (inl h) = has_once (codes "sig-type") keys (codes "rsa-sha256") h
 taken_once keys (Some Asymmetric) (inr h) = has_once (codes "sig-type") keys (codes "ecdsa-sha256") h
 
--- what is read of a checker, without a fault
+-- the parts of a checker that was read without a fault
 record IsRead (line : ℕ) (keys : List Block) (checker : Checker) : Type 0 where
   type : CheckerType
   signature : Option SignatureType
@@ -162,7 +162,7 @@ checker_means key checker e =
     let read = is_read key.0.line (blocks_of 2 key.1) checker block.1 in
     (block.0, told key.0.line (blocks_of 2 key.1) checker read.type read.signature read.test read.type_read read.signature_read read.test_read read.clean read.there read.made)
 
--- ---- and back
+-- ---- the converse
 
 customized : (line : ℕ) (keys : List Block) (checker : Checker) (signature : Option SignatureType) (tests : List LocatorTest) → HasOnly (codes "type" ∷ codes "sig-type" ∷ codes "key-locator" ∷ []) keys → HasValue (codes "type") keys (codes "customized")
     → Takes signature keys → others_of (named (codes "key-locator") keys) ≡ [] → each locator_in (named (codes "key-locator") keys) ≡ Ok tests → has_locator keys (Ok (Some Customized)) (Ok signature) ≡ true

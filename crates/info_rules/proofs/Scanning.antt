@@ -55,7 +55,7 @@ separator_is_small o h =
           ]
     ]
 
--- where a word ends the text may be cut
+-- the end of a word is a character boundary of the text
 pub word_boundary : (text : List ℕ) → IsCharBoundary text (position_or_len is_separator text)
 word_boundary text =
     let few = prefix_len-le-length (λ o. not (is_separator o)) text in
@@ -76,7 +76,7 @@ begins_word : (o : ℕ) → is_separator o ≡ false → o ≢ 34 → begun_by o
 unfolding begun_by
 begins_word o plain bare = rw (ne_eqb o 34 bare, no_comment o plain, plain) refl
 
--- a word at the front of a text
+-- a word at the start of the text
 pub word_at_front : (text : List ℕ) (line : ℕ) → 0 < length text → is_separator (get_or text 0 0) ≡ false → get_or text 0 0 ≢ 34
     → tokens_from Between line text ≡ (line, word_token (take (position_or_len is_separator text) text)) ∷ tokens_from Between line (drop (position_or_len is_separator text) text)
 unfolding tokens_from
@@ -159,7 +159,7 @@ some_or_none : (found : Option ℕ) (len : ℕ) → found ≡ Some len → found
 some_or_none None len a b = absurd cc
 some_or_none (Some n) len a b = absurd cc
 
--- what an octet does in a quoted text
+-- the effect of each octet in a quoted text
 quoted_lf : (escaped : Bool) (o : ℕ) (text : List ℕ) → o ≡ 10 → quoted_len escaped (o ∷ text) ≡ None
 unfolding quoted_len
 quoted_lf escaped o text e = rw (eq-eqb o 10 e) refl
@@ -190,7 +190,7 @@ quote_closes : (escaped : Bool) (o : ℕ) → is_closing escaped o ≡ true → 
 unfolding is_closing
 quote_closes escaped o h = eqb-true o 34 (and_parts (eqb o 34) (not escaped) h).0
 
--- a quoted text of this length, with what stands after it
+-- a quoted text of this length, and the text after it
 pub record IsQuoted (escaped : Bool) (inner : List ℕ) (line len : ℕ) (text : List ℕ) : Type 0 where
   pub rest : List ℕ
   pub closes : drop len text ≡ 34 ∷ rest
@@ -257,9 +257,10 @@ broken_through (o ∷ text) escaped inner line e =
           ]
     ]
 
--- ---- the search for the closing quote, place by place
+-- ---- the search for the closing quote, octet by octet
 
--- what is left to search gives the length
+-- the length found by searching from index `place` on, plus `place`, is the length of the whole
+-- quoted text
 abbrev pub IsSearched : List ℕ → ℕ → Bool → Type 0
 IsSearched text place escaped = quoted_len false text ≡ option_map (λ n. n + place) (quoted_len escaped (drop place text))
 
@@ -303,7 +304,7 @@ search_ends text escaped h =
     sym (h ∙ ap (λ (t : List ℕ). option_map (λ n. n + length text) (quoted_len escaped t)) (drop-length text)
     ∙ ap (option_map (λ n. n + length text)) (nothing_left escaped))
 
--- ---- the front of a text
+-- ---- the start of a text
 
 pub quoted_is : (text front back rest : List ℕ) (line len : ℕ) → quoted_len false text ≡ Some len → front ≡ take len text → back ≡ drop len text → back ≡ get_or back 0 0 ∷ rest
     → tokens_from (InQuotes false []) line text ≡ (line, Word front) ∷ tokens_from Between line rest

@@ -1,4 +1,4 @@
--- Packets that were read, and their shape.
+-- The shapes of packets that were read.
 use Rattle.std.proofs.Common.{◌≡◌, ℕ, List, [], ◌⊎◌, inl, inr, subst, sym, true}
 use Rattle.std.specs.Prelude.{◌↔◌, Option, Some, IsSome}
 use Rattle.ndn_packets.specs.Packet.{PlainSignature, PlainInterest, PlainData}

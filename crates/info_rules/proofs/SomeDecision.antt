@@ -26,7 +26,7 @@ use Rattle.info_rules.specs.Decides.{reason_number, IsGreater, IsPassed, IsGreat
 use Rattle.info_rules.specs.Decided.{IsDecided}
 use Rattle.info_rules.proofs.Reasons.{SoFar, one_more, all_done}
 
--- what follows from a fact, and from its contrary, cannot be absurd both times
+-- if a proposition and its negation each imply a contradiction, there is a contradiction
 either : (A : Type 0) → (A → ⊥) → ((A → ⊥) → ⊥) → ⊥
 either A if_so if_not = if_not if_so
 
@@ -54,7 +54,7 @@ first_or_none all before (rule ∷ rules) kind name e none found missing =
     (λ other. first_or_none all (before ++ rule ∷ []) rules kind name (append_assoc before (rule ∷ []) rules ∙ e)
     (All-push (λ (r : PlainRule). ¬ Applies r kind name) before rule none other) found missing)
 
--- ---- what a checker says
+-- ---- the result of one checker
 
 unless : (Fact : Type 0) (reason : Reason) (Rest : Option Reason → Type 0) → (((given : Option Reason) → Rest given → ⊥) → ⊥)
     → ((given : Option Reason) → Unless Fact reason given (Rest given) → ⊥) → ⊥
@@ -86,7 +86,7 @@ says keys (checkers.HmacSha256 test) signed none =
     (locator_says keys test signed.signature.info.locator signed) none
 says keys checkers.Unsupported signed none = none (Some reasons.SigType) refl
 
--- ---- what all checkers say
+-- ---- the results of all checkers
 
 item : (all : List Checker) (n : ℕ) → n < length all → (x : Checker) × (x ≡ get_or all n x)
 item [] n low = absurd (omega arith)

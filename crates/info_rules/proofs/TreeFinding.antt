@@ -1,4 +1,4 @@
--- What is read as entries is the tokens of a tree.
+-- The tokens of a text that is read as entries are the tokens of a tree.
 use Rattle.std.proofs.Common.{◌≡◌, ◌≢◌, ℕ, ◌+◌, ◌-◌, ◌<◌, Bool, true, false, cond, eqb, leb, ltb, List, [], ◌∷◌, ◌++◌, length, Result, Ok, Err, refl, sym, ap, subst, ◌∙◌, append_assoc, inl, inr, arith}
 use Rattle.std.specs.Prelude.{◌⊎◌, Option, Some, None, IfOk, MatchResult}
 use Rattle.std.proofs.lemmas.Bool.{leb-false, eqb-true, ltb-false, le-ltb}
@@ -14,9 +14,9 @@ use Rattle.info_rules.specs.TreeGrammar.{Head, Nodes, NoNode, Leaf, Branch, head
 use Rattle.info_rules.proofs.TreeSpelling.{entries_again}
 use Rattle.info_rules.proofs.TreeSteps.{ok_is, ok_unless, word_found, open_found, close_found, tokens_one, tokens_done, tokens_faulty, MayBegin}
 
--- ---- what is left of the blocks that are open
+-- ---- the remaining entries of the open blocks
 
--- the entries that are left of the innermost open block, and those after it
+-- the remaining entries of the innermost open block, and those of the blocks around it
 data Levels : Type 0 where
   Bottom : Nodes → Levels
   Inside : Nodes → ℕ → Levels → Levels
@@ -37,9 +37,9 @@ abbrev AreLevels : ℕ → Levels → Type 0
 AreLevels depth (Bottom nodes) = (depth ≡ 0) × IsApart nodes × IsShallow depth nodes
 AreLevels depth (Inside nodes closed levels) = (depth ≢ 0) × IsApart nodes × IsShallow depth nodes × BeginsOff closed (top levels) × AreLevels (depth - 1) levels
 
--- ---- an entry in front of them
+-- ---- one more entry in front of the remaining entries
 
--- the block of an entry, if there is one
+-- the block of an entry, if it has one
 data Tail : Type 0 where
   NoBlock : Tail
   Block : ℕ → Nodes → ℕ → Tail
@@ -56,7 +56,7 @@ abbrev TailFits : ℕ → Tail → Type 0
 TailFits depth NoBlock = Unit {0}
 TailFits depth (Block opened block closed) = (depth < 8) × IsApart block × IsShallow (depth + 1) block
 
--- the line on which it ends
+-- the line on which the entry ends
 abbrev last_line : ℕ → Tail → ℕ
 last_line line NoBlock = line
 last_line line (Block opened block closed) = closed
@@ -116,13 +116,13 @@ put_begins line head (Block opened block closed) (Bottom nodes) off = off
 put_begins line head NoBlock (Inside nodes end levels) off = off
 put_begins line head (Block opened block closed) (Inside nodes end levels) off = off
 
--- ---- what the tokens that are left mean
+-- ---- the meaning of the remaining tokens
 
 abbrev StartsOff : Option ℕ → Nodes → Type 0
 StartsOff None nodes = Unit {0}
 StartsOff (Some line) nodes = BeginsOff line nodes
 
--- where no entry is pending
+-- the state in which no entry is pending
 record IsBetweenEntries (closed : Option ℕ) (depth : ℕ) (ended : List PlainEntry) (tokens : List (ℕ × Token)) (entries : List PlainEntry) : Type 0 where
   levels : Levels
   spelled : tokens ≡ level_tokens levels
@@ -145,7 +145,7 @@ blocked before (Block opened block closed) = true
 abbrev finished : PlainEntry → Option (List ℕ) → Tail → PlainEntry
 finished entry value tail = record entry { value = valued entry.value value; has_block = blocked entry.has_block tail }
 
--- after an entry, which may still get a value and a block
+-- the state after an entry that may still get a value and a block
 record IsGoing (entry : PlainEntry) (depth : ℕ) (ended : List PlainEntry) (tokens : List (ℕ × Token)) (entries : List PlainEntry) : Type 0 where
   value : Option (List ℕ)
   tail : Tail
@@ -161,7 +161,7 @@ abbrev Means : Option PlainEntry → PlainDraft → List (ℕ × Token) → List
 Means None draft tokens entries = IsBetweenEntries draft.closed draft.depth draft.ended tokens entries
 Means (Some entry) draft tokens entries = IsGoing entry draft.depth draft.ended tokens entries
 
--- entries after the pending one, if there is one
+-- the entries that follow the pending entry, if there is one
 further : (draft : PlainDraft) (tokens : List (ℕ × Token)) (entries : List PlainEntry) (levels : Levels) → (pending : Option PlainEntry) → draft.pending ≡ pending → tokens ≡ level_tokens levels
     → (draft.pending ≡ None → StartsOff draft.closed (top levels)) → ((entry : PlainEntry) → draft.pending ≡ Some entry → BeginsOff entry.line (top levels)) → AreLevels draft.depth levels
     → entries ≡ entries_of draft ++ level_outline draft.depth levels → Means pending draft tokens entries
@@ -184,7 +184,7 @@ further draft tokens entries levels (Some entry) is spelled starts off fits list
   listed = (rw is at listed) ∙ append_assoc draft.ended (entry ∷ []) (level_outline draft.depth levels);
 }
 
--- ---- one token more
+-- ---- one more token
 
 key_head : (line : ℕ) (word : List ℕ) (value : Option (List ℕ)) (rest : List (ℕ × Token)) → head_tokens (record { line = line; key = word; value = value }) ++ rest ≡ (line, Word word) ∷ value_tokens line value rest
 key_head line word None rest = refl
@@ -303,7 +303,7 @@ end_step draft ended =
     further draft [] (entries_of draft) (Bottom NoNode) draft.pending refl (sym nothing_spelled) (λ _. starts_nothing draft.closed) (λ _. λ _. tt) (ended, nothing_apart, nothing_shallow draft.depth)
     (sym (append-nil (entries_of draft)) ∙ ap (λ (more : List PlainEntry). entries_of draft ++ more) (sym (nothing_listed draft.depth)))
 
--- ---- the blocks that were too deep
+-- ---- blocks that were too deep
 
 no_deeper : (b : Bool) (line : ℕ) (deep : Option ℕ) → cond b (Some line) deep ≡ None → (b ≡ false) × (deep ≡ None)
 no_deeper true line deep e = absurd cc
@@ -338,7 +338,7 @@ never_deep ((line, token) ∷ tokens) draft final e none =
     let p = tokens_two draft final line token tokens e in
     fitting_deep draft line token p.0 (fits_here draft line token p.0 p.1) (never_deep tokens p.0 final p.2 none)
 
--- ---- tokens in turn
+-- ---- tokens in sequence
 
 abbrev MeansHere : PlainDraft → List (ℕ × Token) → List PlainEntry → Type 0
 MeansHere draft tokens entries = Means draft.pending draft tokens entries
@@ -420,7 +420,7 @@ one_tree text a b h i = same_read (tree_in text) (tree_again text a h) (tree_aga
     same_read (Ok entries) e f = let one : entries ≡ a = cc in let other : entries ≡ b = cc in sym one ∙ other
     same_read (Err fault) e f = absurd cc
 
--- ---- what was read, in the grammar's words
+-- ---- the entries that were read, in terms of the grammar
 
 pub read_found : (text : List ℕ) (result : Result (List PlainEntry) RulesFault) → MatchResult result (λ tree. tree_in text ≡ Ok tree) (IsTreeFaultOf (tree_in text)) → IfOk result (TreeOf text)
 read_found text (Ok tree) h = tree_found text tree h

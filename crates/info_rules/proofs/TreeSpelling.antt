@@ -58,9 +58,9 @@ head_read draft head tokens shallow may = by_value head.value refl
         (first ((head.line, Word value) ∷ tokens)
         ∙ tokens_one (with_key draft head.line head.key) _ head.line (Word value) tokens (in_time (with_key draft head.line head.key) _ head.line (Word value) shallow (value_added (with_key draft head.line head.key) entry value refl refl)))
 
--- ---- entries in turn
+-- ---- entries in sequence
 
--- the first entry may begin
+-- the first of the entries may begin after this draft
 abbrev Starts : PlainDraft → Nodes → Type 0
 Starts draft NoNode = Unit {0}
 Starts draft (Leaf head others) = MayBegin head.line draft.pending draft.closed
@@ -81,7 +81,7 @@ starts_opened draft entry line NoNode = tt
 starts_opened draft entry line (Leaf next others) = tt
 starts_opened draft entry line (Branch next opened block closed others) = tt
 
--- what the tokens of entries make of a draft
+-- the draft after the tokens of these entries
 record Passed (draft : PlainDraft) (nodes : Nodes) (tokens : List (ℕ × Token)) : Type 0 where
   after : PlainDraft
   read : with_tokens draft (tokens_of nodes ++ tokens) ≡ with_tokens after tokens

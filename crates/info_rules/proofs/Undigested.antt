@@ -1,4 +1,4 @@
--- Digests of parameters at the ends of names.
+-- Parameters digests at the ends of names.
 use Rattle.std.proofs.Common.{◌≡◌, ℕ, zero, suc, ◌+◌, ◌-◌, true, false, cond, eqb, List, [], ◌∷◌, ◌++◌, map, length, Option, None, refl, sym, subst, arith}
 use Rattle.std.specs.Prelude.{slice_get}
 use Rattle.std.proofs.lemmas.List.{length-map, map-append}
@@ -12,7 +12,7 @@ use Rattle.ndn_packets.specs.Grammar.{IsDigested, IsInterest}
 use Rattle.ndn_packets.proofs.Held.{interest_read}
 use Rattle.info_rules.specs.Seen.{is_digest, without_digest}
 
--- a name without a digest has none at any place
+-- a name without a parameters digest has none at any index
 none_at : (name : List Field) (i : ℕ) → digests_in name ≡ [] → is_digest (slice_get name i) ≡ false
 none_at [] i none = refl
 none_at (c ∷ name) zero none =
@@ -31,7 +31,7 @@ none_at (c ∷ name) (suc i) none =
 none_in : (text : List ℕ) (i : PlainInterest) → IsInterest text i → i.parameters ≡ None → digests_in i.name ≡ []
 none_in text i read without = subst (λ (p : Option (List ℕ)). IsDigested i.name read.fields.elements p) without read.digested
 
--- so the name of an Interest without parameters is what rules see
+-- the rules see the whole name of an Interest without parameters
 pub undigested : (i : Interest) → i.parameters ≡ None → without_digest (components i.name) ≡ components i.name
 undigested i without =
     let name = components i.name in
@@ -42,7 +42,7 @@ last_at : (name : List Field) (c : Field) → is_digest (slice_get (name ++ c �
 last_at [] c = refl
 last_at (_ ∷ name) c = last_at name c
 
--- whether the last of some components is a digest
+-- whether the last component is a parameters digest
 pub last_is : (n : ℕ) (front : List Component) (c : Component) → n ≡ length front → eqb c.kind 2 ≡ is_digest (slice_get (map field_of (front ++ c ∷ [])) (n + 1 - 1))
 last_is n front c e =
     let place : n + 1 - 1 ≡ length (map field_of front) = omega (arith, e, length-map front field_of) in

@@ -1,4 +1,4 @@
--- What the values of keys mean.
+-- The meaning of the values of keys.
 use Rattle.std.proofs.Common.{◌≡◌, ℕ, ◌≤◌, Bool, true, false, cond, List, [], ◌∷◌, length, refl, ap, subst, ◌∙◌, inl, inr, arith}
 use Rattle.std.specs.Prelude.{◌⊎◌, Option, Some, None, Result, Ok, Err, nat_le, bytes_eq, codes, ◌&&◌, ◌||◌}
 use Rattle.std.specs.List.{AllByRecursion, list_all}

@@ -1,4 +1,4 @@
--- Blocks of trust anchors, of which only the type is looked at.
+-- Reading `trust-anchor` blocks. Only the type of a trust anchor is checked.
 use Rattle.std.specs.Prelude.{ℕ, List, None}
 use Rattle.info_rules.specs.Blocks.{Anchor}
 use Rattle.info_rules.specs.Tree.{Block}
@@ -12,6 +12,6 @@ unfoldable pub anchor_of : ℕ → List Block → Found (Unit {0})
 anchor_of line keys =
     beside (after None (walk_faults Anchor keys)) (needed line (anchor_value_in keys))
 
--- a `trust-anchor`, which gives nothing
+-- reads a `trust-anchor`, which adds nothing to the rules
 unfoldable pub anchor_in : Block → Found (Unit {0})
 anchor_in key = block_in 1 anchor_of key

@@ -1,9 +1,9 @@
--- The words of the table of blocks.
+-- The kinds of blocks and values in the table of blocks.
 use Rattle.std.specs.Prelude.{ℕ}
 
--- the blocks of a rule file
+-- the kinds of blocks in a rule file
 pub data BlockKind : Type 0 where
-  -- the file itself
+  -- the file outside all blocks
   File : BlockKind
   Anchor : BlockKind
   Rule : BlockKind
@@ -14,7 +14,7 @@ pub data BlockKind : Type 0 where
   Locator : BlockKind
   Hyper : BlockKind
 
--- what the value of a key has to be
+-- the kind of value that a key must have
 pub data ValueKind : Type 0 where
   -- the id of a rule
   Id : ValueKind
@@ -27,21 +27,21 @@ pub data ValueKind : Type 0 where
   -- a relation of names
   Relation : ValueKind
   Pattern : ValueKind
-  -- a template for the groups of a pattern
+  -- a template that uses the groups of a pattern
   Template : ValueKind
   -- the type of a checker
   CheckerType : ValueKind
-  -- the type of the signatures that a checker takes
+  -- a signature type that a checker accepts
   SignatureType : ValueKind
   -- the type of a trust anchor
   AnchorType : ValueKind
 
--- what a key takes: a value, or a block
+-- what a key must have: a value or a block
 pub data Takes : Type 0 where
   Value : ValueKind → Takes
   Inner : Takes
 
--- how often a key may come in its block
+-- how many times a key may be given in its block
 pub data Times : Type 0 where
   Once : Times
   UpTo : ℕ → Times

@@ -1,4 +1,4 @@
--- Blocks of checkers.
+-- Reading `checker` blocks.
 use Rattle.std.specs.Prelude.{ℕ, List, Option, None, Some, Ok, Err, Bool, true, false, not, codes, ◌&&◌, ◌||◌, if◌then◌else◌}
 use Rattle.info_rules.specs.declared.fault.RulesFaultKind.TheVariants.{BadValue}
 use Rattle.info_rules.specs.declared.rule.Checker.{Checker}
@@ -39,11 +39,11 @@ is_digest (Ok (Some Asymmetric)) = false
 is_digest (Ok None) = false
 is_digest (Err fault) = false
 
--- the keys of a checker: a hierarchical one has no key locator
+-- the kind of a checker's block; a hierarchical checker has no key locator
 abbrev pub block_of : Bool → BlockKind
 block_of hierarchical = if hierarchical then blocks.Hierarchical else blocks.Customized
 
--- a customized checker has a key locator, but for signatures without a key
+-- a customized checker needs a key locator, unless it accepts digests, which have no key
 abbrev pub needs_locator : Found (Option CheckerType) → Found (Option SignatureType) → Bool
 needs_locator type signature = is_customized type && not (is_digest signature)
 
@@ -52,14 +52,15 @@ abbrev pub has_locator : List Block → Found (Option CheckerType) → Found (Op
 has_locator keys type signature =
     not (needs_locator type signature) || is_there (codes "key-locator") keys
 
--- what is required of the key's name, so far as it is there: of several key locators the first
+-- the requirement on the key's name, if the block gives one; the first of several key locators
 -- counts
 abbrev pub locator_of : Bool → List Block → Found (Option LocatorTest)
 locator_of hierarchical keys =
     if hierarchical then Ok (Some locators.Hierarchical)
     else shown first_of (each locator_in (named (codes "key-locator") keys))
 
--- HMAC with SHA-256 is meant where no type of signature is given, and needs a test of the key
+-- without a signature type, the checker requires HMAC with SHA-256; HMAC needs a requirement on the
+-- key's name
 abbrev pub checker_with : ℕ → Option SignatureType → Option LocatorTest → Found Checker
 checker_with line None test = shown checkers.HmacSha256 (needed_one line test)
 checker_with line (Some HmacSha256) test = shown checkers.HmacSha256 (needed_one line test)
@@ -83,6 +84,6 @@ checker_of line keys = checker_by line keys
     (value_in BadValue checker_type_in (codes "type") keys)
     (value_in BadValue signature_type_in (codes "sig-type") keys)
 
--- what a `checker` requires of a signature
+-- the requirement of a `checker` on a signature
 unfoldable pub checker_in : Block → Found Checker
 checker_in key = block_in 2 checker_of key

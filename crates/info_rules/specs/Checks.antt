@@ -1,5 +1,5 @@
--- The result of a checker for a signed packet: its first reason to deny it, or none where the
--- packet passes.
+-- The result of a checker for a signed packet: its first reason to deny the packet, or `None` if
+-- the packet passes.
 use Rattle.std.specs.Prelude.{◌≡◌, ◌⊎◌, ℕ, List, Option, None, Some}
 use Rattle.sha2.specs.Sha256.{sha256}
 use Rattle.ndn_tlv.specs.Element.{Field}
@@ -14,21 +14,22 @@ use Rattle.info_rules.specs.declared.decision.Reason.TheVariants as reasons
 use Rattle.info_rules.specs.Seen.{PlainSigned}
 use Rattle.info_rules.specs.Locator.{PassesLocator}
 
--- the reason is this one unless the fact is true, and where it is, the rest decides
+-- if `Fact` is false, `given` is this reason; if it is true, `Rest` holds
 abbrev pub Unless : Type 0 → Reason → Option Reason → Type 0 → Type 0
 Unless Fact reason given Rest = ((¬ Fact) × (given ≡ Some reason)) ⊎ (Fact × Rest)
 
--- the value of the signature is this tag
+-- the signature value equals this tag
 abbrev pub ChecksTag : List ℕ → PlainSigned → Option Reason → Type 0
 ChecksTag tag signed given = Unless (signed.signature.value ≡ tag) reasons.Tag given (given ≡ None)
 
--- the book has a key of this name, and the value is its HMAC of the covered octets
+-- the book has a key with this name, and the signature value is the key's HMAC of the covered
+-- octets
 abbrev pub ChecksKey : List NamedKey → List Field → PlainSigned → Option Reason → Type 0
 ChecksKey keys name signed given =
     (((key : List ℕ) → IsAmong (name, key) keys → ⊥) × (given ≡ Some reasons.KeyUnknown))
     ⊎ ((key : List ℕ) × IsAmong (name, key) keys × ChecksTag (Mac key signed.covered) signed given)
 
--- the KeyLocator is the name of a key that is required
+-- the KeyLocator names a key that meets the requirement
 abbrev pub ChecksLocator : List NamedKey → LocatorTest → PlainLocator → PlainSigned → Option Reason
     → Type 0
 ChecksLocator keys test (KeyName name) signed given =
@@ -38,7 +39,7 @@ ChecksLocator keys test Missing signed given = given ≡ Some reasons.KeyLocator
 ChecksLocator keys test Digest signed given = given ≡ Some reasons.KeyLocator
 ChecksLocator keys test Other signed given = given ≡ Some reasons.KeyLocator
 
--- Signatures of type 0 are DigestSha256, those of type 4 HmacWithSha256 (NDN Packet Format 0.3,
+-- Signature type 0 is DigestSha256 and type 4 is HmacWithSha256 (NDN Packet Format 0.3,
 -- "Signature").
 abbrev pub Checks : List NamedKey → Checker → PlainSigned → Option Reason → Type 0
 Checks keys checkers.Sha256 signed given =

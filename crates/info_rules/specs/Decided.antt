@@ -1,4 +1,4 @@
--- Which packets rules decide.
+-- The packets that rules decide.
 use Rattle.std.specs.Prelude.{⊤}
 use Rattle.ndn_packets.specs.Packet.{PlainFrame, AnInterest, AData, ANack, Idle}
 

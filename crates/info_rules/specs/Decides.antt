@@ -1,4 +1,4 @@
--- What rules decide of a packet.
+-- The decisions of rules on a packet.
 use Rattle.std.specs.Prelude.{◌≡◌, ◌⊎◌, ◌≤◌, ℕ, List, [], Option, None, Some, All, Any}
 use Rattle.hmac_keys.specs.KeyFile.{NamedKey}
 use Rattle.ndn_packets.specs.Packet.{KeyName, PlainSignature, PlainFrame, AnInterest, AData, ANack, Idle}
@@ -16,7 +16,7 @@ use Rattle.info_rules.specs.Seen.{SeenPacket, seen_interest, seen_data, SaysWhen
 use Rattle.info_rules.specs.Checks.{Checks}
 use Rattle.info_rules.specs.Locator.{MakesBoth}
 
--- the number of a reason: of several the greatest is reported
+-- the rank of a reason; the reason of the greatest rank is reported
 abbrev pub reason_number : Reason → ℕ
 reason_number reasons.NotSigned = 1
 reason_number reasons.Shape = 2
@@ -26,48 +26,48 @@ reason_number reasons.KeyUnknown = 5
 reason_number reasons.Tag = 6
 reason_number reasons.Replay = 7
 
--- of an earlier reason, where there is one, and another the greater one is this
+-- `greatest` is the greater of the earlier reason, if there is one, and the new reason
 abbrev pub IsGreater : Option Reason → Reason → Reason → Type 0
 IsGreater None reason greatest = greatest ≡ reason
 IsGreater (Some earlier) reason greatest =
     ((greatest ≡ earlier) × (reason_number reason ≤ reason_number earlier))
     ⊎ ((greatest ≡ reason) × (reason_number earlier ≤ reason_number reason))
 
--- a checker passes the packet
+-- at least one checker passes the packet
 abbrev pub IsPassed : List NamedKey → List Checker → PlainSigned → Type 0
 IsPassed keys all signed = Any (λ checker. Checks keys checker signed None) all
 
--- a checker's reason to deny the packet, which is no greater than this one
+-- the checker denies the packet, and its reason is at most this one
 abbrev pub IsAtMost : List NamedKey → PlainSigned → Reason → Checker → Type 0
 IsAtMost keys signed reason checker =
     (given : Reason) × Checks keys checker signed (Some given)
     × (reason_number given ≤ reason_number reason)
 
--- The greatest reason of a checker to deny the packet, which none passes. Where there is no
--- checker, no key is the right one.
+-- No checker passes the packet, and this is their greatest reason to deny it. Without checkers, the
+-- reason is `KeyLocator`.
 abbrev pub IsGreatest : List NamedKey → List Checker → PlainSigned → Reason → Type 0
 IsGreatest keys all signed reason =
     ((all ≡ []) × (reason ≡ reasons.KeyLocator))
     ⊎ (All (IsAtMost keys signed reason) all
     × Any (λ checker. Checks keys checker signed (Some reason)) all)
 
--- checkers that allow the packet
+-- the checkers allow the packet
 abbrev pub Allow : List NamedKey → List Checker → SeenPacket → Type 0
 Allow keys all packet = (signed : PlainSigned) × IsSigned packet signed × IsPassed keys all signed
 
--- checkers that deny it, by the greatest of their reasons
+-- the checkers deny the packet, and this is their greatest reason
 abbrev pub DenyBy : List NamedKey → List Checker → SeenPacket → Reason → Type 0
 DenyBy keys all packet reason =
     (signed : PlainSigned) × IsSigned packet signed × IsGreatest keys all signed reason
 
--- its time of signing is missing, or nothing is covered: in an Interest, since the digest of
--- parameters is not the last component
+-- an Interest has no SignatureTime, or the signature covers nothing because the parameters digest
+-- of an Interest is not the last component of its name
 abbrev pub IsMisshaped : SeenPacket → PlainSignature → Type 0
 IsMisshaped packet signature =
     (¬ SaysWhen packet.kind signature)
     ⊎ ((first second : List ℕ) → Covered packet.frame first second → ⊥)
 
--- no checker has to look at the packet
+-- the packet is denied for this reason without a checker
 abbrev pub IsUnfit : SeenPacket → Reason → Type 0
 IsUnfit packet reasons.NotSigned = packet.signature ≡ None
 IsUnfit packet reasons.Shape =
@@ -79,7 +79,7 @@ IsUnfit packet reasons.KeyUnknown = ⊥
 IsUnfit packet reasons.Tag = ⊥
 IsUnfit packet reasons.Replay = ⊥
 
--- a packet is denied for this reason by a rule with these checkers
+-- a rule with these checkers denies the packet for this reason
 abbrev pub Deny : List NamedKey → List Checker → SeenPacket → Reason → Type 0
 Deny keys all packet reason = IsUnfit packet reason ⊎ DenyBy keys all packet reason
 
@@ -92,7 +92,7 @@ DecideSeen rules keys packet (decisions.Denied n reason) =
     × Deny keys rule.checkers packet reason
 DecideSeen rules keys packet decisions.NoRule = NoneApplies rules packet.kind packet.name
 
--- The first rule that applies to an Interest or a Data decides alone.
+-- Only the first rule that applies decides an Interest or a Data.
 abbrev pub Decides : List PlainRule → List NamedKey → PlainFrame → Decision → Type 0
 Decides rules keys (AnInterest whole i) decision =
     DecideSeen rules keys (seen_interest whole i) decision
@@ -100,10 +100,10 @@ Decides rules keys (AData whole d) decision = DecideSeen rules keys (seen_data w
 Decides rules keys (ANack reason whole i) decision = ⊥
 Decides rules keys Idle decision = ⊥
 
--- ---- where memory is asked for
+-- ---- the need for memory
 
--- the checker expands templates: it makes other names of the key's and of the packet's, and neither
--- is too long
+-- the checker expands both templates, for the key's name and for the packet's name, and neither
+-- expanded name is too long
 abbrev pub Expands : Checker → PlainSigned → Type 0
 Expands checkers.Sha256 signed = ⊥
 Expands (checkers.HmacSha256 test) signed =
@@ -111,12 +111,12 @@ Expands (checkers.HmacSha256 test) signed =
     × MakesBoth test key signed.name
 Expands checkers.Unsupported signed = ⊥
 
--- one of these does
+-- at least one checker expands its templates
 abbrev pub AnyExpands : List Checker → SeenPacket → Type 0
 AnyExpands all packet = (signed : PlainSigned) × IsSigned packet signed
     × Any (λ checker. Expands checker signed) all
 
--- a checker of the first rule that applies expands a template
+-- a checker of the first rule that applies expands its templates
 abbrev pub AsksForMemory : List PlainRule → SeenPacket → Type 0
 AsksForMemory rules packet =
     (n : ℕ) × (rule : PlainRule) × IsFirst rules packet.kind packet.name n rule

@@ -1,21 +1,21 @@
--- The line of the fault of a text that spells no entries.
+-- The line of the fault, for a text that spells no entries.
 use Rattle.std.specs.Prelude.{◌≡◌, ◌⊎◌, ◌≤◌, ◌+◌, ℕ, List, [], ◌∷◌, ◌++◌}
 use Rattle.info_rules.specs.Tree.{PlainEntry}
 use Rattle.info_rules.specs.Words.{tokens_in, end_line}
 use Rattle.info_rules.specs.TreeGrammar.{IsTree}
 
--- this many lines, each with the LF that ends it
+-- the text consists of `n` lines, each with the LF that ends it
 abbrev pub AreLines : ℕ → List ℕ → Type 0
 AreLines n text =
     (end_line text ≡ n + 1) × ((text ≡ []) ⊎ ((inner : List ℕ) × (text ≡ inner ++ 10 ∷ [])))
 
--- with some text after it, the text spells entries
+-- the text is the beginning of a text that spells entries
 abbrev pub BeginsSome : List ℕ → Type 0
 BeginsSome text =
     (rest : List ℕ) × (entries : List PlainEntry) × IsTree (tokens_in (text ++ rest)) entries
 
--- The line is one of the text. The text before it begins entries, but the text up to its end begins
--- none, whatever comes after it.
+-- The line is a line of the text. The text before the line is the beginning of a text that spells
+-- entries. The text up to the end of the line is not such a beginning.
 pub record StandsAt (text : List ℕ) (line : ℕ) : Type 0 where
   pub first : 1 ≤ line
   pub last : line ≤ end_line text

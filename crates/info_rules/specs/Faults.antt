@@ -1,11 +1,11 @@
--- Which of several faults is reported.
+-- The fault that is reported if there are several.
 use Rattle.std.specs.Prelude.{◌≡◌, ◌⊎◌, ℕ, List, [], ◌∷◌, Option, None, Some, Bool, false, nat_lt, ◌==◌, ◌&&◌, ◌||◌, if◌then◌else◌}
 use Rattle.std.specs.List.{AllByRecursion}
 use Rattle.info_rules.specs.declared.fault.RulesFault.{RulesFault}
 use Rattle.info_rules.specs.declared.fault.RulesFaultKind.{RulesFaultKind}
 use Rattle.info_rules.specs.declared.fault.RulesFaultKind.TheVariants.{Syntax, TooDeep, TooLarge, UnknownKey, Missing, BadValue, TwiceNamed, Pattern, AnyAnchor, Memory}
 
--- kinds in the order in which those of one line are reported
+-- the rank of a kind; of the faults on one line, the one of the least rank is reported
 abbrev pub kind_number : RulesFaultKind → ℕ
 kind_number Syntax = 1
 kind_number TooDeep = 2
@@ -18,31 +18,31 @@ kind_number Pattern = 8
 kind_number AnyAnchor = 9
 kind_number Memory = 10
 
--- the first fault is reported before the second: it is on a line further up, or of a smaller number
--- on the same line
+-- fault `a` is reported before fault `b`: its line is less, or the lines are equal and its kind has
+-- a lower rank
 abbrev pub sooner : RulesFault → RulesFault → Bool
 sooner a b = nat_lt a.line b.line ||
     (a.line == b.line && nat_lt (kind_number a.kind) (kind_number b.kind))
 
--- the fault to report, if any, when one more is met
+-- the fault to report after one more fault was found
 abbrev pub noted : Option RulesFault → RulesFault → Option RulesFault
 noted None fault = Some fault
 noted (Some told) fault = Some (if sooner fault told then fault else told)
 
--- the fault to report, if any, when these are met too
+-- the fault to report after all these faults were found
 unfoldable pub after : Option RulesFault → List RulesFault → Option RulesFault
 after told [] = told
 after told (fault ∷ faults) = after (noted told fault) faults
 
--- a refusal of memory, which has no place in the text
+-- the fault of a failed allocation, which has no line in the text
 abbrev pub memory_fault : RulesFault
 memory_fault = record { line = 0; kind = Memory }
 
--- the fault is one of these
+-- the fault is in the list
 abbrev pub IsAmong : RulesFault → List RulesFault → Type 0
 IsAmong fault [] = ⊥
 IsAmong fault (other ∷ faults) = (fault ≡ other) ⊎ IsAmong fault faults
 
--- none of these is reported before the fault
+-- no fault of the list is reported before `told`
 abbrev pub NoneIsSooner : RulesFault → List RulesFault → Type 0
 NoneIsSooner told faults = AllByRecursion (λ fault. sooner fault told ≡ false) faults

@@ -1,4 +1,4 @@
--- Blocks of filters.
+-- Reading `filter` blocks.
 use Rattle.std.specs.Prelude.{ℕ, List, None}
 use Rattle.info_rules.specs.declared.rule.NameTest.{NameTest}
 use Rattle.info_rules.specs.Forms.{PacketName}
@@ -14,6 +14,6 @@ unfoldable pub filter_of : ℕ → List Block → Found NameTest
 filter_of line keys = beside (after None (walk_faults Filter keys))
     (needed line (asked_in PacketName line keys))
 
--- what a `filter` requires of a packet's name
+-- the requirement of a `filter` on a packet's name
 unfoldable pub filter_in : Block → Found NameTest
 filter_in key = block_in 2 filter_of key

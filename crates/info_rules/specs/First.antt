@@ -1,4 +1,4 @@
--- Which rules a packet's name chooses.
+-- The rules that apply to a packet's name.
 use Rattle.std.specs.Prelude.{◌≡◌, ◌⊎◌, ℕ, List, [], take, Some, slice_get, All, Any}
 use Rattle.ndn_tlv.specs.Element.{Field}
 use Rattle.name_patterns.specs.Match.{Match}
@@ -8,12 +8,12 @@ use Rattle.info_rules.specs.declared.rule.NameTest.TheVariants as tests
 use Rattle.info_rules.specs.Rule.{PlainRule}
 use Rattle.info_rules.specs.Related.{Related}
 
--- the name is as required
+-- the name meets the requirement
 abbrev pub Passes : NameTest → List Field → Type 0
 Passes (tests.Related relation given) name = Related relation given name
 Passes (tests.Matching pattern) name = (places : List (ℕ × ℕ)) × Match pattern name places
 
--- the rule is for packets of this kind and, if it has filters, the name passes one of them
+-- the rule is for packets of this kind, and it has no filters or the name passes one of them
 abbrev pub Applies : PlainRule → Kind → List Field → Type 0
 Applies rule kind name =
     (rule.kind ≡ kind) × ((rule.filters ≡ []) ⊎ Any (λ test. Passes test name) rule.filters)
@@ -21,13 +21,13 @@ Applies rule kind name =
 abbrev pub NoneApplies : List PlainRule → Kind → List Field → Type 0
 NoneApplies rules kind name = All (λ rule. ¬ Applies rule kind name) rules
 
--- the first rule that applies is this one, and its number is n, counted from 0
+-- `rule` is the first rule that applies, and `n` is its number, counted from 0
 pub record IsFirst (rules : List PlainRule) (kind : Kind) (name : List Field) (n : ℕ)
     (rule : PlainRule) : Type 0 where
   pub there : slice_get rules n ≡ Some rule
   pub applies : Applies rule kind name
   pub earlier : NoneApplies (take n rules) kind name
 
--- the first rule that applies has this number
+-- `n` is the number of the first rule that applies
 abbrev pub First : List PlainRule → Kind → List Field → ℕ → Type 0
 First rules kind name n = (rule : PlainRule) × IsFirst rules kind name n rule

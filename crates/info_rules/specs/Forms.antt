@@ -1,11 +1,12 @@
--- The forms in which blocks describe a name.
+-- The forms of a requirement on a name.
 
--- whose name a block describes: a packet's, in a filter, or a key's, in a key locator
+-- the name that a block states a requirement on: the packet's in a filter, the key's in a key
+-- locator
 pub data Tested : Type 0 where
   PacketName : Tested
   KeyName : Tested
 
--- by `name` and `relation`, by `regex`, or by `hyper-relation`
+-- the keys that state the requirement: `name` and `relation`, or `regex`, or `hyper-relation`
 pub data Form : Type 0 where
   Related : Form
   Matching : Form

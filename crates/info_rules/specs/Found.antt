@@ -1,4 +1,4 @@
--- What is read, or else the fault to report of all that were met.
+-- Values read from a rule file, or the fault that is reported.
 use Rattle.std.specs.Prelude.{ℕ, List, [], ◌∷◌, ◌++◌, Option, None, Some, Result, Ok, Err, if◌then◌else◌}
 use Rattle.info_rules.specs.declared.fault.RulesFault.{RulesFault}
 use Rattle.info_rules.specs.declared.fault.RulesFaultKind.TheVariants.{Missing}
@@ -8,34 +8,34 @@ use Rattle.info_rules.specs.Tree.{Block}
 abbrev pub Found : Type 0 → Type 0
 Found A = Result A RulesFault
 
--- of two faults the one that is reported
+-- the fault that is reported if both are present
 abbrev pub sooner_of : RulesFault → RulesFault → RulesFault
 sooner_of a b = if sooner b a then b else a
 
--- two parts, or the fault to report of both
+-- both values, or the fault that is reported
 abbrev pub both : {A B : Type 0} → Found A → Found B → Found (A × B)
 both (Ok a) (Ok b) = Ok (a, b)
 both (Ok a) (Err f) = Err f
 both (Err e) (Ok b) = Err e
 both (Err e) (Err f) = Err (sooner_of e f)
 
--- a part, where a fault may have been met beside it
+-- the value, or the fault that is reported if this fault is also present
 abbrev pub beside : {A : Type 0} → Option RulesFault → Found A → Found A
 beside None found = found
 beside (Some e) (Ok a) = Err e
 beside (Some e) (Err f) = Err (sooner_of e f)
 
--- what a part shows
+-- the value after a function is applied to it
 abbrev pub shown : {A B : Type 0} → (A → B) → Found A → Found B
 shown f (Ok a) = Ok (f a)
 shown f (Err e) = Err e
 
--- what is made of a part
+-- the value after a function is applied to it; the function may give a fault
 abbrev pub then_made : {A B : Type 0} → (A → Found B) → Found A → Found B
 then_made f (Ok a) = f a
 then_made f (Err e) = Err e
 
--- a part that is needed in the block of a key on this line
+-- the value, or the fault `Missing` at this line if the value is absent
 abbrev pub needed_one : {A : Type 0} → ℕ → Option A → Found A
 needed_one line None = Err (record { line = line; kind = Missing })
 needed_one line (Some a) = Ok a
@@ -43,21 +43,21 @@ needed_one line (Some a) = Ok a
 abbrev pub needed : {A : Type 0} → ℕ → Found (Option A) → Found A
 needed line found = then_made (needed_one line) found
 
--- one part after others
+-- a value in front of other values, or the fault that is reported
 abbrev pub followed : {A : Type 0} → Found A → Found (List A) → Found (List A)
 followed (Ok a) (Ok others) = Ok (a ∷ others)
 followed (Ok a) (Err f) = Err f
 followed (Err e) (Ok others) = Err e
 followed (Err e) (Err f) = Err (sooner_of e f)
 
--- what each of these keys gives
+-- the values of all keys, in order, or the fault that is reported
 unfoldable pub each : {A : Type 0} → (Block → Found A) → List Block → Found (List A)
 each f [] = Ok []
 each f (key ∷ keys) = followed (f key) (each f keys)
 
--- ---- one after the other
+-- ---- values appended one by one
 
--- one more part after these
+-- a value appended to other values, or the fault that is reported
 abbrev pub and_one : {A : Type 0} → Found (List A) → Found A → Found (List A)
 and_one (Ok parts) (Ok part) = Ok (parts ++ part ∷ [])
 and_one (Ok parts) (Err f) = Err f

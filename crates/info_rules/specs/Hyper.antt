@@ -1,11 +1,11 @@
--- What a key's name and a packet's name have in common, as plain data.
+-- Relations between a key's name and a packet's name, as plain data.
 use Rattle.std.specs.Prelude.{List, length}
 use Rattle.name_patterns.specs.Pattern.{PlainPattern}
 use Rattle.name_patterns.specs.Template.{PlainPart, NeedAtMost}
 use Rattle.info_rules.specs.declared.rule.Relation.{Relation}
 
--- two patterns, each with a template for a name that is made of what it matches, and how the key's
--- is related to the packet's
+-- a pattern and a template for the key's name, a pattern and a template for the packet's name, and
+-- the relation between the two expanded names
 pub record PlainHyper : Type 0 where
   pub key_pattern : PlainPattern
   pub key_template : List PlainPart
@@ -13,7 +13,7 @@ pub record PlainHyper : Type 0 where
   pub packet_pattern : PlainPattern
   pub packet_template : List PlainPart
 
--- the templates need no group that their patterns do not have
+-- each template uses only groups that its pattern has
 abbrev pub HasGroups : PlainHyper → Type 0
 HasGroups hyper =
     NeedAtMost (length hyper.key_pattern.groups) hyper.key_template

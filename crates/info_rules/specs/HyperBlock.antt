@@ -1,4 +1,4 @@
--- Blocks of hyper-relations.
+-- Reading `hyper-relation` blocks.
 use Rattle.std.specs.Prelude.{ℕ, List, length, Option, None, Some, IfSome, Ok, Err, Bool, codes, ◌&&◌, not, ◌||◌}
 use Rattle.std.specs.Option.{option_zip}
 use Rattle.name_patterns.specs.Pattern.{PlainPattern}
@@ -20,14 +20,14 @@ use Rattle.info_rules.specs.Walk.{walk_faults}
 abbrev pub Half : Type 0
 Half = Option (PlainPattern × List PlainPart)
 
--- the template needs no group that the pattern does not have, where both are there
+-- the template uses only groups that the pattern has, if both are present
 abbrev pub HasGroups : Half → Type 0
 HasGroups half = IfSome half (λ sides. NeedAtMost (length sides.0.groups) sides.1)
 
 abbrev pub HaveGroups : (Half × Option Relation) × Half → Type 0
 HaveGroups parts = HasGroups parts.0.0 × HasGroups parts.1
 
--- the groups of a pattern; as many as a pattern can have, where there is none
+-- the number of groups in the pattern, or the greatest possible number if no pattern was read
 abbrev pub groups_of : Found (Option PlainPattern) → ℕ
 groups_of (Ok (Some pattern)) = length pattern.groups
 groups_of (Ok None) = 9
@@ -38,12 +38,12 @@ half_with template_word keys pattern =
     shown (λ half. option_zip half.0 half.1) (both pattern (value_in Pattern
     (λ text. ok_of (template_in (groups_of pattern) text)) template_word keys))
 
--- a pattern, and a template for its groups, by their words
+-- a pattern and a template that uses its groups, each read from the key of its word
 unfoldable pub half_in : List ℕ → List ℕ → List Block → Found Half
 half_in pattern_word template_word keys = half_with template_word keys
     (value_in Pattern (λ text. ok_of (pattern_in text)) pattern_word keys)
 
--- all five keys are there
+-- all five keys are present
 abbrev pub is_whole : List Block → Bool
 is_whole keys =
     is_there (codes "k-regex") keys && is_there (codes "k-expand") keys
@@ -62,7 +62,7 @@ hyper_with (Some key) (Some relation) (Some packet) = Some (record {
   packet_template = packet.1;
 })
 
--- the relation, where its parts are there
+-- the hyper-relation, if all its parts are present
 abbrev pub hyper_made : (Half × Option Relation) × Half → Found (Option PlainHyper)
 hyper_made parts = Ok (hyper_with parts.0.0 parts.0.1 parts.1)
 
@@ -72,12 +72,13 @@ parts_in keys = both
     (value_in BadValue relation_in (codes "h-relation") keys))
     (half_in (codes "p-regex") (codes "p-expand") keys)
 
--- the keys of a block, which are needed unless there is another form beside it
+-- the hyper-relation of a block; its keys must be present unless the key locator also has another
+-- form
 unfoldable pub hyper_of : Bool → ℕ → List Block → Found (Option PlainHyper)
 hyper_of needed line keys = beside (after None (walk_faults blocks.Hyper keys))
     (beside (missing_unless (not needed || is_whole keys) line)
     (then_made hyper_made (parts_in keys)))
 
--- a `hyper-relation`
+-- the value of a `hyper-relation`
 unfoldable pub hyper_in : Bool → Block → Found (Option PlainHyper)
 hyper_in needed key = block_in 4 (hyper_of needed) key

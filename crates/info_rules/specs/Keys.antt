@@ -1,4 +1,4 @@
--- The keys of a block: which are there, and which are there too often.
+-- The keys of a block: which are present, and which are given too many times.
 use Rattle.std.specs.Prelude.{ℕ, List, [], ◌∷◌, length, Option, None, Some, Err, is_some, Bool, not, nat_lt, bytes_eq, ◌||◌, if◌then◌else◌}
 use Rattle.std.specs.List.{filter}
 use Rattle.info_rules.specs.declared.fault.RulesFault.{RulesFault}
@@ -19,15 +19,15 @@ abbrev pub others_of : {A : Type 0} → List A → List A
 others_of [] = []
 others_of (x ∷ xs) = xs
 
--- the key is this word
+-- the key is `word`
 abbrev pub is_word : List ℕ → Block → Bool
 is_word word key = bytes_eq key.0.key word
 
--- the keys that are this word
+-- the keys that are `word`
 abbrev pub named : List ℕ → List Block → List Block
 named word keys = filter (is_word word) keys
 
--- the value of a key that has one, and no block
+-- the value of a key that has a value and no block
 abbrev pub value_of : Block → Option (List ℕ)
 value_of key = if key.0.has_block then None else key.0.value
 
@@ -36,26 +36,25 @@ value_of key = if key.0.has_block then None else key.0.value
 abbrev pub fault_at : RulesFaultKind → Block → RulesFault
 fault_at kind key = record { line = key.0.line; kind = kind }
 
--- more keys than this many are this word
+-- a fault if more than `most` keys are `word`
 abbrev pub many_faults : ℕ → List ℕ → List Block → List RulesFault
 many_faults most word keys =
     if nat_lt most (length (named word keys)) then record { line = 0; kind = TooLarge } ∷ [] else []
 
--- a key that needs a block has a value, or no block
+-- a fault if the key has a value or has no block
 abbrev pub shape_fault : Block → Option RulesFault
 shape_fault key =
     if is_some key.0.value || not key.0.has_block then Some (fault_at BadValue key) else None
 
--- a key of this word is there
+-- at least one key is `word`
 abbrev pub is_there : List ℕ → List Block → Bool
 is_there word keys = is_some (first_of (named word keys))
 
--- a block without a key that it needs
+-- the fault `Missing` at this line, unless all needed keys are present
 abbrev pub missing_unless : Bool → ℕ → Option RulesFault
 missing_unless there line = if there then None else Some (record { line = line; kind = Missing })
 
--- what a key with a block gives, by what the keys of that depth give in the block of a key on a
--- line
+-- the value of a key with a block, where `f` reads the keys at this depth
 abbrev pub block_in : {A : Type 0} → ℕ → (ℕ → List Block → Found A) → Block → Found A
 block_in depth f key =
     if key.0.has_block then beside (shape_fault key) (f key.0.line (blocks_of depth key.1))

@@ -1,4 +1,4 @@
--- Which keys may sign which packets, by their names.
+-- The packets that a key may sign, by the key's name.
 use Rattle.std.specs.Prelude.{◌≡◌, ℕ, ◌≤◌, List, [], ◌∷◌, ◌++◌, length, codes, Some}
 use Rattle.ndn_tlv.specs.Element.{Field}
 use Rattle.ndn_names.specs.declared.component_type.TheConstants.{GENERIC}
@@ -12,8 +12,8 @@ use Rattle.info_rules.specs.Related.{Related}
 use Rattle.info_rules.specs.Hyper.{PlainHyper}
 use Rattle.info_rules.specs.First.{Passes}
 
--- The pattern matches the name, and its groups expand the template to the other name, which has no
--- more components than a name may.
+-- The pattern matches the name, and the template expands with the captured groups to the name
+-- `made`, which has no more components than a name may have.
 pub record Makes (pattern : PlainPattern) (template : List PlainPart)
     (name made : List Field) : Type 0 where
   pub places : List (ℕ × ℕ)
@@ -21,7 +21,8 @@ pub record Makes (pattern : PlainPattern) (template : List PlainPart)
   pub expanded : made ≡ expansion_of template places name
   pub short : length made ≤ 64
 
--- the name made of the key's has this relation to the name made of the packet's
+-- the name expanded from the key's name has the relation to the name expanded from the packet's
+-- name
 abbrev pub IsHyperRelated : PlainHyper → List Field → List Field → Type 0
 IsHyperRelated hyper key packet =
     (a b : List Field) × Makes hyper.key_pattern hyper.key_template key a
@@ -32,13 +33,13 @@ IsHyperRelated hyper key packet =
 abbrev pub key_component : Field
 key_component = (GENERIC, codes "KEY")
 
--- the name is this prefix, a component KEY, and one to three components more
+-- the name is the prefix, then the component KEY, then one to three more components
 abbrev pub IsKeyOf : List Field → List Field → Type 0
 IsKeyOf prefix name =
     (rest : List Field) × (name ≡ prefix ++ key_component ∷ rest) × (1 ≤ length rest)
     × (length rest ≤ 3)
 
--- the same as a pattern: ^(<>*)<KEY><>{1,3}$
+-- the pattern ^(<>*)<KEY><>{1,3}$, which matches the names of hierarchical keys
 abbrev pub hierarchical_pattern : PlainPattern
 hierarchical_pattern = record {
   atoms = anything ∷ record { test = OneOf (key_component ∷ []); bounds = once }
@@ -46,26 +47,26 @@ hierarchical_pattern = record {
   groups = (0, 1) ∷ [];
 }
 
--- the longest prefix of this kind that the key's name has is one of the packet's name too
+-- the longest prefix that precedes KEY in the key's name is also a prefix of the packet's name
 pub record IsHierarchical (key packet : List Field) : Type 0 where
   pub prefix : List Field
   pub is_key : IsKeyOf prefix key
   pub longest : (other : List Field) → IsKeyOf other key → length other ≤ length prefix
   pub above : IsPrefix prefix packet
 
--- the key of this name is one that is required, where the packet has that name
+-- the key called `key` meets the requirement, for a packet called `packet`
 abbrev pub PassesLocator : LocatorTest → List Field → List Field → Type 0
 PassesLocator (tests.Name test) key packet = Passes test key
 PassesLocator (tests.Hyper hyper) key packet = IsHyperRelated hyper key packet
 PassesLocator tests.Hierarchical key packet = IsHierarchical key packet
 
--- a name is made of the key's and one of the packet's, neither of them too long
+-- both templates expand to a name, and neither name is too long
 abbrev pub AreMade : PlainHyper → List Field → List Field → Type 0
 AreMade hyper key packet =
     (a b : List Field) × Makes hyper.key_pattern hyper.key_template key a
     × Makes hyper.packet_pattern hyper.packet_template packet b
 
--- the test makes other names of the key's and of the packet's
+-- the requirement expands both templates
 abbrev pub MakesBoth : LocatorTest → List Field → List Field → Type 0
 MakesBoth (tests.Name test) key packet = ⊥
 MakesBoth (tests.Hyper hyper) key packet = AreMade hyper key packet

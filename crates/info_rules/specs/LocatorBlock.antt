@@ -1,4 +1,4 @@
--- Blocks of key locators.
+-- Reading `key-locator` blocks.
 use Rattle.std.specs.Prelude.{ℕ, List, Option, None, Some, is_some, Ok, Bool, not, codes}
 use Rattle.info_rules.specs.declared.rule.NameTest.{NameTest}
 use Rattle.info_rules.specs.declared.rule.LocatorTest.{LocatorTest}
@@ -15,7 +15,7 @@ use Rattle.info_rules.specs.Walk.{walk_faults}
 use Rattle.info_rules.specs.NameTest.{first_other, asked_in}
 use Rattle.info_rules.specs.HyperBlock.{hyper_in}
 
--- there is no key of another form beside a hyper-relation
+-- the block has no key of another form beside `hyper-relation`
 unfoldable pub is_hyper_alone : List Block → Bool
 is_hyper_alone keys = not (is_some (first_other KeyName (Some forms.Hyper) keys))
 
@@ -32,6 +32,6 @@ locator_of line keys = beside (after None (walk_faults Locator keys))
     (then_made (locator_made line) (both (asked_in KeyName line keys)
     (each (hyper_in (is_hyper_alone keys)) (named (codes "hyper-relation") keys))))
 
--- what a `key-locator` requires of a key's name
+-- the requirement of a `key-locator` on a key's name
 unfoldable pub locator_in : Block → Found LocatorTest
 locator_in key = block_in 3 locator_of key

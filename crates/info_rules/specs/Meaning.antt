@@ -1,5 +1,5 @@
--- What the entries of a rule file mean, in an operator's terms (ndn-cxx, "Validator Configuration
--- File Format").
+-- The meaning of the entries of a rule file, in an operator's terms (ndn-cxx, "Validator
+-- Configuration File Format").
 use Rattle.std.specs.Prelude.{◌≡◌, ◌⊎◌, ◌≤◌, ⊤, ℕ, List, [], ◌∷◌, length, None, Some, true, false, codes}
 use Rattle.std.specs.List.{AllByRecursion}
 use Rattle.ndn_names.specs.ReadsAs.{ReadsAs}
@@ -21,28 +21,28 @@ use Rattle.info_rules.specs.Hyper.{PlainHyper}
 use Rattle.info_rules.specs.Rule.{PlainRule}
 use Rattle.info_rules.specs.Limits.{HaveOwnIds}
 
--- ---- keys of a block
+-- ---- the keys of a block
 
--- the word is one of these
+-- the word is in the list
 abbrev pub IsOneOf : List (List ℕ) → List ℕ → Type 0
 IsOneOf [] word = ⊥
 IsOneOf (one ∷ others) word = (word ≡ one) ⊎ IsOneOf others word
 
--- each key is one of these words
+-- each key is one of the words
 abbrev pub HasOnly : List (List ℕ) → List Block → Type 0
 HasOnly words keys = AllByRecursion (λ key. IsOneOf words key.0.key) keys
 
--- no key is this word
+-- no key is `word`
 abbrev pub Lacks : List ℕ → List Block → Type 0
 Lacks word keys = named word keys ≡ []
 
--- one key is this word, and it has this value and no block
+-- exactly one key is `word`, and it has this value and no block
 abbrev pub HasValue : List ℕ → List Block → List ℕ → Type 0
 HasValue word keys text =
     (key : Block) × (named word keys ≡ key ∷ []) × (key.0.value ≡ Some text)
     × (key.0.has_block ≡ false)
 
--- one key is this word, and its value is read so
+-- exactly one key is `word`, and its value spells `x`
 abbrev pub Has : {A : Type 0} → (List ℕ → A → Type 0) → List ℕ → List Block → A → Type 0
 Has IsText word keys x = (text : List ℕ) × HasValue word keys text × IsText text x
 
@@ -50,11 +50,11 @@ Has IsText word keys x = (text : List ℕ) × HasValue word keys text × IsText 
 abbrev pub OpensBlock : Block → Type 0
 OpensBlock key = (key.0.has_block ≡ true) × (key.0.value ≡ None)
 
--- one key is this word, and it means this
+-- exactly one key is `word`, and its meaning is `x`
 abbrev pub HasBlock : {A : Type 0} → (Block → A → Type 0) → List ℕ → List Block → A → Type 0
 HasBlock Means word keys x = (key : Block) × (named word keys ≡ key ∷ []) × Means key x
 
--- each of these keys means one of these, in turn
+-- the keys mean the values of the list, in the same order
 abbrev pub Mean : {A : Type 0} → (Block → A → Type 0) → List Block → List A → Type 0
 Mean Means [] [] = ⊤
 Mean Means [] (x ∷ xs) = ⊥
@@ -72,14 +72,14 @@ IsRelation text relations.Equal = text ≡ codes "equal"
 IsRelation text relations.IsPrefixOf = text ≡ codes "is-prefix-of"
 IsRelation text relations.IsStrictPrefixOf = text ≡ codes "is-strict-prefix-of"
 
--- 1 to 100 octets, and no control character
+-- the text is an id: 1 to 100 octets, and no control character
 abbrev pub IsId : List ℕ → List ℕ → Type 0
 IsId text id =
     (text ≡ id) × (1 ≤ length id) × (length id ≤ 100) × AllByRecursion (λ octet. 32 ≤ octet) id
 
--- ---- names: what a filter asks of a packet's, and a key locator of a key's
+-- ---- names: the requirement of a filter on a packet's name, or of a key locator on a key's name
 
--- a name and how it is related to the one that is tested, or a pattern of that one
+-- either a name with its relation to the tested name, or a pattern for the tested name
 abbrev pub AsksOfName : List Block → NameTest → Type 0
 AsksOfName keys (tests.Related relation name) =
     HasOnly (codes "type" ∷ codes "name" ∷ codes "relation" ∷ []) keys
@@ -89,13 +89,13 @@ AsksOfName keys (tests.Matching pattern) =
     HasOnly (codes "type" ∷ codes "regex" ∷ []) keys
     × HasValue (codes "type") keys (codes "name") × Has IsPattern (codes "regex") keys pattern
 
--- a `filter`
+-- the key is a `filter` with this meaning
 abbrev pub IsFilter : Block → NameTest → Type 0
 IsFilter key test = OpensBlock key × AsksOfName (blocks_of 2 key.1) test
 
 -- ---- checkers
 
--- two patterns, a template for the groups of each, and how the expanded names are related
+-- two patterns, a template for each pattern, and the relation between the expanded names
 abbrev pub AsksOfBoth : List Block → PlainHyper → Type 0
 AsksOfBoth keys hyper =
     HasOnly (codes "k-regex" ∷ codes "k-expand" ∷ codes "h-relation" ∷ codes "p-regex"
@@ -107,7 +107,7 @@ AsksOfBoth keys hyper =
     × Has (IsTemplate (length hyper.packet_pattern.groups)) (codes "p-expand") keys
     hyper.packet_template
 
--- a `hyper-relation`
+-- the key is a `hyper-relation` with this meaning
 abbrev pub IsHyper : Block → PlainHyper → Type 0
 IsHyper key hyper = OpensBlock key × AsksOfBoth (blocks_of 4 key.1) hyper
 
@@ -119,11 +119,11 @@ AsksOfKey keys (locators.Hyper hyper) =
     × HasBlock IsHyper (codes "hyper-relation") keys hyper
 AsksOfKey keys locators.Hierarchical = ⊥
 
--- a `key-locator`
+-- the key is a `key-locator` with this meaning
 abbrev pub IsLocator : Block → LocatorTest → Type 0
 IsLocator key test = OpensBlock key × AsksOfKey (blocks_of 3 key.1) test
 
--- the signatures that a checker takes: HMAC with SHA-256 where it names none
+-- the checker accepts HMAC with SHA-256: it says so or gives no signature type
 abbrev pub TakesHmac : List Block → Type 0
 TakesHmac keys = Lacks (codes "sig-type") keys
     ⊎ HasValue (codes "sig-type") keys (codes "hmac-sha256")
@@ -135,8 +135,8 @@ abbrev pub TakesAsymmetric : List Block → Type 0
 TakesAsymmetric keys = HasValue (codes "sig-type") keys (codes "rsa-sha256")
     ⊎ HasValue (codes "sig-type") keys (codes "ecdsa-sha256")
 
--- a checker of `type customized`: its key locator defines which keys may make the HMAC; a digest
--- has no key, so it needs no locator, and one beside it is ignored
+-- a checker of `type customized`: its key locator states which keys may make the HMAC; a digest has
+-- no key, so a checker of digests needs no locator and ignores one that is given
 abbrev pub AsksAsTold : List Block → Checker → Type 0
 AsksAsTold keys (checkers.HmacSha256 test) =
     TakesHmac keys × HasBlock IsLocator (codes "key-locator") keys test
@@ -160,13 +160,13 @@ AsksOfSignature keys checker =
     ⊎ (HasOnly (codes "type" ∷ codes "sig-type" ∷ []) keys
     × HasValue (codes "type") keys (codes "hierarchical") × AsksByHierarchy keys checker)
 
--- a `checker`
+-- the key is a `checker` with this meaning
 abbrev pub IsChecker : Block → Checker → Type 0
 IsChecker key checker = OpensBlock key × AsksOfSignature (blocks_of 2 key.1) checker
 
 -- ---- rules
 
--- the keys of a rule, with each of its filters and checkers in turn
+-- the keys of a rule, with its filters and its checkers in order
 abbrev pub AreOfRule : List Block → PlainRule → Type 0
 AreOfRule keys rule =
     HasOnly (codes "id" ∷ codes "for" ∷ codes "filter" ∷ codes "checker" ∷ []) keys
@@ -174,18 +174,19 @@ AreOfRule keys rule =
     × Mean IsFilter (named (codes "filter") keys) rule.filters × (length rule.filters ≤ 16)
     × Mean IsChecker (named (codes "checker") keys) rule.checkers × (length rule.checkers ≤ 16)
 
--- a `rule`
+-- the key is a `rule` with this meaning
 abbrev pub IsRule : Block → PlainRule → Type 0
 IsRule key rule = OpensBlock key × AreOfRule (blocks_of 1 key.1) rule
 
--- a `trust-anchor`, which gives nothing: one type, which is not `any`; other keys are not looked at
+-- the key is a `trust-anchor`, which adds nothing to the rules: it has one type other than `any`,
+-- and its other keys are not checked
 abbrev pub IsAnchor : Block → Type 0
 IsAnchor key =
     OpensBlock key
     × ((text : List ℕ) × HasValue (codes "type") (blocks_of 1 key.1) text
     × IsOneOf (codes "file" ∷ codes "dir" ∷ codes "base64" ∷ []) text)
 
--- the entries of a rule file, with each of its rules in turn, whose ids are different
+-- the entries of a rule file, with its rules in order; all rules have different ids
 abbrev pub IsRuleFile : List PlainEntry → List PlainRule → Type 0
 IsRuleFile entries rules =
     HasOnly (codes "rule" ∷ codes "trust-anchor" ∷ []) (blocks_of 0 entries)

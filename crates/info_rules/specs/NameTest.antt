@@ -1,4 +1,4 @@
--- What the blocks of filters and key locators require of a name, in one of several forms.
+-- The requirement on a name in a filter or a key locator, in one of several forms.
 use Rattle.std.specs.Prelude.{ℕ, List, Option, None, Some, Bool, true, false, not, codes, ◌||◌, ◌&&◌, if◌then◌else◌}
 use Rattle.std.specs.List.{filter_map}
 use Rattle.std.specs.Result.{result_err}
@@ -19,12 +19,12 @@ use Rattle.info_rules.specs.Keys.{on_option, first_of, is_word, is_there, missin
 use Rattle.info_rules.specs.ValueWords.{relation_in}
 use Rattle.info_rules.specs.Values.{ok_of, value_in, name_word_in}
 
--- a filter tests a packet's name, a key locator a key's
+-- a filter tests the packet's name, and a key locator tests the key's name
 abbrev pub tests_key : Tested → Bool
 tests_key PacketName = false
 tests_key KeyName = true
 
--- the form that a key is of
+-- the form that the key belongs to
 unfoldable pub form_of : Tested → Block → Option Form
 form_of tested key =
     if is_word (codes "name") key || is_word (codes "relation") key then Some forms.Related else (
@@ -42,45 +42,45 @@ is_form forms.Matching forms.Hyper = false
 is_form forms.Hyper forms.Related = false
 is_form forms.Hyper forms.Matching = false
 
--- it is no such form
+-- `form` differs from `other`
 abbrev pub is_other : Option Form → Form → Bool
 is_other None form = true
 is_other (Some other) form = not (is_form other form)
 
--- the form and the line of a key that is of a form, but not of this one
+-- the form and the line of a key that belongs to a form other than `other`
 abbrev pub other_form_of : Tested → Option Form → Block → Option (Form × ℕ)
 other_form_of tested other key =
     on_option (λ form. if is_other other form then Some (form, key.0.line) else None) None
     (form_of tested key)
 
--- the first such key
+-- the form and the line of the first key that belongs to a form other than `other`
 abbrev pub first_other : Tested → Option Form → List Block → Option (Form × ℕ)
 first_other tested other keys = first_of (filter_map (other_form_of tested other) keys)
 
--- a name needs a relation, and a relation a name
+-- a `name` needs a `relation`, and a `relation` needs a `name`
 abbrev pub half_fault : ℕ → List Block → Form → Option RulesFault
 half_fault line keys forms.Related =
     missing_unless (is_there (codes "name") keys && is_there (codes "relation") keys) line
 half_fault line keys forms.Matching = None
 half_fault line keys forms.Hyper = None
 
--- a key of a second form, or else what the form lacks
+-- the fault of the first key of a second form; without such a key, the fault of what the form lacks
 abbrev pub second_fault : Tested → ℕ → List Block → Form → Option RulesFault
 second_fault tested line keys form =
     on_option (λ second. Some (record { line = second.1; kind = BadValue }))
     (half_fault line keys form) (first_other tested (Some form) keys)
 
--- what is wrong with the forms in the block of a key on this line: one is needed
+-- the fault of the forms in a block, if any: the block must have exactly one form
 unfoldable pub form_fault : Tested → ℕ → List Block → Option RulesFault
 form_fault tested line keys = on_option (λ first. second_fault tested line keys first.0)
     (Some (record { line = line; kind = Missing })) (first_other tested None keys)
 
--- ---- the meaning
+-- ---- the requirement
 
 abbrev pub Names : Type 0
 Names = (Option (List Field) × Option Relation) × Option PlainPattern
 
--- a name, a relation and a pattern, so far as they are there
+-- a name, a relation and a pattern, each of which may be absent
 unfoldable pub names_in : List Block → Found Names
 names_in keys = both
     (both (value_in BadValue (λ text. ok_of (name_in text)) (codes "name") keys)
@@ -97,11 +97,11 @@ abbrev pub test_with : Option (List Field) × Option Relation → Option PlainPa
 test_with related (Some pattern) = Some (Matching pattern)
 test_with related None = related_of related.0 related.1
 
--- the test of a name, as far as one is there
+-- the requirement on a name, made from the parts that are present
 abbrev pub test_of : Names → Option NameTest
 test_of names = test_with names.0 names.1
 
--- what is required of a name, in one form, as far as it is there
+-- the requirement of the block on a name, in one form
 unfoldable pub asked_in : Tested → ℕ → List Block → Found (Option NameTest)
 asked_in tested line keys = beside (form_fault tested line keys)
     (beside (result_err (needed line (value_in BadValue name_word_in (codes "type") keys)))

@@ -1,4 +1,4 @@
--- Blocks of rules.
+-- Reading `rule` blocks.
 use Rattle.std.specs.Prelude.{ℕ, List, None, codes}
 use Rattle.info_rules.specs.declared.fault.RulesFaultKind.TheVariants.{BadValue}
 use Rattle.info_rules.specs.declared.rule.Kind.{Kind}
@@ -31,11 +31,11 @@ rule_parts line keys = both
     (both (each filter_in (named (codes "filter") keys))
     (each checker_in (named (codes "checker") keys)))
 
--- the rule of these keys, in which each filter and each checker counts
+-- the rule that the keys of a block give, with all its filters and checkers
 unfoldable pub rule_of_keys : ℕ → List Block → Found PlainRule
 rule_of_keys line keys =
     beside (after None (walk_faults blocks.Rule keys)) (shown rule_with (rule_parts line keys))
 
--- a `rule`
+-- the rule of a `rule` key
 unfoldable pub rule_in : Block → Found PlainRule
 rule_in key = block_in 1 rule_of_keys key

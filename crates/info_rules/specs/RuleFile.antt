@@ -1,4 +1,4 @@
--- Rule files: their faults, and their rules.
+-- Rule files: their faults and their rules.
 use Rattle.std.specs.Prelude.{ℕ, List, [], ◌∷◌, ◌++◌, length, Option, None, nat_lt, bytes_eq, codes, if◌then◌else◌}
 use Rattle.std.specs.List.{flat_map}
 use Rattle.std.specs.Result.{result_err}
@@ -15,42 +15,42 @@ use Rattle.info_rules.specs.Walk.{walk_faults}
 use Rattle.info_rules.specs.AnchorBlock.{anchor_in}
 use Rattle.info_rules.specs.RuleBlock.{rule_in}
 
--- ---- ids that rules share
+-- ---- repeated ids
 
--- the key with the id of a key that is a rule
+-- the first key `id` in the block of a `rule` key
 unfoldable pub id_key : Block → Option Block
 id_key key = if is_word (codes "rule") key then first_of (named (codes "id") (blocks_of 1 key.1))
     else None
 
--- the key with the id, where it is this text
+-- a fault if the key is a rule with this id
 unfoldable pub same_id_faults : List ℕ → Block → List RulesFault
 same_id_faults id key =
     on_option (λ later. on_option
     (λ text. if bytes_eq text id then fault_at TwiceNamed later ∷ [] else []) []
     (value_of later)) [] (id_key key)
 
--- ids of these that are the id of one key
+-- the faults of the later rules whose id is the id of the rule `key`
 unfoldable pub repeated_faults : Block → List Block → List RulesFault
 repeated_faults key later =
     on_option (λ id. flat_map (same_id_faults id) later) [] (id_key key >>= value_of)
 
--- ids that an earlier rule has
+-- the faults of all rule ids that an earlier rule has
 unfoldable pub id_faults : List Block → List RulesFault
 id_faults [] = []
 id_faults (key ∷ keys) = repeated_faults key keys ++ id_faults keys
 
--- more than 256 rules are a fault in front of any of these
+-- the faults of repeated ids, unless there are more than 256 rules
 abbrev pub shared_faults : List Block → List RulesFault
 shared_faults keys = if nat_lt 256 (length (named (codes "rule") keys)) then [] else id_faults keys
 
 -- ---- the file
 
--- the rules of these keys, one for each `rule`
+-- the rules that the keys give, one for each `rule`
 unfoldable pub rules_of_keys : List Block → Found (List PlainRule)
 rules_of_keys keys = beside (after None (walk_faults File keys ++ shared_faults keys))
     (beside (result_err (each anchor_in (named (codes "trust-anchor") keys)))
     (each rule_in (named (codes "rule") keys)))
 
--- the rules of a file, or the fault to report
+-- the rules of a file, or the fault that is reported
 unfoldable pub rules_in : List PlainEntry → Found (List PlainRule)
 rules_in entries = rules_of_keys (blocks_of 0 entries)

@@ -1,4 +1,4 @@
--- What rules see of a packet.
+-- Packets as the rules see them.
 use Rattle.std.specs.Prelude.{◌≡◌, ◌-◌, ◌==◌, ℕ, List, ◌++◌, length, take, Option, None, Some, IsSome, slice_get, Bool, false, ⊤, if◌then◌else◌}
 use Rattle.ndn_tlv.specs.Element.{Field}
 use Rattle.ndn_names.specs.declared.component_type.TheConstants.{PARAMETERS_SHA256_DIGEST}
@@ -7,7 +7,7 @@ use Rattle.ndn_packets.specs.Covered.{Covered}
 use Rattle.info_rules.specs.declared.rule.Kind.{Kind}
 use Rattle.info_rules.specs.declared.rule.Kind.TheVariants as kinds
 
--- a packet by its kind, the name that rules see, and its signature
+-- a packet with its kind, the name that the rules see, and its signature
 pub record SeenPacket : Type 0 where
   pub kind : Kind
   pub name : List Field
@@ -18,7 +18,7 @@ abbrev pub is_digest : Option Field → Bool
 is_digest None = false
 is_digest (Some c) = c.0 == PARAMETERS_SHA256_DIGEST
 
--- the name without its last component, where that is a digest of parameters
+-- the name without its last component, if that component is a parameters digest
 abbrev pub without_digest : List Field → List Field
 without_digest name =
     if is_digest (slice_get name (length name - 1)) then take (length name - 1) name else name
@@ -36,18 +36,19 @@ abbrev pub seen_data : List ℕ → PlainData → SeenPacket
 seen_data whole d =
     record { kind = kinds.Data; name = d.name; signature = Some d.signature; frame = AData whole d }
 
--- the signature of an Interest has its time; that of a Data need not have one
+-- a signed Interest must have a SignatureTime; a Data need not
 abbrev pub SaysWhen : Kind → PlainSignature → Type 0
 SaysWhen kinds.Interest signature = IsSome signature.info.time
 SaysWhen kinds.Data signature = ⊤
 
--- what checkers see: the name, the signature, and the octets that it covers, as they were received
+-- a signed packet as the checkers see it: the name, the signature, and the covered octets as
+-- received
 pub record PlainSigned : Type 0 where
   pub name : List Field
   pub signature : PlainSignature
   pub covered : List ℕ
 
--- the packet is signed in the right shape, and shows this to checkers
+-- the packet is signed in a valid shape, and the checkers see it as `signed`
 pub record IsSigned (packet : SeenPacket) (signed : PlainSigned) : Type 0 where
   pub first : List ℕ
   pub second : List ℕ

@@ -1,4 +1,4 @@
--- What private parts show.
+-- The specification's view of private types.
 use Rattle.std.specs.Prelude.{ℕ, map, string_bytes, List, ◌++◌}
 use Rattle.std.specs.Option.{option_map}
 use Rattle.info_rules.specs.declared.entry.Entry.{Entry}

@@ -1,10 +1,10 @@
--- The table of the blocks of a rule file: which keys each has.
+-- The table of the blocks of a rule file: the keys that each block may have.
 use Rattle.std.specs.Prelude.{ℕ, List, [], ◌∷◌, Bool, true, false, codes}
 use Rattle.info_rules.specs.Blocks as blocks
 use Rattle.info_rules.specs.Blocks.{BlockKind, Times, Once, UpTo, AnyNumber, Takes, Value, Inner}
 use Rattle.info_rules.specs.Blocks.{Id, PacketKind, NameWord, Uri, Relation, Pattern, Template, CheckerType, SignatureType, AnchorType}
 
--- a key by its word, with what it takes, and how often it may come in its block
+-- a key with its word, what it must have, and how many times it may be given
 pub record PlainForm : Type 0 where
   pub word : List ℕ
   pub takes : Takes
@@ -13,7 +13,7 @@ pub record PlainForm : Type 0 where
 abbrev pub form : List ℕ → Takes → Times → PlainForm
 form word takes times = record { word = word; takes = takes; times = times }
 
--- the keys of each block
+-- the keys that each kind of block may have
 unfoldable pub table : BlockKind → List PlainForm
 table blocks.File =
     form (codes "rule") Inner (UpTo 256) ∷ form (codes "trust-anchor") Inner AnyNumber ∷ []
@@ -39,7 +39,7 @@ table blocks.Hyper =
     ∷ form (codes "h-relation") (Value Relation) Once ∷ form (codes "p-regex") (Value Pattern) Once
     ∷ form (codes "p-expand") (Value Template) Once ∷ []
 
--- a trust anchor's other keys are not looked at
+-- the block allows no other keys; a trust anchor allows others, which are not checked
 abbrev pub is_closed : BlockKind → Bool
 is_closed blocks.File = true
 is_closed blocks.Anchor = false

@@ -1,21 +1,21 @@
--- The grammar of rule files: which entries the tokens of a text are.
+-- The grammar of rule files: the entries that the tokens of a text spell.
 use Rattle.std.specs.Prelude.{◌≡◌, ◌≢◌, ℕ, ◌+◌, ◌<◌, ◌≤◌, ⊤, List, [], ◌∷◌, ◌++◌, length, Option, None, Some, Bool, true, false}
 use Rattle.std.specs.Option.{option_map}
 use Rattle.info_rules.specs.Tree.{PlainEntry, Block}
 use Rattle.info_rules.specs.Words.{Token, Word, Open, Close, unescaped, tokens_in}
 
--- a key and at most one value on its line, as they are in the text
+-- a key, and at most one value on its line, as written in the text
 pub record Head : Type 0 where
   pub line : ℕ
   pub key : List ℕ
   pub value : Option (List ℕ)
 
--- entries one after the other in a block, or outside of all blocks
+-- consecutive entries in one block, or outside all blocks
 pub data Nodes : Type 0 where
   NoNode : Nodes
   Leaf : Head → Nodes → Nodes
-  -- an entry with a block: the line of the brace that opens it, its entries, and the line of the
-  -- brace that closes it
+  -- an entry with a block: the line of the opening brace, the entries of the block, and the line of
+  -- the closing brace
   Branch : Head → ℕ → Nodes → ℕ → Nodes → Nodes
 
 abbrev pub head_tokens : Head → List (ℕ × Token)
@@ -31,13 +31,13 @@ tokens_of (Leaf head others) = head_tokens head ++ tokens_of others
 tokens_of (Branch head opened block closed others) =
     head_tokens head ++ (opened, Open) ∷ (tokens_of block ++ (closed, Close) ∷ tokens_of others)
 
--- the first entry begins on another line
+-- the first of the entries is on another line
 abbrev pub BeginsOff : ℕ → Nodes → Type 0
 BeginsOff line NoNode = ⊤
 BeginsOff line (Leaf head others) = head.line ≢ line
 BeginsOff line (Branch head opened block closed others) = head.line ≢ line
 
--- each entry ends with its line: the next one of its block is on another
+-- each entry ends with its line: the next entry of its block is on another line
 unfoldable pub IsApart : Nodes → Type 0
 IsApart NoNode = ⊤
 IsApart (Leaf head others) = BeginsOff head.line others × IsApart others
@@ -61,14 +61,14 @@ entry_of_head depth head has_block =
       has_block = has_block;
     }
 
--- all the entries, each in front of those of its block
+-- all entries in the order of the text: each entry, then the entries of its block
 unfoldable pub outline : ℕ → Nodes → List PlainEntry
 outline depth NoNode = []
 outline depth (Leaf head others) = entry_of_head depth head false ∷ outline depth others
 outline depth (Branch head opened block closed others) =
     entry_of_head depth head true ∷ (outline (depth + 1) block ++ outline depth others)
 
--- the entries of one block, each with those of its own block
+-- the entries of one block, each with the entries of its own block
 unfoldable pub keyed : ℕ → Nodes → List Block
 keyed depth NoNode = []
 keyed depth (Leaf head others) = (entry_of_head depth head false, []) ∷ keyed depth others
@@ -82,6 +82,6 @@ pub record IsTree (tokens : List (ℕ × Token)) (entries : List PlainEntry) : T
   pub shallow : IsShallow 0 nodes
   pub listed : entries ≡ outline 0 nodes
 
--- the entries that a text spells, which has at most 65,536 octets
+-- the text has at most 65,536 octets, and its tokens spell these entries
 abbrev pub TreeOf : List ℕ → List PlainEntry → Type 0
 TreeOf text entries = (length text ≤ 65536) × IsTree (tokens_in text) entries

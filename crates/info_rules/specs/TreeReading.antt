@@ -1,4 +1,4 @@
--- Reading entries from token to token, with the first fault that is met.
+-- Reading the entries token by token, up to the first fault.
 use Rattle.std.specs.Prelude.{◌≡◌, ℕ, ◌+◌, ◌-◌, ◌⊎◌, List, [], ◌∷◌, ◌++◌, length, Option, None, Some, Result, Ok, Err, Bool, true, false, nat_lt, nat_le, ◌==◌, if◌then◌else◌}
 use Rattle.ndn_tlv.specs.Reading.{on_result}
 use Rattle.info_rules.specs.declared.fault.RulesFault.{RulesFault}
@@ -13,17 +13,17 @@ syntax line = record { line = line; kind = Syntax }
 abbrev pub too_deep : ℕ → RulesFault
 too_deep line = record { line = line; kind = TooDeep }
 
--- what is read of the entries
+-- the state after reading the first tokens of a text
 pub record PlainDraft : Type 0 where
-  -- those to which nothing can be added
+  -- the finished entries
   pub ended : List PlainEntry
-  -- the one whose key, or value, came last
+  -- the entry whose key or value was read last
   pub pending : Option PlainEntry
-  -- how many blocks are open
+  -- the number of open blocks
   pub depth : ℕ
-  -- the line of the last brace that closed a block, where none was opened since
+  -- the line of the last brace that closed a block, if no block was opened after it
   pub closed : Option ℕ
-  -- the line of a brace that opened a block in eight others
+  -- the line of a brace that opened a block inside eight others
   pub deep : Option ℕ
 
 abbrev pub begun : PlainDraft
@@ -42,7 +42,7 @@ with_ended draft = record draft { ended = entries_of draft; pending = None }
 abbrev pub Next : Type 0
 Next = Result PlainDraft RulesFault
 
--- a word that is a key
+-- the draft after a word that is a key
 abbrev pub with_key : PlainDraft → ℕ → List ℕ → PlainDraft
 with_key draft line word =
     record draft {
@@ -56,7 +56,8 @@ with_key draft line word =
       });
     }
 
--- a second word on the line of a key is its value, and a third does not fit
+-- the draft after another word on the line of a key: the second word is the key's value, and a
+-- third word is a fault
 abbrev pub with_value : PlainDraft → ℕ → List ℕ → PlainEntry → Option (List ℕ) → Next
 with_value draft line word entry None =
     Ok (record draft { pending = Some (record entry { value = Some (unescaped word) }) })
@@ -73,7 +74,7 @@ with_word draft line word (Some entry) =
     if entry.line == line then with_value draft line word entry entry.value
     else Ok (with_key draft line word)
 
--- a block is opened after a key, or after its value
+-- the draft after an opening brace, which must follow a key or its value
 abbrev pub with_open : PlainDraft → ℕ → Option PlainEntry → Next
 with_open draft line None = Err (syntax line)
 with_open draft line (Some entry) = Ok (record {
@@ -100,7 +101,7 @@ with_fitting draft line Open = with_open draft line draft.pending
 with_fitting draft line Close = with_close draft line
 with_fitting draft line Broken = Err (syntax line)
 
--- the fault of a block that was too deep on an earlier line
+-- the fault of a block that was too deep, if that block is on a line before `line`
 abbrev pub deep_before : Option ℕ → ℕ → Option RulesFault
 deep_before None line = None
 deep_before (Some deep) line = if deep == line then None else Some (too_deep deep)
@@ -124,7 +125,7 @@ abbrev pub if_shallow : Option ℕ → List PlainEntry → Result (List PlainEnt
 if_shallow None entries = Ok entries
 if_shallow (Some deep) entries = Err (too_deep deep)
 
--- the entries, where the text ends on this line
+-- the entries of a text that ends on this line
 abbrev pub whole_of : ℕ → PlainDraft → Result (List PlainEntry) RulesFault
 whole_of line draft = unless_fault (deep_before draft.deep line)
     (if draft.depth == 0 then if_shallow draft.deep (entries_of draft) else Err (syntax line))
@@ -138,6 +139,6 @@ unfoldable pub tree_in : List ℕ → Result (List PlainEntry) RulesFault
 tree_in text = if nat_lt 65536 (length text) then Err (record { line = 0; kind = TooLarge })
     else entries_in text
 
--- the fault of a reading, or `Memory`, which has no cause in the text
+-- `fault` is the fault in `read`, or `Memory`, whose cause is not in the text
 abbrev pub IsTreeFaultOf : {A : Type 0} → Result A RulesFault → RulesFault → Type 0
 IsTreeFaultOf read fault = (read ≡ Err fault) ⊎ (fault ≡ memory_fault)

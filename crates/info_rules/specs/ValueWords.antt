@@ -1,4 +1,4 @@
--- The values of words.
+-- The values that words stand for.
 use Rattle.std.specs.Prelude.{ℕ, List, length, Option, None, Some, Bool, nat_le, bytes_eq, codes, ◌&&◌, ◌||◌, if◌then◌else◌}
 use Rattle.std.specs.List.{list_all}
 use Rattle.info_rules.specs.declared.rule.Kind.{Kind}
@@ -33,12 +33,12 @@ signature_type_in text =
     if bytes_eq text (codes "rsa-sha256") || bytes_eq text (codes "ecdsa-sha256")
     then Some Asymmetric else None))
 
--- an id has from 1 to 100 octets, and no control character
+-- an id has 1 to 100 octets and no control character
 abbrev pub is_id : List ℕ → Bool
 is_id text = nat_le 1 (length text) && nat_le (length text) 100 && list_all
     (λ octet. nat_le 32 octet) text
 
--- the types of trust anchors that are taken
+-- the types that a trust anchor may have
 abbrev pub is_anchor_type : List ℕ → Bool
 is_anchor_type text =
     bytes_eq text (codes "file") || bytes_eq text (codes "dir") || bytes_eq text (codes "base64")

@@ -1,4 +1,4 @@
--- What the values of keys have to be.
+-- The values that keys may have.
 use Rattle.std.specs.Prelude.{ℕ, List, Option, None, Some, is_some, Result, Ok, Err, Bool, true, bytes_eq, codes, ◌||◌, if◌then◌else◌}
 use Rattle.ndn_names.specs.UriReading.{name_in}
 use Rattle.info_rules.specs.declared.fault.RulesFaultKind.{RulesFaultKind}
@@ -18,7 +18,8 @@ abbrev pub ◌>>=◌ : {A B : Type 0} → Option A → (A → Option B) → Opti
 None >>= f = None
 (Some x) >>= f = f x
 
--- the text is a value of this kind, so far as that is a bad value where it is not
+-- the text is a valid value of this kind; patterns and templates always count as valid here, since
+-- an invalid one is reported as another kind of fault
 unfoldable pub is_value : ValueKind → List ℕ → Bool
 is_value Id text = is_id text
 is_value PacketKind text = is_some (kind_in text)
@@ -31,18 +32,18 @@ is_value CheckerType text = is_some (checker_type_in text)
 is_value SignatureType text = is_some (signature_type_in text)
 is_value AnchorType text = bytes_eq text (codes "any") || is_anchor_type text
 
--- a value that is read, or this fault on this line
+-- the value, or a fault of this kind on this line if there is no value
 abbrev pub read_at : {A : Type 0} → RulesFaultKind → ℕ → Option A → Found (Option A)
 read_at kind line None = Err (record { line = line; kind = kind })
 read_at kind line (Some value) = Ok (Some value)
 
--- the value of a key
+-- the value that is read from the text of a key; a key without a text is a fault
 abbrev pub given_in : {A : Type 0} → RulesFaultKind → (List ℕ → Option A) → ℕ → Option (List ℕ)
     → Found (Option A)
 given_in kind read line None = Err (record { line = line; kind = BadValue })
 given_in kind read line (Some text) = read_at kind line (read text)
 
--- the value of the first key of this word, if there is one
+-- the value of the first key that is `word`, if there is one
 unfoldable pub value_in : {A : Type 0} → RulesFaultKind → (List ℕ → Option A) → List ℕ → List Block
     → Found (Option A)
 value_in kind read word keys = on_option (λ key. given_in kind read key.0.line (value_of key))
@@ -55,7 +56,7 @@ id_in text = if is_id text then Some text else None
 abbrev pub name_word_in : List ℕ → Option (Unit {0})
 name_word_in text = if bytes_eq text (codes "name") then Some tt else None
 
--- the type of a trust anchor, which may be anything but `any`
+-- the type of a trust anchor; the type `any` is the fault `AnyAnchor`
 abbrev pub anchor_type_in : ℕ → List ℕ → Found (Option (Unit {0}))
 anchor_type_in line text =
     if bytes_eq text (codes "any") then Err (record { line = line; kind = AnyAnchor }) else (

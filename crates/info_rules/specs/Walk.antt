@@ -1,5 +1,5 @@
--- What is wrong with the keys of a block, by the table: keys that are not in it, and keys that come
--- too often. The first key of each word is checked by what reads it.
+-- The faults of the keys of a block, according to the table: keys that are not in the table, and
+-- keys that are given too many times. The first key of each word is checked when its value is read.
 use Rattle.std.specs.Prelude.{List, [], ◌∷◌, ◌++◌, false, if◌then◌else◌}
 use Rattle.std.specs.List.{flat_map, list_any}
 use Rattle.info_rules.specs.declared.fault.RulesFault.{RulesFault}
@@ -15,7 +15,7 @@ abbrev pub unknown_faults : List PlainForm → Block → List RulesFault
 unknown_faults forms key =
     if list_any (λ form. is_word form.word key) forms then [] else fault_at UnknownKey key ∷ []
 
--- a second key is one too many, unless its value is wrong
+-- the fault of a repeated key: `TwiceNamed`, or `BadValue` if its own value is wrong
 abbrev pub again_kind : Takes → Block → RulesFaultKind
 again_kind (Value kind) key =
     if on_option (is_value kind) false (value_of key) then TwiceNamed else BadValue
@@ -24,7 +24,7 @@ again_kind Inner key = TwiceNamed
 abbrev pub again_faults : Takes → Block → List RulesFault
 again_faults takes key = fault_at (again_kind takes key) key ∷ []
 
--- the keys of one word that come too often
+-- the faults of the keys of one word that are given too many times
 unfoldable pub times_faults : List Block → PlainForm → List RulesFault
 times_faults keys form = by_times form.times
   where

@@ -4,7 +4,7 @@ use Rattle.std.specs.List.{count_by}
 use Rattle.std.specs.Option.{option_map}
 
 pub data Token : Type 0 where
-  -- a word, or the text between two quotes; with its backslashes
+  -- a word, or the text between two quotes, with its backslashes
   Word : List ℕ → Token
   Open : Token
   Close : Token
@@ -20,7 +20,7 @@ is_alone sign [] = false
 is_alone sign (o ∷ []) = o == sign
 is_alone sign (o ∷ (other ∷ word)) = false
 
--- what a word that is not quoted is
+-- the token that an unquoted word stands for
 unfoldable pub word_token : List ℕ → Token
 word_token word =
     if is_alone 123 word then Open else (if is_alone 125 word then Close else Word word)
@@ -29,21 +29,21 @@ word_token word =
 pub data Mode : Type 0 where
   Between : Mode
   InComment : Mode
-  -- after the first octets of a word
+  -- inside a word, after these octets
   InWord : List ℕ → Mode
-  -- after a quote and some octets, the last of which may be a backslash
+  -- inside a quoted text, after these octets; the flag tells whether the last octet is a backslash
   InQuotes : Bool → List ℕ → Mode
 
--- after an octet that is in no word before it
+-- the state after an octet that does not belong to an earlier word
 unfoldable pub begun_by : ℕ → Mode
 begun_by o = if o == 34 then InQuotes false []
     else (if o == 59 then InComment else (if is_separator o then Between else InWord (o ∷ [])))
 
--- a quote closes a quoted text where no backslash is directly before it
+-- a quote closes a quoted text if no backslash is directly before it
 unfoldable pub is_closing : Bool → ℕ → Bool
 is_closing escaped o = (o == 34) && not escaped
 
--- what an octet ends
+-- the token that the octet ends, if any
 abbrev pub ended_by : Mode → ℕ → Option Token
 ended_by Between o = None
 ended_by InComment o = None
@@ -59,7 +59,7 @@ mode_after (InQuotes escaped inner) o =
     if o == 10 then Between
     else (if is_closing escaped o then Between else InQuotes (o == 92) (inner ++ o ∷ []))
 
--- what the end of the text ends
+-- the token that the end of the text ends, if any
 abbrev pub ended_at_end : Mode → Option Token
 ended_at_end Between = None
 ended_at_end InComment = None
@@ -79,7 +79,7 @@ tokens_from mode line [] = with_ended line (ended_at_end mode) []
 tokens_from mode line (o ∷ text) =
     with_ended line (ended_by mode o) (tokens_from (mode_after mode o) (line_after line o) text)
 
--- the length of the text before the quote that closes a quoted text on its line
+-- the length of the quoted text up to the closing quote, if it is closed on its line
 unfoldable pub quoted_len : Bool → List ℕ → Option ℕ
 quoted_len escaped [] = None
 quoted_len escaped (o ∷ text) =
@@ -87,23 +87,23 @@ quoted_len escaped (o ∷ text) =
     else (if is_closing escaped o then Some 0
     else option_map (λ len. len + 1) (quoted_len (o == 92) text))
 
--- the text from the end of the first line on
+-- the text from the end of its first line on
 unfoldable pub from_line_end : List ℕ → List ℕ
 from_line_end [] = []
 from_line_end (o ∷ text) = if o == 10 then o ∷ text else from_line_end text
 
--- lines are counted from 1
+-- the tokens of a whole text; lines are counted from 1
 abbrev pub tokens_in : List ℕ → List (ℕ × Token)
 tokens_in text = tokens_from Between 1 text
 
--- the line where a text ends
+-- the line where the text ends
 abbrev pub end_line : List ℕ → ℕ
 end_line text = 1 + count_by (λ o. o == 10) text
 
 abbrev pub is_escaped : ℕ → Bool
 is_escaped o = (o == 92) || (o == 34)
 
--- a word without the backslash of each pair of backslashes, and before each quote
+-- the word with each pair of backslashes replaced by one, and without the backslash before a quote
 unfoldable pub unescaped : List ℕ → List ℕ
 unescaped [] = []
 unescaped (o ∷ []) = o ∷ []

@@ -1,4 +1,4 @@
-//! Blocks of trust anchors, of which only the type is looked at.
+//! Reads `trust-anchor` blocks. Only the type of a trust anchor is checked.
 
 ghost use Rattle.info_rules.specs.AnchorBlock.{anchor_of};
 
@@ -10,7 +10,7 @@ use crate::table::Block;
 use crate::walk::walk;
 use std::alloc::Global;
 
-/// Reads trust anchors, which give nothing.
+/// A reader of trust anchors, which add nothing to the rules.
 pub struct AnchorReader;
 
 impl BlockReader for AnchorReader {

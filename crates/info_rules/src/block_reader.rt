@@ -1,4 +1,4 @@
-//! Reading the blocks of one word, each by its keys.
+//! Reads the blocks of all keys that are one word.
 
 ghost use Rattle.std.specs.Prelude.{◌≡◌, ℕ, List, IfOk};
 ghost use Rattle.info_rules.specs.Tree.{Block};
@@ -11,24 +11,24 @@ use crate::found::{Read, beside, with_one};
 use crate::keys::{Key, Keys};
 use std::alloc::Global;
 
-/// What reads the keys of a kind of block.
+/// A reader for the keys in one kind of block.
 pub trait BlockReader {
-    /// What such a block gives.
+    /// The result of reading a block of this kind.
     type Part: Drop;
 
     ghost DEPTH: { ℕ };
 
-    /// How many blocks its keys are in.
+    /// The number of blocks around the keys of the block.
     const DEPTH: usize;
 
     ghost part_of: { Self → ℕ → List Block → Found Self.Part };
 
-    /// What these keys give, in the block of a key on this line.
+    /// Reads the `keys` of a block. `line` is the line of the key that owns the block.
     fn read(&self, alloc: Global, line: u32, keys: Keys<'_>) -> Read<Self::Part>
         ensures { IfOk result (λ found. found ≡ part_of self.now line (keys_of keys.entry)) };
 }
 
-/// What a key gives, which needs a block and no value.
+/// Reads the block of `key`. The key must have a block and no value.
 fn read_block<R: BlockReader>(alloc: Global, reader: &R, key: Key<'_>) -> Read<R::Part>
     ensures { IfOk result
         (λ found. found ≡ block_in R.DEPTH (R.part_of reader.now) (key_of key.entry)) }
@@ -40,7 +40,7 @@ fn read_block<R: BlockReader>(alloc: Global, reader: &R, key: Key<'_>) -> Read<R
     Ok(beside(key.shape_fault(), part))
 }
 
-/// What each key of this word gives.
+/// Reads the block of each key with the given word.
 pub fn read_blocks<R: BlockReader>(
     alloc: Global,
     reader: &R,

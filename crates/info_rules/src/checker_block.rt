@@ -1,4 +1,4 @@
-//! Blocks of checkers.
+//! Reads `checker` blocks.
 
 ghost use Rattle.std.specs.Prelude.{◌≡◌, IfOk};
 ghost use Rattle.info_rules.specs.Found.{then_made, both as spec_both};
@@ -18,10 +18,10 @@ use crate::value_words::{CheckerType, SignatureType};
 use crate::walk::walk;
 use std::alloc::Global;
 
-/// What a block gives as the type of a checker.
+/// The type of a checker, if the block gives one, or the fault.
 type FoundType = Found<Option<CheckerType>>;
 
-/// What a block gives as the type of the signatures that a checker takes.
+/// The signature type that a checker accepts, if the block gives one, or the fault.
 type FoundSignature = Found<Option<SignatureType>>;
 
 fn is_hierarchical(checker_type: FoundType) -> bool
@@ -30,8 +30,8 @@ fn is_hierarchical(checker_type: FoundType) -> bool
     matches!(checker_type, Ok(Some(CheckerType::Hierarchical)))
 }
 
-/// What a checker requires of the key's name, so far as it is there: a hierarchical one has no key
-/// locator, and of several the first counts.
+/// Reads the requirement of a checker on the key's name, if the block gives one. A hierarchical
+/// checker has no key locator. If there are several `key-locator` keys, the first counts.
 #[tactic(auto, unfolding(crate::specs::LocatorBlock::locator_in))]
 fn read_test(alloc: Global, hierarchical: bool, keys: Keys<'_>) -> Read<Option<LocatorTest>>
     ensures { IfOk result (λ found. found ≡ spec.locator_of hierarchical (keys_of keys.entry)) }
@@ -45,7 +45,7 @@ fn read_test(alloc: Global, hierarchical: bool, keys: Keys<'_>) -> Read<Option<L
     }
 }
 
-/// The keys of a checker: a hierarchical one has no key locator.
+/// Returns the kind of a checker's block. A hierarchical checker has no key locator.
 fn block_of(hierarchical: bool) -> Block
     ensures { block_kind_of result ≡ spec.block_of hierarchical }
 {
@@ -56,7 +56,7 @@ fn block_of(hierarchical: bool) -> Block
     }
 }
 
-/// Whether the key locator is there, or none is needed.
+/// Returns whether the block has a key locator or needs none.
 fn has_locator(keys: Keys<'_>, checker_type: FoundType, signature: FoundSignature) -> bool
     ensures { result ≡ spec.has_locator (keys_of keys.entry) checker_type signature }
 {
@@ -65,8 +65,8 @@ fn has_locator(keys: Keys<'_>, checker_type: FoundType, signature: FoundSignatur
         || keys.has("key-locator")
 }
 
-/// What a checker of these parts requires of a signature: of one by HMAC, where no type of
-/// signature is given.
+/// Makes a checker from the parts that were read. Without a signature type, the checker requires an
+/// HMAC signature.
 fn made_of(
     line: u32,
     types: Found<(CheckerType, Option<SignatureType>)>,
@@ -84,7 +84,7 @@ fn made_of(
     }
 }
 
-/// Reads what checkers require of a signature.
+/// A reader of checkers.
 pub struct CheckerReader;
 
 impl BlockReader for CheckerReader {

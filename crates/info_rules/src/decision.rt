@@ -1,4 +1,4 @@
-//! What rules decide of packets.
+//! The decisions of rules on packets.
 
 ghost use Rattle.std.specs.Prelude.{◌≡◌, ◌⊎◌, List, Any, MatchOption, MatchResult};
 ghost use Rattle.hmac_keys.specs.KeyFile.{NamedKey, AreApart};
@@ -21,36 +21,36 @@ use ndn_tlv::Memory;
 use std::alloc::Global;
 use thiserror::Error;
 
-/// Why a packet is denied. Of several reasons that checkers give the last in this order is
-/// reported. It prints what was wrong, and what the signer or the operator can do.
+/// Why a packet is denied. If several checkers give reasons, the one that comes last in this list
+/// is reported. The printed text says what was wrong and what the signer or the operator can do.
 #[derive(Clone, Copy, Debug, PartialEq, Eq, Error)]
 pub enum Reason {
-    /// An Interest is not signed.
+    /// The Interest is not signed.
     #[error("NotSigned: the Interest has no signature; sign it, as each command is")]
     NotSigned,
-    /// An Interest's digest of parameters is not the last component of its name, or its signature
-    /// has no SignatureTime.
+    /// The Interest's parameters digest is not the last component of its name, or its signature has
+    /// no SignatureTime.
     #[error("Shape: no SignatureTime, or the digest is not last in the name; sign with a time, digest last")]
     Shape,
-    /// The signature is of another type.
+    /// No checker accepts this signature type.
     #[error("SigType: no checker takes this type of signature; sign with the rule's sig-type")]
     SigType,
-    /// The KeyLocator is not the name of a key that is required, or the rule has no checker.
+    /// The KeyLocator does not name a key that a checker accepts, or the rule has no checker.
     #[error("KeyLocator: not a key that the rule asks for; sign with one, or widen its key-locator")]
     KeyLocator,
-    /// The key is not in the book.
+    /// The key is not in the key book.
     #[error("KeyUnknown: the key file lacks this key; add its line")]
     KeyUnknown,
-    /// The signature's value is not that of the covered octets.
+    /// The signature value is not the tag of the covered octets.
     #[error("Tag: the octets were changed, or the key's differ; compare the key's on both sides")]
     Tag,
-    /// A signed Interest is not newer than others of its signer, which rules do not see: they never
-    /// give this reason.
+    /// A signed Interest is not newer than earlier Interests of its signer. Only callers give this
+    /// reason; the rules never do.
     #[error("Replay: not newer than an allowed command, or the clocks differ; sign it again now")]
     Replay,
 }
 
-/// What the first rule that applies decides of a packet.
+/// The decision of the first rule that applies to a packet.
 #[derive(Clone, Copy, Debug, PartialEq, Eq)]
 pub enum Decision {
     Allowed(RuleNo),
@@ -64,7 +64,7 @@ impl Reason {
     ghost use Rattle.info_rules.specs.Names.{reason_name};
     ghost use Rattle.info_rules.specs.Decides.{reason_number};
 
-    /// The name of the reason, as it is printed.
+    /// Returns the name of the reason, as it is printed.
     pub fn name(self) -> &'static str
         ensures { result.now ≡ reason_name self }
     {
@@ -79,7 +79,7 @@ impl Reason {
         }
     }
 
-    /// Its number, from 1 on in the order above.
+    /// Returns the position of the reason in the list above, counted from 1.
     fn number(self) -> u8
         ensures { result ≡ reason_number self }
     {
@@ -87,7 +87,7 @@ impl Reason {
     }
 }
 
-/// The greater of two reasons, where there is an earlier one.
+/// Returns the greater of the two reasons, or `reason` if there is no earlier one.
 fn greater(earlier: Option<Reason>, reason: Reason) -> Reason
     ensures { IsGreater earlier reason result }
 {
@@ -104,7 +104,8 @@ impl Rules {
     ghost use Rattle.info_rules.specs.Decides.{Decides, MayRefuse};
     ghost use Rattle.info_rules.specs.Shown.{frame_of};
 
-    /// The first rule for the packets of this kind and name. It takes no memory.
+    /// Returns the number of the first rule that applies to packets of this kind and name.
+    /// Allocates no memory.
     pub fn first_match(&self, kind: Kind, name: Name<'_>) -> Option<RuleNo>
         ensures { MatchOption result (NoneApplies self.now kind (components name.entry))
             (λ rule. First self.now kind (components name.entry) rule.0) }
@@ -117,11 +118,12 @@ impl Rules {
         None
     }
 
-    /// What the first rule that applies decides of a packet, by its received octets. The name of an
-    /// Interest counts without a digest of parameters at its end.
+    /// Decides a packet from its received octets, by the first rule that applies. The name of an
+    /// Interest is taken without a parameters digest at its end.
     ///
-    /// Memory is needed only where a checker of that rule makes other names of the key's and of the
-    /// packet's, each of at most 64 components. A template that makes a longer name does not pass.
+    /// Memory is needed only if a checker of that rule has a hyper-relation that expands the key's
+    /// name and the packet's name, each to at most 64 components. A template that makes a longer
+    /// name does not pass.
     pub fn decide(
         &self,
         alloc: Global,
@@ -143,7 +145,8 @@ impl Rules {
     }
 }
 
-/// Why checkers deny a packet of this name as rules see it, or `None` where they allow it.
+/// Returns why the checkers deny a packet of this `name`, or `None` if they allow it. `name` is the
+/// name that the rules see.
 fn reason_against(
     alloc: Global,
     keys: &KeyBook,
@@ -163,7 +166,8 @@ fn reason_against(
     }
 }
 
-/// The greatest reason of a checker to deny a packet, or `None` where one passes it.
+/// Returns the greatest reason that the checkers give to deny the packet, or `None` if a checker
+/// passes it.
 fn greatest(alloc: Global, keys: &KeyBook, checkers: &[Checker], signed: &Signed<'_>) -> Checked
     ensures { MatchResult result
         (λ reason. MatchOption reason (IsPassed keys.now checkers.now (signed_of signed.now))
@@ -180,22 +184,23 @@ fn greatest(alloc: Global, keys: &KeyBook, checkers: &[Checker], signed: &Signed
     Ok(Some(against.unwrap_or(Reason::KeyLocator)))
 }
 
-/// Law: two decisions of one packet are the same, where the keys of a book have different names.
+/// Law: any two decisions on one packet are equal, if no two keys of the book have the same name.
 pub fn decisions_are_unique()
     ensures { (rules : List PlainRule) (keys : List NamedKey) (packet : PlainFrame) (a b : Decision)
         → AreApart keys
         → Decides rules keys packet a → Decides rules keys packet b → a ≡ b }
 {}
 
-/// Law: no Interest and no Data is without a decision. So each has exactly one.
+/// Law: every Interest and every Data has a decision. Since decisions are unique, each has exactly
+/// one.
 pub fn no_packet_is_undecided()
     ensures { (rules : List PlainRule) (keys : List NamedKey) (packet : PlainFrame)
         → IsDecided packet
         → ¬ ((decision : Decision) → ¬ Decides rules keys packet decision) }
 {}
 
-/// Law: an allowed packet names its signer: anybody, by DigestSha256, or the owner of a key of the
-/// book, by HMAC and the key's name. An Interest also has its time of signing.
+/// Law: an allowed packet names its signer. With DigestSha256 the signer may be anybody; with HMAC
+/// the signer owns the named key of the book. An allowed Interest also has a SignatureTime.
 pub fn allowed_packets_name_their_signer()
     ensures { (rules : List PlainRule) (keys : List NamedKey) (packet : PlainFrame) (rule : RuleNo)
         → Decides rules keys packet (Decision.Allowed rule) → NamesItsSigner keys packet }

@@ -1,10 +1,10 @@
 //! Entries of rule files.
 
-/// A key of a rule file, with its value and whether it has a block. The entries of its block, if it
-/// has one, are those after it that are deeper, up to the next that is not.
+/// A key of a rule file, with its value and whether it has a block. The entries of the block follow
+/// this entry and are deeper than it. The block ends before the next entry that is not deeper.
 #[derive(Debug, Drop)]
 pub struct Entry {
-    /// How many blocks the key is in.
+    /// The number of blocks around the key.
     pub depth: usize,
     /// The line of the key, counted from 1.
     pub line: u32,

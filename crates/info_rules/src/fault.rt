@@ -1,4 +1,4 @@
-//! What is wrong in a rule file.
+//! Faults of rule files.
 
 ghost use Rattle.std.specs.Prelude.{◌≡◌};
 ghost use Rattle.info_rules.specs.declared.fault.RulesFaultKind.TheVariants as kinds;
@@ -6,11 +6,11 @@ ghost use Rattle.info_rules.specs.declared.fault.RulesFaultKind.TheVariants as k
 use std::alloc::{AllocError, AllocFailed};
 use thiserror::Error;
 
-/// What is wrong. Of several faults of one line the first in this order is reported.
+/// The kinds of faults. If one line has several faults, the first kind in this list is reported.
 #[derive(Clone, Copy, Debug, PartialEq, Eq, Error)]
 pub enum RulesFaultKind {
-    /// A word or a brace that is not allowed at its place, a quote that no other closes on its
-    /// line, or a block that is never closed.
+    /// A word or a brace where it is not allowed, a quote that is not closed on its line, or a
+    /// block that is never closed.
     #[error("Syntax: unexpected word or brace, or a quote or block that is not closed")]
     Syntax,
     /// A block inside eight others.
@@ -20,20 +20,20 @@ pub enum RulesFaultKind {
     /// of more than 16 checkers.
     #[error("TooLarge: more than 65536 octets, 256 rules, or 16 filters or checkers in a rule")]
     TooLarge,
-    /// A key that means nothing in its block.
+    /// A key that is unknown in its block.
     #[error("UnknownKey: this key is not known in this block")]
     UnknownKey,
-    /// A block lacks a key that it needs.
+    /// A block without a key that it needs.
     #[error("Missing: this block lacks a key that it needs")]
     Missing,
-    /// A key lacks the value or the block that it needs, has one that it does not take or a value
-    /// that it cannot have, or begins a second form where one is allowed.
+    /// A key without the value or the block that it needs; or with a value or a block that it
+    /// cannot have; or a key that begins a second form in a block that allows one form.
     #[error("BadValue: wrong or missing value or block, or a key that cannot stand with the others")]
     BadValue,
-    /// A key comes twice in a block where one is allowed, or two rules have one id.
+    /// A key is given twice in a block that allows it once, or two rules have the same id.
     #[error("TwiceNamed: this key or id was given before")]
     TwiceNamed,
-    /// A pattern or a template that cannot be read.
+    /// A pattern or a template that is not valid.
     #[error("Pattern: not a valid pattern, or not a valid template for its pattern")]
     Pattern,
     /// A trust anchor that would accept any packet.
@@ -47,7 +47,7 @@ pub enum RulesFaultKind {
 impl RulesFaultKind {
     ghost use Rattle.info_rules.specs.Names.{fault_name};
 
-    /// The name of the fault, as it is printed.
+    /// Returns the name of the fault, as it is printed.
     pub fn name(self) -> &'static str
         ensures { result.now ≡ fault_name self }
     {
@@ -65,7 +65,7 @@ impl RulesFaultKind {
         }
     }
 
-    /// A fault of this kind on a line.
+    /// Returns a fault of this kind at the line.
     pub(crate) fn at(self, line: u32) -> RulesFault
         ensures { result ≡ record { line = line; kind = self } }
     {
@@ -73,8 +73,8 @@ impl RulesFaultKind {
     }
 }
 
-/// Why a text is no rule file: a line, counted from 1, and what is wrong there. `TooLarge` and
-/// `Memory` are reported at line 0.
+/// Why a text is not a rule file: the line of the fault, counted from 1, and its kind. `TooLarge`
+/// and `Memory` are reported at line 0.
 #[derive(Clone, Copy, Debug, PartialEq, Eq, Error)]
 #[error("line {line}: {kind}")]
 pub struct RulesFault {
@@ -83,7 +83,7 @@ pub struct RulesFault {
 }
 
 impl RulesFault {
-    /// The line that is to blame, counted from 1, or 0 where none is.
+    /// Returns the line of the fault, counted from 1, or 0 if the fault has no line.
     pub fn line(self) -> u32
         ensures { result ≡ self.line }
     {

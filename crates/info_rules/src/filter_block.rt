@@ -1,4 +1,4 @@
-//! Blocks of filters.
+//! Reads `filter` blocks.
 
 ghost use Rattle.info_rules.specs.FilterBlock.{filter_of};
 
@@ -12,7 +12,7 @@ use crate::table::Block;
 use crate::walk::walk;
 use std::alloc::Global;
 
-/// Reads what filters require of a packet's name.
+/// A reader of filters.
 pub struct FilterReader;
 
 impl BlockReader for FilterReader {

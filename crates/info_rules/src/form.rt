@@ -1,24 +1,24 @@
-//! The forms of what is required of a name.
+//! The forms of a requirement on a name.
 
 use crate::keys::{Key, Keys};
 
-/// A form in which a block defines what it requires of a name.
+/// The form in which a block states its requirement on a name.
 #[derive(Clone, Copy, PartialEq, Eq)]
 pub enum Form {
-    /// By `name` and `relation`.
+    /// The keys `name` and `relation` state the requirement.
     Related,
-    /// By `regex`.
+    /// The key `regex` states the requirement.
     Matching,
-    /// By `hyper-relation`.
+    /// The key `hyper-relation` states the requirement.
     Hyper,
 }
 
-/// Whose name a block describes.
+/// The name that a block states a requirement on.
 #[derive(Clone, Copy)]
 pub enum Tested {
-    /// A packet's, in a filter.
+    /// The name of the packet, in a filter.
     PacketName,
-    /// A key's, in a key locator.
+    /// The name of the key, in a key locator.
     KeyName,
 }
 
@@ -28,7 +28,7 @@ impl Tested {
     ghost use Rattle.info_rules.specs.NameTest.{form_of};
     ghost use Rattle.info_rules.specs.Shown.{key_of, tested_of, name_form_of};
 
-    /// The form that a key is of, if it is of one.
+    /// Returns the form that `key` belongs to, if any.
     #[tactic(auto, unfolding(crate::specs::NameTest::form_of))]
     fn form_of(self, key: Key<'_>) -> Option<Form>
         ensures { option_map name_form_of result ≡ form_of (tested_of self) (key_of key.entry) }
@@ -47,7 +47,7 @@ ghost use Rattle.std.specs.Option.{option_map};
 ghost use Rattle.info_rules.specs.NameTest.{other_form_of, first_other};
 ghost use Rattle.info_rules.specs.Shown.{key_of, keys_of, tested_of, name_form_of, found_form_of};
 
-/// The form and the line of a key that is of a form, but not of this one.
+/// Returns the form and the line of `key`, if it belongs to a form other than `other`.
 fn other_form_of(tested: Tested, other: Option<Form>, key: Key<'_>) -> Option<(Form, u32)>
     ensures { option_map found_form_of result
         ≡ other_form_of (tested_of tested) (option_map name_form_of other) (key_of key.entry) }
@@ -59,7 +59,7 @@ fn other_form_of(tested: Tested, other: Option<Form>, key: Key<'_>) -> Option<(F
     }
 }
 
-/// The form and the line of the first such key.
+/// Returns the form and the line of the first key that belongs to a form other than `other`.
 pub fn first_other(tested: Tested, other: Option<Form>, keys: Keys<'_>) -> Option<(Form, u32)>
     ensures { option_map found_form_of result
         ≡ first_other (tested_of tested) (option_map name_form_of other) (keys_of keys.entry) }

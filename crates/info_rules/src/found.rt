@@ -1,4 +1,4 @@
-//! What is read, or else the fault to report of all that were met.
+//! Values read from a rule file, or the fault that is reported.
 
 ghost use Rattle.std.specs.Prelude.{◌≡◌, IfOk};
 ghost use Rattle.info_rules.specs.Found as found;
@@ -8,17 +8,17 @@ ghost use Rattle.info_rules.specs.Keys.{missing_unless};
 use crate::fault::{RulesFault, RulesFaultKind};
 use ndn_tlv::Memory;
 
-/// A part of a file that was read, or the fault to report.
+/// A value that was read from a rule file, or the fault that is reported.
 pub type Found<A> = Result<A, RulesFault>;
 
-/// What is read, unless memory runs out.
+/// The outcome of reading a value. `Err` means that memory ran out.
 pub type Read<A> = Result<Found<A>, Memory>;
 
 impl RulesFaultKind {
     ghost use Rattle.std.specs.Prelude.{◌≡◌};
     ghost use Rattle.info_rules.specs.Faults.{kind_number};
 
-    /// Its place among the kinds of one line.
+    /// Returns the position of the kind in the list of kinds.
     fn number(self) -> u8
         ensures { result ≡ kind_number self }
     {
@@ -31,7 +31,7 @@ impl RulesFault {
     ghost use Rattle.info_rules.specs.Faults.{sooner};
     ghost use Rattle.info_rules.specs.Found.{sooner_of};
 
-    /// Whether it is reported before the other fault.
+    /// Returns whether this fault is reported rather than the other one.
     pub fn is_sooner(self, other: RulesFault) -> bool
         ensures { result ≡ sooner self other }
     {
@@ -39,7 +39,7 @@ impl RulesFault {
             || self.line == other.line && self.kind.number() < other.kind.number()
     }
 
-    /// The one of both that is reported.
+    /// Returns the fault that is reported if both are present.
     pub fn sooner_of(self, other: RulesFault) -> RulesFault
         ensures { result ≡ sooner_of self other }
     {
@@ -47,7 +47,7 @@ impl RulesFault {
     }
 }
 
-/// Two parts, or the fault to report of both.
+/// Returns both values, or the fault that is reported.
 pub fn both<A: Drop, B: Drop>(first: Found<A>, second: Found<B>) -> Found<(A, B)>
     ensures { result ≡ found.both first second }
 {
@@ -58,7 +58,7 @@ pub fn both<A: Drop, B: Drop>(first: Found<A>, second: Found<B>) -> Found<(A, B)
     }
 }
 
-/// A part, where a fault may have been met beside it.
+/// Returns the value that was read, or the fault that is reported if `fault` is also present.
 pub fn beside<A: Drop>(fault: Option<RulesFault>, read: Found<A>) -> Found<A>
     ensures { result ≡ found.beside fault read }
 {
@@ -69,14 +69,15 @@ pub fn beside<A: Drop>(fault: Option<RulesFault>, read: Found<A>) -> Found<A>
     }
 }
 
-/// A part that is needed in the block of a key on this line.
+/// Returns the value that was read. If it is absent, returns the fault `Missing` at `line`, the
+/// line of the key that owns the block.
 pub fn needed<A: Drop>(line: u32, read: Found<Option<A>>) -> Found<A>
     ensures { result ≡ found.needed line read }
 {
     read?.ok_or(RulesFaultKind::Missing.at(line))
 }
 
-/// Parts with one more, or the fault to report of all.
+/// Appends one value to the values that were read, or returns the fault that is reported.
 pub fn with_one<A: Drop>(parts: Found<Vec<A>>, read: Found<A>) -> Read<Vec<A>>
     ensures { IfOk result (λ all. shown (λ parts. parts.items) all
         ≡ found.and_one (shown (λ parts. parts.items) parts) read) }
@@ -90,7 +91,7 @@ pub fn with_one<A: Drop>(parts: Found<Vec<A>>, read: Found<A>) -> Read<Vec<A>>
     }
 }
 
-/// The fault of a block on this line without a key that it needs, unless all are there.
+/// Returns the fault `Missing` at the line, unless all needed keys are present.
 pub fn missing_unless(there: bool, line: u32) -> Option<RulesFault>
     ensures { result ≡ missing_unless there line }
 {

@@ -1,4 +1,4 @@
-//! Blocks of hyper-relations.
+//! Reads `hyper-relation` blocks.
 
 ghost use Rattle.std.specs.Prelude.{◌≡◌, IfOk};
 ghost use Rattle.std.specs.Option.{option_zip};
@@ -18,13 +18,14 @@ use crate::walk::walk;
 use name_patterns::{Pattern, Template};
 use std::alloc::Global;
 
-/// The greatest number of groups of a pattern.
+/// The greatest number of groups in a pattern.
 const MAX_GROUPS: u8 = 9;
 
-/// A pattern, and a template for its groups, where both are there.
+/// A pattern and a template that uses its groups, if both are present.
 type Half = Option<(Pattern, Template)>;
 
-/// The groups of a pattern; as many as a pattern can have, where there is none.
+/// Returns the number of groups in the pattern, or the greatest possible number if no pattern was
+/// read.
 fn groups_of(pattern: &Found<Option<Pattern>>) -> u8
     ensures { result ≡ groups_of pattern.now }
 {
@@ -34,7 +35,7 @@ fn groups_of(pattern: &Found<Option<Pattern>>) -> u8
     }
 }
 
-/// Two parts, where both are there.
+/// Pairs the two values, if both are present.
 fn zipped<A: Drop, B: Drop>(parts: Found<(Option<A>, Option<B>)>) -> Found<Option<(A, B)>>
     ensures { result ≡ shown (λ parts. option_zip parts.0 parts.1) parts }
 {
@@ -42,12 +43,12 @@ fn zipped<A: Drop, B: Drop>(parts: Found<(Option<A>, Option<B>)>) -> Found<Optio
     Ok(first.zip(second))
 }
 
-/// A pattern, and a template for its groups, of these keys.
+/// Reads a pattern and a template that uses its groups.
 #[tactic(auto, unfolding(crate::specs::HyperBlock::half_in))]
 fn read_half(alloc: Global, keys: Keys<'_>, pattern_word: &str, template_word: &str) -> Read<Half>
     ensures read { IfOk result
         (λ found. found ≡ half_in pattern_word.now template_word.now (keys_of keys.entry)) }
-    // The template needs none but the pattern's groups.
+    // The template uses only groups that the pattern has.
     ensures groups { IfOk result (λ found. IfOk found spec.HasGroups) }
 {
     let pattern = read_value(alloc, keys, pattern_word, RulesFaultKind::Pattern)?;
@@ -55,7 +56,7 @@ fn read_half(alloc: Global, keys: Keys<'_>, pattern_word: &str, template_word: &
     Ok(zipped(both(pattern, template)))
 }
 
-/// Whether all keys are there.
+/// Returns whether all keys of a hyper-relation are present.
 fn is_whole(keys: Keys<'_>) -> bool
     ensures { result ≡ is_whole (keys_of keys.entry) }
 {
@@ -66,7 +67,7 @@ fn is_whole(keys: Keys<'_>) -> bool
         && keys.has("p-expand")
 }
 
-/// The relation of these parts, where they are there.
+/// Makes a hyper-relation from its parts, if all are present.
 fn hyper_with(key: Half, relation: Option<Relation>, packet: Half) -> Option<HyperRelation>
     requires key { spec.HasGroups key }
     requires packet { spec.HasGroups packet }
@@ -82,10 +83,11 @@ fn hyper_with(key: Half, relation: Option<Relation>, packet: Half) -> Option<Hyp
     })
 }
 
-/// The parts of a relation, so far as they are there.
+/// The parts of a hyper-relation: the key's half, the relation and the packet's half. Each may be
+/// absent.
 type Parts = ((Half, Option<Relation>), Half);
 
-/// The relation of these parts.
+/// Makes a hyper-relation from its parts, if all are present.
 fn made_of(parts: Found<Parts>) -> Found<Option<HyperRelation>>
     requires { IfOk parts spec.HaveGroups }
     ensures { result ≡ then_made spec.hyper_made parts }
@@ -94,7 +96,7 @@ fn made_of(parts: Found<Parts>) -> Found<Option<HyperRelation>>
     Ok(hyper_with(key, relation, packet))
 }
 
-/// The relation that these keys give.
+/// Reads the hyper-relation that the keys give.
 #[tactic(auto, unfolding(crate::specs::HyperBlock::parts_in))]
 fn read_hyper(alloc: Global, keys: Keys<'_>) -> Read<Option<HyperRelation>>
     ensures { IfOk result
@@ -106,7 +108,7 @@ fn read_hyper(alloc: Global, keys: Keys<'_>) -> Read<Option<HyperRelation>>
     Ok(made_of(both(both(key, relation), packet)))
 }
 
-/// Reads hyper-relations, whose own keys may be needed.
+/// A reader of hyper-relations. `needed` tells whether their keys must be present.
 #[derive(Drop)]
 pub struct HyperReader {
     pub needed: bool,

@@ -1,9 +1,9 @@
-//! The keys of blocks.
+//! The keys of a block.
 
 use crate::entry::Entry;
 use crate::fault::{RulesFault, RulesFaultKind};
 
-/// A key, and the entries of its block.
+/// A key together with the entries of its block.
 #[derive(Clone, Copy)]
 pub struct Key<'a> {
     pub own: &'a Entry,
@@ -17,14 +17,14 @@ impl<'a> Key<'a> {
     ghost use Rattle.info_rules.specs.Keys.{is_word, value_of, shape_fault};
     ghost use Rattle.info_rules.specs.Shown.{key_of, keys_of};
 
-    /// Whether it is this word.
+    /// Returns whether the key is `word`.
     pub fn is(self, word: &str) -> bool
         ensures { result ≡ is_word word.now (key_of self.entry) }
     {
         self.own.key.as_str() == word
     }
 
-    /// Its value, if it has one and no block.
+    /// Returns the key's value, if it has a value and no block.
     pub fn value(self) -> Option<&'a str>
         ensures { option_map (λ text. text.now) result ≡ value_of (key_of self.entry) }
     {
@@ -34,7 +34,7 @@ impl<'a> Key<'a> {
         self.own.value.as_deref()
     }
 
-    /// The keys of its block, which are in this many blocks.
+    /// Returns the keys of this key's block. `depth` is their depth.
     pub fn keys(self, depth: usize) -> Keys<'a>
         ensures { keys_of result ≡ blocks_of depth (key_of self.entry).1 }
     {
@@ -44,7 +44,7 @@ impl<'a> Key<'a> {
         }
     }
 
-    /// What is wrong with a key that needs a block, and has a value or no block.
+    /// Returns a fault if the key has a value or has no block.
     pub fn shape_fault(self) -> Option<RulesFault>
         ensures { result ≡ shape_fault (key_of self.entry) }
     {
@@ -53,7 +53,7 @@ impl<'a> Key<'a> {
     }
 }
 
-/// Keys of one block: those of these entries that are at this depth.
+/// The keys of one block: those entries that are at `depth`.
 #[derive(Clone, Copy)]
 pub struct Keys<'a> {
     pub depth: usize,
@@ -67,7 +67,7 @@ impl<'a> Keys<'a> {
     ghost use Rattle.info_rules.specs.Keys.{first_of, others_of, named, is_there};
     ghost use Rattle.info_rules.specs.Shown.{entry_of, key_of, keys_of};
 
-    /// The entries in front of the first key, and the keys.
+    /// Returns the entries before the first key, and the entries from the first key on.
     fn parted(self) -> (&'a [Entry], &'a [Entry])
         ensures parted { parted self.entry.depth (map entry_of self.entry.entries.now)
             ≡ (map entry_of result.0.now, (parted self.entry.depth (map entry_of result.1.now)).1) }
@@ -82,7 +82,7 @@ impl<'a> Keys<'a> {
         (self.entries, &[])
     }
 
-    /// The first key, and those after it.
+    /// Returns the first key and the keys after it.
     pub fn split_first(self) -> Option<(Key<'a>, Keys<'a>)>
         ensures { MatchOption result (keys_of self.entry ≡ [])
             (λ parts. (keys_of self.entry ≡ key_of parts.0 ∷ keys_of parts.1)
@@ -94,7 +94,7 @@ impl<'a> Keys<'a> {
         Some((Key { own, inner }, Keys { entries, ..self }))
     }
 
-    /// The first key that is this word, and the keys after it.
+    /// Returns the first key that is `word`, and the keys after it.
     pub fn find(self, word: &str) -> Option<(Key<'a>, Keys<'a>)>
         ensures first { option_map (λ parts. key_of parts.0) result
             ≡ first_of (named word.now (keys_of self.entry)) }
@@ -112,21 +112,21 @@ impl<'a> Keys<'a> {
         None
     }
 
-    /// The first key that is this word.
+    /// Returns the first key that is `word`.
     pub fn first_named(self, word: &str) -> Option<Key<'a>>
         ensures { option_map key_of result ≡ first_of (named word.now (keys_of self.entry)) }
     {
         Some(self.find(word)?.0)
     }
 
-    /// Whether a key is this word.
+    /// Returns whether a key is `word`.
     pub fn has(self, word: &str) -> bool
         ensures { result ≡ is_there word.now (keys_of self.entry) }
     {
         self.first_named(word).is_some()
     }
 
-    /// The number of keys that are this word.
+    /// Returns the number of keys that are `word`.
     pub fn count(self, word: &str) -> usize
         ensures { result ≡ length (named word.now (keys_of self.entry)) }
     {

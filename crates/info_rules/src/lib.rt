@@ -1,4 +1,4 @@
-//! Rule files of Named Data Networking, and what they decide of packets.
+//! Reads rule files for Named Data Networking and decides packets by them.
 #![tactic(auto)]
 
 mod anchor_block;

@@ -1,4 +1,4 @@
-//! Which keys may sign which packets, by their names.
+//! Decides which packets a key may sign, by the key's name.
 
 ghost use Rattle.std.specs.Prelude.{◌≡◌, ◌≤◌, ◌↔◌, ℕ, List, Some, length, option_map, IsTrue, MatchOption, MatchResult, IfOk, IfSome, IfNone, codes};
 ghost use Rattle.name_patterns.specs.Grammar.{IsPattern};
@@ -17,16 +17,16 @@ use ndn_names::{Component, Name, NameBuf};
 use ndn_tlv::Memory;
 use std::alloc::Global;
 
-/// The value of the component after the prefix of a key's name.
+/// The value of the component `KEY`, which follows the prefix in a key's name.
 const KEY: &[u8; 3] = b"KEY";
 
-/// The greatest number of components after that one; there is one at least.
+/// The greatest number of components after `KEY` in a key's name. The least number is 1.
 const MAX_AFTER_KEY: usize = 3;
 
-/// Whether a key passes, unless memory runs out.
+/// Whether a key passes. `Err` means that memory ran out.
 pub type Passed = Result<bool, Memory>;
 
-/// Whether the key of a name is one that is required, where the packet has that name. Only a
+/// Returns whether the key called `key` meets the requirement, for a packet called `packet`. Only a
 /// hyper-relation needs memory.
 pub fn passes_locator(alloc: Global, test: &LocatorTest, key: Name<'_>, packet: Name<'_>) -> Passed
     ensures { MatchResult result
@@ -41,7 +41,8 @@ pub fn passes_locator(alloc: Global, test: &LocatorTest, key: Name<'_>, packet: 
     }
 }
 
-/// Whether the name made of the key's has the relation to the name made of the packet's.
+/// Returns whether the name expanded from the key's name has the relation to the name expanded from
+/// the packet's name.
 fn is_hyper_related(alloc: Global, hyper: &HyperRelation, key: Name<'_>, packet: Name<'_>) -> Passed
     ensures { MatchResult result
         (λ related. IsTrue related
@@ -59,8 +60,8 @@ fn is_hyper_related(alloc: Global, hyper: &HyperRelation, key: Name<'_>, packet:
     Ok(is_related(hyper.relation, made_key.view(), made_packet.view()))
 }
 
-/// What the groups capture, if the pattern matches the name and the template does not make too long
-/// a name of it. It takes no memory.
+/// Returns the captured groups if the pattern matches the name and the template expands to a name
+/// that is not too long. Allocates no memory.
 fn captured(pattern: &Pattern, template: &Template, name: Name<'_>) -> Option<Captures>
     requires { NeedAtMost (length pattern.now.groups) template.now }
     ensures none { IfNone result ((made : List Field)
@@ -77,7 +78,7 @@ fn captured(pattern: &Pattern, template: &Template, name: Name<'_>) -> Option<Ca
     Some(captures)
 }
 
-/// The name that is made of another, which is not too long.
+/// Expands the template with captured groups to a name that is not too long.
 fn made_of(
     alloc: Global,
     template: &Template,
@@ -91,7 +92,7 @@ fn made_of(
     template.expand(alloc, captures, name).map_err(|_| Memory)
 }
 
-/// Whether the name of a key has the prefix of a key's name, which is one of the packet's name too.
+/// Returns whether the prefix of the key's name, before `KEY`, is a prefix of the packet's name.
 fn is_hierarchical(key: Name<'_>, packet: Name<'_>) -> bool
     ensures { IsTrue result ↔ IsHierarchical (components key.entry) (components packet.entry) }
 {
@@ -101,7 +102,8 @@ fn is_hierarchical(key: Name<'_>, packet: Name<'_>) -> bool
     }
 }
 
-/// The longest prefix of a key's name before a component `KEY` and one to three more.
+/// Returns the longest prefix of the key's name that is followed by `KEY` and one to three more
+/// components.
 fn prefix_of_key(key: Name<'_>) -> Option<Name<'_>>
     ensures { MatchOption result
         ((prefix : List Field) → ¬ IsKeyOf prefix (components key.entry))
@@ -120,7 +122,7 @@ fn prefix_of_key(key: Name<'_>) -> Option<Name<'_>>
     None
 }
 
-/// Whether there is a component, and it is the one after the prefix of a key's name.
+/// Returns whether the component is present and is `KEY`.
 fn is_key_component(component: Option<Component<'_>>) -> bool
     ensures { IsTrue result ↔ (option_map field_of component.entry ≡ Some key_component) }
 {
@@ -130,15 +132,15 @@ fn is_key_component(component: Option<Component<'_>>) -> bool
     }
 }
 
-/// Law: a hierarchical key's name matches the pattern `^(<>*)<KEY><>{1,3}$`, and what group 1
-/// captures is a prefix of the packet's name.
+/// Law: a key is hierarchical for a packet if and only if the key's name matches the pattern
+/// `^(<>*)<KEY><>{1,3}$` and group 1 captures a prefix of the packet's name.
 pub fn hierarchical_keys_match_a_pattern()
     ensures { (key packet : List Field) → IsHierarchical key packet
         ↔ ((places : List (ℕ × ℕ)) × Match hierarchical_pattern key places
         × IsPrefix (part_of places key (OfGroup 1)) packet) }
 {}
 
-/// Law: the text `^(<>*)<KEY><>{1,3}$` spells that pattern.
+/// Law: the text `^(<>*)<KEY><>{1,3}$` spells the pattern for the names of hierarchical keys.
 pub fn hierarchical_text_spells_its_pattern()
     ensures { IsPattern (codes "^(<>*)<KEY><>{1,3}$") hierarchical_pattern }
 {}

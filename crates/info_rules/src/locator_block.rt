@@ -1,4 +1,4 @@
-//! Blocks of key locators.
+//! Reads `key-locator` blocks.
 
 ghost use Rattle.std.specs.Prelude.{◌≡◌};
 ghost use Rattle.info_rules.specs.Found.{shown, then_made, both as spec_both};
@@ -17,7 +17,7 @@ use crate::table::Block;
 use crate::walk::walk;
 use std::alloc::Global;
 
-/// Whether there is no key of another form beside a hyper-relation.
+/// Returns whether the block has no key of another form beside `hyper-relation`.
 #[tactic(auto, unfolding(crate::specs::LocatorBlock::is_hyper_alone))]
 fn is_hyper_alone(keys: Keys<'_>) -> bool
     ensures { result ≡ is_hyper_alone (keys_of keys.entry) }
@@ -25,7 +25,8 @@ fn is_hyper_alone(keys: Keys<'_>) -> bool
     first_other(Tested::KeyName, Some(Form::Hyper), keys).is_none()
 }
 
-/// What the first hyper-relation requires of a key's name, or else the names.
+/// Makes the requirement on a key's name from the first hyper-relation, or from `asked` if there is
+/// no hyper-relation.
 fn made_of(
     line: u32,
     asked: Found<Asked>,
@@ -41,7 +42,7 @@ fn made_of(
     }
 }
 
-/// Reads what key locators require of a key's name.
+/// A reader of key locators.
 pub struct LocatorReader;
 
 impl BlockReader for LocatorReader {

@@ -1,4 +1,4 @@
-//! Which names a rule is for.
+//! Finds the rules that apply to a name.
 
 ghost use Rattle.std.specs.Prelude.{◌↔◌, IsTrue, Any};
 ghost use Rattle.ndn_names.specs.View.{components};
@@ -8,7 +8,7 @@ ghost use Rattle.info_rules.specs.First.{Passes, Applies};
 use crate::rule::{Kind, NameTest, Relation, Rule};
 use ndn_names::Name;
 
-/// Whether a name has this relation to the other.
+/// Returns whether `name` has the relation to `other`.
 pub fn is_related(relation: Relation, name: Name<'_>, other: Name<'_>) -> bool
     ensures { IsTrue result ↔ Related relation (components name.entry) (components other.entry) }
 {
@@ -19,7 +19,7 @@ pub fn is_related(relation: Relation, name: Name<'_>, other: Name<'_>) -> bool
     }
 }
 
-/// Whether a name is as required. It takes no memory.
+/// Returns whether the name meets the requirement. Allocates no memory.
 pub fn passes(test: &NameTest, name: Name<'_>) -> bool
     ensures { IsTrue result ↔ Passes test.now (components name.entry) }
 {
@@ -29,14 +29,14 @@ pub fn passes(test: &NameTest, name: Name<'_>) -> bool
     }
 }
 
-/// Whether a name passes one of the tests.
+/// Returns whether the name passes at least one of the tests.
 fn passes_any(tests: &[NameTest], name: Name<'_>) -> bool
     ensures { IsTrue result ↔ Any (λ test. Passes test (components name.entry)) tests.now }
 {
     tests.iter().any(|test| passes(test, name))
 }
 
-/// Whether a rule is for the packets of this kind and name.
+/// Returns whether the rule applies to packets of this kind and name.
 pub fn applies(rule: &Rule, kind: Kind, name: Name<'_>) -> bool
     ensures { IsTrue result ↔ Applies rule.now kind (components name.entry) }
 {

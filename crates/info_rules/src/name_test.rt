@@ -1,4 +1,4 @@
-//! What the blocks of filters and key locators require of a name.
+//! Reads the requirement on a name in the blocks of filters and key locators.
 
 ghost use Rattle.std.specs.Prelude.{◌≡◌, IfOk};
 ghost use Rattle.info_rules.specs.Shown.{keys_of, tested_of, name_form_of};
@@ -15,13 +15,14 @@ use name_patterns::Pattern;
 use ndn_names::NameBuf;
 use std::alloc::Global;
 
-/// A name, a relation and a pattern, so far as they are there.
+/// A name, a relation and a pattern. Each may be absent.
 type Names = ((Option<NameBuf>, Option<Relation>), Option<Pattern>);
 
-/// What is required of a name, as far as it is there.
+/// The requirement on a name, if the block gives one.
 pub type Asked = Option<NameTest>;
 
-/// The fault of the first key of a second form, or else of what the first form lacks.
+/// Returns the fault of the first key that belongs to a form other than `form`. Without such a key,
+/// returns the fault `Missing` if the form needs a key that is absent.
 fn second_fault(tested: Tested, line: u32, keys: Keys<'_>, form: Form) -> Option<RulesFault>
     ensures { result
         ≡ spec.second_fault (tested_of tested) line (keys_of keys.entry) (name_form_of form) }
@@ -33,7 +34,8 @@ fn second_fault(tested: Tested, line: u32, keys: Keys<'_>, form: Form) -> Option
     }
 }
 
-/// What is wrong with the forms in the block of a key on this line: it needs one.
+/// Returns the fault of the forms in a block, if any. The block must have exactly one form. `line`
+/// is the line of the key that owns the block.
 #[tactic(auto, unfolding(crate::specs::NameTest::form_fault))]
 fn form_fault(tested: Tested, line: u32, keys: Keys<'_>) -> Option<RulesFault>
     ensures { result ≡ spec.form_fault (tested_of tested) line (keys_of keys.entry) }
@@ -44,7 +46,7 @@ fn form_fault(tested: Tested, line: u32, keys: Keys<'_>) -> Option<RulesFault>
     }
 }
 
-/// The test of a name, as far as one is there.
+/// Makes the requirement on a name from the parts that are present.
 fn test_of(names: Names) -> Option<NameTest>
     ensures { result ≡ spec.test_of names }
 {
@@ -55,7 +57,7 @@ fn test_of(names: Names) -> Option<NameTest>
     }
 }
 
-/// The test of names that are read.
+/// Makes the requirement on a name from the parts that were read.
 fn asked_of(names: Found<Names>) -> Found<Asked>
     ensures { result ≡ shown spec.test_of names }
 {
@@ -72,7 +74,8 @@ fn read_names(alloc: Global, keys: Keys<'_>) -> Read<Names>
     Ok(both(both(name, relation), pattern))
 }
 
-/// What the keys in the block of a key on this line require of a name, in one form.
+/// Reads the requirement on a name from the keys of a block, in one form. `line` is the line of the
+/// key that owns the block.
 #[tactic(auto, unfolding(crate::specs::NameTest::asked_in))]
 pub fn read_asked(alloc: Global, tested: Tested, line: u32, keys: Keys<'_>) -> Read<Asked>
     ensures { IfOk result

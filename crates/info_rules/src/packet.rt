@@ -1,4 +1,4 @@
-//! Packets as rules see them.
+//! Packets as the rules see them.
 
 ghost use Rattle.std.specs.Prelude.{◌≡◌, ◌⊎◌, ◌↔◌, ℕ, List, Some, IsSome, MatchResult};
 ghost use Rattle.ndn_names.specs.View.{components};
@@ -16,14 +16,15 @@ use ndn_names::Name;
 use ndn_names::component_type::PARAMETERS_SHA256_DIGEST;
 use ndn_packets::{Data, Interest, Parts, Signature};
 
-/// A packet to decide.
+/// A packet to be decided.
 #[derive(Clone, Copy, Debug)]
 pub enum Packet<'a> {
     Interest(&'a Interest<'a>),
     Data(&'a Data<'a>),
 }
 
-/// A signed packet as checkers see it: its name, its signature, and the octets that this covers.
+/// A signed packet as the checkers see it: its name, its signature and the octets that the
+/// signature covers.
 #[derive(Clone, Copy)]
 pub struct Signed<'a> {
     pub name: Name<'a>,
@@ -43,13 +44,14 @@ impl<'a> Packet<'a> {
         }
     }
 
-    /// The name that rules see: that of an Interest without a digest of parameters at its end.
+    /// Returns the name that the rules see: for an Interest, without a parameters digest at its
+    /// end.
     pub(crate) fn name(self) -> Name<'a>
         ensures { components result ≡ (seen_of self.entry).name }
     {
         match self {
             Packet::Interest(interest) => match interest.parameters {
-                // Without parameters there is no digest of them.
+                // An Interest without parameters has no parameters digest.
                 None => interest.name,
                 Some(_) => without_digest(interest.name),
             },
@@ -57,7 +59,8 @@ impl<'a> Packet<'a> {
         }
     }
 
-    /// What checkers see, or why none has to look, by the name that rules see.
+    /// Returns what the checkers see of the packet, or the reason that denies it without a checker.
+    /// `name` is the name that the rules see.
     pub(crate) fn signed(self, name: Name<'a>) -> Result<Signed<'a>, Reason>
         requires { components name ≡ (seen_of self).name }
         ensures { MatchResult result (λ signed. IsSigned (seen_of self.entry) (signed_of signed))
@@ -70,7 +73,7 @@ impl<'a> Packet<'a> {
     }
 }
 
-/// The name without its last component, where that is a digest of parameters.
+/// Returns the name without its last component, if that component is a parameters digest.
 fn without_digest(name: Name<'_>) -> Name<'_>
     ensures { components result ≡ without_digest (components name.entry) }
 {
@@ -114,7 +117,7 @@ fn signed_data<'a>(packet: &'a Data<'a>, name: Name<'a>) -> Result<Signed<'a>, R
     ensures { let seen = seen_data packet.entry.now.whole.now (plain_data packet.entry.now) in
         MatchResult result (λ signed. IsSigned seen (signed_of signed)) (IsUnfit seen) }
 {
-    // No Data that was read is without covered octets.
+    // Every Data that was read has covered octets.
     let parts = packet.signed_parts().ok_or(Reason::Shape)?;
     Ok(Signed {
         name,
@@ -123,9 +126,9 @@ fn signed_data<'a>(packet: &'a Data<'a>, name: Name<'a>) -> Result<Signed<'a>, R
     })
 }
 
-/// Law: a Data that was read has a shape that checkers can look at, and so has a signed Interest,
-/// unless it has no time of signing, or the digest of its parameters is not the last component of
-/// its name.
+/// Law: checkers can examine every Data that was read. They can also examine every signed Interest
+/// that was read, if it has a SignatureTime and its parameters digest is the last component of its
+/// name.
 pub fn read_packets_have_a_shape()
     ensures data { (text : List ℕ) (d : PlainData) (reason : Reason) → IsData text d
         → ¬ IsUnfit (seen_data text d) reason }

@@ -1,4 +1,4 @@
-//! The values of keys.
+//! Reads the values of keys.
 
 ghost use Rattle.std.specs.Prelude.{◌≡◌, IfOk, IfSome, codes};
 ghost use Rattle.std.specs.Option.{option_map};
@@ -17,7 +17,8 @@ use name_patterns::{PatternFault, Template};
 use ndn_tlv::Memory;
 use std::alloc::Global;
 
-/// The value of the first key of this word, if there is one. A text that is no value is this fault.
+/// Reads the value of the first key that is `word`, if there is one. An invalid value is reported
+/// as the given kind of fault.
 #[tactic(auto, unfolding(crate::specs::Values::value_in))]
 pub fn read_value<V: Value>(
     alloc: Global,
@@ -40,7 +41,8 @@ pub fn read_value<V: Value>(
     }
 }
 
-/// The template for this many groups that the first key of this word gives, if there is one.
+/// Reads the template of the first key with the given word, if there is one. `groups` is the number
+/// of groups that the template may use.
 #[tactic(auto, unfolding(crate::specs::Values::value_in))]
 pub fn read_template(
     alloc: Global,
@@ -51,7 +53,7 @@ pub fn read_template(
     ensures read { IfOk result
         (λ found. found ≡ value_in PatternFaultKind (λ text. ok_of (template_in groups text))
         word.now (keys_of keys.entry)) }
-    // It needs none but these groups.
+    // The template uses at most `groups` groups.
     ensures groups { IfOk result
         (λ found. IfOk found (λ template. IfSome template (NeedAtMost groups))) }
 {
@@ -68,7 +70,8 @@ pub fn read_template(
     }
 }
 
-/// The word `name` that the first key of this word has to have, if there is one.
+/// Checks that the value of the first key that is `word` is the word `name`, if there is such a
+/// key.
 #[tactic(auto, unfolding(crate::specs::Values::value_in))]
 pub fn read_name_word(keys: Keys<'_>, word: &str) -> Found<Option<()>>
     ensures { result ≡ value_in BadValue name_word_in word.now (keys_of keys.entry) }
@@ -82,7 +85,7 @@ pub fn read_name_word(keys: Keys<'_>, word: &str) -> Found<Option<()>>
     Err(RulesFaultKind::BadValue.at(key.own.line))
 }
 
-/// The type of a trust anchor, if there is one.
+/// Checks the type of a trust anchor, if the block has one.
 #[tactic(auto, unfolding(crate::specs::Values::anchor_value_in))]
 pub fn read_anchor_type(keys: Keys<'_>) -> Found<Option<()>>
     ensures { result ≡ anchor_value_in (keys_of keys.entry) }
@@ -97,7 +100,7 @@ pub fn read_anchor_type(keys: Keys<'_>) -> Found<Option<()>>
     }
 }
 
-/// The id that the first key `id` gives, if there is one.
+/// Reads the value of the first key `id`, if there is one.
 #[tactic(auto, unfolding(crate::specs::Values::value_in))]
 pub fn read_id<'a>(keys: Keys<'a>) -> Found<Option<&'a str>>
     ensures { shown (option_map (λ text. text.now)) result

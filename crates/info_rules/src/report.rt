@@ -1,14 +1,14 @@
-//! Which fault of a rule file is reported.
+//! Selects the fault that is reported for a rule file.
 
 ghost use Rattle.std.specs.Prelude.{◌≡◌, None, List, [], ◌∷◌, MatchOption};
 ghost use Rattle.info_rules.specs.Faults.{after, IsAmong, NoneIsSooner};
 
 use crate::fault::RulesFault;
 
-/// The fault to report, of those that were met so far.
+/// The fault to report among those found before, or `None` if none was found.
 pub type Report = Option<RulesFault>;
 
-/// Notes a fault.
+/// Adds `fault` to the report, which keeps the least fault.
 #[tactic(auto, unfolding(crate::specs::Faults::after))]
 pub fn note(report: &mut Report, fault: RulesFault)
     ensures { report.new ≡ after report.old (fault ∷ []) }
@@ -16,7 +16,8 @@ pub fn note(report: &mut Report, fault: RulesFault)
     *report = Some(report.map_or(fault, |told| told.sooner_of(fault)));
 }
 
-/// Law: of faults that are met in turn the least is reported, and none only where none was met.
+/// Law: of a series of faults the least is reported. Nothing is reported if and only if the series
+/// is empty.
 pub fn the_least_is_reported()
     ensures { (faults : List RulesFault)
         → MatchOption (after None faults) (faults ≡ [])

@@ -1,38 +1,38 @@
-//! Rules: which packets they are for, and what they require of them.
+//! Rules, their filters and their checkers.
 
 use name_patterns::{Pattern, Template};
 use ndn_names::NameBuf;
 use std::marker::Model;
 
-/// The kind of packet that a rule is for.
+/// The kind of packet that a rule applies to.
 #[derive(Clone, Copy, Debug, PartialEq, Eq)]
 pub enum Kind {
     Data,
     Interest,
 }
 
-/// How a name that a rule gives is related to another name.
+/// The relation of the name in a rule to another name.
 #[derive(Clone, Copy, Debug)]
 pub enum Relation {
     Equal,
-    /// It is a prefix of the other name, or equal to it.
+    /// The name in the rule is a prefix of the other name, or equal to it.
     IsPrefixOf,
-    /// It is a prefix of the other name, which is longer.
+    /// The name in the rule is a proper prefix of the other name.
     IsStrictPrefixOf,
 }
 
-/// What is required of a name.
+/// A requirement on a name.
 #[derive(Debug, Drop)]
 pub enum NameTest {
-    /// That this name has this relation to it.
+    /// The given name has this relation to the tested name.
     Related(Relation, NameBuf),
-    /// That the pattern matches it.
+    /// The pattern matches the tested name.
     Matching(Pattern),
 }
 
-/// What a key's name and a packet's name have in common: each is matched by a pattern and made into
-/// another name, and the one made of the key's name has this relation to the one made of the
-/// packet's.
+/// A relation between a key's name and a packet's name. A pattern matches each name, and a template
+/// expands each match to a new name. The new name of the key must have the relation to the new name
+/// of the packet.
 #[derive(Debug, Drop)]
 pub struct HyperRelation {
     pub key_pattern: Pattern,
@@ -65,29 +65,29 @@ impl Model for HyperRelation {
         }) };
 }
 
-/// What is required of the name of the key that signed a packet.
+/// A requirement on the name of the key that signed a packet.
 #[derive(Debug, Drop)]
 pub enum LocatorTest {
     Name(NameTest),
     Hyper(HyperRelation),
-    /// That it is a name, a component `KEY` and one to three more, where that first name is a
-    /// prefix of the packet's.
+    /// The key's name consists of a prefix of the packet's name, then the component `KEY`, then one
+    /// to three more components.
     Hierarchical,
 }
 
-/// What is required of a signature.
+/// A requirement on a signature.
 #[derive(Debug, Drop)]
 pub enum Checker {
-    /// DigestSha256, whatever the KeyLocator is.
+    /// DigestSha256, with any KeyLocator.
     Sha256,
-    /// HmacWithSha256 under a known key.
+    /// HmacWithSha256 with a known key.
     HmacSha256(LocatorTest),
-    /// A signature by RSA or ECDSA, which is never accepted.
+    /// A signature type for RSA or ECDSA, which is never accepted.
     Unsupported,
 }
 
-/// A rule: it is for the packets of a kind whose name passes a filter, if it has any, and allows
-/// those whose signature passes a checker.
+/// A rule. It applies to packets of its kind, and if it has filters, only to those whose name
+/// passes a filter. It allows a packet whose signature passes a checker.
 #[derive(Debug, Drop)]
 pub struct Rule {
     pub id: String,

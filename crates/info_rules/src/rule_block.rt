@@ -1,4 +1,4 @@
-//! Blocks of rules.
+//! Reads `rule` blocks.
 
 ghost use Rattle.std.specs.Prelude.{◌≡◌, IfOk};
 ghost use Rattle.info_rules.specs.Found.{shown, both as spec_both};
@@ -17,7 +17,7 @@ use crate::table::Block;
 use crate::walk::walk;
 use std::alloc::Global;
 
-/// The rule of what was found.
+/// Makes a rule from the parts that were read.
 fn made_of(
     alloc: Global,
     head: Found<(&str, Kind)>,
@@ -39,7 +39,7 @@ fn made_of(
     }
 }
 
-/// The id and the kind of a rule whose block is on this line.
+/// Reads the id and the kind of a rule. `line` is the line of the rule's key.
 fn read_head<'a>(alloc: Global, line: u32, keys: Keys<'a>) -> Read<(&'a str, Kind)>
     ensures { IfOk result (λ found. shown (λ head. (head.0.now, head.1)) found
         ≡ head_in line (keys_of keys.entry)) }
@@ -48,7 +48,8 @@ fn read_head<'a>(alloc: Global, line: u32, keys: Keys<'a>) -> Read<(&'a str, Kin
     Ok(both(needed(line, read_id(keys)), needed(line, kind)))
 }
 
-/// The rule of these keys of a block on a line, but for keys that are unknown or there too often.
+/// Reads a rule from the keys of its block, without checking for keys that are unknown or repeated
+/// too often.
 #[tactic(auto, unfolding(crate::specs::RuleBlock::rule_parts, crate::specs::FilterBlock::filter_in, crate::specs::CheckerBlock::checker_in))]
 fn read_parts(alloc: Global, line: u32, keys: Keys<'_>) -> Read<Rule>
     ensures { IfOk result
@@ -60,7 +61,7 @@ fn read_parts(alloc: Global, line: u32, keys: Keys<'_>) -> Read<Rule>
     made_of(alloc, head, filters, checkers)
 }
 
-/// Reads rules.
+/// A reader of rules.
 pub struct RuleReader;
 
 impl BlockReader for RuleReader {

@@ -1,4 +1,4 @@
-//! Rule files: their rules, or else the fault to report.
+//! Reads rule files and reports their faults.
 
 ghost use Rattle.std.specs.Prelude.{◌≡◌, ◌⊎◌, ◌↔◌, ◌++◌, List, None, Ok, Err, IfOk, MatchResult};
 ghost use Rattle.std.specs.List.{flat_map};
@@ -28,10 +28,10 @@ use crate::walk::walk;
 use ndn_tlv::Memory;
 use std::alloc::Global;
 
-/// The greatest number of rules.
+/// The greatest number of rules in a file.
 const MAX_RULES: usize = 256;
 
-/// The key with the id of a key that is a rule.
+/// Returns the first key `id` in the block of `key`, if `key` is a rule.
 #[tactic(auto, unfolding(crate::specs::RuleFile::id_key))]
 fn id_key(key: Key<'_>) -> Option<Key<'_>>
     ensures { option_map key_of result ≡ id_key (key_of key.entry) }
@@ -42,7 +42,7 @@ fn id_key(key: Key<'_>) -> Option<Key<'_>>
     None
 }
 
-/// Notes the id of a rule where it is this text.
+/// Adds a fault to the report if `key` is a rule whose id equals `id`.
 #[tactic(auto, using(crate::proofs::Reports::after_none), unfolding(crate::specs::RuleFile::same_id_faults))]
 fn judge_same_id(id: &str, key: Key<'_>, report: &mut Report)
     ensures { report.new ≡ after report.old (same_id_faults id.now (key_of key.entry)) }
@@ -55,7 +55,7 @@ fn judge_same_id(id: &str, key: Key<'_>, report: &mut Report)
     }
 }
 
-/// Notes the ids of later rules that are the id of this one.
+/// Adds a fault to the report for each later rule whose id is the id of the rule `key`.
 #[tactic(auto, using(crate::proofs::Reports::after_first, crate::proofs::Reports::after_no, crate::proofs::Reports::after_none), unfolding(crate::specs::RuleFile::repeated_faults))]
 fn judge_repeated(key: Key<'_>, later: Keys<'_>, report: &mut Report)
     ensures { report.new
@@ -71,7 +71,7 @@ fn judge_repeated(key: Key<'_>, later: Keys<'_>, report: &mut Report)
     }
 }
 
-/// Notes each id that an earlier rule has.
+/// Adds a fault to the report for each rule id that an earlier rule has.
 #[tactic(auto, using(crate::proofs::Reports::after_append), unfolding(crate::specs::RuleFile::id_faults, crate::specs::Faults::after))]
 fn judge_ids(keys: Keys<'_>, report: &mut Report)
     ensures { report.new ≡ after report.old (id_faults (keys_of keys.entry)) }
@@ -83,8 +83,8 @@ fn judge_ids(keys: Keys<'_>, report: &mut Report)
     }
 }
 
-/// The fault to report of the keys of a file: those that are unknown, more than 256 rules, and ids
-/// that two of them have.
+/// Returns the fault that is reported for the keys of a file: for unknown keys, more than 256
+/// rules, and ids that two rules have.
 #[tactic(auto, using(crate::proofs::Reports::after_append, crate::proofs::Reports::after_none))]
 fn judge_file(alloc: Global, keys: Keys<'_>) -> Result<Report, Memory>
     ensures { IfOk result (λ fault. fault ≡ after None
@@ -108,7 +108,7 @@ fn read_keys(alloc: Global, keys: Keys<'_>) -> Read<Vec<Rule>>
     Ok(beside(fault, beside(anchors.err(), rules)))
 }
 
-/// The rules of these entries.
+/// Reads the rules that the entries give.
 #[tactic(auto, unfolding(crate::specs::RuleFile::rules_in))]
 fn read_file(alloc: Global, tree: &InfoTree) -> Result<Rules, RulesFault>
     ensures { MatchResult result (λ rules. rules_in tree.now ≡ Ok rules)
@@ -124,17 +124,17 @@ fn read_file(alloc: Global, tree: &InfoTree) -> Result<Rules, RulesFault>
 }
 
 impl Rules {
-    /// Reads the rules of a file, at most 256, in the order of its text.
+    /// Reads the rules of a file, at most 256, in the order of the text.
     ///
-    /// Refuses the file by the fault on the least line, and on one line by that of the least kind:
-    /// see `RulesFault`. `Memory` may come at any file.
+    /// Otherwise returns the fault on the least line, and among faults on one line the one of the
+    /// least kind: see `RulesFault`. `Memory` may be returned for any file.
     pub fn read(alloc: Global, tree: &InfoTree) -> Result<Rules, RulesFault>
-        // What is read, the entries mean.
+        // The entries mean the rules that are returned.
         ensures found { IfOk result (IsRuleFile tree.now) }
-        // What the entries mean is read, but for memory.
+        // If the entries mean rules, those rules are returned, unless memory runs out.
         ensures only { (rules : List PlainRule) → IsRuleFile tree.now rules
             → MatchResult result (λ read. read ≡ rules) (λ fault. fault ≡ memory_fault) }
-        // Which fault it is.
+        // The returned fault is the one that `rules_in` gives, or `Memory`.
         ensures exact { MatchResult result (λ rules. rules_in tree.now ≡ Ok rules)
             (λ fault. (rules_in tree.now ≡ Err fault) ⊎ (fault ≡ memory_fault)) }
     {
@@ -142,7 +142,7 @@ impl Rules {
     }
 }
 
-/// Law: entries mean one list of rules at most, which `rules_in` gives.
+/// Law: entries mean at most one list of rules, the one that `rules_in` gives.
 pub fn rule_files_have_one_reading()
     ensures exact { (entries : List PlainEntry) (rules : List PlainRule)
         → (rules_in entries ≡ Ok rules) ↔ IsRuleFile entries rules }

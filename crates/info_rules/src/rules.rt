@@ -3,7 +3,7 @@
 use crate::rule::Rule;
 use std::marker::Model;
 
-/// The number of a rule among those of its file, counted from 0.
+/// The position of a rule in its file, counted from 0.
 #[derive(Clone, Copy, Debug, PartialEq, Eq)]
 pub struct RuleNo(pub usize);
 
@@ -25,14 +25,14 @@ impl Model for Rules {
 impl Rules {
     ghost use Rattle.std.specs.Prelude.{◌≡◌, ◌<◌, Some, length, option_map, slice_get};
 
-    /// The number of rules, at most 256 where they were read.
+    /// Returns the number of rules, at most 256 if the rules were read from a file.
     pub fn len(&self) -> usize
         ensures { result ≡ length self.now }
     {
         self.rules.len()
     }
 
-    /// The id of a rule.
+    /// Returns the id of a rule.
     pub fn id(&self, rule: RuleNo) -> &str
         requires { rule.0 < length self.now }
         ensures { option_map (λ plain. plain.id) (slice_get self.now rule.0) ≡ Some result.now }

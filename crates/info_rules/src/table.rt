@@ -1,4 +1,4 @@
-//! The table of the blocks of a rule file: which keys each has.
+//! The table of the blocks of a rule file: the keys that each block may have.
 
 use crate::table::Takes::{Inner, Value};
 use crate::table::Times::{AnyNumber, Once, UpTo};
@@ -7,7 +7,7 @@ use crate::value_kind::ValueKind::{
     Template, Uri,
 };
 
-/// What a key takes.
+/// What a key must have: a value or a block.
 #[derive(Clone, Copy)]
 pub enum Takes {
     Value(ValueKind),
@@ -15,7 +15,7 @@ pub enum Takes {
     Inner,
 }
 
-/// How often a key may come in its block.
+/// How many times a key may be given in its block.
 #[derive(Clone, Copy)]
 pub enum Times {
     Once,
@@ -23,14 +23,14 @@ pub enum Times {
     AnyNumber,
 }
 
-/// A key of a block: its word, what it takes, and how often it may come.
+/// A key of a block: its word, what it must have, and how many times it may be given.
 #[derive(Clone, Copy)]
 pub struct Form(pub &'static str, pub Takes, pub Times);
 
-/// A block of a rule file.
+/// A kind of block in a rule file.
 #[derive(Clone, Copy)]
 pub enum Block {
-    /// The file itself.
+    /// The file outside all blocks.
     File,
     Anchor,
     Rule,
@@ -47,7 +47,7 @@ impl Block {
     ghost use Rattle.info_rules.specs.Table.{table, is_closed};
     ghost use Rattle.info_rules.specs.Shown.{form_of, block_kind_of};
 
-    /// Its keys.
+    /// Returns the keys that the block may have.
     #[tactic(auto, unfolding(crate::specs::Table::table))]
     pub fn forms(self) -> &'static [Form]
         ensures { map form_of result.now ≡ table (block_kind_of self) }
@@ -96,7 +96,7 @@ impl Block {
         }
     }
 
-    /// Whether it has no other keys.
+    /// Returns whether the block allows no other keys.
     pub fn is_closed(self) -> bool
         ensures { result ≡ is_closed (block_kind_of self) }
     {

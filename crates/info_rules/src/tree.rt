@@ -1,4 +1,4 @@
-//! The entries of a text, in their blocks.
+//! The entries of a rule file's text.
 
 use crate::entry::Entry;
 use std::marker::Model;

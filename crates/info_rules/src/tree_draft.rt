@@ -1,4 +1,4 @@
-//! Entries as far as they are read.
+//! The entries of a text while it is being read.
 
 ghost use Rattle.std.specs.Prelude.{◌≡◌};
 ghost use Rattle.info_rules.specs.TreeReading as read;
@@ -12,10 +12,10 @@ use std::alloc::Global;
 /// The greatest number of blocks that are open at once.
 const MAX_DEPTH: usize = 8;
 
-/// Nothing, or the fault of what cannot be added.
+/// The outcome of adding a token. `Err` is the fault of a token that cannot be added.
 type Added = Result<(), RulesFault>;
 
-/// The fault of a block that was too deep on an earlier line.
+/// Returns the fault of a block that was too deep, if that block is on a line before `line`.
 fn deep_before(deep: Option<u32>, line: u32) -> Option<RulesFault>
     ensures { result ≡ read.deep_before deep line }
 {
@@ -25,18 +25,18 @@ fn deep_before(deep: Option<u32>, line: u32) -> Option<RulesFault>
     }
 }
 
-/// What is read of the entries of a text.
+/// The state after reading the first tokens of a text.
 #[derive(Drop)]
 pub struct Draft {
-    /// Entries to which nothing can be added.
+    /// The finished entries.
     pub ended: Vec<Entry>,
-    /// The entry whose key or value came last.
+    /// The entry whose key or value was read last.
     pub pending: Option<Entry>,
-    /// How many blocks are open.
+    /// The number of open blocks.
     pub depth: usize,
-    /// The line of the last brace that closed a block, where none was opened since.
+    /// The line of the last brace that closed a block, if no block was opened after it.
     pub closed: Option<u32>,
-    /// The line of a brace that opened a block in eight others.
+    /// The line of a brace that opened a block inside eight others.
     pub deep: Option<u32>,
 }
 
@@ -48,7 +48,7 @@ impl Draft {
     ghost use Rattle.info_rules.specs.Faults.{memory_fault};
     ghost use Rattle.info_rules.specs.Shown.{entry_of, token_of, draft_of};
 
-    /// The draft without entries.
+    /// Returns a draft without entries.
     pub fn new(alloc: Global) -> Draft
         ensures { draft_of result ≡ read.begun }
     {
@@ -61,7 +61,7 @@ impl Draft {
         }
     }
 
-    /// Puts the pending entry, if there is one, after the others.
+    /// Moves the pending entry, if there is one, to the end of the finished entries.
     fn end_entry(&mut self) -> Added
         ensures { MatchResult result (λ _. draft_of self.new ≡ read.with_ended (draft_of self.old))
             (λ fault. fault ≡ memory_fault) }
@@ -72,7 +72,7 @@ impl Draft {
         Ok(())
     }
 
-    /// Adds a word that is a key.
+    /// Adds a word as the key of a new entry.
     fn add_key(&mut self, alloc: Global, line: u32, word: &str) -> Added
         ensures { MatchResult result
             (λ _. draft_of self.new ≡ read.with_key (draft_of self.old) line word.now)
@@ -90,7 +90,7 @@ impl Draft {
         Ok(())
     }
 
-    /// Adds a word on the line of the pending entry, which is this one.
+    /// Adds a word that is on the line of `entry`, the pending entry.
     fn add_value(&mut self, alloc: Global, line: u32, word: &str, entry: Entry) -> Added
         ensures { let next = read.with_value (draft_of self.old) line word.now (entry_of entry)
             (option_map string_bytes entry.value) in
@@ -120,7 +120,7 @@ impl Draft {
         self.add_key(alloc, line, word)
     }
 
-    /// Opens a block after the pending entry.
+    /// Opens a block in the pending entry.
     fn open_block(&mut self, line: u32) -> Added
         requires { self.old.depth + 1 < 2 ^ 64 }
         ensures { let next = read.with_open (draft_of self.old) line
@@ -140,7 +140,7 @@ impl Draft {
         Ok(())
     }
 
-    /// Closes a block.
+    /// Closes the innermost block.
     fn close_block(&mut self, line: u32) -> Added
         ensures { let next = read.with_close (draft_of self.old) line in
             MatchResult result (λ _. next ≡ Ok (draft_of self.new)) (IsTreeFaultOf next) }
@@ -154,7 +154,7 @@ impl Draft {
         Ok(())
     }
 
-    /// Adds the next token, which is on this line.
+    /// Adds the next token, which is on `line`.
     pub fn add_token(&mut self, alloc: Global, line: u32, token: Token<'_>) -> Added
         requires { self.old.depth + 1 < 2 ^ 64 }
         ensures { let next = read.with_token (draft_of self.old) line (token_of token.entry) in
@@ -171,7 +171,7 @@ impl Draft {
         }
     }
 
-    /// What is wrong, where the text ends on a line.
+    /// Returns the fault of a text that ends on `line` with this draft, if any.
     fn end_fault(&self, line: u32) -> Option<RulesFault>
         ensures { let whole = read.whole_of line (draft_of self.now) in
             MatchOption result (whole ≡ Ok (read.entries_of (draft_of self.now)))
@@ -185,7 +185,7 @@ impl Draft {
         }
     }
 
-    /// The entries, where the text ends on a line.
+    /// Returns the entries of a text that ends on `line`.
     pub fn finish(self, line: u32) -> Result<Vec<Entry>, RulesFault>
         ensures { let whole = read.whole_of line (draft_of self) in
             MatchResult result (λ entries. whole ≡ Ok (map entry_of entries.items))

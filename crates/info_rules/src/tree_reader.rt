@@ -1,4 +1,4 @@
-//! Reading the entries of a text.
+//! Reads the entries of a text.
 
 ghost use Rattle.std.specs.Prelude.{◌≡◌, ◌≢◌, ◌≤◌, ◌↔◌, ℕ, List, Ok, Err, IfOk, MatchResult, length, map};
 ghost use Rattle.info_rules.specs.Tree.{PlainEntry, blocks_of};
@@ -18,7 +18,7 @@ use std::alloc::Global;
 /// The greatest length of a text, in octets.
 const MAX_LEN: usize = 65536;
 
-/// The entries of a text that is not too large.
+/// Reads the entries of a text of at most 65,536 octets.
 fn read_entries(alloc: Global, text: &str) -> Result<Vec<Entry>, RulesFault>
     requires { length text.now ≤ 65536 }
     ensures { MatchResult result (λ entries. entries_in text.now ≡ Ok (map entry_of entries.items))
@@ -35,7 +35,7 @@ fn read_entries(alloc: Global, text: &str) -> Result<Vec<Entry>, RulesFault>
     draft.finish(end_line(text))
 }
 
-/// The entries of a text.
+/// Reads the entries of a text.
 #[tactic(auto, unfolding(crate::specs::TreeReading::tree_in))]
 fn read_tree(alloc: Global, text: &str) -> Result<InfoTree, RulesFault>
     ensures { MatchResult result (λ tree. tree_in text.now ≡ Ok tree)
@@ -49,27 +49,27 @@ fn read_tree(alloc: Global, text: &str) -> Result<InfoTree, RulesFault>
 }
 
 impl InfoTree {
-    /// Reads the entries of a rule file's text of at most 65,536 octets, as the validator
-    /// configuration of ndn-cxx writes them (boost's INFO format without its directives).
+    /// Reads the entries of a rule file. The text has at most 65,536 octets in the validator
+    /// configuration format of ndn-cxx (boost's INFO format without its directives).
     ///
-    /// A word ends before a space, a tab, a CR, an LF or a semicolon; `{` and `}` alone are braces,
-    /// and a semicolon begins a comment up to the end of its line. A word that begins with `"`
-    /// continues to the next `"` of its line that has no backslash directly before it. In words,
-    /// quoted or not, `\\` means a backslash and `\"` a quote. An entry is a key, at most one value
-    /// on its line, and at most one block of entries between braces, of which the first may be on a
-    /// later line. It ends with its line, or before a `}`.
+    /// A word ends before a space, a tab, a CR, an LF or a semicolon. `{` and `}` are braces if
+    /// they stand alone. A semicolon begins a comment up to the end of its line. A word that begins
+    /// with `"` continues to the next `"` of its line that has no backslash directly before it. In
+    /// words, quoted or not, `\\` means a backslash and `\"` a quote. An entry is a key, at most
+    /// one value on the key's line, and at most one block of entries between braces. The opening
+    /// brace may be on a later line. An entry ends with its line, or before a `}`.
     ///
-    /// Refuses it by the first word that does not fit (`Syntax`), by a block that is not closed
-    /// (`Syntax` at the line where the text ends), by the first block inside eight others
-    /// (`TooDeep`; `Syntax` where a word of the same line does not fit), and before all these by
-    /// its length (`TooLarge`). `Memory` may be returned for any text.
+    /// Otherwise returns the fault of the first word that does not fit (`Syntax`), of a block that
+    /// is not closed (`Syntax` at the line where the text ends), or of the first block inside eight
+    /// others (`TooDeep`, or `Syntax` if a word of the same line does not fit). A text that is too
+    /// long is refused before all these checks (`TooLarge`). `Memory` may be returned for any text.
     pub fn read(alloc: Global, text: &str) -> Result<InfoTree, RulesFault>
-        // What is read, the text spells.
+        // The text spells the entries that are returned.
         ensures found { IfOk result (TreeOf text.now) }
-        // What the text spells is read, but for memory.
+        // If the text spells entries, those entries are returned, unless memory runs out.
         ensures only { (entries : List PlainEntry) → TreeOf text.now entries
             → MatchResult result (λ tree. tree ≡ entries) (λ fault. fault ≡ memory_fault) }
-        // Which fault it is.
+        // The returned fault is the one that `tree_in` gives, or `Memory`.
         ensures exact { MatchResult result (λ tree. tree_in text.now ≡ Ok tree)
             (IsTreeFaultOf (tree_in text.now)) }
     {
@@ -77,21 +77,23 @@ impl InfoTree {
     }
 }
 
-/// Law: a text spells one list of entries at most, which `tree_in` gives.
+/// Law: a text spells at most one list of entries, the one that `tree_in` gives.
 pub fn trees_have_one_reading()
     ensures exact { (text : List ℕ) (entries : List PlainEntry) → (tree_in text ≡ Ok entries)
         ↔ TreeOf text entries }
     ensures one { (text : List ℕ) (a b : List PlainEntry) → TreeOf text a → TreeOf text b → a ≡ b }
 {}
 
-/// Law: in the outline of a text, the keys of a block are those of the block, each with its own.
+/// Law: the keys of a block are the same in the outline of a text as in its tree, each with its own
+/// block.
 pub fn outlines_keep_blocks()
     ensures { (depth : ℕ) (nodes : Nodes) → blocks_of depth (outline depth nodes)
         ≡ keyed depth nodes }
 {}
 
-/// Law: the fault of a text that is not too large is on one of its lines. The lines before that one
-/// begin some file without such a fault; those up to its end begin none.
+/// Law: unless the fault is `TooLarge`, it is on a line of the text. The lines before it are the
+/// beginning of a text that spells entries. The lines up to and including it are not such a
+/// beginning.
 pub fn faults_stand_at_their_line()
     ensures { (text : List ℕ) (fault : RulesFault) → tree_in text ≡ Err fault
         → fault.kind ≢ RulesFaultKind.TooLarge → StandsAt text fault.line }

@@ -1,4 +1,4 @@
-//! Words without the backslashes that escape.
+//! Removes the escaping backslashes from words.
 
 ghost use Rattle.std.specs.Prelude.{◌≡◌, ◌<◌, ◌≤◌, ◌∷◌, ◌++◌, MatchResult, length, string_bytes};
 ghost use Rattle.info_rules.specs.Words as words;
@@ -7,7 +7,8 @@ ghost use Rattle.info_rules.specs.Faults.{memory_fault};
 use crate::fault::RulesFault;
 use std::alloc::Global;
 
-/// What a backslash and the text after it begin with, and the text after that.
+/// Reads one escape. `following` is the text after a backslash. Returns the text that the escape
+/// stands for, and the text after the escape. A backslash that escapes nothing stands for itself.
 #[tactic(auto, using(crate::proofs::Escapes::escape_front, crate::proofs::Escapes::kept_backslash))]
 fn first_sign(following: &str) -> (&str, &str)
     ensures read { words.unescaped (92 ∷ following.now)
@@ -21,8 +22,8 @@ fn first_sign(following: &str) -> (&str, &str)
     }
 }
 
-/// A word with a backslash in place of each pair of them, and without that before a quote; refused
-/// for memory alone.
+/// Returns the word with each `\\` replaced by one backslash and each `\"` by a quote. Fails only
+/// if memory runs out.
 pub fn unescaped(alloc: Global, word: &str) -> Result<String, RulesFault>
     ensures { MatchResult result (λ text. string_bytes text ≡ words.unescaped word.now)
         (λ fault. fault ≡ memory_fault) }

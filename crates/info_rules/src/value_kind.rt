@@ -1,4 +1,4 @@
-//! What the values of keys have to be.
+//! The kinds of values that keys may have.
 
 ghost use Rattle.std.specs.Prelude.{◌≡◌, IfOk, is_some};
 ghost use Rattle.info_rules.specs.Values.{is_value};
@@ -10,7 +10,7 @@ use ndn_names::NameBuf;
 use ndn_tlv::Memory;
 use std::alloc::Global;
 
-/// What the value of a key has to be.
+/// The kind of value that a key must have.
 #[derive(Clone, Copy)]
 pub enum ValueKind {
     /// The id of a rule.
@@ -23,19 +23,19 @@ pub enum ValueKind {
     Uri,
     /// A relation of names.
     Relation,
-    /// A pattern of names.
+    /// A pattern for names.
     Pattern,
-    /// A template for the groups of a pattern.
+    /// A template that uses the groups of a pattern.
     Template,
     /// The type of a checker.
     CheckerType,
-    /// The type of the signatures that a checker takes.
+    /// A signature type that a checker accepts.
     SignatureType,
     /// The type of a trust anchor.
     AnchorType,
 }
 
-/// Whether a text is such a value.
+/// Returns whether the text is a valid value of type `V`.
 fn stands_for<V: Value>(alloc: Global, text: &str) -> Result<bool, Memory>
     ensures { IfOk result (λ right. right ≡ is_some (V.meant text.now)) }
 {
@@ -43,8 +43,8 @@ fn stands_for<V: Value>(alloc: Global, text: &str) -> Result<bool, Memory>
 }
 
 impl ValueKind {
-    /// Whether a text is such a value, so far as it is a bad value where it is not: a refused
-    /// pattern or template is another fault.
+    /// Returns whether the text is a valid value of this kind. Patterns and templates always count
+    /// as valid here, since an invalid one is reported as another kind of fault.
     #[tactic(auto, unfolding(crate::specs::Values::is_value))]
     pub fn is_value(self, alloc: Global, text: &str) -> Result<bool, Memory>
         ensures { IfOk result (λ right. right ≡ is_value (value_kind_of self) text.now) }

@@ -1,4 +1,4 @@
-//! The values of keys, read from their texts.
+//! Reads the values of keys from their texts.
 
 ghost use Rattle.std.specs.Prelude.{◌≡◌, ◌&&◌, IfOk, List, ℕ, Option, nat_le};
 ghost use Rattle.std.specs.List.{list_all};
@@ -16,29 +16,30 @@ use std::alloc::Global;
 /// The greatest length of a rule's id, in octets.
 const MAX_ID_LEN: usize = 100;
 
-/// What a checker requires of the key's name.
+/// The type of a checker, which tells what it requires of the key's name.
 #[derive(Clone, Copy)]
 pub enum CheckerType {
-    /// What its key locator defines.
+    /// The key meets the requirement of the checker's key locator.
     Customized,
-    /// That it is one of the packet's hierarchy.
+    /// The key is hierarchical for the packet.
     Hierarchical,
 }
 
-/// Which signatures a checker takes.
+/// The signature type that a checker accepts.
 #[derive(Clone, Copy)]
 pub enum SignatureType {
     HmacSha256,
     Sha256,
-    /// RSA or ECDSA, which are known but never accepted.
+    /// RSA or ECDSA, which is known but never accepted.
     Asymmetric,
 }
 
-/// A value that is read from its text.
+/// A type of values that can be read from a text.
 pub trait Value: Drop {
     ghost meant: { List ℕ → Option Self };
 
-    /// The value that this text is, if it is one. It fails only when memory runs out.
+    /// Reads the value from the text, or returns `None` if the text is not such a value. Fails only
+    /// if memory runs out.
     fn of_text(alloc: Global, text: &str) -> Result<Option<Self>, Memory>
         ensures { IfOk result (λ value. value ≡ meant text.now) };
 }
@@ -117,22 +118,22 @@ impl Value for Pattern {
     }
 }
 
-/// Whether no octet is a control character of ASCII below the space.
+/// Returns whether no octet is an ASCII control character below the space.
 fn is_printed(octets: &[u8]) -> bool
     ensures { result ≡ list_all (λ octet. nat_le 32 octet) octets.now }
 {
     octets.iter().all(|octet| *octet >= b' ')
 }
 
-/// Whether a rule may have this id: 1 to 100 octets, none of them a control character of ASCII
-/// below the space.
+/// Returns whether the text may be the id of a rule: 1 to 100 octets, none of them an ASCII control
+/// character below the space.
 pub fn is_id(text: &str) -> bool
     ensures { result ≡ is_id text.now }
 {
     !text.is_empty() && text.len() <= MAX_ID_LEN && is_printed(text.as_bytes())
 }
 
-/// Whether a trust anchor of this type is taken.
+/// Returns whether a trust anchor may have this type.
 pub fn is_anchor_type(text: &str) -> bool
     ensures { result ≡ is_anchor_type text.now }
 {

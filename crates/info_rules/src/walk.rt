@@ -1,4 +1,4 @@
-//! What is wrong with the keys of a block, by the table.
+//! Checks the keys of a block against the table of blocks.
 
 ghost use Rattle.std.specs.Prelude.{◌≡◌, OnOk, IfOk, None, map};
 ghost use Rattle.std.specs.List.{flat_map, list_any};
@@ -15,10 +15,10 @@ use crate::table::{Block, Form, Takes, Times};
 use ndn_tlv::Memory;
 use std::alloc::Global;
 
-/// Nothing but a refusal of memory ends a walk.
+/// The outcome of a check. `Err` means that memory ran out.
 type Judged = Result<(), Memory>;
 
-/// Whether a key is in the table.
+/// Returns whether the key is in the table.
 fn is_known(forms: &[Form], key: Key<'_>) -> bool
     ensures { result
         ≡ list_any (λ form. is_word form.0.now (key_of key.entry)) forms.entry.now }
@@ -26,7 +26,7 @@ fn is_known(forms: &[Form], key: Key<'_>) -> bool
     forms.iter().any(|form| key.is(form.0))
 }
 
-/// Notes keys that are not in the table.
+/// Adds a fault to the report for each key that is not in the table.
 #[tactic(auto, using(crate::proofs::Reports::after_first, crate::proofs::Reports::after_no), unfolding(crate::specs::Faults::after))]
 fn judge_unknown(forms: &[Form], keys: Keys<'_>, report: &mut Report)
     ensures { report.new ≡ after report.old
@@ -41,8 +41,8 @@ fn judge_unknown(forms: &[Form], keys: Keys<'_>, report: &mut Report)
     }
 }
 
-/// The fault of a second key: that it is one too many, unless it is wrong by itself. What reads a
-/// block checks each key.
+/// Returns the fault of a repeated key: `BadValue` if its own value is wrong, otherwise
+/// `TwiceNamed`. The value of the first key of each word is checked when the block is read.
 fn again_kind(alloc: Global, takes: Takes, key: Key<'_>) -> Result<RulesFaultKind, Memory>
     ensures { IfOk result (λ kind. kind ≡ again_kind (takes_of takes) (key_of key.entry)) }
 {
@@ -58,7 +58,7 @@ fn again_kind(alloc: Global, takes: Takes, key: Key<'_>) -> Result<RulesFaultKin
     }
 }
 
-/// Notes the keys of a word after the first.
+/// Adds a fault to the report for each key of the word except the first.
 #[tactic(auto, using(crate::proofs::Reports::after_append, crate::proofs::Reports::after_none), unfolding(crate::specs::Faults::after))]
 fn judge_second(alloc: Global, form: &Form, keys: Keys<'_>, report: &mut Report) -> Judged
     ensures { OnOk result (report.new ≡ after report.old
@@ -78,7 +78,7 @@ fn judge_second(alloc: Global, form: &Form, keys: Keys<'_>, report: &mut Report)
     Ok(())
 }
 
-/// Notes the keys of a word that come too often.
+/// Adds faults to the report if the key of `form` is given too many times.
 #[tactic(auto, using(crate::proofs::Reports::after_none), unfolding(crate::specs::Walk::times_faults, crate::specs::Faults::after))]
 fn judge_times(alloc: Global, form: &Form, keys: Keys<'_>, report: &mut Report) -> Judged
     ensures { OnOk result
@@ -95,7 +95,7 @@ fn judge_times(alloc: Global, form: &Form, keys: Keys<'_>, report: &mut Report) 
     Ok(())
 }
 
-/// Notes the keys that come too often.
+/// Adds faults to the report for all keys that are given too many times.
 #[tactic(auto, using(crate::proofs::Reports::after_first, crate::proofs::Reports::after_no))]
 fn judge_all_times(alloc: Global, forms: &[Form], keys: Keys<'_>, report: &mut Report) -> Judged
     ensures { OnOk result (report.new ≡ after report.old
@@ -109,7 +109,8 @@ fn judge_all_times(alloc: Global, forms: &[Form], keys: Keys<'_>, report: &mut R
     Ok(())
 }
 
-/// What is wrong with the keys of a block, but for the first of each word.
+/// Returns the fault that is reported for unknown and repeated keys of a block. The value of the
+/// first key of each word is not checked here.
 #[tactic(auto, using(crate::proofs::Reports::after_append, crate::proofs::Reports::after_none), unfolding(crate::specs::Walk::walk_faults))]
 pub fn walk(alloc: Global, block: Block, keys: Keys<'_>) -> Result<Report, Memory>
     ensures { IfOk result

@@ -1,4 +1,4 @@
-//! Words, braces and quoted texts.
+//! Splits a text into words, braces and quoted texts.
 
 ghost use Rattle.std.specs.Prelude.{◌≡◌, ◌≢◌, ◌+◌, ◌<◌, ◌≤◌, ◌^◌, ◌∷◌, [], false, IfSome, MatchOption, length, slice_index};
 ghost use Rattle.std.specs.List.{position_or_len};
@@ -6,10 +6,10 @@ ghost use Rattle.info_rules.specs.Words as words;
 ghost use Rattle.info_rules.specs.Words.{tokens_from, quoted_len, from_line_end};
 ghost use Rattle.info_rules.specs.Shown.{token_of};
 
-/// A word, a brace alone, or a quoted text.
+/// A word, a brace that stands alone, or a quoted text.
 #[derive(Clone, Copy)]
 pub enum Token<'a> {
-    /// A word, or the text between two quotes. Backslashes are in it as they are in the text.
+    /// A word, or the text between two quotes. Its backslashes are kept as in the text.
     Word(&'a str),
     Open,
     Close,
@@ -17,7 +17,7 @@ pub enum Token<'a> {
     Broken,
 }
 
-/// A token, its line, and the text after it, which begins on that line.
+/// A token, its line, and the text after it. That text begins on the same line.
 #[derive(Clone, Copy)]
 pub struct NextToken<'a> {
     pub token: Token<'a>,
@@ -25,7 +25,7 @@ pub struct NextToken<'a> {
     pub rest: &'a str,
 }
 
-/// Whether an octet is in no word that is not quoted.
+/// Returns whether the octet separates unquoted words.
 #[tactic(auto, unfolding(crate::specs::Words::is_separator))]
 fn is_separator(octet: u8) -> bool
     ensures { result ≡ words.is_separator octet }
@@ -33,7 +33,7 @@ fn is_separator(octet: u8) -> bool
     matches!(octet, b' ' | b'\t' | b'\r' | b'\n' | b';')
 }
 
-/// What a word that is not quoted is.
+/// Returns the token that an unquoted word stands for.
 #[tactic(auto, unfolding(crate::specs::Words::word_token))]
 fn word_token(word: &str) -> Token<'_>
     ensures { token_of result ≡ words.word_token word.now }
@@ -45,7 +45,7 @@ fn word_token(word: &str) -> Token<'_>
     }
 }
 
-/// The length of the word at the front.
+/// Returns the length in octets of the word at the start of the text.
 fn word_len(text: &[u8]) -> usize
     ensures { result ≡ position_or_len words.is_separator text.now }
 {
@@ -57,7 +57,8 @@ fn word_len(text: &[u8]) -> usize
     text.len()
 }
 
-/// Whether an octet closes a quoted text: a quote with no backslash directly before it.
+/// Returns whether the octet closes a quoted text: it is a quote with no backslash directly before
+/// it.
 #[tactic(auto, unfolding(crate::specs::Words::is_closing))]
 fn is_closing(is_escaped: bool, octet: u8) -> bool
     ensures { result ≡ words.is_closing is_escaped octet }
@@ -65,7 +66,8 @@ fn is_closing(is_escaped: bool, octet: u8) -> bool
     octet == b'"' && !is_escaped
 }
 
-/// The length of the quoted text after its first quote, if it is closed on its line.
+/// Returns the length in octets of the quoted text, if it is closed on its line. `text` begins
+/// after the opening quote.
 fn quoted_len(text: &[u8]) -> Option<usize>
     ensures { result ≡ quoted_len false text.now }
 {
@@ -82,7 +84,7 @@ fn quoted_len(text: &[u8]) -> Option<usize>
     None
 }
 
-/// The text from the end of its first line on.
+/// Returns the text from the end of its first line on.
 fn from_line_end(text: &str) -> &str
     ensures read { result.now ≡ from_line_end text.now }
     ensures shorter { length result.now ≤ length text.now }
@@ -93,7 +95,7 @@ fn from_line_end(text: &str) -> &str
     }
 }
 
-/// The text after its first octet.
+/// Returns the text without its first octet.
 fn past_first(text: &str) -> &str
     requires some { 0 < length text.now }
     requires ascii { slice_index text.now 0 < 128 }
@@ -102,7 +104,7 @@ fn past_first(text: &str) -> &str
     text.split_at(1).1
 }
 
-/// The word at the front of the text.
+/// Returns the word at the start of the text.
 #[tactic(auto, using(crate::proofs::Scanning::word_boundary, crate::proofs::Scanning::word_at_front, crate::proofs::Scanning::word_some))]
 fn first_word(line: u32, text: &str) -> NextToken<'_>
     requires some { 0 < length text.now }
@@ -118,7 +120,7 @@ fn first_word(line: u32, text: &str) -> NextToken<'_>
     NextToken { token, line, rest }
 }
 
-/// The quoted text after its first quote.
+/// Returns the quoted text. `text` begins after the opening quote.
 fn first_quoted(line: u32, text: &str) -> NextToken<'_>
     ensures read { tokens_from (words.InQuotes false []) line text.now
         ≡ (result.line, token_of result.token) ∷ tokens_from words.Between line result.rest.now }
@@ -142,7 +144,7 @@ fn first_quoted(line: u32, text: &str) -> NextToken<'_>
     }
 }
 
-/// The line of the text after an octet of a line.
+/// Returns the line of the text after an octet of the given line.
 fn line_after(line: u32, octet: u8) -> u32
     requires { line + 1 < 2 ^ 32 }
     ensures { result ≡ words.line_after line octet }
@@ -150,7 +152,8 @@ fn line_after(line: u32, octet: u8) -> u32
     if octet == b'\n' { line + 1 } else { line }
 }
 
-/// The first token of a text that begins on a line; none where only gaps and comments are left.
+/// Returns the first token of a text that begins on `first_line`, or `None` if the text has only
+/// separators and comments.
 pub fn first_token(first_line: u32, text: &str) -> Option<NextToken<'_>>
     requires { first_line + length text.now < 2 ^ 32 }
     ensures read { MatchOption result (tokens_from words.Between first_line text.now ≡ [])
@@ -181,7 +184,7 @@ pub fn first_token(first_line: u32, text: &str) -> Option<NextToken<'_>>
     None
 }
 
-/// The line where a text ends, counted from 1.
+/// Returns the line where the text ends, counted from 1.
 pub fn end_line(text: &str) -> u32
     requires { length text.now < 2 ^ 31 }
     ensures { result ≡ words.end_line text.now }

@@ -1,4 +1,5 @@
--- What is kept by signer tells freshness as all that was recorded does.
+-- The latest time and number of each signer decide freshness in the same way as all recorded
+-- commands do.
 use Rattle.std.proofs.Common.{◌≡◌, ℕ, ◌<◌, Bool, true, false, cond, List, [], ◌∷◌, refl, sym, subst, arith}
 use Rattle.std.specs.Prelude.{◌↔◌, Option, Some, None}
 use Rattle.std.specs.List.{AllByRecursion}
@@ -15,7 +16,7 @@ number_after (Some m) None number = (λ h. (h, tt), λ h _. h)
 number_after (Some m) (Some n) None = (λ h. (tt, tt), λ _ _. tt)
 number_after (Some m) (Some n) (Some k) = (λ h. (omega (arith, h), omega (arith, h)), λ h k'. omega (arith, h, k'))
 
--- after one more command of the signer
+-- the latest time and number of a signer after one more of its commands was recorded
 raised_after : (kept : Option Latest) (t : ℕ) (n : Option ℕ) (time : ℕ) (number : Option ℕ)
     → (IsAfterLatest (Some (raised kept t n)) time number → IsAfterLatest kept time number × ((t < time) × NumberRises n number))
     × (IsAfterLatest kept time number → (t < time) × NumberRises n number → IsAfterLatest (Some (raised kept t n)) time number)
@@ -26,7 +27,7 @@ raised_after (Some l) t n time number =
       λ h k. let e = h.0 in let f = k.0 in (omega (arith, e, f), both.1 h.1 k.1),
     )
 
--- what one more command adds
+-- what one more recorded command changes
 pub one_more : (table : Signer → Option Latest) (r : Recorded) (signer : Signer) (time : ℕ) (number : Option ℕ) (b : Bool) → eq_by_cmp signer_cmp signer r.signer ≡ b
     → (IsAfterLatest (cond b (Some (raised (table r.signer) r.time r.number)) (table signer)) time number → IsAfterLatest (table signer) time number × IsNewer signer time number r)
     × (IsAfterLatest (table signer) time number → IsNewer signer time number r → IsAfterLatest (cond b (Some (raised (table r.signer) r.time r.number)) (table signer)) time number)

@@ -1,4 +1,4 @@
--- The first row of a key, and the map of the rows.
+-- The first row with a key, and the map that the rows represent.
 use Rattle.std.proofs.Common.{◌≡◌, ℕ, zero, suc, ◌+◌, ◌<◌, ◌≤◌, Bool, true, false, cond, List, [], ◌∷◌, ◌++◌, length, get_or, set, take, refl, sym, ap, subst, ◌∙◌, arith, add-one}
 use Rattle.std.specs.Prelude.{◌↔◌, Option, Some, None, IsSome, IsTrue, MatchOption, is_some}
 use Rattle.std.specs.FinMap as map
@@ -76,7 +76,7 @@ find_set k q v (e ∷ es) (suc n) x h is =
     ap (cond (same q e.0) (Some e.1)) (find_set k q v es n x (record { within = omega arith; none_before = r.1; signer_is = h.signer_is }) is)
     ∙ swapped (same q e.0) (same q k) (Some e.1) (Some v) (find signer_cmp q es) (never_both k q e r.0)
 
--- a row set at the first place of its key
+-- setting the first row with a key is an insertion into the map
 pub set_is_insert : (k : Signer) (v : Latest) (es : List Row) (at : ℕ) (x : Row) → IsFirst k es at → x ≡ get_or es at x
     → from_entries {R = signer_cmp} (set es at (k, v)) ≡ map.insert (from_entries es) k v
 set_is_insert k v es at x h is = same_map signer_cmp-total signer_cmp-antisymmetric _ _ (λ q.
@@ -94,11 +94,11 @@ pub push_is_insert : (k : Signer) (v : Latest) (es : List Row) → find signer_c
     → from_entries {R = signer_cmp} (es ++ (k, v) ∷ []) ≡ map.insert (from_entries es) k v
 push_is_insert k v es h = from_entries_push signer_cmp-total signer_cmp-antisymmetric es k v h
 
--- a spare key is of its signer alone
+-- a spare key belongs to only one signer
 pub other_spare : (spare : Option Signer) (k s : Signer) (b : Bool) → spare ≡ Some k → spare ≡ Some s → b ≡ same s k → b ≡ false → ⊥
 other_spare spare k s b h e is other = (let one : k ≡ s = cc in let tied = same_signer s k (sym one) in cc)
 
--- freshness by the row of a signer, and without one
+-- how freshness is decided: one lemma if the signer has a row, another if it has none
 pub fresh_found : (table : Table) (es : List Row) (at : ℕ) (row : Row) (s : Signer) (t : ℕ) (n : Option ℕ) (now : ℕ) (b : Bool) → from_entries es ≡ table → IsFirst s es at → row ≡ get_or es at row
     → AreNear t now → (IsTrue b → IsAfterLatest (Some row.1) t n) × (IsAfterLatest (Some row.1) t n → IsTrue b) → (IsTrue b → IsFresh table s t n now) × (IsFresh table s t n now → IsTrue b)
 fresh_found table es at row s t n now b shown first is near both =
@@ -112,7 +112,7 @@ fresh_new table es s t n now shown none near =
     let got : map.get table s ≡ None = ap (λ (m : Table). map.get m s) (sym shown) ∙ get_none s es none in
     (near, subst (λ (o : Option Latest). IsAfterLatest o t n) (sym got) tt)
 
--- the table with one more command, by the row of its signer, and without one
+-- the table with one more command: one lemma if the signer has a row, another if it has none
 pub recorded_found : (table : Table) (es new : List Row) (at : ℕ) (row : Row) (s : Signer) (t : ℕ) (n : Option ℕ) → from_entries es ≡ table → IsFirst s es at → row ≡ get_or es at row
     → new ≡ set es at (row.0, raised (Some row.1) t n) → from_entries new ≡ with_recorded table (record { signer = s; time = t; number = n })
 recorded_found table es new at row s t n shown first is set_is =
@@ -126,7 +126,7 @@ pub recorded_new : (table : Table) (s : Signer) (t : ℕ) (n : Option ℕ) → m
     → map.insert table s (record { time = t; number = n }) ≡ with_recorded table (record { signer = s; time = t; number = n })
 recorded_new table s t n got = ap (λ (o : Option Latest). map.insert table s (raised o t n)) (sym got)
 
--- the row at a place
+-- the row at index `at`
 abbrev pub row_at : List Row → ℕ → Row
 row_at es at = get_or es at (None, record { time = 0; number = None })
 

@@ -1,4 +1,4 @@
--- Signers can be the keys of maps.
+-- Signers can be used as the keys of maps.
 use Rattle.std.specs.Prelude.{◌≡◌, List, None, Some, true, refl}
 use Rattle.std.proofs.Common.{ap, sym, ◌∙◌}
 use Rattle.std.specs.Cmp.{IsTotalOrder, Equal-is, tied_itself}
@@ -18,7 +18,7 @@ signer_cmp-antisymmetric None (Some b) e = absurd cc
 signer_cmp-antisymmetric (Some a) None e = absurd cc
 signer_cmp-antisymmetric (Some a) (Some b) e = ap (λ (n : List _). Some n) (name_cmp-antisymmetric a b e)
 
--- signers that compare alike are one
+-- two signers that compare as equal are the same signer
 pub one_signer : (a b : Signer) → eq_by_cmp signer_cmp a b ≡ true → a ≡ b
 one_signer a b e = signer_cmp-antisymmetric a b ((Equal-is (signer_cmp a b)).0 e)
 

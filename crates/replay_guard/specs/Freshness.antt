@@ -4,7 +4,8 @@ use Rattle.std.specs.Prelude.{◌≡◌, ℕ, ◌+◌, ◌<◌, ◌≤◌, List,
 use Rattle.std.specs.List.{AllByRecursion}
 use Rattle.ndn_tlv.specs.Element.{Field}
 
--- The signer: none for DigestSha256, whose commands are all of one signer, or the name of a key.
+-- The signer: the name of a key, or None for DigestSha256. All DigestSha256 commands count as
+-- commands of one signer.
 abbrev pub Signer : Type 0
 Signer = Option (List Field)
 
@@ -14,22 +15,24 @@ pub record Recorded : Type 0 where
   pub time : ℕ
   pub number : Option ℕ
 
--- two moments that differ by at most 120,000 milliseconds
+-- two moments differ by at most 120,000 milliseconds
 abbrev pub AreNear : ℕ → ℕ → Type 0
 AreNear a b = (a ≤ b + 120000) × (b ≤ a + 120000)
 
--- where both have a number, the first is smaller
+-- if both commands have a number, the first number is smaller than the second
 abbrev pub NumberRises : Option ℕ → Option ℕ → Type 0
 NumberRises None number = Unit {0}
 NumberRises (Some m) None = Unit {0}
 NumberRises (Some m) (Some n) = m < n
 
--- A command of this signer, time and number is newer than what was recorded.
+-- A command with this signer, time and number is newer than the recorded command `earlier`, if both
+-- are of the same signer.
 abbrev pub IsNewer : Signer → ℕ → Option ℕ → Recorded → Type 0
 IsNewer signer time number earlier =
     earlier.signer ≡ signer → (earlier.time < time) × NumberRises earlier.number number
 
--- At the moment now it is fresh: near to now, and newer than all that was recorded of its signer.
+-- At the moment `now` the command is fresh: its time is near `now`, and it is newer than all
+-- recorded commands of its signer.
 abbrev pub Fresh : List Recorded → Signer → ℕ → Option ℕ → ℕ → Type 0
 Fresh past signer time number now =
     AreNear time now × AllByRecursion (IsNewer signer time number) past

@@ -1,4 +1,4 @@
--- The state of a guard: of each signer the greatest time and the greatest number of its recorded
+-- The state of a guard: for each signer, the greatest time and the greatest number of its recorded
 -- commands.
 use Rattle.std.specs.Prelude.{◌≡◌, ◌⊎◌, ℕ, ◌<◌, List, [], ◌∷◌, Option, None, Some, IsSome, max, refl}
 use Rattle.std.specs.Coded.{Coded, code_by, coded×, coded_ℕ, coded_option}
@@ -12,12 +12,12 @@ use Rattle.replay_guard.specs.Freshness.{Signer, Recorded, AreNear, NumberRises}
 use Rattle.replay_guard.specs.declared.signer.Signer.{Signer as SignerView}
 use Rattle.replay_guard.specs.declared.signer.Signer.TheVariants.{Digest, Key}
 
--- a signer without where its name lies in memory
+-- a signer as plain data, independent of where its name is in memory
 abbrev pub signer_of : SignerView → Signer
 signer_of Digest = None
 signer_of (Key name) = Some (components name)
 
--- DigestSha256 first, then keys in canonical order
+-- signers are ordered with DigestSha256 first, then the keys in canonical order
 abbrev pub signer_cmp : Signer → Signer → Ordering
 signer_cmp = option_cmp name_cmp
 
@@ -30,14 +30,15 @@ Table = map.FinMap signer_cmp Latest
 
 pub record GuardState : Type 0 where
   pub latest : Table
-  -- the signer of the call of `record` that is prepared
+  -- the signer for which a call of `record` is prepared
   pub prepared : Option Signer
 
--- a command of this signer is recorded without memory: one of it is, or the call is prepared
+-- recording a command of this signer needs no memory: some command of the signer is recorded, or
+-- the call is prepared
 abbrev pub IsPrepared : GuardState → Signer → Type 0
 IsPrepared g signer = IsSome (map.get g.latest signer) ⊎ (g.prepared ≡ Some signer)
 
--- the greater of two numbers; a command without a number leaves the number as it is
+-- the greater of two numbers; a command without a number leaves the number unchanged
 abbrev pub greater_number : Option ℕ → Option ℕ → Option ℕ
 greater_number None number = number
 greater_number (Some m) None = Some m
@@ -48,17 +49,17 @@ raised None time number = record { time = time; number = number }
 raised (Some l) time number =
     record { time = max l.time time; number = greater_number l.number number }
 
--- the table with one more command
+-- the table with one more recorded command
 abbrev pub with_recorded : Table → Recorded → Table
 with_recorded table r =
     map.insert table r.signer (raised (map.get table r.signer) r.time r.number)
 
--- the table of all that was recorded, the last first
+-- the table of all recorded commands, where the last command comes first in the list
 abbrev pub table_of : List Recorded → Table
 table_of [] = map.empty
 table_of (r ∷ before) = with_recorded (table_of before) r
 
--- a command of this time and number is newer than the state of its signer
+-- a command with this time and number is newer than the recorded state of its signer
 abbrev pub IsAfterLatest : Option Latest → ℕ → Option ℕ → Type 0
 IsAfterLatest None time number = Unit {0}
 IsAfterLatest (Some l) time number = (l.time < time) × NumberRises l.number number

@@ -1,4 +1,4 @@
--- The rows of a guard, for private contracts.
+-- The rows of a guard, for the contracts of private functions.
 use Rattle.std.specs.Prelude.{◌≡◌, ℕ, ◌<◌, List, None, length, take, slice_index_or}
 use Rattle.std.specs.FinMap.{find}
 use Rattle.replay_guard.specs.Freshness.{Signer}
@@ -7,7 +7,7 @@ use Rattle.replay_guard.specs.Guard.{Latest, signer_cmp}
 abbrev pub Row : Type 0
 Row = Signer × Latest
 
--- the row at a place is the first one of this signer
+-- the row at index `at` is the first row of this signer
 pub record IsFirst (signer : Signer) (rows : List Row) (at : ℕ) : Type 0 where
   pub within : at < length rows
   pub none_before : find signer_cmp signer (take at rows) ≡ None

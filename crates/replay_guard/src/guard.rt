@@ -11,10 +11,10 @@ use ndn_tlv::Memory;
 use std::alloc::Global;
 use std::marker::Model;
 
-/// How far a command's time may be from the present moment, in milliseconds.
+/// By how much a command's time may differ from the present moment, in milliseconds.
 const WINDOW: u64 = 120_000;
 
-/// The greatest time and the greatest number of the commands that were recorded, by signer.
+/// For each signer, the greatest time and the greatest number of the commands that were recorded.
 #[derive(Drop)]
 pub struct Guard {
     alloc: Global,
@@ -40,7 +40,7 @@ impl Model for Guard {
 }
 
 impl Guard {
-    /// A guard with nothing recorded.
+    /// Returns a guard in which nothing is recorded.
     pub fn new(alloc: Global) -> Guard
         ensures latest { result.latest ≡ map.empty }
         ensures prepared { result.prepared ≡ None }
@@ -52,9 +52,9 @@ impl Guard {
         }
     }
 
-    /// Whether a signed command is fresh: its time, in milliseconds since 1970, is at most 120,000
-    /// from `now` and greater than each recorded time of its signer, and its number, if it has one,
-    /// is greater than each recorded number of the same signer.
+    /// Returns whether a signed command is fresh. Its time, in milliseconds since 1970, must differ
+    /// from `now` by at most 120,000 and be greater than each recorded time of its signer. Its
+    /// number, if it has one, must be greater than each recorded number of its signer.
     pub fn check(&self, signer: Signer<'_>, time: u64, seq: Option<u64>, now: u64) -> bool
         ensures { IsTrue result ↔ IsFresh self.now.latest (signer_of signer.entry) time seq now }
     {
@@ -67,15 +67,15 @@ impl Guard {
         }
     }
 
-    /// Whether something is recorded of a signer.
+    /// Returns whether any command of a signer is recorded.
     fn is_recorded(&self, signer: Signer<'_>) -> bool
         ensures { IsTrue result ↔ IsSome (map.get self.now.latest (signer_of signer.entry)) }
     {
         place_of(&self.rows, signer).is_some()
     }
 
-    /// Records a command. It returns `Memory` only for a signer of which nothing is recorded; then
-    /// nothing changes, but no call is prepared any more.
+    /// Records a command. It returns `Memory` only for a signer without recorded commands; then the
+    /// guard is unchanged, but no call is prepared any more.
     pub fn record(&mut self, signer: Signer<'_>, time: u64, seq: Option<u64>) -> Result<(), Memory>
         ensures ok { OnOk result (self.new.latest ≡ with_recorded self.old.latest
             (record { signer = signer_of signer.entry; time = time; number = seq })) }
@@ -93,7 +93,7 @@ impl Guard {
         }
     }
 
-    /// Adds the first row of a signer.
+    /// Adds a row for a signer that has none.
     fn add(&mut self, signer: Signer<'_>, time: u64, seq: Option<u64>) -> Result<(), Memory>
         requires { map.get self.old.latest (signer_of signer) ≡ None }
         ensures ok { OnOk result (self.new.latest ≡ map.insert self.old.latest
@@ -108,9 +108,9 @@ impl Guard {
         Ok(())
     }
 
-    /// Prepares one `record` of this signer, which then cannot run out of memory. The next `record`
-    /// or `prepare`, of any signer, ends the preparation, even if it fails. A signer of which
-    /// something is recorded takes no memory.
+    /// Prepares one `record` of this signer. The prepared call cannot run out of memory. The next
+    /// `record` or `prepare`, of any signer, ends the preparation, even if it fails. A signer with
+    /// a recorded command needs no memory.
     pub fn prepare(&mut self, signer: Signer<'_>) -> Result<(), Memory>
         ensures latest { self.new.latest ≡ self.old.latest }
         ensures ok { OnOk result (IsPrepared self.new (signer_of signer.entry)) }
@@ -128,14 +128,14 @@ impl Guard {
     }
 }
 
-/// Whether two moments differ by at most the window.
+/// Returns whether two moments differ by at most `WINDOW`.
 fn are_near(a: u64, b: u64) -> bool
     ensures { IsTrue result ↔ AreNear a b }
 {
     a.abs_diff(b) <= WINDOW
 }
 
-/// The signer's key: the spare one, or a copy.
+/// Returns the signer's key: the spare key, or a copy.
 fn key_in(
     alloc: Global,
     spare: Option<Option<NameBuf>>,
@@ -150,7 +150,7 @@ fn key_in(
     }
 }
 
-/// The place of a signer's row.
+/// Returns the index of a signer's first row.
 fn place_of(rows: &[Row], signer: Signer<'_>) -> Option<usize>
     ensures { MatchOption result (map.find signer_cmp (signer_of signer.entry) rows.now ≡ None)
         (IsFirst (signer_of signer.entry) rows.now) }
@@ -163,7 +163,7 @@ fn place_of(rows: &[Row], signer: Signer<'_>) -> Option<usize>
     None
 }
 
-/// Records a command in the row at this place.
+/// Records a command in the row at index `at`.
 fn raise_at(rows: &mut Vec<Row>, at: usize, time: u64, number: Option<u64>)
     requires { at < length rows.old.items }
     ensures { (row : PlainRow) → row ≡ slice_index_or rows.old.items at row

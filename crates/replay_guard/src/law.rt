@@ -2,7 +2,8 @@ ghost use Rattle.std.specs.Prelude.{◌↔◌, ℕ, List, Option};
 ghost use Rattle.replay_guard.specs.Freshness.{Signer, Recorded, Fresh};
 ghost use Rattle.replay_guard.specs.Guard.{table_of, IsFresh};
 
-/// Law: freshness by the state of each signer is freshness by all recorded commands.
+/// Law: freshness according to the recorded state of each signer is the same as freshness according
+/// to all recorded commands.
 pub fn freshness_is_read_off_the_past()
     ensures { (past : List Recorded) (signer : Signer) (time : ℕ) (number : Option ℕ) (now : ℕ)
         → IsFresh (table_of past) signer time number now ↔ Fresh past signer time number now }

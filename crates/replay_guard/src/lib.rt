@@ -1,4 +1,4 @@
-//! Which signed commands are new: a guard against replays.
+//! Which signed commands are fresh: a guard against replays.
 #![tactic(auto)]
 
 mod guard;

@@ -8,7 +8,7 @@ use ndn_tlv::Memory;
 use std::alloc::Global;
 use std::marker::Model;
 
-/// The state of a signer: the greatest time and the greatest number.
+/// The recorded state of a signer: the greatest time and the greatest number.
 #[derive(Drop)]
 pub struct Row {
     key: Option<NameBuf>,
@@ -41,7 +41,7 @@ impl Row {
         is_key(&self.key, signer)
     }
 
-    /// Whether a command of this time and number is newer.
+    /// Returns whether a command with this time and number is newer than the recorded state.
     pub fn is_before(&self, time: u64, number: Option<u64>) -> bool
         ensures { IsTrue result ↔ IsAfterLatest (Some self.now.1) time number }
     {
@@ -52,7 +52,7 @@ impl Row {
         self.time < time && rises
     }
 
-    /// Records a command of this time and number.
+    /// Records a command with this time and number.
     pub fn raise(&mut self, time: u64, number: Option<u64>)
         ensures { self.new ≡ (self.old.0, raised (Some self.old.1) time number) }
     {
@@ -65,7 +65,7 @@ impl Row {
     }
 }
 
-/// Whether this is the signer's key.
+/// Returns whether `key` is the signer's key.
 pub fn is_key(key: &Option<NameBuf>, signer: Signer<'_>) -> bool
     ensures { result ≡ eq_by_cmp signer_cmp (signer_of signer.entry) key.now }
 {
@@ -76,7 +76,7 @@ pub fn is_key(key: &Option<NameBuf>, signer: Signer<'_>) -> bool
     }
 }
 
-/// A copy of the signer's key.
+/// Returns a copy of the signer's key.
 pub fn key_of(alloc: Global, signer: Signer<'_>) -> Result<Option<NameBuf>, Memory>
     ensures { IfOk result (λ key. key ≡ signer_of signer.entry) }
 {

@@ -3,8 +3,8 @@ use ndn_names::Name;
 /// The signer of a command (NDN Packet Format 0.3, "Signature").
 #[derive(Clone, Copy, Debug)]
 pub enum Signer<'a> {
-    /// DigestSha256, which anybody can make: all such commands are of one signer.
+    /// DigestSha256, which anybody can compute: all such commands count as commands of one signer.
     Digest,
-    /// The key of this name.
+    /// The key with this name.
     Key(Name<'a>),
 }

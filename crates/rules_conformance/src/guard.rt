@@ -1,4 +1,4 @@
-//! Which signed commands are new.
+//! Tests of the guard that tells which signed commands are new.
 
 mod replay_windows;
 
@@ -7,7 +7,7 @@ use ndn_names::NameBuf;
 use replay_guard::*;
 use std::alloc::Global;
 
-/// The key of a signer: none for `digest`.
+/// Returns the key of a signer, or no key for the word `digest`.
 fn key_in(alloc: Global, text: &str) -> Option<Option<NameBuf>> {
     if text == "digest" {
         return Some(None);
@@ -22,7 +22,7 @@ fn signer_of(key: &Option<NameBuf>) -> Signer<'_> {
     }
 }
 
-/// The number of a command: none for `-`.
+/// Returns the sequence number of a command, or no number for `-`.
 fn number_in(text: &str) -> Option<Option<u64>> {
     if text == "-" {
         return Some(None);
@@ -30,7 +30,8 @@ fn number_in(text: &str) -> Option<Option<u64>> {
     Some(Some(text.parse().ok()?))
 }
 
-/// Records a command: its signer, time and number. After `prepare` it prepares a signer's.
+/// Records a command, which is given as its signer, time and number. After the word `prepare`,
+/// prepares the recording of a command by that signer.
 fn record(alloc: Global, guard: &mut Guard, command: &str) -> Option<()> {
     let (signer, rest) = command.split_once(' ')?;
     if signer == "prepare" {
@@ -43,7 +44,8 @@ fn record(alloc: Global, guard: &mut Guard, command: &str) -> Option<()> {
     guard.record(signer_of(&key), time, number).ok()
 }
 
-/// Whether a command, its signer, time and number, is fresh at a moment.
+/// Returns whether a command is fresh. The command is given as its signer, time and number,
+/// followed by the present time.
 fn is_fresh(alloc: Global, guard: &Guard, command: &str) -> Option<bool> {
     let (signer, rest) = command.split_once(' ')?;
     let (time, rest) = rest.split_once(' ')?;
@@ -53,7 +55,7 @@ fn is_fresh(alloc: Global, guard: &Guard, command: &str) -> Option<bool> {
     Some(guard.check(signer_of(&key), time, number, now))
 }
 
-/// Whether a command is fresh after others that were recorded.
+/// Shows whether a command is fresh after the commands that were recorded before it.
 fn freshness(alloc: Global, row: &str) -> Option<String> {
     let (past, command) = row.split_once("? ")?;
     let mut guard = Guard::new(alloc);
@@ -68,7 +70,7 @@ fn freshness(alloc: Global, row: &str) -> Option<String> {
     String::from_str(alloc, answer).ok()
 }
 
-/// A preparation records nothing.
+/// A preparation does not record a command.
 #[test]
 fn a_preparation_records_nothing(rt: HostRuntime) {
     let rows = "
@@ -80,7 +82,7 @@ prepare digest, ? digest 0 - 0 -> fresh
     check_rows(&rt, rt.alloc(), rows, freshness);
 }
 
-/// The prepared call has its effect.
+/// A prepared recording has its effect.
 #[test]
 fn prepared_calls_have_their_effect(rt: HostRuntime) {
     let rows = "
@@ -97,7 +99,8 @@ prepare digest, digest 0 0, ? /k 0 0 0 -> fresh
     check_rows(&rt, rt.alloc(), rows, freshness);
 }
 
-/// A call of another signer has its own effect, and so has the signer's own call after that.
+/// A preparation for one signer changes neither a recording for another signer nor the first
+/// signer's later recording.
 #[test]
 fn calls_of_others_after_a_preparation(rt: HostRuntime) {
     let rows = "
@@ -114,7 +117,7 @@ prepare /k, /l 0 0, /k 0 0, ? /l 0 1 0 -> no
     check_rows(&rt, rt.alloc(), rows, freshness);
 }
 
-/// The second of two preparations counts.
+/// Of two preparations, the second is in force.
 #[test]
 fn the_second_of_two_preparations_counts(rt: HostRuntime) {
     let rows = "
@@ -125,7 +128,8 @@ prepare /k, prepare /l, /k 0 0, ? /k 0 1 0 -> no
     check_rows(&rt, rt.alloc(), rows, freshness);
 }
 
-/// Whether a prepared call is not refused memory, and a refused one changes nothing.
+/// Returns whether a prepared recording does not run out of memory, and whether a failed
+/// preparation changes nothing.
 fn keeps_its_promise(alloc: Global) -> Option<bool> {
     let mut guard = Guard::new(alloc);
     let key = key_in(alloc, "/k")?;
@@ -142,8 +146,8 @@ fn refused_memory_for_records(rt: HostRuntime) {
     assert!(rt; keeps_its_promise(rt.alloc()) != Some(false));
 }
 
-/// Whether a refused call for a new signer leaves what was recorded, as one does that another
-/// signer's call has taken the preparation from.
+/// Returns whether earlier records are unchanged by a recording for a new signer that may run out
+/// of memory. It may run out because another signer's recording used up the preparation.
 fn leaves_earlier_records(alloc: Global) -> Option<bool> {
     let mut guard = Guard::new(alloc);
     let (first, second) = (key_in(alloc, "/k")?, key_in(alloc, "/l")?);
@@ -159,7 +163,7 @@ fn leaves_earlier_records(alloc: Global) -> Option<bool> {
     )
 }
 
-/// Whether exactly a command of the time 5 and the number 5 is recorded for a signer.
+/// Returns whether the last command recorded for the signer has time 5 and number 5.
 fn is_recorded(guard: &Guard, signer: Signer<'_>) -> bool {
     !guard.check(signer, 5, Some(6), 5)
         && !guard.check(signer, 6, Some(5), 5)

@@ -1,4 +1,4 @@
-//! Tests of decisions: name patterns, rule files, decisions by them, and times of commands.
+//! Tests of name patterns, rule files, decisions by rules, and the freshness of commands.
 #![tactic(auto)]
 
 #[cfg(test)]

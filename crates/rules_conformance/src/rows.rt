@@ -1,10 +1,11 @@
-//! Tests of rows: a row that is wrong ends the test.
+//! Helpers for tests that are written as rows. A wrong row ends the test.
 
 use std::alloc::Global;
 use std::process::Abort;
 use test_support::first_misshown;
 
-/// Fails at the first row whose input is shown as another text, and where there is no row.
+/// Fails at the first row whose input is shown differently than the row says. Also fails if there
+/// are no rows.
 pub fn check_rows(
     rt: &impl Abort,
     alloc: Global,
@@ -17,7 +18,7 @@ pub fn check_rows(
     assert!(rt; wrong.is_none(), "{wrong:?}");
 }
 
-/// Ends the test where a row was refused, and says on which line.
+/// Fails the test with the line number `wrong`, unless it is 0.
 pub fn assert_right(rt: &impl Abort, wrong: usize) {
     assert!(rt; wrong == 0, "the row on line {wrong} is refused");
 }

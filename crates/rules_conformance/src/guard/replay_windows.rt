@@ -1,9 +1,9 @@
-//! Which commands are new after those that were recorded.
+//! Tests which commands are new after earlier commands were recorded.
 
 use super::freshness;
 use crate::rows::check_rows;
 
-/// At most 120,000 milliseconds before and after the present moment.
+/// A command's time is at most 120,000 milliseconds before or after the present time.
 #[test]
 fn at_most_120_seconds_from_the_present(rt: HostRuntime) {
     let rows = "
@@ -21,7 +21,7 @@ fn at_most_120_seconds_from_the_present(rt: HostRuntime) {
     check_rows(&rt, rt.alloc(), rows, freshness);
 }
 
-/// An equal time, and an equal number.
+/// A command with the same time, or the same number, as a recorded command is not new.
 #[test]
 fn an_equal_time_or_number_is_not_new(rt: HostRuntime) {
     let rows = "
@@ -32,7 +32,7 @@ fn an_equal_time_or_number_is_not_new(rt: HostRuntime) {
     check_rows(&rt, rt.alloc(), rows, freshness);
 }
 
-/// A command without a number forgets no number.
+/// Recording a command without a number keeps the recorded number.
 #[test]
 fn a_command_without_a_number_forgets_no_number(rt: HostRuntime) {
     let rows = "
@@ -43,7 +43,7 @@ fn a_command_without_a_number_forgets_no_number(rt: HostRuntime) {
     check_rows(&rt, rt.alloc(), rows, freshness);
 }
 
-/// A number after none counts, and 0 is a number.
+/// The first number after commands without a number is recorded, and 0 is a number.
 #[test]
 fn a_number_after_none_counts(rt: HostRuntime) {
     let rows = "
@@ -56,7 +56,7 @@ fn a_number_after_none_counts(rt: HostRuntime) {
     check_rows(&rt, rt.alloc(), rows, freshness);
 }
 
-/// The greatest of all that was recorded counts.
+/// New commands are compared with the greatest recorded time and number.
 #[test]
 fn the_greatest_that_was_recorded_counts(rt: HostRuntime) {
     let rows = "
@@ -67,7 +67,7 @@ fn the_greatest_that_was_recorded_counts(rt: HostRuntime) {
     check_rows(&rt, rt.alloc(), rows, freshness);
 }
 
-/// Each key is a signer, and all digests are one.
+/// Each key is a separate signer. All digest signatures belong to one signer.
 #[test]
 fn each_key_is_a_signer(rt: HostRuntime) {
     let rows = "
@@ -85,7 +85,7 @@ digest 0 0, ? / 0 0 0 -> fresh
     check_rows(&rt, rt.alloc(), rows, freshness);
 }
 
-/// The ends of time and of numbers.
+/// The least and greatest times and numbers.
 #[test]
 fn ends_of_time_and_of_numbers(rt: HostRuntime) {
     let rows = "

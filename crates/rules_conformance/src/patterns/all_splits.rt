@@ -1,13 +1,14 @@
-//! The match against a plain program that goes over all splits, from the greatest to the least.
+//! Tests of matching against a simple program that tries all splits, from the greatest to the
+//! least.
 
 use name_patterns::Pattern;
 use ndn_names::NameBuf;
 use std::alloc::Global;
 
-/// The atoms of the patterns here, two implied ones among them.
+/// The greatest number of atoms in a pattern of these tests, including two implied atoms.
 const ATOMS: usize = 6;
 
-/// A test's text, and the letters that pass it.
+/// The text of a test of a component, and the letters that pass the test.
 const TESTS: [(&str, &[u8]); 6] = [
     ("<>", b"abc"),
     ("<a>", b"a"),
@@ -17,7 +18,7 @@ const TESTS: [(&str, &[u8]); 6] = [
     ("[^<b><a>]", b"c"),
 ];
 
-/// A repeat's text, the least number and the greatest, if there is one.
+/// The text of a repeat, the least count, and the greatest count, if there is one.
 const REPEATS: [(&str, usize, Option<usize>); 10] = [
     ("", 1, Some(1)),
     ("*", 0, None),
@@ -31,7 +32,7 @@ const REPEATS: [(&str, usize, Option<usize>); 10] = [
     ("{0,3}", 0, Some(3)),
 ];
 
-/// An atom by the letters that pass, and its bounds.
+/// An atom: the letters that pass its test, and the bounds of its count.
 #[derive(Clone, Copy)]
 struct Spelled {
     letters: &'static [u8],
@@ -39,22 +40,22 @@ struct Spelled {
     most: Option<usize>,
 }
 
-/// The atom that takes nothing.
+/// The atom that matches no components.
 const NOTHING: Spelled = Spelled {
     letters: b"",
     least: 0,
     most: Some(0),
 };
 
-/// The atom that takes anything.
+/// The atom that matches any number of any components.
 const ANYTHING: Spelled = Spelled {
     letters: b"abc",
     least: 0,
     most: None,
 };
 
-/// A pattern: its text, its atoms, and its group by the numbers of atoms before it and before its
-/// end.
+/// A pattern: its text, its atoms, and its group. The group is given as the number of atoms before
+/// its start and the number of atoms before its end.
 #[derive(Drop)]
 struct Sample {
     text: String,
@@ -62,12 +63,12 @@ struct Sample {
     group: Option<(usize, usize)>,
 }
 
-/// A fixed sequence of numbers.
+/// A fixed sequence of pseudo-random numbers.
 #[derive(Drop)]
 struct Numbers(u64);
 
 impl Numbers {
-    /// The next number below a limit that is not 0.
+    /// Returns the next number below `limit`, which must not be 0.
     fn below(&mut self, limit: usize) -> usize {
         self.0 = self
             .0
@@ -77,7 +78,7 @@ impl Numbers {
     }
 }
 
-/// A pattern of up to four written atoms, of which some may be in a group.
+/// Returns a pattern of up to four written atoms, some of which may be in a group.
 fn next_sample(alloc: Global, numbers: &mut Numbers) -> Option<Sample> {
     let mut text = String::new(alloc);
     let mut atoms = [NOTHING; ATOMS];
@@ -121,7 +122,7 @@ fn next_sample(alloc: Global, numbers: &mut Numbers) -> Option<Sample> {
     Some(Sample { text, atoms, group })
 }
 
-/// Up to four letters.
+/// Returns up to four letters.
 fn next_letters(alloc: Global, numbers: &mut Numbers) -> Option<Vec<u8>> {
     let mut letters = Vec::new(alloc);
     for _ in 0..numbers.below(5) {
@@ -130,7 +131,7 @@ fn next_letters(alloc: Global, numbers: &mut Numbers) -> Option<Vec<u8>> {
     Some(letters)
 }
 
-/// The name that has a component for each letter.
+/// Returns the name with one component for each letter.
 fn name_of(alloc: Global, letters: &[u8]) -> Option<NameBuf> {
     let mut name = NameBuf::new(alloc);
     for letter in letters {
@@ -140,7 +141,7 @@ fn name_of(alloc: Global, letters: &[u8]) -> Option<NameBuf> {
 }
 
 impl Spelled {
-    /// Whether the atom can take these letters.
+    /// Returns whether the atom matches these letters.
     fn can_take(&self, letters: &[u8]) -> bool {
         self.least <= letters.len()
             && self.most.is_none_or(|most| letters.len() <= most)
@@ -148,9 +149,9 @@ impl Spelled {
     }
 }
 
-/// The greatest of all lists of counts that split the letters among the last atoms. It tries the
-/// counts of the first of them from the greatest to the least, and takes one after which the others
-/// have a split.
+/// Returns the greatest list of counts that splits the letters among the atoms. Tries the counts of
+/// the first atom from the greatest to the least, and takes the first count for which the other
+/// atoms have a split.
 fn greatest_split(atoms: &[Spelled], letters: &[u8]) -> Option<[usize; ATOMS]> {
     let Some((atom, others)) = atoms.split_first() else {
         return letters.is_empty().then_some([0; ATOMS]);
@@ -167,7 +168,7 @@ fn greatest_split(atoms: &[Spelled], letters: &[u8]) -> Option<[usize; ATOMS]> {
     None
 }
 
-/// The sum of the first counts.
+/// Returns the sum of the first `end` counts.
 fn place_of(counts: &[usize; ATOMS], end: usize) -> usize {
     counts
         .iter()
@@ -175,8 +176,8 @@ fn place_of(counts: &[usize; ATOMS], end: usize) -> usize {
         .fold(0usize, |sum, count| sum.saturating_add(*count))
 }
 
-/// Whether a pattern matches letters where they have a split, and its group is in place, and
-/// whether it matches; `None` where they disagree.
+/// Returns whether the pattern matches the letters, or `None` if the pattern and the simple program
+/// disagree about the match or its group.
 fn agreed(
     alloc: Global,
     text: &str,
@@ -195,14 +196,16 @@ fn agreed(
     agrees.then_some(true)
 }
 
-/// Whether the next pattern matches the next letters, if the plain program agrees.
+/// Returns whether the next pattern matches the next letters, or `None` if the simple program
+/// disagrees.
 fn next_agreed(alloc: Global, numbers: &mut Numbers) -> Option<bool> {
     let Sample { text, atoms, group } = next_sample(alloc, numbers)?;
     let letters = next_letters(alloc, numbers)?;
     agreed(alloc, text.as_str(), &atoms, group, &letters)
 }
 
-/// How many of 3000 samples match, or the number of the first on which the plain program disagrees.
+/// Returns how many of 3000 samples match, or the number of the first sample on which the simple
+/// program disagrees.
 fn matches_of_3000(alloc: Global) -> Result<u32, u32> {
     let mut numbers = Numbers(2014);
     let mut matched = 0u32;

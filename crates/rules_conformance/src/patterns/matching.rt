@@ -1,4 +1,4 @@
-//! Which names patterns match, and their groups.
+//! Tests which names a pattern matches and which groups it captures.
 
 use super::reading::is_read_so;
 use super::templates::is_made_so;
@@ -8,8 +8,8 @@ use ndn_names::{Name, NameBuf};
 use std::alloc::Global;
 use test_support::first_wrong;
 
-/// The groups, from group 0 on: the places of the first component of each and of the one after its
-/// last, as in `0-5 0-3 4-5`.
+/// Shows the groups from group 0 on. Each group is shown as the index of its first component and
+/// the index after its last component, as in `0-5 0-3 4-5`.
 fn shown(alloc: Global, captures: &Captures) -> Option<String> {
     let mut shown = String::new(alloc);
     for i in 0..12 {
@@ -22,14 +22,15 @@ fn shown(alloc: Global, captures: &Captures) -> Option<String> {
     Some(shown)
 }
 
-/// The pattern and the name of `PATTERN at NAME`.
+/// Reads the pattern and the name in `PATTERN at NAME`.
 fn pattern_and_name(alloc: Global, front: &str) -> Option<(Pattern, NameBuf)> {
     let (pattern, name) = front.split_once(" at ")?;
     let pattern = Pattern::read(alloc, pattern).ok()?;
     Some((pattern, NameBuf::from_uri(alloc, name).ok()?))
 }
 
-/// Whether these are the groups, or it is `no match`.
+/// Returns whether the match has the groups in `wanted`, or whether there is no match if `wanted`
+/// is `no match`.
 fn has_groups(alloc: Global, pattern: &Pattern, name: Name<'_>, wanted: &str) -> bool {
     match pattern.matches(name) {
         Some(captures) => shown(alloc, &captures).is_some_and(|groups| groups.as_str() == wanted),
@@ -37,7 +38,7 @@ fn has_groups(alloc: Global, pattern: &Pattern, name: Name<'_>, wanted: &str) ->
     }
 }
 
-/// Whether a row `PATTERN at NAME → GROUPS` or `PATTERN at NAME → no match` is right.
+/// Returns whether a row `PATTERN at NAME → GROUPS` or `PATTERN at NAME → no match` is correct.
 fn is_matched_so(alloc: Global, row: &str) -> bool {
     let Some((front, wanted)) = row.split_once(" → ") else {
         return false;
@@ -48,7 +49,7 @@ fn is_matched_so(alloc: Global, row: &str) -> bool {
     }
 }
 
-/// Whether this many steps are counted, starting at 0 and at a large number.
+/// Returns whether the match adds `wanted` steps to a counter, both from 0 and from a large number.
 fn has_steps(pattern: &Pattern, name: Name<'_>, wanted: &str) -> bool {
     let many = u64::MAX - 1_000_000;
     let mut steps = 0;
@@ -58,7 +59,7 @@ fn has_steps(pattern: &Pattern, name: Name<'_>, wanted: &str) -> bool {
     wanted.parse::<u64>() == Ok(steps) && more.checked_sub(many) == Some(steps)
 }
 
-/// Whether a row `PATTERN at NAME → STEPS` is right.
+/// Returns whether a row `PATTERN at NAME → STEPS` is correct.
 fn is_counted_so(alloc: Global, row: &str) -> bool {
     let Some((front, wanted)) = row.split_once(" → ") else {
         return false;
@@ -210,7 +211,7 @@ const GREEDY: &str = r"
 ^(<a>)<>*(<b>) at /a/b/a/b/a → 0-5 0-1 3-4
 ";
 
-/// Each atom in turn prefers more components.
+/// Each atom, from left to right, matches as many components as possible.
 #[test]
 fn greedy(rt: HostRuntime) {
     assert_right(&rt, first_wrong(rt.alloc(), GREEDY, is_matched_so));
@@ -252,7 +253,7 @@ const MANY_GROUPS: &str = r"
 (<a>?)(<a>?)(<a>?)(<a>?)(<a>?)(<a>?)(<a>?)(<a>?)(<a>?) → 9 groups
 ";
 
-/// 32 atoms are accepted, with two implied ones, and 9 groups.
+/// A pattern may have 32 atoms, including two implied atoms, and 9 groups.
 #[test]
 fn many_atoms(rt: HostRuntime) {
     assert_right(&rt, first_wrong(rt.alloc(), MANY_ATOMS, is_matched_so));
@@ -266,7 +267,7 @@ const STEPS: &str = r"
 ^<>*<>*<>*<>*<>*<>*<>*<>*<>*<>*<>*<>*<>*<>*<>*<>*<>*<>*<>*<>*<>*<>*<>*<>*<>*<>*<>*<>*<>*<>*<>*<z>$ at /a/a/a/a/a/a/a/a/a/a/a/a/a/a/a/a/a/a/a/a/a/a/a/a/a/a/a/a/a/a/a/a/a/a/a/a/a/a/a/a/a/a/a/a/a/a/a/a/a/a/a/a/a/a/a/a/a/a/a/a/a/a/a/a → 64
 ";
 
-/// Each atom is tested against each component once at most.
+/// Each atom is tested against each component at most once.
 #[test]
 fn bounded_work(rt: HostRuntime) {
     assert_right(&rt, first_wrong(rt.alloc(), STEPS, is_counted_so));
@@ -279,17 +280,18 @@ const EXAMPLES: &str = r"
 ^[^<a>]$ at /b → 0-1
 ";
 
-/// The examples of `docs/RULES.md` that stand nowhere else.
+/// The examples of `docs/RULES.md` that no other test contains.
 #[test]
 fn examples_for_operators(rt: HostRuntime) {
     assert_right(&rt, first_wrong(rt.alloc(), EXAMPLES, is_matched_so));
 }
 
-/// A pattern with each kind of part.
+/// A pattern with every kind of component test and repeat.
 const EACH_PART: &str =
     "(<>*)[<KEY><%41><seg=5>][^<b>]{1,3}(<params-sha256=0000000000000000000000000000000000000000000000000000000000000000>)";
 
-/// Whether it is read, and does not match the empty name, or memory was refused.
+/// Returns whether the pattern is read and does not match the empty name. Running out of memory is
+/// also accepted.
 fn is_read_unless_memory(alloc: Global) -> bool {
     match Pattern::read(alloc, EACH_PART) {
         Ok(pattern) => {

@@ -1,11 +1,11 @@
-//! Which texts are patterns, and which faults the others have.
+//! Tests which texts are patterns, and the faults of other texts.
 
 use crate::rows::assert_right;
 use name_patterns::{Pattern, PatternFault};
 use std::alloc::Global;
 use test_support::first_wrong;
 
-/// Whether a row `TEXT → FAULT` or `TEXT → 2 groups` is right.
+/// Returns whether a row `TEXT → FAULT` or `TEXT → 2 groups` is correct.
 pub fn is_read_so(alloc: Global, row: &str) -> bool {
     let Some((text, wanted)) = row.split_once(" → ") else {
         return false;
@@ -17,7 +17,7 @@ pub fn is_read_so(alloc: Global, row: &str) -> bool {
     told.is_ok_and(|told| told.as_str() == wanted)
 }
 
-/// Whether a fault is reported in these words.
+/// Returns whether the fault is reported in these words.
 fn is_reported_as(alloc: Global, fault: PatternFault, words: &str) -> bool {
     fault
         .to_string(alloc)
@@ -263,7 +263,7 @@ const INNER: &str = r"
 <a|>{2} → Inner(0)
 ";
 
-/// Each sign of patterns, in seven components.
+/// A component that contains a sign of the pattern syntax is a fault.
 #[test]
 fn inner(rt: HostRuntime) {
     assert_right(&rt, first_wrong(rt.alloc(), INNER, is_read_so));
@@ -326,7 +326,7 @@ const FIRST_FAULT: &str = r"
 [<a*>]{3,2} → Syntax(0)
 ";
 
-/// Of several faulty items the leftmost is reported, and of one item the least fault.
+/// If several items are faulty, the leftmost is reported, with its least fault.
 #[test]
 fn first_fault(rt: HostRuntime) {
     assert_right(&rt, first_wrong(rt.alloc(), FIRST_FAULT, is_read_so));
@@ -345,7 +345,7 @@ const THIRTY_THREE_ATOMS: &str = r"
 <a><a><a><a><a><a><a><a><a><a><a><a><a><a><a><a><a><a><a><a><a><a><a><a><a><a><a><a><a><a><a><a>(<a>) → Syntax(97)
 ";
 
-/// The 33rd atom is not in the grammar, whatever it is.
+/// A 33rd atom is a fault, whatever the atom is.
 #[test]
 fn thirty_three_atoms(rt: HostRuntime) {
     assert_right(&rt, first_wrong(rt.alloc(), THIRTY_THREE_ATOMS, is_read_so));

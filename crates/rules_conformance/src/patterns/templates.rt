@@ -1,4 +1,4 @@
-//! Which texts are templates, and the names that they expand to.
+//! Tests which texts are templates, and the names that they expand to.
 
 use crate::rows::assert_right;
 use name_patterns::{Pattern, PatternFault, Template};
@@ -6,8 +6,8 @@ use ndn_names::{Name, NameBuf, NameFault};
 use std::alloc::Global;
 use test_support::first_wrong;
 
-/// The expansion of a template, read for a pattern, at a name, if the pattern matches it and the
-/// template reports rightly whether the result is too long.
+/// Expands a template at a name that the pattern matches. Returns `None` if the pattern does not
+/// match, or if `is_too_long` disagrees with the expansion.
 fn expanded(
     alloc: Global,
     pattern: &Pattern,
@@ -26,8 +26,8 @@ fn expanded(
     }
 }
 
-/// The URI of a template's expansion at a name by a pattern that matches it, or why there is none;
-/// `None` if one of these is refused, or the pattern does not match.
+/// Returns the URI of a template's expansion at a name, or the reason why there is none. Returns
+/// `None` if the pattern or the name is not valid, or the pattern does not match.
 fn made(alloc: Global, pattern: &str, name: &str, template: &str) -> Option<String> {
     let pattern = Pattern::read(alloc, pattern).ok()?;
     let name = NameBuf::from_uri(alloc, name).ok()?;
@@ -37,8 +37,8 @@ fn made(alloc: Global, pattern: &str, name: &str, template: &str) -> Option<Stri
     }
 }
 
-/// Whether a row `PATTERN at NAME by TEMPLATE → URI`, or with a fault in place of the URI, is
-/// right.
+/// Returns whether a row `PATTERN at NAME by TEMPLATE → URI` is correct. A fault may stand in place
+/// of the URI.
 pub fn is_made_so(alloc: Global, row: &str) -> bool {
     let Some((front, wanted)) = row.split_once(" → ") else {
         return false;
@@ -52,7 +52,8 @@ pub fn is_made_so(alloc: Global, row: &str) -> bool {
     made(alloc, pattern, name, template).is_some_and(|made| made.as_str() == wanted)
 }
 
-/// Whether a row `TEMPLATE for GROUPS → FAULT` or `TEMPLATE for GROUPS → a template` is right.
+/// Returns whether a row `TEMPLATE for GROUPS → FAULT` or `TEMPLATE for GROUPS → a template` is
+/// correct.
 fn is_template_so(alloc: Global, row: &str) -> bool {
     let Some((front, wanted)) = row.split_once(" → ") else {
         return false;
@@ -118,7 +119,7 @@ fn faults(rt: HostRuntime) {
     assert_right(&rt, first_wrong(rt.alloc(), FAULTS, is_template_so));
 }
 
-/// The empty pattern matches every name.
+/// In these rows the pattern is empty. It matches every name.
 const LONG_EXPANSIONS: &str = r"
  at /a/a/a/a/a/a/a/a/a/a/a/a/a/a/a/a/a/a/a/a/a/a/a/a/a/a/a/a/a/a/a/a/a/a/a/a/a/a/a/a/a/a/a/a/a/a/a/a/a/a/a/a/a/a/a/a/a/a/a/a/a/a/a/a by \0 → /a/a/a/a/a/a/a/a/a/a/a/a/a/a/a/a/a/a/a/a/a/a/a/a/a/a/a/a/a/a/a/a/a/a/a/a/a/a/a/a/a/a/a/a/a/a/a/a/a/a/a/a/a/a/a/a/a/a/a/a/a/a/a/a
  at /a/a/a/a/a/a/a/a/a/a/a/a/a/a/a/a/a/a/a/a/a/a/a/a/a/a/a/a/a/a/a/a/a/a/a/a/a/a/a/a/a/a/a/a/a/a/a/a/a/a/a/a/a/a/a/a/a/a/a/a/a/a/a by \0<x> → /a/a/a/a/a/a/a/a/a/a/a/a/a/a/a/a/a/a/a/a/a/a/a/a/a/a/a/a/a/a/a/a/a/a/a/a/a/a/a/a/a/a/a/a/a/a/a/a/a/a/a/a/a/a/a/a/a/a/a/a/a/a/a/x
@@ -136,7 +137,8 @@ fn long_expansions(rt: HostRuntime) {
     assert_right(&rt, first_wrong(rt.alloc(), LONG_EXPANSIONS, is_made_so));
 }
 
-/// Whether a template expands to five components at /A/KEY, or memory was refused.
+/// Returns whether a template expands to five components at /A/KEY. Running out of memory is also
+/// accepted.
 fn is_made_unless_memory(alloc: Global) -> bool {
     let pattern = match Pattern::read(alloc, "<KEY>") {
         Ok(pattern) => pattern,

@@ -1,4 +1,4 @@
-//! Decisions of rules on packets.
+//! Tests of the decisions of rules on packets.
 
 use super::reading::rules_of;
 use crate::rows::assert_right;
@@ -9,7 +9,7 @@ use ndn_packets::{DataWriter, Frame, InterestWriter, Sign, read_frame};
 use std::alloc::Global;
 use test_support::{KEYS, first_wrong, typed};
 
-/// The octets of a Data, or of a signed Interest of the time 1.
+/// Returns the octets of a Data, or of a signed Interest with the time 1.
 fn written<'a>(alloc: Global, kind: &str, name: Name<'a>, sign: Sign<'a>) -> Option<Vec<u8>> {
     let mut octets = Vec::new(alloc);
     if kind == "data" {
@@ -45,8 +45,8 @@ fn sign_by<'a>(name: Name<'a>, key: &'a [u8]) -> Sign<'a> {
     Sign::Hmac { name, key }
 }
 
-/// The octets of a packet: `octets 0605..`, or its kind and name and `by digest`, or `by` with the
-/// name of a key and the text whose octets are its own.
+/// Returns the octets of a packet. The packet is given as `octets 0605..`, or as its kind, its
+/// name, and either `by digest` or `by` with the name of a key and the text of the key's octets.
 fn octets_of(alloc: Global, packet: &str) -> Option<Vec<u8>> {
     let (kind, rest) = packet.split_once(' ')?;
     if kind == "octets" {
@@ -63,7 +63,7 @@ fn octets_of(alloc: Global, packet: &str) -> Option<Vec<u8>> {
     written(alloc, kind, name.view(), sign)
 }
 
-/// The packet of a frame, if rules decide of such packets.
+/// Returns the packet in a frame, if it is an Interest or a Data.
 fn packet_of<'a>(frame: &'a Frame<'a>) -> Option<Packet<'a>> {
     match frame {
         Frame::Interest(interest) => Some(Packet::Interest(interest)),
@@ -72,15 +72,16 @@ fn packet_of<'a>(frame: &'a Frame<'a>) -> Option<Packet<'a>> {
     }
 }
 
-/// The decision of the rules on a packet of these octets.
+/// Returns the decision of the rules on a packet with these octets.
 fn decided(alloc: Global, rules: &Rules, keys: &str, octets: &[u8]) -> Option<Decision> {
     let keys = KeyBook::read(alloc, keys).ok()?;
     let frame = read_frame(octets).ok()?;
     rules.decide(alloc, &keys, packet_of(&frame)?).ok()
 }
 
-/// The decision of a rule file on a packet, as `allowed 0`, `denied 0 Tag` or `no rule`, and for
-/// `any` kind and name the first rule, as `rule 0` or `no rule`; `None` if something is refused.
+/// Returns the decision of a rule file on a packet, as `allowed 0`, `denied 0 Tag` or `no rule`.
+/// For `any` with a kind and a name, returns the first rule that applies, as `rule 0` or `no rule`.
+/// Returns `None` if an input is not valid.
 pub fn told_of(alloc: Global, file: &str, keys: &str, packet: &str) -> Option<String> {
     let rules = rules_of(alloc, typed(alloc, file)?.as_str()).ok()?;
     if let Some(named) = packet.strip_prefix("any ") {
@@ -94,7 +95,7 @@ pub fn told_of(alloc: Global, file: &str, keys: &str, packet: &str) -> Option<St
     }
 }
 
-/// The first rule for a kind and a name.
+/// Returns the first rule that applies to a kind and a name.
 fn told_first(alloc: Global, rules: &Rules, named: &str) -> Option<String> {
     let (kind, name) = named.split_once(' ')?;
     let name = NameBuf::from_uri(alloc, name).ok()?;
@@ -109,7 +110,8 @@ fn told_first(alloc: Global, rules: &Rules, named: &str) -> Option<String> {
     }
 }
 
-/// Whether a row `PACKET → DECISION` is right under the keys of these tests.
+/// Returns whether a row `PACKET → DECISION` is correct under the rule file and the keys of these
+/// tests.
 fn is_decided_so(alloc: Global, file: &str, row: &str) -> bool {
     let Some((packet, wanted)) = row.split_once(" → ") else {
         return false;
@@ -117,13 +119,13 @@ fn is_decided_so(alloc: Global, file: &str, row: &str) -> bool {
     told_of(alloc, file, KEYS, packet).is_some_and(|told| told.as_str() == wanted)
 }
 
-/// The first wrong line of the rows of a rule file.
+/// Returns the line of the first wrong row under a rule file.
 pub fn first_wrong_under(alloc: Global, file: &str, rows: &str) -> usize {
     first_wrong(alloc, rows, |alloc, row| is_decided_so(alloc, file, row))
 }
 
-/// The first wrong line of a text of rule files, each on a line of its own with its rows on the
-/// lines after it, up to an empty one. The text begins with an empty line, the first.
+/// Returns the line of the first wrong row in a text of several rule files. Each file is one line,
+/// followed by its rows and an empty line. The text begins with an empty line, which is line 1.
 fn first_wrong_of(alloc: Global, files: &str) -> usize {
     let mut lines = 1usize;
     for file in files.trim_matches('\n').split("\n\n") {
@@ -147,7 +149,8 @@ data /B/x by /ops/KEY/1 key → denied 1 SigType
 data /B/x by digest → allowed 1
 ";
 
-/// The first rule that applies decides alone: the later one would allow what it denies.
+/// Only the first rule that applies decides, although the later rule would allow what the first one
+/// denies.
 #[test]
 fn the_first_rule_decides(rt: HostRuntime) {
     assert_right(&rt, first_wrong_of(rt.alloc(), FIRST_RULE));
@@ -160,7 +163,7 @@ any data /A/x → rule 0
 any interest /A/x → no rule
 ";
 
-/// No rule is for Interests.
+/// If all rules are for Data, no rule applies to an Interest.
 #[test]
 fn rules_of_another_kind(rt: HostRuntime) {
     assert_right(&rt, first_wrong_of(rt.alloc(), OTHER_KIND));
@@ -181,7 +184,7 @@ any interest /D/x/y → rule 0
 any interest / → no rule
 ";
 
-/// One of several filters is enough.
+/// A rule applies if the name passes one of its filters.
 #[test]
 fn filters(rt: HostRuntime) {
     assert_right(&rt, first_wrong_of(rt.alloc(), FILTERS));
@@ -203,7 +206,7 @@ interest /A by /ops/KEY/1 kez → denied 0 Tag
 interest /A by digest → denied 0 SigType
 ";
 
-/// Each reason that a checker of HmacWithSha256 has, for Data and for Interests.
+/// All reasons of a checker for HmacWithSha256, for Data and for Interests.
 #[test]
 fn reasons_of_keys(rt: HostRuntime) {
     assert_right(&rt, first_wrong_of(rt.alloc(), REASONS_OF_KEYS));
@@ -220,7 +223,7 @@ data /A by digest → allowed 0
 octets 062f070308014115017816031b01001720e4f0b5aed03446e702356a360c7194c208b8b6a28ff30de430f1baa08ba29267 → denied 0 Tag
 ";
 
-/// Each reason that a checker of DigestSha256 has.
+/// All reasons of a checker for DigestSha256.
 #[test]
 fn reasons_of_digests(rt: HostRuntime) {
     assert_right(&rt, first_wrong_of(rt.alloc(), REASONS_OF_DIGESTS));
@@ -233,7 +236,8 @@ octets 0610070308014116071b01041c021d001700 → denied 0 KeyLocator
 octets 0610070308014116071b01041c0206001700 → denied 0 KeyLocator
 ";
 
-/// Signatures of type 4 without a KeyLocator, with a KeyDigest, and with an element of type 6.
+/// Signatures of type 4 without a KeyLocator, with a KeyDigest, and with a KeyLocator that contains
+/// an element of type 6.
 #[test]
 fn key_locators_that_are_no_names(rt: HostRuntime) {
     assert_right(&rt, first_wrong_of(rt.alloc(), NO_NAMES));
@@ -251,7 +255,7 @@ octets 060c070308014116031b01011700 → denied 0 SigType
 data /A by /ops/KEY/1 key → denied 0 SigType
 ";
 
-/// A rule that names RSA or ECDSA accepts nothing, whatever the type of the signature is.
+/// A checker for RSA or ECDSA accepts no signature of any type.
 #[test]
 fn unsupported_signatures(rt: HostRuntime) {
     assert_right(&rt, first_wrong_of(rt.alloc(), UNSUPPORTED));
@@ -265,7 +269,7 @@ rule {␊ id a␊ for data␊ checker {␊ type customized␊ sig-type hmac-sha2
 data /A by /ops/KEY/1 kez → denied 0 Tag
 ";
 
-/// Of the reasons of several checkers the greatest is reported.
+/// If several checkers give reasons, the greatest is reported.
 #[test]
 fn the_greatest_reason(rt: HostRuntime) {
     assert_right(&rt, first_wrong_of(rt.alloc(), GREATEST_REASON));
@@ -279,7 +283,7 @@ rule {␊ id a␊ for data }
 data /A by /ops/KEY/1 kez → denied 0 KeyLocator
 ";
 
-/// Checkers of another type of signature, and none.
+/// Rules whose checkers are for another signature type, and a rule without checkers.
 #[test]
 fn no_checker_of_the_type(rt: HostRuntime) {
     assert_right(&rt, first_wrong_of(rt.alloc(), NO_CHECKER_OF_THE_TYPE));
@@ -290,7 +294,7 @@ rule {␊ id a␊ for data␊ checker {␊ type customized␊ sig-type rsa-sha25
 data /A by /ops/KEY/1 key → allowed 0
 ";
 
-/// One checker that passes is enough.
+/// A packet is allowed if one checker passes it.
 #[test]
 fn one_checker_passes(rt: HostRuntime) {
     assert_right(&rt, first_wrong_of(rt.alloc(), ONE_CHECKER));
@@ -305,7 +309,7 @@ octets 053007250801410220620e59c59d04596b40d4cbe11e875a127f928accec817bec4519ae7
 octets 053307280801410801420220620e59c59d04596b40d4cbe11e875a127f928accec817bec4519ae74d661f47a0a0401020304240170 → no rule
 ";
 
-/// An Interest is matched by its name without the digest of its parameters.
+/// An Interest is matched by its name without its parameters digest.
 #[test]
 fn interests_that_are_not_signed(rt: HostRuntime) {
     assert_right(&rt, first_wrong_of(rt.alloc(), NOT_SIGNED));
@@ -318,7 +322,7 @@ octets 0567072508014102204b517d4208fcf6ccf88fa54794a0898bf87bd1bd363776b41a1ffc2
 interest /A by /ops/KEY/1 key → denied 0 KeyLocator
 ";
 
-/// Without a time, and without a checker.
+/// Signed Interests without a time, and under a rule without a checker.
 #[test]
 fn signed_interests(rt: HostRuntime) {
     assert_right(&rt, first_wrong_of(rt.alloc(), SIGNED_INTERESTS));
@@ -336,7 +340,7 @@ rule {␊ id a␊ for interest␊ filter {␊ type name␊ regex ^<A>$ }␊ chec
 octets 053c0728080141022041269ed42c4350afd5f68d9befb49e040be485700083988d7704c7e1ad57baaf0801420a040102030424002c061b01002801012e00 → no rule
 ";
 
-/// Where the digest is not the last component, the whole name is matched.
+/// If the parameters digest is not the last component, the whole name is matched.
 #[test]
 fn a_digest_inside_a_name(rt: HostRuntime) {
     assert_right(&rt, first_wrong_of(rt.alloc(), DIGEST_INSIDE));
@@ -350,7 +354,7 @@ octets 062f0703080141f0010916031b010017207f4cf50ddc2aa108ac334034089f197d91c4e89
 octets 062f0703080141f0010916031b010017204dc3687307ff540517001990590b74ae07d1065ea72fb5d58aa0e03d56bb1d1c → denied 0 Tag
 ";
 
-/// Elements that are ignored are covered all the same.
+/// The signature covers elements that are otherwise ignored.
 #[test]
 fn ignored_elements_are_covered(rt: HostRuntime) {
     assert_right(&rt, first_wrong_of(rt.alloc(), IGNORED_ELEMENTS));
@@ -407,7 +411,7 @@ rule {␊ id a␊ for data␊ checker {␊ type customized␊ sig-type hmac-sha2
 data /a/b/c by /a/b/KEY/1 key → denied 0 KeyLocator
 "#;
 
-/// The expansion for the key's name is the first of the two names that are compared.
+/// The name expanded from the key's name comes first in the comparison.
 #[test]
 fn hyper_relations(rt: HostRuntime) {
     assert_right(&rt, first_wrong_of(rt.alloc(), HYPER_RELATIONS));
@@ -420,7 +424,7 @@ data /a/b/x by /k/b key → denied 0 KeyLocator
 data /a/x/b by /l/b key → denied 0 KeyLocator
 ";
 
-/// Components of templates, several groups, and a key's name that does not match.
+/// Templates with components and several groups, and a key's name that does not match.
 #[test]
 fn templates(rt: HostRuntime) {
     assert_right(&rt, first_wrong_of(rt.alloc(), TEMPLATES));
@@ -434,7 +438,7 @@ rule {␊ id a␊ for data␊ checker {␊ type customized␊ sig-type hmac-sha2
 data /1/2/3/4/5/6/7/8 by /1/2/3/4/5/6/7/8 key → denied 0 KeyLocator
 "#;
 
-/// Names of more than 64 components are not compared, though they were equal.
+/// Names of more than 64 components are not compared, even if they are equal.
 #[test]
 fn expansions_that_are_too_long(rt: HostRuntime) {
     assert_right(&rt, first_wrong_of(rt.alloc(), LONG_EXPANSIONS));
@@ -445,7 +449,7 @@ rule {␊ id a␊ for interest␊ checker {␊ type customized␊ sig-type hmac-
 interest /ops by /ops/KEY/1 key → allowed 0
 "#;
 
-/// A hyper-relation sees an Interest's name without its digest.
+/// A hyper-relation sees an Interest's name without its parameters digest.
 #[test]
 fn hyper_relations_of_interests(rt: HostRuntime) {
     assert_right(&rt, first_wrong_of(rt.alloc(), HYPER_OF_INTERESTS));
@@ -455,15 +459,15 @@ const KEY_OF_NAME_OPS_KEY: &str = r"
 rule {␊ id a␊ for interest␊ checker {␊ type customized␊ sig-type hmac-sha256␊ key-locator {␊ type name␊ name /ops/KEY␊ relation equal } } }
 ";
 
-/// Whether this is the decision, under these keys, on an Interest of the name /A signed by the key
-/// /ops/KEY.
+/// Returns whether `wanted` is the decision, under these keys, on an Interest for /A that is signed
+/// by the key /ops/KEY.
 fn is_ops_decided(alloc: Global, keys: &str, wanted: &str) -> bool {
     let packet =
         "octets 05670725080141022052d80660e71c995e200e90fca82774055b6c5240685cab9cef7cdb476c5d1c240a040102030424002c141b01041c0c070a08036f707308034b45592801012e200e161f3e3217de961e12f02dca786e191af9e5a29166ddb8293582ab256106cd";
     told_of(alloc, KEY_OF_NAME_OPS_KEY, keys, packet).is_some_and(|told| told.as_str() == wanted)
 }
 
-/// An Interest's signature covers its name before the digest, and its octets from the parameters
+/// An Interest's signature covers the name before the digest, and the octets from the parameters
 /// on.
 #[test]
 fn both_parts_are_covered(rt: HostRuntime) {

@@ -1,4 +1,4 @@
-//! The files of `docs/RULES.md` and `examples`, and their decisions.
+//! Tests of the rule files in `docs/RULES.md` and `examples`, and of their decisions.
 
 use super::decisions::{first_wrong_under, told_of};
 use super::reading::rules_of;
@@ -7,7 +7,7 @@ use info_rules::RuleNo;
 use std::alloc::Global;
 use test_support::{KEYS, SAMPLE};
 
-/// The whole file of `docs/RULES.md`.
+/// The complete rule file of `docs/RULES.md`.
 const WHOLE: &str = r#"; Changes of routes, strategies and the cache: signed by the key /ops/KEY/1.
 rule
 {
@@ -274,7 +274,8 @@ fn one_key_deletes(rt: HostRuntime) {
     assert_right(&rt, first_wrong_under(rt.alloc(), ARCHIVE, OF_ARCHIVE));
 }
 
-/// The rules `producers` and `others` of `docs/RULES.md`, each with its first filter and checker.
+/// The rules `producers` and `others` of `docs/RULES.md`, each with only its first filter and its
+/// first checker.
 const PRODUCERS: &str = r"rule
 {
   id producers
@@ -316,7 +317,7 @@ fn producers_sign_below_their_names(rt: HostRuntime) {
     assert_right(&rt, first_wrong_under(rt.alloc(), PRODUCERS, OF_PRODUCERS));
 }
 
-/// Two rules that take digests, and name key locators besides.
+/// Two rules that accept digests and also have key locators.
 const DIGESTS: &str = r"
 rule {␊ id customized␊ for data␊ filter {␊ type name␊ name /A␊ relation equal }␊ checker {␊ type customized␊ sig-type sha256␊ key-locator {␊ type name␊ name /nobody␊ relation equal } } }
 rule {␊ id hierarchical␊ for data␊ checker {␊ type hierarchical␊ sig-type sha256 } }
@@ -327,7 +328,7 @@ data /A by digest → allowed 0
 data /B by digest → allowed 1
 ";
 
-/// A checker of digests does not look at the key locator.
+/// A checker of digests ignores its key locator.
 #[test]
 fn digests_need_no_key(rt: HostRuntime) {
     assert_right(&rt, first_wrong_under(rt.alloc(), DIGESTS, OF_DIGESTS));
@@ -380,7 +381,7 @@ data /A by digest → allowed 2
 data /A by /ops/KEY/1 key → denied 2 SigType
 ";
 
-/// Which rule is for which packets.
+/// The rule of the sample that applies to each packet.
 const FOR_SAMPLE: &str = r"
 any interest /localhost/nfd → rule 0
 any interest /repo → rule 1
@@ -390,7 +391,7 @@ any data /repo → rule 2
 any data / → rule 2
 ";
 
-/// Whether a rule of the sample has this id.
+/// Returns whether the rule of the sample with this number has this id.
 fn has_id(alloc: Global, number: usize, id: &str) -> bool {
     let Ok(rules) = rules_of(alloc, SAMPLE) else {
         return false;
@@ -427,7 +428,7 @@ octets 060c070308014116031b01031700 → no rule
 octets 060c070308014116031b01051700 → no rule
 ";
 
-/// Signatures by RSA, ECDSA and Ed25519 can be read, and no checker passes them.
+/// Signatures by RSA, ECDSA and Ed25519 can be read, but no checker passes them.
 #[test]
 fn other_signatures(rt: HostRuntime) {
     assert_right(
@@ -440,13 +441,14 @@ fn other_signatures(rt: HostRuntime) {
     );
 }
 
-/// Whether a Data is allowed, or memory was refused before the decision or in it.
+/// Returns whether a Data is allowed. Running out of memory, before the decision or in it, is also
+/// accepted.
 fn is_allowed_unless_memory(alloc: Global) -> bool {
     let packet = "data /lab/roof/wind by /keys/roof/KEY/7 key";
     told_of(alloc, SHARED_PART, KEYS, packet).is_none_or(|told| told.as_str() == "allowed 0")
 }
 
-/// Each growth of memory may be refused.
+/// Each allocation of memory may fail.
 #[test]
 fn decision_with_refused_memory(rt: HostRuntime) {
     assert!(rt; is_allowed_unless_memory(rt.alloc()));

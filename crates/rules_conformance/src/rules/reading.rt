@@ -1,17 +1,18 @@
-//! Which texts are rule files, and which faults the others have.
+//! Tests which texts are rule files, and the faults of other texts.
 
 use crate::rows::{assert_right, check_rows};
 use info_rules::{InfoTree, Reason, Rules, RulesFault, RulesFaultKind};
 use std::alloc::Global;
 use test_support::{first_wrong, typed};
 
-/// The rules of a text.
+/// Reads the rules of a text.
 pub fn rules_of(alloc: Global, text: &str) -> Result<Rules, RulesFault> {
     let tree = InfoTree::read(alloc, text)?;
     Rules::read(alloc, &tree)
 }
 
-/// Whether a text has this number of rules, as `rules: 1`, or this fault, as `3 Syntax`.
+/// Returns whether a text has this number of rules, as in `rules: 1`, or this fault, as in `3
+/// Syntax`.
 fn is_told(alloc: Global, text: &str, wanted: &str) -> bool {
     let told = match rules_of(alloc, text) {
         Ok(rules) => format!(in alloc; "rules: {}", rules.len()),
@@ -20,8 +21,8 @@ fn is_told(alloc: Global, text: &str, wanted: &str) -> bool {
     told.is_ok_and(|told| told.as_str() == wanted)
 }
 
-/// Whether a row `TEXT → LINE KIND` or `TEXT → rules: 1` is right, with a text before and another
-/// after it.
+/// Returns whether a row `TEXT → LINE KIND` or `TEXT → rules: 1` is correct, with other texts
+/// before and after the row's text.
 fn is_told_between(alloc: Global, before: &str, row: &str, after: &str) -> bool {
     let Some((inner, wanted)) = row.split_once(" → ") else {
         return false;
@@ -79,7 +80,7 @@ fn anchors_give_no_rule(rt: HostRuntime) {
     assert_right(&rt, first_wrong(rt.alloc(), ANCHORS, is_told_so));
 }
 
-/// The row's text is in a rule, from line 4 on.
+/// Tests a row whose text is inside a rule, from line 4 on.
 fn is_told_in_rule(alloc: Global, row: &str) -> bool {
     is_told_between(alloc, "rule {␊ id a␊ for data␊ ", row, " }")
 }
@@ -146,7 +147,7 @@ fn checkers(rt: HostRuntime) {
     assert_right(&rt, first_wrong(rt.alloc(), CHECKERS, is_told_in_rule));
 }
 
-/// The row's text is in a key locator, from line 7 on.
+/// Tests a row whose text is inside a key locator, from line 7 on.
 fn is_told_in_locator(alloc: Global, row: &str) -> bool {
     let before = "rule {␊ id a␊ for data␊ checker {␊ type customized␊ key-locator {␊ ";
     is_told_between(alloc, before, row, " } } }")
@@ -179,7 +180,7 @@ fn key_locators(rt: HostRuntime) {
     );
 }
 
-/// The row's text is in a hyper-relation, from line 8 on.
+/// Tests a row whose text is inside a hyper-relation, from line 8 on.
 fn is_told_in_hyper_relation(alloc: Global, row: &str) -> bool {
     let before =
         "rule {␊ id a␊ for data␊ checker {␊ type customized␊ key-locator {␊ hyper-relation {␊ ";
@@ -213,7 +214,7 @@ rule {␊ id a␊ for data␊ checker {␊ type customized␊ key-locator {␊ t
 rule {␊ id a␊ for data␊ checker {␊ type customized␊ key-locator {␊ type name␊ regex <A>␊ name /A␊ hyper-relation } } } → 9 BadValue
 ";
 
-/// Two forms at once, of which one is a hyper-relation.
+/// A block with two forms, one of which is a hyper-relation.
 #[test]
 fn a_hyper_relation_beside_another_form(rt: HostRuntime) {
     assert_right(&rt, first_wrong(rt.alloc(), TWO_FORMS, is_told_so));
@@ -231,7 +232,7 @@ fn a_second_form_lacks_nothing(rt: HostRuntime) {
     assert_right(&rt, first_wrong(rt.alloc(), SECOND_FORM, is_told_so));
 }
 
-/// Whether this many rules are read with this result.
+/// Returns whether a file of `count` rules is read with this result.
 fn are_rules_told(alloc: Global, count: u32, wanted: &str) -> bool {
     let mut text = String::new(alloc);
     for number in 0..count {
@@ -243,7 +244,7 @@ fn are_rules_told(alloc: Global, count: u32, wanted: &str) -> bool {
     is_told(alloc, text.as_str(), wanted)
 }
 
-/// Whether a rule with this many of these blocks is read with this result.
+/// Returns whether a rule with `count` of these blocks is read with this result.
 fn are_blocks_told(alloc: Global, count: u32, block: &str, wanted: &str) -> bool {
     let Ok(mut text) = String::from_str(alloc, "rule {\n id a\n for data\n") else {
         return false;
@@ -282,7 +283,7 @@ fn at_most_16_checkers(rt: HostRuntime) {
     assert!(rt; are_blocks_told(rt.alloc(), 17, CHECKER, "0 TooLarge"));
 }
 
-/// The row's text is the id of a rule.
+/// Tests a row whose text is the id of a rule.
 fn is_id_told_so(alloc: Global, row: &str) -> bool {
     is_told_between(alloc, "rule {␊ id ", row, "␊ for data }")
 }
@@ -312,7 +313,7 @@ rule {␊id a␊} → 1 Missing
 rule␊{␊  id a␊  for data␊}␊rule␊{␊  id a␊  for data␊}␊ → 8 TwiceNamed
 ";
 
-/// Whether the fault of a text is reported in these words.
+/// Returns whether the fault of a text is reported in these words.
 fn is_reported_as(alloc: Global, text: &str, words: &str) -> bool {
     let Err(fault) = rules_of(alloc, text) else {
         return false;
@@ -356,7 +357,7 @@ rule {
 }
 ";
 
-/// Whether the one rule is read, or memory was refused.
+/// Returns whether the file's one rule is read. Running out of memory is also accepted.
 fn is_read_unless_memory(alloc: Global) -> bool {
     match rules_of(alloc, HYPER_RELATION) {
         Ok(rules) => rules.len() == 1,
@@ -364,13 +365,13 @@ fn is_read_unless_memory(alloc: Global) -> bool {
     }
 }
 
-/// Each growth of memory may be refused.
+/// Each allocation of memory may fail.
 #[test]
 fn rules_with_refused_memory(rt: HostRuntime) {
     assert!(rt; is_read_unless_memory(rt.alloc()));
 }
 
-/// The kind of fault of a name.
+/// Returns the kind of fault with this name.
 fn fault_of(name: &str) -> Option<RulesFaultKind> {
     Some(match name {
         "Syntax" => RulesFaultKind::Syntax,
@@ -387,7 +388,7 @@ fn fault_of(name: &str) -> Option<RulesFaultKind> {
     })
 }
 
-/// The text of a fault of this kind on line 8.
+/// Returns the message for a fault of this kind on line 8.
 fn fault_text(alloc: Global, name: &str) -> Option<String> {
     let kind = fault_of(name)?;
     let fault = RulesFault { line: 8, kind };
@@ -412,7 +413,7 @@ fn texts_of_faults(rt: HostRuntime) {
     check_rows(&rt, rt.alloc(), FAULT_TEXTS, fault_text);
 }
 
-/// The text of the reason of a name.
+/// Returns the message for the reason with this name.
 fn reason_text(alloc: Global, name: &str) -> Option<String> {
     let reason = match name {
         "NotSigned" => Reason::NotSigned,
@@ -437,7 +438,7 @@ Tag -> Tag: the octets were changed, or the key's differ; compare the key's on b
 Replay -> Replay: not newer than an allowed command, or the clocks differ; sign it again now
 ";
 
-/// What a denial tells an operator.
+/// The messages of denials for operators.
 #[test]
 fn texts_of_reasons(rt: HostRuntime) {
     check_rows(&rt, rt.alloc(), REASON_TEXTS, reason_text);

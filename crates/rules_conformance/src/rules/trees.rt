@@ -1,12 +1,12 @@
-//! Which entries texts have, and which faults.
+//! Tests which entries a text has, and the faults of other texts.
 
 use crate::rows::assert_right;
 use info_rules::{InfoTree, RulesFault, RulesFaultKind};
 use std::alloc::Global;
 use test_support::{first_wrong, typed};
 
-/// An entry as `Debug` shows it: its depth, its line, its key, `=` and its value if it has one, and
-/// a brace if it has a block.
+/// Returns an entry in the format of `Debug`. The entry is given as its depth, its line, its key,
+/// `=` and its value if it has one, and a brace if it has a block.
 fn shown_entry(alloc: Global, entry: &str) -> Option<String> {
     let (depth, rest) = entry.split_once(' ')?;
     let (line, rest) = rest.split_once(' ')?;
@@ -21,7 +21,8 @@ fn shown_entry(alloc: Global, entry: &str) -> Option<String> {
     ).ok()
 }
 
-/// A tree as `Debug` shows it, by its entries with bars between them, or the word `nothing`.
+/// Returns a tree in the format of `Debug`. The tree is given as its entries, separated by bars, or
+/// as the word `nothing`.
 fn shown_tree(alloc: Global, entries: &str) -> Option<String> {
     let mut shown = String::from_str(alloc, "InfoTree { entries: [").ok()?;
     for entry in entries.split(" | ").filter(|entry| *entry != "nothing") {
@@ -32,7 +33,7 @@ fn shown_tree(alloc: Global, entries: &str) -> Option<String> {
     format!(in alloc; "{front}] }}").ok()
 }
 
-/// Whether a row `TEXT → ENTRIES` is right.
+/// Returns whether a row `TEXT → ENTRIES` is correct.
 fn is_spelled_so(alloc: Global, row: &str) -> bool {
     let Some(row) = typed(alloc, row) else {
         return false;
@@ -46,7 +47,7 @@ fn is_spelled_so(alloc: Global, row: &str) -> bool {
     format!(in alloc; "{tree:?}").is_ok_and(|shown| shown == wanted)
 }
 
-/// Whether a text has a fault on this line and of this kind.
+/// Returns whether a text has a fault of this kind on this line.
 fn has_fault(alloc: Global, text: &str, wanted: &str) -> bool {
     let Err(fault) = InfoTree::read(alloc, text) else {
         return false;
@@ -54,7 +55,7 @@ fn has_fault(alloc: Global, text: &str, wanted: &str) -> bool {
     format!(in alloc; "{} {:?}", fault.line, fault.kind).is_ok_and(|fault| fault.as_str() == wanted)
 }
 
-/// Whether a row `TEXT → LINE KIND` is right.
+/// Returns whether a row `TEXT → LINE KIND` is correct.
 fn is_refused_so(alloc: Global, row: &str) -> bool {
     let Some(row) = typed(alloc, row) else {
         return false;
@@ -254,7 +255,7 @@ fn nesting(rt: HostRuntime) {
     assert_right(&rt, first_wrong(rt.alloc(), NINE_DEEP, is_refused_so));
 }
 
-/// A comment of this many octets, and an end after it.
+/// Returns a comment of `len` octets, followed by `end`.
 fn long_text(alloc: Global, len: usize, end: &str) -> Option<String> {
     let mut text = String::new(alloc);
     for _ in 0..len {
@@ -264,7 +265,7 @@ fn long_text(alloc: Global, len: usize, end: &str) -> Option<String> {
     Some(text)
 }
 
-/// Whether the comment and the end have no entry.
+/// Returns whether a comment of `len` octets, followed by `end`, has no entries.
 fn is_empty_with(alloc: Global, len: usize, end: &str) -> bool {
     let tree = long_text(alloc, len, end).map(|text| InfoTree::read(alloc, text.as_str()));
     let Some(Ok(tree)) = tree else {
@@ -273,7 +274,7 @@ fn is_empty_with(alloc: Global, len: usize, end: &str) -> bool {
     format!(in alloc; "{tree:?}").is_ok_and(|shown| shown.as_str() == "InfoTree { entries: [] }")
 }
 
-/// Whether the comment and the end have this fault.
+/// Returns whether a comment of `len` octets, followed by `end`, has this fault.
 fn has_fault_with(alloc: Global, len: usize, end: &str, wanted: &str) -> bool {
     long_text(alloc, len, end).is_some_and(|text| has_fault(alloc, text.as_str(), wanted))
 }
@@ -285,8 +286,8 @@ fn lengths(rt: HostRuntime) {
     assert!(rt; has_fault_with(rt.alloc(), 65534, "\n}", "2 Syntax"));
 }
 
-/// Whether a text is read, or has a syntax fault on this line, or memory was refused. Line 0 is for
-/// a text without a fault.
+/// Returns whether a text has a syntax fault on line `line`, or no fault if `line` is 0. Running
+/// out of memory is also accepted.
 fn is_told_or_memory(alloc: Global, text: &str, line: u32) -> bool {
     match InfoTree::read(alloc, text) {
         Ok(_) => line == 0,
@@ -297,7 +298,7 @@ fn is_told_or_memory(alloc: Global, text: &str, line: u32) -> bool {
     }
 }
 
-/// Each growth of memory may be refused.
+/// Each allocation of memory may fail.
 #[test]
 fn refused_memory(rt: HostRuntime) {
     assert!(rt; is_told_or_memory(rt.alloc(), "a \"b\\\\c\"\nd {\n  e f\n}\n", 0));

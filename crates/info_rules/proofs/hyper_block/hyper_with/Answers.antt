@@ -6,7 +6,7 @@ use Rattle.info_rules.specs.HyperBlock.{Half, hyper_with}
 use Rattle.info_rules.proofs.FoundParts.{zip_some}
 use Rattle.info_rules.proofs.hyper_block.hyper_with.Goals as goal
 
--- nothing is made where a part lacks
+-- no hyper-relation is made if a part is absent
 none_made : (key : Half) (relation : Option Relation) (packet : Half) → option_zip (option_zip key relation) packet ≡ None → None ≡ hyper_with key relation packet
 none_made None relation packet e = refl
 none_made (Some key) None None e = refl
