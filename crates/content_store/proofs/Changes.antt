@@ -1,4 +1,5 @@
--- One more is held; one goes; the last goes where there are too many.
+-- One Data is added to the cached ones, one is removed, and the last one is evicted when there are
+-- too many.
 use Rattle.std.proofs.Common.{◌≡◌, ℕ, zero, suc, ◌+◌, ◌-◌, ◌<◌, ◌≤◌, Bool, true, false, cond, eqb, eq-eqb, List, [], ◌∷◌, length, take, insert, refl, sym, ap, subst, ◌∙◌, arith}
 use borrow.Author.Tests.{eqb-false, ne_eqb}
 use Rattle.std.specs.Prelude.{Option, None, Some, IsSome, nat_eq, slice_get}
@@ -37,7 +38,7 @@ all_insert P xs zero y py h = (py, h)
 all_insert P [] (suc at) y py h = (py, h)
 all_insert P (x ∷ xs) (suc at) y py h = (h.0, all_insert P xs at y py h.1)
 
--- a key that is not there, put somewhere
+-- a lookup of a new key after it is inserted at any position
 lookup_inserted : {X : Type 0} (p : ℕ) (x : X) (rows : List (ℕ × X)) (at : ℕ) → lookup (nat_eq p) rows ≡ None → lookup (nat_eq p) (insert rows at (p, x)) ≡ Some x
 lookup_inserted p x rows zero none = ap (λ b. cond b (Some x) (lookup (nat_eq p) rows)) (eq-eqb p p refl)
 lookup_inserted p x [] (suc at) none = ap (λ b. cond b (Some x) None) (eq-eqb p p refl)
@@ -53,7 +54,7 @@ lookup_beside q p x rows zero ne = ap (λ b. cond b (Some x) (lookup (nat_eq q) 
 lookup_beside q p x [] (suc at) ne = ap (λ b. cond b (Some x) None) ne
 lookup_beside q p x (r ∷ rows) (suc at) ne = ap (λ o. cond (eqb q r.0) (Some r.1) o) (lookup_beside q p x rows at ne)
 
--- ---- what is held
+-- ---- the cached Data
 pub cached_kept : (g f : ℕ → Option CachedData) (us : List (ℕ × ℕ)) → AllByRecursion (λ u. f u.1 ≡ g u.1) us → cached_by f us ≡ cached_by g us
 unfolding cached_by
 cached_kept g f [] h = refl
@@ -81,7 +82,7 @@ pub length_held : (rows : List Placed) (used : List (ℕ × ℕ)) (next : ℕ) �
 length_held rows used next sound =
     length_all (held_in rows) used (all_map (LeadsTo rows) (λ u. IsSome (held_in rows u.1)) (some_held rows) used sound.there) ∙ sym sound.long
 
--- ---- one more
+-- ---- one row is added
 module _ (rows : List Placed) (used : List (ℕ × ℕ)) (s p at : ℕ) (row : Row) (sound : Sound rows used s) (absent : lookup (nat_eq p) rows ≡ None) (its : row.serial ≡ s)
     (le : at ≤ length rows) (valid : IsValidRows (insert rows at (p, row))) (data' : IsCachedData row.entry) where
   beside : (u : ℕ × ℕ) → LeadsTo rows u → lookup (nat_eq u.1) (insert rows at (p, row)) ≡ lookup (nat_eq u.1) rows
@@ -115,7 +116,7 @@ module _ (rows : List Placed) (used : List (ℕ × ℕ)) (s p at : ℕ) (row : R
       ∙ ap (λ l. row.entry ∷ l) (cached_kept (held_in rows) (held_in (insert rows at (p, row))) used
       (all_map (LeadsTo rows) (λ u. held_in (insert rows at (p, row)) u.1 ≡ held_in rows u.1) (λ u leads. ap (λ o. option_map (λ (r : Row). r.entry) o) (beside u leads)) used sound.there))
 
--- ---- one goes
+-- ---- one row is removed
 module _ (rows : List Placed) (used : List (ℕ × ℕ)) (next s p : ℕ) (row : Row) (sound : Sound rows used next) (uses : lookup (nat_eq s) used ≡ Some p) (at : lookup (nat_eq p) rows ≡ Some row)
     (its : row.serial ≡ s) (valid : IsValidRows (remove_entry (nat_eq p) rows)) where
   left : AllByRecursion (λ u. LeadsTo rows u × (nat_eq s u.0 ≡ false)) (remove_entry (nat_eq s) used)
@@ -155,14 +156,14 @@ module _ (rows : List Placed) (used : List (ℕ × ℕ)) (next s p : ℕ) (row :
       (subst (λ (n : ℕ). AllByRecursion (λ u. (d : CachedData) → held_in rows u.1 ≡ Some d → (full_name_of d) ≡ (full_name_of row.entry) → u.0 ≡ n) used) its (alone_in rows used next sound p row at))
       uses (ap (λ o. option_map (λ (r : Row). r.entry) o) at) refl
 
--- ---- the last goes
+-- ---- the last row is evicted
 pub take_whole : {X : Type 0} (n : ℕ) (us : List (ℕ × X)) → slice_get us n ≡ None → take n us ≡ us
 take_whole zero [] e = refl
 take_whole zero (u ∷ us) e = absurd cc
 take_whole (suc n) [] e = refl
 take_whole (suc n) (u ∷ us) e = ap (λ l. u ∷ l) (take_whole n us e)
 
--- the last of a list, which is one too long
+-- if a list has one element too many, taking n elements removes the last one
 pub take_last : {X : Type 0} (n : ℕ) (us : List (ℕ × X)) (e : ℕ × X) → IsDistinct nat_eq (keys_of us) → length us ≤ n + 1 → slice_get us n ≡ Some e
     → (take n us ≡ remove_entry (nat_eq e.0) us) × (lookup (nat_eq e.0) us ≡ Some e.1)
 take_last zero [] e distinct le at = absurd cc
@@ -240,7 +241,7 @@ all_get P [] n e h at = absurd cc
 all_get P (u ∷ us) zero e h at = subst P (same_Some u e at) h.0
 all_get P (u ∷ us) (suc n) e h at = all_get P us n e h.1 at
 
--- what is displaced stands among the rows
+-- the evicted row is among the rows
 pub displaced_there : (rows : List Placed) (used : LruCache ℕ ℕ) (s p at : ℕ) (row : Row) (e : ℕ × ℕ) → Sound rows used.entries s → lookup (nat_eq p) rows ≡ None
     → displaced nat_eq used s p ≡ Some e → IsSome (lookup (nat_eq e.1) (insert rows at (p, row)))
 displaced_there rows used s p at row e sound absent is =
@@ -254,7 +255,7 @@ displaced_there rows used s p at row e sound absent is =
 pub some_inserted : (rows : List Placed) (p at : ℕ) (row : Row) → lookup (nat_eq p) rows ≡ None → IsSome (lookup (nat_eq p) (insert rows at (p, row)))
 some_inserted rows p at row absent = subst IsSome (sym (lookup_inserted p row rows at absent)) refl
 
--- what was put goes again
+-- removing a row that was just inserted restores the list
 pub removed_again : {X : Type 0} (p : ℕ) (x : X) (rows : List (ℕ × X)) (at : ℕ) → lookup (nat_eq p) rows ≡ None → remove_entry (nat_eq p) (insert rows at (p, x)) ≡ rows
 removed_again p x rows zero none = ap (λ b. cond b rows ((p, x) ∷ remove_entry (nat_eq p) rows)) (eq-eqb p p refl)
 removed_again p x [] (suc at) none = ap (λ b. cond b [] ((p, x) ∷ [])) (eq-eqb p p refl)

@@ -1,4 +1,4 @@
--- What is shown of a list of places that changes.
+-- The rows that a list of slab indexes shows, when the list changes.
 use Rattle.content_store.specs.Store.{full_name_of}
 use Rattle.std.proofs.Common.{◌≡◌, ◌≢◌, ◌⊎◌, inl, inr, ℕ, zero, suc, ◌+◌, ◌<◌, ◌≤◌, Bool, true, false, cond, eqb, eqb-true, eq-eqb, List, [], ◌∷◌, length, get_or, insert, refl, sym, ap, subst, ◌∙◌, arith}
 use borrow.Author.Tests.{eqb-false, ne_eqb}
@@ -24,7 +24,7 @@ unfolding shown
 shown_same h f [] k = refl
 shown_same h f (p ∷ ps) k = λ i. with_slot p (k.0 i) (shown_same h f ps k.1 i)
 
--- the slab with the same rows
+-- the slab keeps the same rows
 pub same_rows : (h f : ℕ → Option Row) (ps : List ℕ) → ((q : ℕ) → f q ≡ h q) → IsRows h ps → (shown f ps ≡ shown h ps) × IsRows f ps
 same_rows h f ps e rows =
     let same = shown_same h f ps (all_map (λ q. IsSome (h q)) (λ q. f q ≡ h q) (λ q s. e q) ps rows.there) in (
@@ -44,7 +44,7 @@ shown_insert h (q ∷ ps) (suc at) p row a is =
     ap (λ o. with_slot q o (shown h (insert ps at p))) r.1 ∙ ap (λ l. (q, r.0) ∷ l) (shown_insert h ps at p row a.1 is)
     ∙ sym (ap (λ o. insert (with_slot q o (shown h ps)) (suc at) (p, row)) r.1)
 
--- what is found is what stands there
+-- a lookup of a slab index finds the row at that index
 pub lookup_shown : (h : ℕ → Option Row) (ps : List ℕ) (p : ℕ) (row : Row) → lookup (nat_eq p) (shown h ps) ≡ Some row → h p ≡ Some row
 unfolding shown
 lookup_shown h [] p row e = absurd cc
@@ -58,7 +58,7 @@ lookup_shown h (q ∷ ps) p row e = split (h q) refl e (lookup_shown h ps p row)
     split None at f again = again f
     split (Some r) at f again = deeper r (eqb p q) at refl f again
 
--- where a halving for its own name ends
+-- a binary search for the name of a row ends at that row
 pub own_place : (h : ℕ → Option Row) (ps : List ℕ) (p at : ℕ) (row : Row) → IsRows h ps → lookup (nat_eq p) (shown h ps) ≡ Some row → IsLower (full_name_of row.entry) (shown h ps) at
     → (at < length ps) × (get_or ps at 0 ≡ p)
 own_place h ps p at row rows found lower =
@@ -86,7 +86,7 @@ own_place h ps p at row rows found lower =
     order_of : (m n : ℕ) → (m < n) ⊎ ((m ≡ n) ⊎ (n < m))
     order_of m n = grind arith
 
--- a place that was vacant
+-- a slab index that was vacant
 pub vacant : (h : ℕ → Option Row) (ps : List ℕ) (p : ℕ) → AllByRecursion (λ q. IsSome (h q)) ps → h p ≡ None → AllByRecursion (λ q. q ≢ p) ps
 vacant h [] p a none = tt
 vacant h (q ∷ ps) p a none = ((λ e. (let r = some_is (h q) a.0 in let n = ap h e ∙ none in let b = sym r.1 ∙ n in cc)), vacant h ps p a.1 none)
@@ -100,7 +100,7 @@ lookup_vacant h (q ∷ ps) p a = split (h q) (lookup_vacant h ps p a.1)
     split None rest = rest
     split (Some r) rest = ap (λ b. cond b (Some r) (lookup (nat_eq p) (shown h ps))) (ne_eqb p q (λ e. a.0 (sym e))) ∙ rest
 
--- the slab and the list of places, with one more
+-- one row is added to the slab, and its slab index to the list
 pub inserted : (h f : ℕ → Option Row) (ps new : List ℕ) (at p : ℕ) (row : Row) → IsRows h ps → h p ≡ None → f p ≡ Some row → ((q : ℕ) → q ≢ p → f q ≡ h q) → new ≡ insert ps at p
     → Rising (insert (shown h ps) at (p, row)) → (shown f new ≡ insert (shown h ps) at (p, row)) × IsRows f new
 inserted h f ps new at p row rows none here others is rising =
@@ -130,7 +130,7 @@ places_apart h (p ∷ ps) q a k =
     let d = subst (λ (o : Option Row). AllByRecursion (λ t. nat_eq q t ≡ false) (keys_of (with_slot p o (shown h ps)))) r.1 k in
     ((λ e. eqb-false q p d.0 (sym e)), places_apart h ps q a.1 d.1)
 
--- the list of places without one
+-- one slab index is removed from the list
 shown_remove : (h : ℕ → Option Row) (ps : List ℕ) (k p : ℕ) → AllByRecursion (λ q. IsSome (h q)) ps → IsDistinct nat_eq (keys_of (shown h ps)) → k < length ps → get_or ps k 0 ≡ p
     → (shown h (remove ps k) ≡ remove_entry (nat_eq p) (shown h ps)) × AllByRecursion (λ q. q ≢ p) (remove ps k)
 unfolding shown
@@ -152,7 +152,7 @@ shown_remove h (q ∷ ps) (suc k) p a distinct lt is =
       (here, rest.1),
     )
 
--- names still rise without one
+-- names are still in ascending order after one row is removed
 pub rising_removed : (rows : List Placed) (k : ℕ) → k < length rows → Rising rows → Rising (remove rows k)
 rising_removed rows k lt rising i j d before within =
     let count = length-remove rows k lt in
@@ -176,7 +176,7 @@ shown_without h (p ∷ ps) (suc k) a =
     let r = some_is (h p) a.0 in
     ap (λ o. with_slot p o (shown h (remove ps k))) r.1 ∙ ap (λ l. (p, r.0) ∷ l) (shown_without h ps k a.1) ∙ sym (ap (λ o. remove (with_slot p o (shown h ps)) (suc k)) r.1)
 
--- the slab and the list of places, with one less
+-- one row is removed from the slab, and its slab index from the list
 pub forgotten : (h f : ℕ → Option Row) (ps new : List ℕ) (k p : ℕ) → IsRows h ps → k < length ps → get_or ps k 0 ≡ p → ((q : ℕ) → q ≢ p → f q ≡ h q) → new ≡ remove ps k
     → (shown f new ≡ remove_entry (nat_eq p) (shown h ps)) × IsRows f new × (shown f new ≡ remove (shown h ps) k)
 forgotten h f ps new k p rows lt at others is =
@@ -195,7 +195,7 @@ forgotten h f ps new k p rows lt at others is =
       ap (shown f) is ∙ same ∙ shown_without h ps k rows.there,
     )
 
--- the slab with another row of the same name
+-- a row in the slab is replaced by another row with the same name
 shown_valued : (h f : ℕ → Option Row) (ps : List ℕ) (p : ℕ) (new : Row) → AllByRecursion (λ q. IsSome (h q)) ps → IsDistinct nat_eq (keys_of (shown h ps)) → f p ≡ Some new
     → ((q : ℕ) → q ≢ p → f q ≡ h q) → shown f ps ≡ set_value (nat_eq p) (shown h ps) new
 unfolding shown

@@ -1,4 +1,4 @@
--- Rows under a name go, one after another.
+-- The rows under a name are removed, one after another.
 use Rattle.std.proofs.Common.{◌≡◌, ◌≢◌, ◌⊎◌, inl, inr, ℕ, zero, suc, ◌+◌, ◌-◌, ◌<◌, ◌≤◌, List, [], ◌∷◌, ◌++◌, length, get_or, take, drop, refl, sym, ap, subst, ◌∙◌, arith, All}
 use Rattle.std.specs.Prelude.{IsSome, Option, Some, nat_eq}
 use Rattle.std.specs.List.{remove}
@@ -22,7 +22,7 @@ use Rattle.content_store.proofs.Changes.{cached_fewer, length_held, sound_fewer}
 use Rattle.content_store.proofs.Edits.{forgotten}
 use Rattle.content_store.proofs.Taken.{one_taken}
 
--- what has gone so far
+-- The Data that have been removed so far.
 pub record TakenSoFar (name : List Field) (rows : List Placed) (used : LruCache ℕ ℕ) (rows' : List Placed) (used' : LruCache ℕ ℕ) (next gone : ℕ) : Type 0 where
   pub sound : Sound rows' used'.entries next
   pub fewer : length used'.entries ≤ length used.entries
@@ -54,7 +54,7 @@ there_at h order start end rows le lt =
     subst (λ (p : ℕ). IsSome (h p)) (range_at order start end le lt)
     (all_there (λ p. IsSome (h p)) (without_range start end order) start rows.there (omega (arith, range_len order start end le (omega arith))))
 
--- ---- what is left
+-- ---- the rows that are left
 
 below_or : (m n : ℕ) → (m < n) ⊎ (n ≤ m)
 below_or m n = grind arith
@@ -69,7 +69,7 @@ lower_removed name rows at lt lower =
           lower.above (k + 1) d (omega arith) (omega arith) (ap (λ (r : Placed). name_cmp (name_at r) name) (sym (get_or-remove_above rows at d k ge lt)) ∙ less);
     }
 
--- where what stands at the place of a name does not begin with it, nothing does
+-- if the row at the position of a name does not begin with the name, no row does
 pub none_left : (name : List Field) (rows : List Placed) (used : List (ℕ × ℕ)) (next at : ℕ) → Sound rows used next → IsLower name rows at
     → ((d : Placed) → at < length rows → IsPrefix name (name_at (get_or rows at d)) → ⊥) → All (λ d. IsPrefix name (full_name_of d) → ⊥) (cached_in rows used)
 none_left name rows used next at sound lower never =
@@ -79,7 +79,7 @@ none_left name rows used next at sound lower never =
       | inr after ↦ none_after name rows at sound.valid.rising (omega arith) (λ e. lower.above at e (omega arith) (omega arith)) (λ e. never e (omega arith)) k d after lt p
     ])
 
--- ---- one more goes
+-- ---- one more row is removed
 
 module _ (h f : ℕ → Option Row) (order : List ℕ) (start end p : ℕ) (row : Row) (name : List Field)
     (rows : IsRows h (without_range start end order)) (lower : IsLower name (shown h (without_range start end order)) start)

@@ -1,4 +1,4 @@
--- A list of places in blocks.
+-- A list of slab indexes in blocks.
 use Rattle.std.proofs.Common.{◌≡◌, ◌⊎◌, inl, inr, ℕ, zero, suc, ◌+◌, ◌-◌, ◌<◌, ◌≤◌, List, [], ◌∷◌, ◌++◌, length, get_or, set, take, drop, insert, append_assoc, refl, sym, ap, subst, ◌∙◌, arith}
 use Rattle.std.specs.List.{remove}
 use Rattle.std.proofs.lemmas.List.{length-append, get_or_append_left, get_or-append_right, get_or_default, append-nil, drop_all, take_all, take-append-drop}
@@ -90,7 +90,7 @@ flat_set [] i d b' lt same = absurd (omega arith)
 flat_set (b ∷ bs) zero d b' lt same = ap (λ (l : List ℕ). l ++ flat bs) same
 flat_set (b ∷ bs) (suc i) d b' lt same = ap (λ (l : List ℕ). b.items.items ++ l) (flat_set bs i d b' (omega arith) same)
 
--- ---- one block becomes two, and two one
+-- ---- a block is split into two, and two blocks are joined
 
 pub flat_split : (bs : List Block) (i : ℕ) (d first second : Block) → i < length bs → first.items.items ++ second.items.items ≡ (get_or bs i d).items.items
     → flat (set (insert bs (suc i) second) i first) ≡ flat bs
@@ -113,7 +113,7 @@ flat_drop [] i d lt none = absurd (omega arith)
 flat_drop (b ∷ bs) zero d lt none = sym (ap (λ (l : List ℕ). l ++ flat bs) none)
 flat_drop (b ∷ bs) (suc i) d lt none = ap (λ (l : List ℕ). b.items.items ++ l) (flat_drop bs i d (omega arith) none)
 
--- ---- a range goes
+-- ---- a range is removed
 
 low_or_high : (m n : ℕ) → (m ≤ n) ⊎ (n ≤ m)
 low_or_high m n = grind arith
@@ -124,7 +124,7 @@ range_none start end =
     let back : drop {A = ℕ} end [] ≡ [] = drop_all end [] (omega arith) in
     λ k. front k ++ back k
 
--- a range of two lists, one after the other
+-- a range of two concatenated lists
 range_append : (xs ys : List ℕ) (start end s e : ℕ) → start ≤ end → s ≡ start - length xs → e ≡ end - length xs → without_range start end (xs ++ ys) ≡ without_range start end xs ++ without_range s e ys
 range_append [] ys start end s e le low high =
     let one : start ≡ s = omega arith in
@@ -151,7 +151,7 @@ flat_cut n (b ∷ bs) (c ∷ cs) start end a le len each =
     (λ k. first k ++ rest k)
     ∙ sym (range_append b.items.items (flat bs) (start - n) (end - n) (start - (n + length b.items.items)) (end - (n + length b.items.items)) (omega arith) (omega arith) (omega arith))
 
--- ---- laid anew
+-- ---- the starts of the blocks are updated
 
 pub laid_push : (n : ℕ) (bs : List Block) (b : Block) → AreLaid n bs → b.start ≡ n + length (flat bs) → AreLaid n (bs ++ b ∷ [])
 unfolding AreLaid flat
@@ -187,7 +187,7 @@ laid_set n (b ∷ bs) (suc i) d b' lt start same a = (a.0, laid_set (n + length 
 next_or_last : (i n : ℕ) → i < n → (suc i < n) ⊎ (suc i ≡ n)
 next_or_last i n lt = grind arith
 
--- where a block ends whose next one begins after a place
+-- the end of a block, if the next block begins after a position
 pub ends_at : (bs : List Block) (i : ℕ) (d : Block) (at : ℕ) → AreLaid 0 bs → i < length bs → (suc i < length bs → at < (get_or bs (suc i) d).start) → at ≤ length (flat bs)
     → (at ≤ (get_or bs i d).start + length (get_or bs i d).items.items) × (at < length (flat bs) → at < (get_or bs i d).start + length (get_or bs i d).items.items)
 ends_at bs i d at a lt before within =
@@ -196,7 +196,7 @@ ends_at bs i d at a lt before within =
       | inr last ↦ (let e = last_ends 0 bs i d a last in (omega arith, λ l. omega arith))
     ]
 
--- one block, read twice
+-- reading one block twice gives the same block
 pub read_twice : (bs : List Block) (i : ℕ) (b c : Block) → i < length bs → b ≡ get_or bs i b → c ≡ get_or bs i c → b ≡ c
 read_twice bs i b c lt e f = e ∙ get_or_default bs i b c lt ∙ sym f
 

@@ -1,4 +1,4 @@
--- Full names by their octets, of which the digest's come last.
+-- The octets of full names, which end with the octets of the digest.
 use Rattle.std.proofs.Common.{◌≡◌, ◌⊎◌, inl, inr, ℕ, ◌<◌, ◌≤◌, Bool, true, false, List, [], ◌∷◌, ◌++◌, length, get_or, take, drop, refl, sym, ap, subst, ◌∙◌, arith, append_assoc}
 use Rattle.std.specs.Prelude.{◌↔◌, ◌&&◌, ◌||◌, IsTrue, nat_lt}
 use Rattle.std.specs.List.{AllByRecursion}
@@ -32,13 +32,13 @@ then_assoc Less p q = refl
 then_assoc Equal p q = refl
 then_assoc Greater p q = refl
 
--- what is no tie decides
+-- if the first comparison is not a tie, it decides
 pub decided : (o p : Ordering) → (o ≡ Equal → ⊥) → o ≡ ordering_then o p
 decided Less p never = refl
 decided Equal p never = absurd (never refl)
 decided Greater p never = refl
 
--- a list is compared with one that is no longer
+-- comparing a list, extended by more elements, with a list that is no longer
 pub cmp_longer : (u v : List ℕ) (x : ℕ) (t : List ℕ) → length v ≤ length u → slice_cmp nat_cmp (u ++ x ∷ t) v ≡ ordering_then (slice_cmp nat_cmp u v) Greater
 cmp_longer [] [] x t le = refl
 cmp_longer [] (b ∷ v) x t le = absurd (omega arith)
@@ -46,7 +46,7 @@ cmp_longer (a ∷ u) [] x t le = refl
 cmp_longer (a ∷ u) (b ∷ v) x t le =
     ap (ordering_then (nat_cmp a b)) (cmp_longer u v x t (omega arith)) ∙ sym (then_assoc (nat_cmp a b) (slice_cmp nat_cmp u v) Greater)
 
--- lists in two parts, of which the first have one length
+-- comparing two lists in two parts, if the first parts have equal length
 pub cmp_split : (u v x y : List ℕ) → length u ≡ length v → slice_cmp nat_cmp (u ++ x) (v ++ y) ≡ ordering_then (slice_cmp nat_cmp u v) (slice_cmp nat_cmp x y)
 cmp_split [] [] x y e = refl
 cmp_split [] (b ∷ v) x y e = absurd (omega arith)
@@ -102,7 +102,7 @@ fields_back : (a b : List Field) → AllByRecursion IsField (a ++ b) → AllByRe
 fields_back [] b h = h
 fields_back (c ∷ a) b h = fields_back a b h.1
 
--- components and one more are behind nothing
+-- the empty name comes before every other name
 nothing_first : (cs : List Field) (f : Field) → name_cmp [] (cs ++ f ∷ []) ≡ Less
 nothing_first [] f = refl
 nothing_first (c ∷ cs) f = refl
@@ -116,7 +116,7 @@ then_less Greater cs = refl
 digest_field : (d : List ℕ) → length d ≡ 32 → octets_of ((1, d) ∷ []) ≡ digest_octets d
 digest_field d len = let o = full_octets [] d [] ((tt, refl), (omega arith, tt)) len in o.0
 
--- a digest's component beside components that a digest's follows
+-- comparing the component of a digest with other components followed by the component of a digest
 digest_before : (rest : List Field) (d e : List ℕ) → AllByRecursion IsField rest → 0 < length (octets_of rest) → length d ≡ 32 → length e ≡ 32
     → slice_cmp nat_cmp (digest_octets d) (octets_of rest ++ digest_octets e) ≡ ordering_then (slice_cmp nat_cmp (digest_octets d) (octets_of rest)) Less
 digest_before [] d e h some dl el = absurd (omega arith)
@@ -146,7 +146,7 @@ module _ (u v front rest d e : List ℕ) (name other : List Field) (h : IsNameVa
       ∙ (λ k. slice_cmp nat_cmp (o.0 k) ((p.0 ∙ ap (λ (t : List ℕ). t ++ digest_octets e) is ∙ append_assoc front rest (digest_octets e)) k))
       ∙ cmp_split u front (digest_octets d) (rest ++ digest_octets e) (sym len)
 
-  -- where one name begins with the other
+  -- the case in which one name is a prefix of the other
   behind : u ≡ front → slice_cmp nat_cmp (digest_octets d) (rest ++ digest_octets e) ≡ ordering_then (slice_cmp nat_cmp (digest_octets d) rest) Less
   behind same =
       let p = begins_with name other rest h.0.0 g.0.0 (sym g.0.1 ∙ is ∙ ap (λ (t : List ℕ). t ++ rest) (sym same ∙ h.0.1)) in
@@ -182,7 +182,7 @@ full_parts (a ∷ n) (b ∷ m) d e is =
     let rest = full_parts n m d e after in
     (λ k. first k ∷ rest.0 k, rest.1)
 
--- ---- what begins with a name, or is one
+-- ---- full names that begin with a name, or equal it
 
 last_of : (n m : List Field) (x : Field) → IsPrefix m (n ++ x ∷ []) → IsPrefix m n ⊎ (m ≡ n ++ x ∷ [])
 last_of n [] x p = inl (n, refl)
@@ -212,7 +212,7 @@ tie_is a b o is = (
   λ e. (Equal-is o).1 (is ∙ ap (λ (n : List Field). name_cmp n b) (sym e) ∙ tied_itself name_cmp-total b),
 )
 
--- what stands after a name in a full name of which it is a prefix
+-- the components that follow a name in a full name with that prefix
 pub small_full : (n m : List Field) (d : List ℕ) → IsPrefix m n → starts_small (drop (length m) (n ++ (1, d) ∷ [])) ≡ starts_small (drop (length m) n)
 small_full n m d p =
     ap (λ (t : List Field). starts_small (drop (length m) (t ++ (1, d) ∷ []))) p.1 ∙ ap (λ (t : List Field). starts_small (drop (length m) t)) (append_assoc m p.0 ((1, d) ∷ []))
@@ -252,7 +252,7 @@ module _ (u v : List ℕ) (n m : List Field) (d : List ℕ) (flag : Bool) (h : I
 
 -- ---- heads
 
--- lists of which the first octets are no tie
+-- comparing lists whose first n octets are not a tie
 first_decide : (n : ℕ) (u v x y : List ℕ) (o : Ordering) → n ≤ length u → n ≤ length v → o ≡ slice_cmp nat_cmp (take n u) (take n v) → (o ≡ Equal → ⊥) → o ≡ slice_cmp nat_cmp (u ++ x) (v ++ y)
 first_decide n u v x y o lu lv e never =
     let parts = λ (w z : List ℕ). ap (λ (t : List ℕ). t ++ z) (sym (take-append-drop n w)) ∙ append_assoc (take n w) (drop n w) z in

@@ -1,4 +1,5 @@
--- The first that serves is the least; what is held is a store.
+-- The first row that can serve an Interest has the least full name; what is cached is a valid store
+-- state.
 use Rattle.std.proofs.Common.{◌≡◌, ◌≢◌, ◌⊎◌, inl, inr, ℕ, suc, ◌<◌, ◌≤◌, Bool, true, false, cond, eqb, List, [], ◌∷◌, length, get_or, refl, sym, ap, subst, ◌∙◌, arith, All, Contains}
 use borrow.Author.Tests.{eqb-false}
 use Rattle.std.specs.Prelude.{Option, None, Some, nat_eq}
@@ -56,13 +57,13 @@ module _ (g : ℕ → Option CachedData) where
       split None h = omega arith
       split (Some d) h = omega arith
 
--- what is found at a place stands somewhere
+-- a row that a lookup finds has a position in the list
 pub place_at : (rows : List Placed) (p : ℕ) (row : Row) → lookup (nat_eq p) rows ≡ Some row → (k : ℕ) × (k < length rows) × (q : ℕ) × ((d : Placed) → get_or rows k d ≡ (q, row))
 place_at rows p row at =
     let i = place_from_lookup (nat_eq p) rows row at in
     (i.0, slice_get_within rows i.0 (i.1, row) i.2, i.1, λ d. get_or_from_slice_get rows i.0 (i.1, row) d i.2)
 
--- what stands at a place of the list is found
+-- a lookup finds the row at a position of the list
 pub found_at : (rows : List Placed) (at : ℕ) (r : Placed) → IsValidRows rows → at < length rows → get_or rows at r ≡ r → lookup (nat_eq r.0) rows ≡ Some r.1
 found_at rows at r valid lt is = lookup_from_place nat_eq_equiv rows at r.0 r.1 valid.distinct (slice_get-get_or rows at r lt ∙ ap (λ (x : Placed). Some x) is)
 
@@ -102,7 +103,7 @@ module _ (P : CachedData → Type 0) (rows : List Placed) (used : List (ℕ × �
       order_of : (m n : ℕ) → (m < n) ⊎ ((m ≡ n) ⊎ (n < m))
       order_of m n = grind arith
 
--- each full name is held once
+-- each full name is cached once
 pub once_in : (rows : List Placed) → Rising rows → (used : List (ℕ × ℕ)) → IsDistinct nat_eq (keys_of used) → AllByRecursion (LeadsTo rows) used → EachOnce (cached_in rows used)
 unfolding cached_by
 once_in rows rising [] distinct there = tt

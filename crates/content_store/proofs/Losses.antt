@@ -1,4 +1,4 @@
--- What is left of a list without some; what is cached is a Data.
+-- A list with some elements removed; what is cached is a Data.
 use Rattle.std.proofs.Common.{◌≡◌, ◌⊎◌, inl, inr, Bool, true, false, cond, ◌&&◌, List, [], ◌∷◌, filter, refl, sym, ap, subst, All, Contains}
 use Rattle.std.proofs.lemmas.List.Elements.{All-same, All-filter, All-contains_itself}
 use Rattle.ndn_packets.specs.declared.data.Data.{Data}
@@ -27,13 +27,13 @@ all_stay (x ∷ xs) = ap (λ (t : List CachedData). x ∷ t) (all_stay xs)
 pub nothing_lost : (cs : List CachedData) → LosesSome cs cs
 nothing_lost cs = record { stays = λ _. true; left = all_stay cs }
 
--- a store that is as it was, or has forgotten all
+-- a store that either stays unchanged or becomes empty
 pub loses_either : (old new : StoreState) → (new ≡ old) ⊎ (new ≡ record old { cached = [] }) → LosesSome old.cached new.cached
 loses_either old new (inl e) = subst (λ (s : StoreState). LosesSome old.cached s.cached) (sym e) (nothing_lost old.cached)
 loses_either old new (inr e) =
     subst (λ (s : StoreState). LosesSome old.cached s.cached) (sym e) (record { stays = λ _. false; left = none_stay old.cached })
 
--- what is left was there before
+-- every element that is left was there before
 pub loses_some-contained : (xs ys : List CachedData) → LosesSome xs ys → All (Contains xs) ys
 loses_some-contained xs ys h = All-same (Contains xs) _ _ h.left (All-filter h.stays (Contains xs) xs (All-contains_itself xs))
 

@@ -1,4 +1,4 @@
--- A store after a use.
+-- A store after one of its Data is used.
 use Rattle.std.proofs.Common.{◌≡◌, ℕ, zero, suc, ◌<◌, List, [], length, get_or, refl, ap, subst, ◌∙◌, ◌∷◌, arith}
 use Rattle.std.specs.Prelude.{Some, nat_eq}
 use Rattle.std.specs.Map.{lookup}

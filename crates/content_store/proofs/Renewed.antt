@@ -1,4 +1,4 @@
--- An entry of the same full name in place of one.
+-- An entry is replaced by another one with the same full name.
 use Rattle.std.proofs.Common.{◌≡◌, ◌≢◌, ◌⊎◌, inl, inr, ℕ, suc, ◌<◌, ◌≤◌, Bool, true, false, cond, eqb, eqb-true, eq-eqb, List, [], ◌∷◌, length, get_or, take, refl, sym, ap, subst, ◌∙◌, arith}
 use borrow.Author.Tests.{eqb-false, ne_eqb}
 use Rattle.std.specs.Prelude.{Some, nat_eq}
@@ -86,7 +86,7 @@ module _ (rows : List Placed) (used : List (ℕ × ℕ)) (next p : ℕ) (row new
     each_data = all_valued (λ r. IsCachedData r.1.entry) p new rows data' sound.each_data;
   }
 
-  -- a renewed entry, as the most recently used
+  -- a renewed entry becomes the most recently used
   pub cached_renewed : cached_in (set_value (nat_eq p) rows new) (promoted (nat_eq row.serial) used) ≡ new.entry ∷ without (full_name_of new.entry) (cached_in rows used)
   cached_renewed =
       let now = (lookup_valued p p new row rows at).0 refl in
@@ -155,7 +155,7 @@ none_cached : cached_in [] [] ≡ []
 unfolding cached_by
 none_cached = refl
 
--- a store that has forgotten all
+-- a store that has been emptied
 pub held_none : (rows rows' : List Placed) (used used' : LruCache ℕ ℕ) (capacity next : ℕ) → IsHeld rows used capacity next → rows' ≡ [] → used' ≡ lru_cache [] used.cap
     → IsHeld rows' used' capacity 0 × (cached_in rows' used'.entries ≡ [])
 held_none rows rows' used used' capacity next h r u = (
@@ -172,7 +172,7 @@ held_new rows used capacity next r u low high = (
   (λ i. cached_in (r i) (u i).entries) ∙ none_cached,
 )
 
--- the full name is held: its Data is renewed, or nothing changes
+-- if the full name is cached, its Data is renewed or nothing changes
 pub held_same : (r : Bool) (rows rows' : List Placed) (used used' : LruCache ℕ ℕ) (capacity next at : ℕ) (entry : CachedData) → IsHeld rows used capacity next → IsCachedData entry → at < length rows
     → ((d : Placed) → name_at (get_or rows at d) ≡ full_name_of entry) → (r ≡ true → Renews rows used at entry rows' used') → (r ≡ false → (rows' ≡ rows) × (used' ≡ used))
     → IsHeld rows' used' capacity next × (r ≡ true → cached_in rows' used'.entries ≡ take capacity (entry ∷ without (full_name_of entry) (cached_in rows used.entries)))

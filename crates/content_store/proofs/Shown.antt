@@ -1,4 +1,4 @@
--- What stands at places, and what a halving knows of it.
+-- The rows at slab indexes, and what a binary search knows about them.
 use Rattle.content_store.specs.Store.{full_name_of}
 use Rattle.std.proofs.Common.{◌≡◌, ◌⊎◌, inl, inr, ℕ, zero, suc, ◌+◌, ◌-◌, ◌*◌, ◌/◌, ◌^◌, ◌<◌, ◌≤◌, List, [], ◌∷◌, length, get_or, refl, sym, ap, subst, ◌∙◌, arith}
 use borrow.Author.Tests.{ne_eqb}
@@ -32,7 +32,7 @@ module _ (h : ℕ → Option Row) where
       let r = some_is (h p) a.0 in
       ap (λ o. length (with_slot p o (shown h ps))) r.1 ∙ ap (λ n. suc n) (length-shown ps a.1)
 
-  -- what stands at a place of the list
+  -- the row at a position of the list
   pub shown_at : (ps : List ℕ) (k : ℕ) (row : Row) → AllByRecursion (λ q. IsSome (h q)) ps → k < length ps → h (get_or ps k 0) ≡ Some row
       → (d : Placed) → get_or (shown h ps) k d ≡ (get_or ps k 0, row)
   unfolding shown
@@ -50,7 +50,7 @@ less_is Greater e = absurd cc
 pub lt_is : (o : Ordering) → o ≡ Less → is_lt o ≡ true
 lt_is o e = ap is_lt e
 
--- how far a halving has come
+-- The progress of a binary search.
 pub record LowerSoFar (name : List Field) (rows : List Placed) (low high : ℕ) : Type 0 where
   pub ordered : low ≤ high
   pub below : (k : ℕ) (d : Placed) → k < low → name_cmp (name_at (get_or rows k d)) name ≡ Less
@@ -60,7 +60,7 @@ same_or_less : (a b : ℕ) → a ≤ b → (a ≡ b) ⊎ (a < b)
 same_or_less a b le = grind arith
 
 module _ (name : List Field) (rows : List Placed) (rising : Rising rows) (mid : ℕ) (r : Placed) (within : mid < length rows) (at : (d : Placed) → get_or rows mid d ≡ r) where
-  -- all up to one that comes before a name
+  -- all rows up to a row that comes before the name come before it too
   pub all_below : name_cmp (name_at r) name ≡ Less → (k : ℕ) (d : Placed) → k < mid + 1 → name_cmp (name_at (get_or rows k d)) name ≡ Less
   all_below less k d lt =
       elim (same_or_less k mid (omega arith)) [
@@ -68,7 +68,7 @@ module _ (name : List Field) (rows : List Placed) (rising : Rising rows) (mid : 
         | inr before ↦ name_cmp-total.trans (name_at (get_or rows k d)) (name_at (get_or rows mid d)) name (rising k mid d before within) (ap (λ x. name_cmp (name_at x) name) (at d) ∙ less)
       ]
 
-  -- all from one on that does not come before a name
+  -- no row from position `mid` on comes before the name if the row at `mid` does not
   pub none_below : (name_cmp (name_at r) name ≡ Less → ⊥) → (k : ℕ) (d : Placed) → mid ≤ k → k < length rows → name_cmp (name_at (get_or rows k d)) name ≡ Less → ⊥
   none_below never k d ge lt less =
       elim (same_or_less mid k ge) [
@@ -82,7 +82,7 @@ module _ (name : List Field) (rows : List Placed) (rising : Rising rows) (mid : 
   pub high_moves : (low high : ℕ) → LowerSoFar name rows low high → low ≤ mid → (name_cmp (name_at r) name ≡ Less → ⊥) → LowerSoFar name rows low mid
   high_moves low high so le never = record { ordered = le; below = so.below; above = none_below never }
 
--- one more halving
+-- one more step of a binary search
 pub halved : (left low high next : ℕ) → high - low < 2 ^ left → low < high → next ≤ (high - low) / 2
     → (n : ℕ) × (left ≡ n + 1) × (next < 2 ^ n)
 halved zero low high next h lt le = absurd (omega arith)
@@ -100,7 +100,7 @@ key_at [] k d x lt = absurd (omega arith)
 key_at (r ∷ rows) zero d x lt = refl
 key_at (r ∷ rows) (suc k) d x lt = key_at rows k d x (omega arith)
 
--- two places with one name are one
+-- two slab indexes whose rows have the same name are equal
 pub valid_shown : (h : ℕ → Option Row) (ps : List ℕ) → IsRows h ps → IsValidRows (shown h ps)
 valid_shown h ps rows = record {
   rising = rows.rising;

@@ -34,7 +34,7 @@ not_true false e = refl
 apart : (a b : List Field) → eq_by_cmp name_cmp a b ≡ false → a ≡ b → ⊥
 apart a b f e = (let t = tied a b e in cc)
 
--- the others under the name have greater full names
+-- all other full names under the name are greater
 others_greater : (name : List Field) (ys : List CachedData) (c : CachedData) → IsLeast (λ d. IsPrefix name (full_name_of d)) ys c
     → All (λ d. IsPrefix name (full_name_of d) → Less (full_name_of c) (full_name_of d)) (without (full_name_of c) ys)
 others_greater name ys c least =
@@ -48,7 +48,7 @@ others_greater name ys c least =
       | inr (inr greater) ↦ absurd (not_less greater)
     ]
 
--- the least of those under the name goes
+-- the least full name under the name is removed
 pub one_taken : (name : List Field) (xs ys : List CachedData) (n : ℕ) (c : CachedData) → TakesLeast name xs ys n → IsLeast (λ d. IsPrefix name (full_name_of d)) ys c
     → length (without (full_name_of c) ys) + 1 ≡ length ys → TakesLeast name xs (without (full_name_of c) ys) (n + 1)
 one_taken name xs ys n c h least fewer =
@@ -71,7 +71,7 @@ one_taken name xs ys n c h least fewer =
           ];
     }
 
--- without a count the greatest number bounds nothing
+-- without a count, the greatest number is no limit
 pub erases : (name : List Field) (count : Option ℕ) (xs ys : List CachedData) (n most : ℕ) → most ≡ unwrap_or count 18446744073709551615 → TakesLeast name xs ys n → n ≤ most
     → (n ≡ most) ⊎ All (λ d. IsPrefix name (full_name_of d) → ⊥) ys → length xs ≤ 65536 → Erases name count xs ys n
 erases name None xs ys n most is taken le ended few = (

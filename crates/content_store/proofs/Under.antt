@@ -1,4 +1,4 @@
--- Names under a name stand together.
+-- The full names under a name are contiguous.
 use Rattle.std.proofs.Common.{◌≡◌, ◌⊎◌, inl, inr, ℕ, ◌<◌, ◌≤◌, Bool, true, false, List, [], ◌∷◌, ◌++◌, length, get_or, drop, append_assoc, refl, sym, ap, subst, ◌∙◌, arith}
 use Rattle.std.specs.Prelude.{◌&&◌, ◌||◌}
 use Rattle.std.specs.Ordering.{ordering_reverse, ordering_then}
@@ -17,7 +17,7 @@ use Rattle.ndn_packets.proofs.Near.{after_front, between}
 use Rattle.content_store.specs.Store.{CachedData, CanServe, full_name_of}
 use Rattle.content_store.specs.Rows.{Placed, name_at, Rising}
 
--- what begins with a name is not less
+-- a full name that begins with a name is not less than the name
 pub under_not_less : (n a : List Field) → IsPrefix n a → name_cmp a n ≡ Less → ⊥
 under_not_less [] [] p e = cc
 under_not_less [] (d ∷ a) p e = cc
@@ -28,7 +28,7 @@ under_not_less (c ∷ n) (d ∷ a) p e =
     let tie : component_cmp d c ≡ Equal = ap (λ x. component_cmp d x) (sym first) ∙ tied_itself component_cmp-total d in
     under_not_less n a (p.0, after) (sym (ap (λ o. ordering_then o (name_cmp a n)) tie) ∙ e)
 
--- between a name and what begins with it all begins with it
+-- every full name between a name and a full name under it is under it too
 pub convex : (n a b : List Field) → (name_cmp a n ≡ Less → ⊥) → name_cmp a b ≡ Less → IsPrefix n b → IsPrefix n a
 convex [] a b low less p = (a, refl)
 convex (c ∷ n) [] b low less p = absurd (low refl)
@@ -56,7 +56,7 @@ convex (c ∷ n) (d ∷ a) (e ∷ b) low less p = by (component_cmp d c) refl (c
 same_or_after : (a b : ℕ) → a ≤ b → (a ≡ b) ⊎ (a < b)
 same_or_after a b le = grind arith
 
--- behind one that is not under a name, and not less, none is under it
+-- if a row that is not less than a name is not under it, no later row is under it
 pub none_after : (n : List Field) (rows : List Placed) (at : ℕ) → Rising rows → at < length rows → ((d : Placed) → name_cmp (name_at (get_or rows at d)) n ≡ Less → ⊥)
     → ((d : Placed) → IsPrefix n (name_at (get_or rows at d)) → ⊥) → (k : ℕ) (d : Placed) → at ≤ k → k < length rows → IsPrefix n (name_at (get_or rows k d)) → ⊥
 none_after n rows at rising lt low never k d ge within p =
@@ -68,7 +68,7 @@ none_after n rows at rising lt low never k d ge within p =
 not_greater : (a b : List Field) → name_cmp a b ≡ Less → name_cmp a b ≡ Greater → ⊥
 not_greater a b less greater = (let clash = sym less ∙ greater in cc)
 
--- behind one that is not near, and not less, none is near
+-- if a row that is not less than a name is not near it, no later row is near it
 pub far_after : (n : List Field) (flag : Bool) (rows : List Placed) (at : ℕ) → Rising rows → at < length rows → ((d : Placed) → name_cmp (name_at (get_or rows at d)) n ≡ Less → ⊥)
     → ((d : Placed) → is_near n flag (name_at (get_or rows at d)) ≡ true → ⊥) → (k : ℕ) (d : Placed) → at ≤ k → k < length rows → is_near n flag (name_at (get_or rows k d)) ≡ true → ⊥
 far_after n flag rows at rising lt low never k d ge within near =
@@ -79,7 +79,7 @@ far_after n flag rows at rising lt low never k d ge within near =
           (not_greater (name_at (get_or rows at d)) (name_at (get_or rows k d)) (rising at k d after within)))
     ]
 
--- what serves an Interest begins with its name, and is near it
+-- a Data that serves an Interest has a full name under the Interest's name, and near it
 pub under_served : (key : PlainKey) (now : ℕ) (c : CachedData) → CanServe key now c → IsPrefix key.name (full_name_of c)
 under_served key now c h =
     elim h.0 [

@@ -1,4 +1,4 @@
--- What promotion and removal in the order of use do to what is held.
+-- The effect of promotions and removals in the LRU order on the cached Data.
 use Rattle.std.proofs.Common.{◌≡◌, ◌⊎◌, inl, inr, ℕ, suc, ◌<◌, Bool, true, false, cond, not, eqb, eqb-true, List, [], ◌∷◌, length, get_or, refl, sym, ap, subst, ◌∙◌, arith}
 use borrow.Author.Tests.{eqb-false}
 use Rattle.std.specs.Prelude.{Option, None, Some, nat_eq}
@@ -70,7 +70,7 @@ entry_of s p (u ∷ us) e = split (eqb s u.0) refl e (entry_of s p us)
         λ i. Some (same i, value i)
     split false t f again = again f
 
--- a key that is taken out changes no other look-up
+-- removing a key changes no lookup of another key
 pub lookup_other : {X : Type 0} (s t : ℕ) (us : List (ℕ × X)) → eqb t s ≡ false → lookup (nat_eq t) (remove_entry (nat_eq s) us) ≡ lookup (nat_eq t) us
 lookup_other s t [] ne = refl
 lookup_other s t (u ∷ us) ne = split (eqb s u.0) refl (lookup_other s t us ne)
@@ -81,7 +81,7 @@ lookup_other s t (u ∷ us) ne = split (eqb s u.0) refl (lookup_other s t us ne)
         sym (ap (λ b. cond b (Some u.1) (lookup (nat_eq t) us)) other)
     split false e rest = ap (λ o. cond (eqb t u.0) (Some u.1) o) rest
 
--- what is left has other keys
+-- the keys that are left are different from the removed key
 pub others_left : {X : Type 0} (s : ℕ) (us : List (ℕ × X)) → IsDistinct nat_eq (keys_of us) → AllByRecursion (λ t. nat_eq s t ≡ false) (keys_of (remove_entry (nat_eq s) us))
 others_left s [] h = tt
 others_left s (u ∷ us) h = split (eqb s u.0) refl (others_left s us (IsDistinct-tail nat_eq u.0 (keys_of us) h))
@@ -116,9 +116,9 @@ length_front s p (u ∷ us) e = split (eqb s u.0) e (length_front s p us)
     split true f again = refl
     split false f again = ap (λ n. suc n) (again f)
 
--- ---- one taken out of the order of use
+-- ---- one element removed from the LRU order
 module _ (g : ℕ → Option CachedData) (s : ℕ) (name : List Field) where
-  -- only this serial number leads to that name
+  -- only this serial number leads to a Data with that name
   abbrev pub Alone : ℕ × ℕ → Type 0
   Alone u = (d : CachedData) → g u.1 ≡ Some d → (full_name_of d) ≡ name → u.0 ≡ s
 
@@ -183,7 +183,7 @@ one_row rows rising p q a b pa qb same =
 pub held_at_is : (o : Option Row) (row : Row) (d : CachedData) → o ≡ Some row → option_map (λ (r : Row). r.entry) o ≡ Some d → d ≡ row.entry
 held_at_is o row d is at = (let e = sym (ap (λ x. option_map (λ (r : Row). r.entry) x) is) ∙ at in cc)
 
--- no other serial number leads to what has this name
+-- no other serial number leads to the Data with this full name
 pub alone_in : (rows : List Placed) (used : List (ℕ × ℕ)) (next : ℕ) → Sound rows used next → (p : ℕ) (row : Row) → lookup (nat_eq p) rows ≡ Some row
     → AllByRecursion (Alone (held_in rows) row.serial (full_name_of row.entry)) used
 alone_in rows used next sound p row at =
@@ -197,7 +197,7 @@ module _ (rows : List Placed) (used : List (ℕ × ℕ)) (next : ℕ) (sound : S
   pub promoted_to : promoted (nat_eq row.serial) used ≡ (row.serial, p) ∷ remove_entry (nat_eq row.serial) used
   promoted_to = ap (λ o. option_map_or (λ (e : ℕ × ℕ). e ∷ remove_entry (nat_eq row.serial) used) o used) (entry_of row.serial p used uses)
 
-  -- the order of use, where one is used
+  -- the LRU order after one Data is used
   pub used_first : cached_in rows (promoted (nat_eq row.serial) used) ≡ row.entry ∷ without (full_name_of row.entry) (cached_in rows used)
   unfolding cached_by
   used_first =

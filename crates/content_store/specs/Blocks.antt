@@ -1,4 +1,4 @@
--- What is known of the Data in blocks of the list, for private contracts.
+-- The freshness bounds of the blocks of the list, for private contracts.
 use Rattle.std.specs.Prelude.{◌≡◌, ◌≢◌, ℕ, ◌+◌, ◌-◌, ◌^◌, ◌<◌, ◌≤◌, List, insert, length, min}
 use Rattle.std.specs.Prelude.{slice_index_or}
 use Rattle.std.specs.List.{All}
@@ -9,11 +9,11 @@ use Rattle.content_store.specs.declared.blocks.Block.{Block}
 use Rattle.content_store.specs.declared.blocks.Change.{Change}
 use Rattle.content_store.specs.declared.blocks.Change.TheVariants.{Added, Renewed, Removed}
 
--- when the FreshnessPeriod since the arrival is over
+-- the moment at which the FreshnessPeriod after the arrival ends, at most 2^64 - 1
 abbrev pub fresh_until : CachedData → ℕ
 fresh_until c = min (c.arrival + c.freshness) (2 ^ 64 - 1)
 
--- no Data of the block is fresh after its moment
+-- no Data of the block is fresh after the block's `until`
 abbrev pub Bounds : List Placed → Block → Type 0
 Bounds rows b =
     (k : ℕ) (d : Placed) → b.start ≤ k → k < b.end → k < length rows
@@ -22,7 +22,7 @@ Bounds rows b =
 abbrev pub AreBounds : List Placed → List Block → Type 0
 AreBounds rows blocks = All (Bounds rows) blocks
 
--- what a change does to the list
+-- the effect of a change on the list
 abbrev pub Follows : Change → List Placed → List Placed → Type 0
 Follows (Added at until) rows rows' =
     (row : Placed) × (at ≤ length rows) × (fresh_until (held_at row) ≤ until)
@@ -35,11 +35,11 @@ Follows (Renewed at until) rows rows' =
 Follows (Removed start end) rows rows' =
     (start ≤ end) × (end ≤ length rows) × (rows' ≡ without_range start end rows)
 
--- what the blocks of a list are stays so
+-- the freshness bounds of the blocks still hold
 abbrev pub Keeps : List Placed → List Block → List Block → Type 0
 Keeps rows blocks blocks' = AreBounds rows blocks → AreBounds rows blocks'
 
--- after a change of the list to this one
+-- the freshness bounds of the blocks hold after the change
 abbrev pub Carries : Change → List Placed → List Block → List Block → Type 0
 Carries change rows' blocks blocks' =
     (rows : List Placed) → Follows change rows rows' → AreBounds rows blocks

@@ -1,4 +1,4 @@
--- What an entry shows, and the octets of a digest's component, for private contracts.
+-- What an entry shows, and the octets of a digest component, for private contracts.
 use Rattle.std.specs.Prelude.{◌≡◌, ◌≢◌, ℕ, ◌<◌, ◌≤◌, List, ◌∷◌, length, take}
 use Rattle.std.specs.declared.cmp.Ordering.{Ordering}
 use Rattle.std.specs.declared.cmp.Ordering.TheVariants.{Equal}
@@ -21,25 +21,25 @@ shown name octets freshness arrival = record {
   arrival = arrival;
 }
 
--- the octets of the component of an implicit digest
+-- the octets of an implicit digest component
 abbrev pub digest_octets : List ℕ → List ℕ
 digest_octets digest = IMPLICIT_SHA256_DIGEST ∷ 32 ∷ digest
 
--- the first 32 octets of a name
+-- `head` is the first 32 octets of the name
 pub record IsHead (name : List Field) (head : List ℕ) : Type 0 where
   pub value : IsNameValue (octets_of name) name
   pub long : 32 ≤ length (octets_of name)
   pub first : head ≡ take 32 (octets_of name)
 
--- where it is no tie: the order of each full name of one name with another name, and with each full
--- name of that
+-- Unless `order` is Equal, it is the order of each full name of `name` compared with `other`, and
+-- with each full name of `other`.
 abbrev pub OrdersFullNames : List Field → List Field → Ordering → Type 0
 OrdersFullNames name other order =
     order ≢ Equal → (d : List ℕ) → length d ≡ 32
     → (order ≡ name_cmp (full_name name d) other)
     × ((e : List ℕ) → length e ≡ 32 → order ≡ name_cmp (full_name name d) (full_name other e))
 
--- one name has fewer octets than another
+-- `name` has fewer octets than `other`
 abbrev pub AreShorter : Name → Name → Type 0
 AreShorter name other =
     length (octets_of (components name)) < length (octets_of (components other))

@@ -1,13 +1,13 @@
--- A list of places in blocks, for private contracts.
+-- A list of slab indexes in blocks, for private contracts.
 use Rattle.std.specs.Prelude.{◌≡◌, ℕ, ◌+◌, ◌<◌, ◌≤◌, List, [], ◌∷◌, ◌++◌, length, slice_index_or}
 use Rattle.content_store.specs.declared.places.Block.{Block}
 
--- the places of all blocks, one block after another
+-- the slab indexes of all blocks, one block after another
 unfoldable pub flat : List Block → List ℕ
 flat [] = []
 flat (b ∷ bs) = b.items.items ++ flat bs
 
--- each block has the place where it begins, the first at n
+-- each block has its start position, and the first block starts at n
 unfoldable pub AreLaid : ℕ → List Block → Type 0
 AreLaid n [] = Unit {0}
 AreLaid n (b ∷ bs) = (b.start ≡ n) × AreLaid (n + length b.items.items) bs
@@ -16,7 +16,7 @@ pub record IsLaid (blocks : List Block) : Type 0 where
   pub laid : AreLaid 0 blocks
   pub short : length (flat blocks) ≤ 131072
 
--- a place of the list is in this block, or is to be inserted there
+-- The block i contains position `at`, or `at` is to be inserted there.
 pub record IsIn (blocks : List Block) (at i : ℕ) : Type 0 where
   pub there : i < length blocks
   pub begins : (d : Block) → (slice_index_or blocks i d).start ≤ at

@@ -1,4 +1,4 @@
--- The list of the cached Data, by full name, for private contracts.
+-- The list of cached Data in order of their full names, for private contracts.
 use Rattle.std.specs.Prelude.{◌≡◌, ℕ, ◌<◌, ◌≤◌, List, [], ◌∷◌, length, Option, None, Some, IsSome, slice_index_or, nat_eq}
 use Rattle.std.specs.List.{AllByRecursion, IsDistinct}
 use Rattle.std.specs.Map.{keys_of}
@@ -8,7 +8,7 @@ use Rattle.ndn_names.specs.Order.{name_cmp}
 use Rattle.content_store.specs.Store.{CachedData, full_name_of}
 use Rattle.content_store.specs.declared.rows.Row.{Row}
 
--- a place in the slab, and the row there
+-- a slab index with the row there
 abbrev pub Placed : Type 0
 Placed = ℕ × Row
 
@@ -22,12 +22,12 @@ abbrev pub with_slot : ℕ → Option Row → List Placed → List Placed
 with_slot p None rest = rest
 with_slot p (Some row) rest = (p, row) ∷ rest
 
--- the rows at these places
+-- the rows at the given slab indexes
 unfoldable pub shown : (ℕ → Option Row) → List ℕ → List Placed
 shown h [] = []
 shown h (p ∷ ps) = with_slot p (h p) (shown h ps)
 
--- full names rise
+-- full names are in ascending order
 abbrev pub Rising : List Placed → Type 0
 Rising rows =
     (i j : ℕ) (d : Placed) → i < j → j < length rows
@@ -37,7 +37,7 @@ pub record IsRows (h : ℕ → Option Row) (order : List ℕ) : Type 0 where
   pub there : AllByRecursion (λ p. IsSome (h p)) order
   pub rising : Rising (shown h order)
 
--- the place of a name, or the place to insert it at
+-- The position of a name, or the position at which to insert it.
 pub record IsLower (name : List Field) (rows : List Placed) (at : ℕ) : Type 0 where
   pub within : at ≤ length rows
   pub below : (k : ℕ) (d : Placed) → k < at
@@ -45,7 +45,7 @@ pub record IsLower (name : List Field) (rows : List Placed) (at : ℕ) : Type 0 
   pub above : (k : ℕ) (d : Placed) → at ≤ k → k < length rows
       → name_cmp (name_at (slice_index_or rows k d)) name ≡ Less → ⊥
 
--- the first that has P, or none where none has
+-- the position of the first row with the property P, or `None` if no row has it
 abbrev pub FirstWith : (CachedData → Type 0) → List Placed → Option ℕ → Type 0
 FirstWith P rows None =
     (k : ℕ) (d : Placed) → k < length rows → ¬ P (held_at (slice_index_or rows k d))
@@ -53,7 +53,7 @@ FirstWith P rows (Some at) =
     (at < length rows) × ((d : Placed) → P (held_at (slice_index_or rows at d)))
     × ((k : ℕ) (d : Placed) → k < at → ¬ P (held_at (slice_index_or rows k d)))
 
--- full names rise, and each place comes once
+-- Full names are in ascending order, and each slab index occurs once.
 pub record IsValidRows (rows : List Placed) : Type 0 where
   pub rising : Rising rows
   pub distinct : IsDistinct nat_eq (keys_of rows)

@@ -1,4 +1,4 @@
--- What a halving seeks, for private contracts.
+-- What a binary search looks for, for private contracts.
 use Rattle.std.specs.Prelude.{List}
 use Rattle.sha2.specs.Sha256.{sha256}
 use Rattle.ndn_tlv.specs.Element.{Field}

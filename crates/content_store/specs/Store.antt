@@ -17,7 +17,7 @@ use Rattle.ndn_packets.specs.Key.{PlainKey}
 use Rattle.ndn_packets.specs.Packet.{PlainData}
 use Rattle.content_store.specs.declared.store.TheConstants.{MAX_CAPACITY}
 
--- A cached Data: its name and its implicit digest, its octets, its FreshnessPeriod in milliseconds
+-- A cached Data: its name, its implicit digest, its octets, its FreshnessPeriod in milliseconds,
 -- and the moment of its arrival, in milliseconds since 1970.
 pub record CachedData : Type 0 where
   pub name : List Field
@@ -26,7 +26,7 @@ pub record CachedData : Type 0 where
   pub freshness : ℕ
   pub arrival : ℕ
 
--- a Data as it is cached from its arrival on
+-- a Data as it is cached when it arrives
 abbrev pub cached_at : Data → ℕ → CachedData
 cached_at d arrival = record {
   name = components d.name;
@@ -39,17 +39,17 @@ cached_at d arrival = record {
 abbrev pub full_name_of : CachedData → List Field
 full_name_of c = full_name c.name c.digest
 
--- the cached Data, the most recently used first, and how many there may be
+-- The cached Data, the most recently used first, and the greatest number of Data that fit.
 pub record StoreState : Type 0 where
   pub cached : List CachedData
   pub capacity : ℕ
 
--- no two have one full name
+-- no two Data have the same full name
 abbrev pub EachOnce : List CachedData → Type 0
 EachOnce [] = Unit {0}
 EachOnce (c ∷ cs) = AllByRecursion (λ d. full_name_of c ≢ full_name_of d) cs × EachOnce cs
 
--- the octets are a Data, with this name, implicit digest and FreshnessPeriod
+-- The octets are a Data with this name, implicit digest and FreshnessPeriod.
 pub record IsCachedData (c : CachedData) : Type 0 where
   pub packet : PlainData
   pub read : IsData c.octets packet
@@ -57,7 +57,7 @@ pub record IsCachedData (c : CachedData) : Type 0 where
   pub digest : c.digest ≡ sha256 c.octets
   pub freshness : c.freshness ≡ packet.freshness
 
--- what is true of every store
+-- What holds of every store.
 pub record IsStore (s : StoreState) : Type 0 where
   pub not_none : 1 ≤ s.capacity
   pub at_most_65536 : s.capacity ≤ MAX_CAPACITY
@@ -65,50 +65,52 @@ pub record IsStore (s : StoreState) : Type 0 where
   pub each_once : EachOnce s.cached
   pub each_data : All IsCachedData s.cached
 
--- fresh while now is less than its arrival plus its FreshnessPeriod; the sum stops at the greatest
--- moment
+-- a Data is fresh while `now` is less than its arrival plus its FreshnessPeriod, a sum that is at
+-- most 2^64 - 1
 abbrev pub IsFreshData : CachedData → ℕ → Type 0
 IsFreshData c now = now < min (c.arrival + c.freshness) (2 ^ 64 - 1)
 
--- it answers the Interest of this key, and is fresh where that has MustBeFresh
+-- the Data answers an Interest of this key and, if the key has MustBeFresh, is fresh
 abbrev pub CanServe : PlainKey → ℕ → CachedData → Type 0
 CanServe key now c =
     Answers c.name c.digest key.name key.can_be_prefix
     × (key.must_be_fresh ≡ true → IsFreshData c now)
 
--- of the cached Data with P, it has the least full name in canonical order
+-- Among the cached Data with the property P, `c` has the least full name in canonical order.
 pub record IsLeast (P : CachedData → Type 0) (cs : List CachedData) (c : CachedData) : Type 0 where
   pub is_cached : Contains cs c
   pub has : P c
   pub none_less : All (λ d. P d → ¬ Less (full_name_of d) (full_name_of c)) cs
 
--- without the one of this full name
+-- the Data whose full names differ from `name`
 abbrev pub without : List Field → List CachedData → List CachedData
 without name cached = filter (λ c. not (eq_by_cmp name_cmp (full_name_of c) name)) cached
 
--- what is left of a list without some, in its order
+-- `after` is `before` with some elements removed, in the same order.
 pub record LosesSome (before after : List CachedData) : Type 0 where
   pub stays : CachedData → Bool
   pub left : after ≡ filter stays before
 
--- with one more, which replaces one of its full name; of the others as many as fit
+-- the store after `c` is added in front: `c` replaces a Data with the same full name, and Data
+-- beyond the capacity are evicted
 abbrev pub with_cached : StoreState → CachedData → StoreState
 with_cached s c = record s {
   cached = take s.capacity (c ∷ without (full_name_of c) s.cached);
 }
 
--- with this one as the most recently used
+-- the store with `c` as the most recently used Data
 abbrev pub with_used : StoreState → CachedData → StoreState
 with_used s c = record s { cached = c ∷ without (full_name_of c) s.cached }
 
--- What a store returns for a key: nothing where nothing can serve it, and else the octets of the
--- least full name that can.
+-- What a store returns for a key: the octets of the Data with the least full name that can serve an
+-- Interest, or nothing if no Data can.
 abbrev pub GivesData : PlainKey → ℕ → List CachedData → Option (List ℕ) → Type 0
 GivesData key now cached None = All (λ c. ¬ CanServe key now c) cached
 GivesData key now cached (Some octets) =
     (c : CachedData) × IsLeast (CanServe key now) cached c × (octets ≡ c.octets)
 
--- The same, and the store afterwards: the Data that it returned is the most recently used.
+-- What a store returns for a key, and the store afterwards: a returned Data becomes the most
+-- recently used.
 abbrev pub Finds : PlainKey → ℕ → StoreState → Option (List ℕ) → StoreState → Type 0
 Finds key now before None after =
     All (λ c. ¬ CanServe key now c) before.cached × (after ≡ before)
@@ -116,8 +118,8 @@ Finds key now before (Some octets) after =
     (c : CachedData) × IsLeast (CanServe key now) before.cached c × (octets ≡ c.octets)
     × (after ≡ with_used before c)
 
--- `stays` marks what is left, in its order. All others were under the name, and are less than each
--- under it that is left.
+-- `stays` marks the Data that are left, in their order. All removed Data were under the name, and
+-- have lesser full names than the Data under it that are left.
 pub record TakesLeast (name : List Field) (before after : List CachedData) (gone : ℕ) : Type 0 where
   pub stays : CachedData → Bool
   pub left : after ≡ filter stays before
@@ -126,7 +128,7 @@ pub record TakesLeast (name : List Field) (before after : List CachedData) (gone
   pub least : All (λ c. stays c ≡ false → All (λ d. IsPrefix name (full_name_of d)
       → Less (full_name_of c) (full_name_of d)) after) before
 
--- What an erase does: at most `count` are removed, and fewer only where none under the name is
+-- What an erase does: it removes at most `count` Data, and fewer only if no Data under the name is
 -- left.
 abbrev pub Erases : List Field → Option ℕ → List CachedData → List CachedData → ℕ → Type 0
 Erases name count before after gone =

@@ -1,4 +1,4 @@
--- The order of use, as serial numbers that lead to places, for private contracts.
+-- The LRU order, as serial numbers that lead to slab indexes, for private contracts.
 use Rattle.std.specs.Prelude.{◌≡◌, ◌⊎◌, ℕ, ◌<◌, ◌≤◌, List, [], ◌∷◌, ◌++◌, length, take, drop, Option, None, Some, nat_eq, slice_index_or, insert}
 use Rattle.std.specs.Option.{option_map}
 use Rattle.std.specs.List.{All, AllByRecursion, IsDistinct}
@@ -15,7 +15,7 @@ abbrev pub with_held : Option CachedData → List CachedData → List CachedData
 with_held None rest = rest
 with_held (Some c) rest = c ∷ rest
 
--- what these serial numbers lead to
+-- the Data that these serial numbers lead to
 unfoldable pub cached_by : (ℕ → Option CachedData) → List (ℕ × ℕ) → List CachedData
 cached_by g [] = []
 cached_by g (u ∷ us) = with_held (g u.1) (cached_by g us)
@@ -26,7 +26,7 @@ held_in rows p = option_map (λ row. row.entry) (lookup (nat_eq p) rows)
 abbrev pub cached_in : List Placed → List (ℕ × ℕ) → List CachedData
 cached_in rows used = cached_by (held_in rows) used
 
--- the serial number leads to what has it
+-- The serial number leads to the row that has this number.
 pub record LeadsTo (rows : List Placed) (u : ℕ × ℕ) : Type 0 where
   pub row : Row
   pub there : lookup (nat_eq u.1) rows ≡ Some row
@@ -41,7 +41,7 @@ pub record Sound (rows : List Placed) (used : List (ℕ × ℕ)) (next : ℕ) : 
   pub long : length rows ≡ length used
   pub each_data : AllByRecursion (λ r. IsCachedData r.1.entry) rows
 
--- what a store is made of
+-- What the fields of a store must satisfy.
 pub record IsHeld (rows : List Placed) (used : LruCache ℕ ℕ) (capacity next : ℕ) : Type 0 where
   pub sound : Sound rows used.entries next
   pub cap : used.cap ≡ capacity
@@ -49,18 +49,18 @@ pub record IsHeld (rows : List Placed) (used : LruCache ℕ ℕ) (capacity next 
   pub low : 1 ≤ capacity
   pub high : capacity ≤ MAX_CAPACITY
 
--- the Data at a place of the list is used
+-- the Data at position `at` becomes the most recently used
 abbrev pub UsesAt : List Placed → LruCache ℕ ℕ → ℕ → LruCache ℕ ℕ → Type 0
 UsesAt rows before at after =
     (d : Placed) → let r = slice_index_or rows at d in after
     ≡ lru_cache (promoted (nat_eq r.1.serial) before.entries) before.cap
 
--- without what was displaced
+-- the rows without the evicted row
 abbrev pub evicted : Option (ℕ × ℕ) → List Placed → List Placed
 evicted None rows = rows
 evicted (Some e) rows = remove_entry (nat_eq e.1) rows
 
--- a row is put before the one at a place of the list, and what lru displaces is removed
+-- A row is inserted before position `at`, and the row that the LRU cache evicts is removed.
 pub record PutsNew (rows : List Placed) (used : LruCache ℕ ℕ) (at : ℕ) (row : Row)
     (rows' : List Placed) (used' : LruCache ℕ ℕ) : Type 0 where
   pub place : ℕ
@@ -71,7 +71,7 @@ pub record PutsNew (rows : List Placed) (used : LruCache ℕ ℕ) (at : ℕ) (ro
       ≡ evicted (displaced nat_eq used row.serial place) (insert rows at (place, row))
   pub valid : IsValidRows rows'
 
--- an entry replaces the one at a place of the list, which is used
+-- An entry replaces the entry at position `at`, and becomes the most recently used.
 pub record Renews (rows : List Placed) (used : LruCache ℕ ℕ) (at : ℕ) (entry : CachedData)
     (rows' : List Placed) (used' : LruCache ℕ ℕ) : Type 0 where
   pub rows_are : (d : Placed) → let r = slice_index_or rows at d in rows'
@@ -79,12 +79,12 @@ pub record Renews (rows : List Placed) (used : LruCache ℕ ℕ) (at : ℕ) (ent
   pub uses : UsesAt rows used at used'
   pub valid : IsValidRows rows'
 
--- without the part from one place up to another
+-- the list without the positions from `start` up to `end`
 abbrev pub without_range : {X : Type 0} → ℕ → ℕ → List X → List X
 without_range start end xs = take start xs ++ drop end xs
 
--- the Data whose full names begin with a name are removed, the least full names first and at most
--- `most`
+-- The Data whose full names begin with a name are removed, at most `most` and the least full names
+-- first.
 pub record TakesUnder (name : List Field) (most : ℕ) (rows : List Placed) (used : LruCache ℕ ℕ)
     (rows' : List Placed) (used' : LruCache ℕ ℕ) (next gone : ℕ) : Type 0 where
   pub sound : Sound rows' used'.entries next

@@ -8,10 +8,11 @@ use crate::places::Places;
 use crate::rows::Row;
 use slab::Slab;
 
-/// The greatest number of rows that a block has before it is halved.
+/// The greatest number of rows in a block. A larger block is split.
 const MAX_BLOCK: usize = 512;
 
-/// Successive places of the list, and a moment from which on no Data there is fresh.
+/// Consecutive positions of the list, from `start` up to `end`, and a moment from which on no Data
+/// there is fresh.
 #[derive(Clone, Copy)]
 pub struct Block {
     pub start: usize,
@@ -19,18 +20,18 @@ pub struct Block {
     pub until: u64,
 }
 
-/// How the list of rows changed.
+/// A change of the list of rows.
 #[derive(Clone, Copy)]
 pub enum Change {
-    /// One came before a place, and is fresh until then.
+    /// A row was inserted before this position, and is fresh until this moment.
     Added(usize, u64),
-    /// One at a place is fresh until another moment.
+    /// The row at this position is now fresh until this moment.
     Renewed(usize, u64),
-    /// Those from a place on, up to another, are removed.
+    /// The rows from the first position up to the second were removed.
     Removed(usize, usize),
 }
 
-/// Where a place is once those between two others are removed.
+/// Returns the new position of `at`, after the positions from `start` up to `end` are removed.
 fn moved(at: usize, start: usize, end: usize) -> usize
     ensures low { at ≤ start → result ≡ at }
     ensures within { start ≤ at → at ≤ end → result ≡ start }
@@ -46,14 +47,15 @@ fn moved(at: usize, start: usize, end: usize) -> usize
 }
 
 impl Block {
-    /// Whether a place is in it.
+    /// Returns whether the block contains a position.
     fn holds(self, at: usize) -> bool
         ensures { IsTrue result ↔ ((self.start ≤ at) × (at < self.end)) }
     {
         self.start <= at && at < self.end
     }
 
-    /// As it is after one came before a place. It takes in what comes at its end.
+    /// Returns the block after a row was inserted before position `at`. The block also takes in a
+    /// row that is inserted at its end.
     fn with(self, at: usize, until: u64) -> Block
         ensures { (rows : List Placed) (row : Placed) → at ≤ length rows
             → fresh_until (held_at row) ≤ until → Bounds rows self
@@ -71,7 +73,7 @@ impl Block {
         Block { end, until, ..self }
     }
 
-    /// As it is after one at a place is fresh until another moment.
+    /// Returns the block after the row at position `at` was renewed.
     fn renewed(self, at: usize, until: u64) -> Block
         ensures { (rows rows' : List Placed) → Follows (changes.Renewed at until) rows rows'
             → Bounds rows self → Bounds rows' result }
@@ -83,7 +85,7 @@ impl Block {
         Block { until, ..self }
     }
 
-    /// As it is after those from a place up to another are removed.
+    /// Returns the block after the rows from `start` up to `end` were removed.
     fn without(self, start: usize, end: usize) -> Block
         ensures { (rows rows' : List Placed) → Follows (changes.Removed start end) rows rows'
             → Bounds rows self → Bounds rows' result }
@@ -95,7 +97,7 @@ impl Block {
         }
     }
 
-    /// As it is after a change.
+    /// Returns the block after a change.
     fn after(self, change: Change) -> Block
         ensures { (rows rows' : List Placed) → Follows change rows rows'
             → Bounds rows self → Bounds rows' result }
@@ -108,7 +110,7 @@ impl Block {
     }
 }
 
-/// Follows a change of the list.
+/// Updates all blocks after a change of the list.
 pub fn follow(blocks: &mut Vec<Block>, change: Change)
     ensures { (rows' : List Placed) → Carries change rows' blocks.old.items blocks.new.items }
 {
@@ -117,13 +119,13 @@ pub fn follow(blocks: &mut Vec<Block>, change: Change)
     }
 }
 
-/// The index of the block of a place.
+/// Returns the index of the block that contains a position.
 fn index_at(blocks: &[Block], at: usize) -> usize {
     blocks.partition_point(|block| block.end <= at)
 }
 
-/// The place to look at after one that cannot serve: with MustBeFresh the next one of which it is
-/// not known that its Data is not fresh.
+/// Returns the next position to look at after the row at `at`, which cannot serve. With
+/// MustBeFresh, skips rows that are known not to be fresh.
 pub fn next_place(blocks: &[Block], at: usize, must_be_fresh: bool, now: u64) -> usize
     requires { at + 1 < 2 ^ 64 }
     ensures after { at < result }
@@ -141,7 +143,7 @@ pub fn next_place(blocks: &[Block], at: usize, must_be_fresh: bool, now: u64) ->
     }
 }
 
-/// The block from a place up to another.
+/// Returns the block of the positions from `start` up to `end`.
 fn block_of(entries: &Slab<Row>, order: &Places, start: usize, end: usize) -> Block
     requires { IsRows (get entries.now) order.now }
     ensures { Bounds (shown (get entries.now) order.now) result }
@@ -154,7 +156,7 @@ fn block_of(entries: &Slab<Row>, order: &Places, start: usize, end: usize) -> Bl
     Block { start, end, until }
 }
 
-/// Makes the first block, if there is memory.
+/// Creates the first block, unless memory runs out.
 fn begin(entries: &Slab<Row>, order: &Places, blocks: &mut Vec<Block>)
     requires { IsRows (get entries.now) order.now }
     ensures { Keeps (shown (get entries.now) order.now) blocks.old.items blocks.new.items }
@@ -164,7 +166,7 @@ fn begin(entries: &Slab<Row>, order: &Places, blocks: &mut Vec<Block>)
     }
 }
 
-/// Halves a block that has become long, if there is memory.
+/// Splits a block that has become too long, unless memory runs out.
 fn halve(entries: &Slab<Row>, order: &Places, blocks: &mut Vec<Block>, index: usize)
     requires { IsRows (get entries.now) order.now }
     ensures { Keeps (shown (get entries.now) order.now) blocks.old.items blocks.new.items }
@@ -184,7 +186,7 @@ fn halve(entries: &Slab<Row>, order: &Places, blocks: &mut Vec<Block>, index: us
     }
 }
 
-/// Looks at a block anew.
+/// Computes the freshness bound of a block anew.
 fn look_again(entries: &Slab<Row>, order: &Places, blocks: &mut Vec<Block>, index: usize)
     requires { IsRows (get entries.now) order.now }
     ensures { Keeps (shown (get entries.now) order.now) blocks.old.items blocks.new.items }
@@ -203,7 +205,7 @@ fn drop_empty(blocks: &mut Vec<Block>)
     blocks.retain(|block| block.start < block.end);
 }
 
-/// Joins a block with the next one where both are short.
+/// Joins a block with the next one if both are short.
 fn join(blocks: &mut Vec<Block>, index: usize)
     ensures { (rows : List Placed) → Keeps rows blocks.old.items blocks.new.items }
 {
@@ -224,7 +226,8 @@ fn join(blocks: &mut Vec<Block>, index: usize)
     };
 }
 
-/// Follows one more before a place, which is fresh until then.
+/// Updates the blocks after a row was inserted before position `at`. The row is fresh until
+/// `until`.
 pub fn add_row(entries: &Slab<Row>, order: &Places, blocks: &mut Vec<Block>, at: usize, until: u64)
     requires { IsRows (get entries.now) order.now }
     ensures { Carries (changes.Added at until) (shown (get entries.now) order.now)
@@ -236,7 +239,7 @@ pub fn add_row(entries: &Slab<Row>, order: &Places, blocks: &mut Vec<Block>, at:
     halve(entries, order, blocks, index);
 }
 
-/// Follows one less at a place, which was fresh until then.
+/// Updates the blocks after the row at position `at` was removed. The row was fresh until `until`.
 pub fn remove_row(
     entries: &Slab<Row>,
     order: &Places,
@@ -265,7 +268,7 @@ pub fn remove_row(
     join(blocks, index);
 }
 
-/// Follows the removal of those from a place up to another.
+/// Updates the blocks after the rows from `start` up to `end` were removed.
 pub fn remove_rows(
     entries: &Slab<Row>,
     order: &Places,

@@ -22,7 +22,7 @@ use std::marker::Model;
 /// A cached Data. Its implicit digest is computed when a comparison needs it.
 #[derive(Drop)]
 pub struct Entry {
-    // The first octets of the name, where it has as many: they decide most comparisons.
+    // The first 32 octets of the name, if it has that many. They decide most comparisons.
     head: Option<[u8; HEAD_LEN]>,
     name: NameBuf,
     octets: Vec<u8>,
@@ -45,7 +45,7 @@ impl Model for Entry {
 }
 
 impl Entry {
-    /// A copy of a Data that arrived at this moment.
+    /// Copies a Data that arrived at this moment.
     pub fn new(alloc: Global, packet: &Data<'_>, arrival: u64) -> Result<Entry, Memory>
         ensures { IfOk result (λ e. e ≡ cached_at packet.now arrival) }
     {
@@ -60,7 +60,7 @@ impl Entry {
         })
     }
 
-    /// Makes it one that arrived at this moment.
+    /// Updates the FreshnessPeriod and the moment of arrival.
     pub fn renew(&mut self, freshness: u64, arrival: u64)
         ensures { self.new ≡ record self.old { freshness = freshness; arrival = arrival } }
     {
@@ -68,7 +68,7 @@ impl Entry {
         self.arrival = arrival;
     }
 
-    /// The octets of the Data.
+    /// Returns the octets of the Data.
     pub fn octets(&self) -> &[u8]
         ensures exact { result.now ≡ self.now.octets }
         ensures digest { self.now.digest ≡ sha256 result.now }
@@ -76,7 +76,7 @@ impl Entry {
         &self.octets
     }
 
-    /// The name of the Data.
+    /// Returns the name of the Data.
     #[inline(always)]
     pub fn name(&self) -> Name<'_>
         ensures { components result ≡ self.now.name }
@@ -95,7 +95,7 @@ impl Entry {
         }
     }
 
-    /// Compares the full name with that of a Data of a name and octets.
+    /// Compares the full name with that of a Data with this name and these octets.
     #[inline(always)]
     pub fn compare_full(&self, name: Name<'_>, octets: &[u8]) -> Ordering
         ensures { result ≡ name_cmp (full_name_of self.now)
@@ -107,7 +107,7 @@ impl Entry {
         }
     }
 
-    /// Whether the full name comes before a name in canonical order.
+    /// Returns whether the full name comes before a name in canonical order.
     #[inline(always)]
     pub fn is_below(&self, name: Name<'_>) -> bool
         ensures { result ≡ is_lt (name_cmp (full_name_of self.now) (components name.entry)) }
@@ -115,14 +115,14 @@ impl Entry {
         self.compare(name).is_lt()
     }
 
-    /// Whether the full name begins with a name.
+    /// Returns whether the full name begins with a name.
     pub fn is_under(&self, name: Name<'_>) -> bool
         ensures { IsTrue result ↔ IsPrefix (components name.entry) (full_name_of self.now) }
     {
         name.is_prefix_of(self.name.view()) || self.compare(name).is_eq()
     }
 
-    /// Whether this is the name or the full name.
+    /// Returns whether `name` is the name or the full name of the Data.
     fn is_named(&self, name: Name<'_>) -> bool
         ensures { IsTrue result ↔ ((components name.entry ≡ self.now.name)
             ⊎ (components name.entry ≡ full_name_of self.now)) }
@@ -130,8 +130,8 @@ impl Entry {
         self.name.view().compare(name).is_eq() || self.compare(name).is_eq()
     }
 
-    /// Whether the full name is near enough behind the name of a key for one like it to serve an
-    /// Interest of this key.
+    /// Returns whether the full name is near the name of a key in canonical order: only near full
+    /// names can serve an Interest of this key.
     #[inline(always)]
     pub fn is_near(&self, key: Key<'_>) -> bool
         ensures { result
@@ -149,7 +149,7 @@ impl Entry {
         }
     }
 
-    /// Whether it can serve an Interest of this key.
+    /// Returns whether the Data can serve an Interest of this key.
     pub fn can_serve(&self, key: Key<'_>, now: u64) -> bool
         ensures { IsTrue result ↔ CanServe (plain_key key.entry) now self.now }
     {
@@ -157,14 +157,14 @@ impl Entry {
         answers && (!key.must_be_fresh || self.is_fresh(now))
     }
 
-    /// When the FreshnessPeriod since the arrival is over.
+    /// Returns the moment at which the FreshnessPeriod after the arrival ends.
     pub fn fresh_until(&self) -> u64
         ensures { result ≡ fresh_until self.now }
     {
         self.arrival.saturating_add(self.freshness)
     }
 
-    /// Whether the FreshnessPeriod since the arrival is not over.
+    /// Returns whether the FreshnessPeriod after the arrival has not ended yet.
     fn is_fresh(&self, now: u64) -> bool
         ensures { IsTrue result ↔ IsFreshData self.now now }
     {

@@ -13,13 +13,13 @@ use ndn_names::component_type::IMPLICIT_SHA256_DIGEST;
 use sha2::{Digest, Sha256};
 use std::cmp::Ordering;
 
-/// The octets of an implicit digest.
+/// The length of an implicit digest, in octets.
 const DIGEST_LEN: u8 = 32;
 
-/// The octets of the head of a name.
+/// The length of the head of a name, in octets.
 pub const HEAD_LEN: usize = 32;
 
-/// The order of two names by their heads, `Equal` where these do not decide.
+/// Compares two names by their heads. Returns `Equal` if the heads do not decide.
 #[inline(always)]
 pub fn compare_heads(head: &Option<[u8; HEAD_LEN]>, other: Name<'_>) -> Ordering
     ensures { (name : List Field) → IfSome head.now (λ h. IsHead name h)
@@ -34,7 +34,7 @@ pub fn compare_heads(head: &Option<[u8; HEAD_LEN]>, other: Name<'_>) -> Ordering
     }
 }
 
-/// Compares the full name of a Data, of this name and these octets, with a name in canonical order.
+/// Compares the full name of a Data, given by its name and octets, with a name in canonical order.
 #[inline(always)]
 pub fn compare_with_name(name: Name<'_>, octets: &[u8], other: Name<'_>) -> Ordering
     ensures { result ≡ name_cmp (full_name (components name.entry) (sha256 octets.now))
@@ -52,7 +52,7 @@ pub fn compare_with_name(name: Name<'_>, octets: &[u8], other: Name<'_>) -> Orde
     }
 }
 
-/// Compares the full names of two Data, each of a name and octets, in canonical order.
+/// Compares the full names of two Data, each given by its name and octets, in canonical order.
 pub fn compare_full_names(
     name: Name<'_>,
     octets: &[u8],
@@ -76,7 +76,8 @@ pub fn compare_full_names(
     }
 }
 
-/// Compares the full name of a Data, of this name and these octets, with any of a longer name.
+/// Compares the full name of a Data, given by its name and octets, with any full name of a longer
+/// name.
 fn compare_longer(name: Name<'_>, octets: &[u8], other: Name<'_>) -> Ordering
     requires { AreShorter name other }
     ensures { (digest : List ℕ) → length digest ≡ 32
@@ -91,7 +92,7 @@ fn compare_longer(name: Name<'_>, octets: &[u8], other: Name<'_>) -> Ordering
     }
 }
 
-/// Compares the component of the implicit digest of a Data with the octets of components.
+/// Compares the octets of a Data's implicit digest component with the octets of other components.
 fn compare_digest(octets: &[u8], rest: &[u8]) -> Ordering
     ensures { result ≡ slice_cmp nat_cmp (digest_octets (sha256 octets.now)) rest.now }
 {

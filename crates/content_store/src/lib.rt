@@ -1,4 +1,4 @@
-//! The Data that a forwarder caches to answer later Interests.
+//! The content store: Data that a forwarder caches to answer later Interests.
 #![tactic(auto)]
 
 mod blocks;

@@ -7,17 +7,17 @@ use ndn_tlv::Memory;
 use std::alloc::Global;
 use std::marker::Model;
 
-/// The greatest number of places that a block has before it is halved.
+/// The greatest number of slab indexes in a block. A larger block is split.
 const MAX_BLOCK: usize = 1024;
 
-/// Successive places of the list, and where in the list they begin.
+/// Consecutive slab indexes of the list, and the position in the list at which they start.
 #[derive(Drop)]
 pub struct Block {
     pub start: usize,
     pub items: Vec<u32>,
 }
 
-/// A list of places of the slab, in blocks, so that a change moves at most the places of one block.
+/// A list of slab indexes, in blocks, so that a change moves only the slab indexes of one block.
 #[derive(Drop)]
 pub struct Places {
     alloc: Global,
@@ -35,8 +35,9 @@ impl Model for Places {
     ghost invariant = { λ p. IsLaid p.blocks.items };
 }
 
-/// The block in which a place of the list is, or is to be inserted. `first` and `last` are a hint:
-/// it is found between these blocks if it is there, and else among all.
+/// Returns the index of the block that contains position `at`, or into which it is to be inserted.
+/// `first` and `last` are a hint: the search covers only the blocks between them if the position is
+/// there, and all blocks otherwise.
 fn block_at(blocks: &[Block], first: usize, last: usize, at: usize) -> usize
     requires laid { IsLaid blocks.now }
     requires some { 0 < length blocks.now }
@@ -62,7 +63,7 @@ fn block_at(blocks: &[Block], first: usize, last: usize, at: usize) -> usize
     low
 }
 
-/// Writes into each block where it begins.
+/// Updates the start position of each block.
 fn lay(blocks: &mut Vec<Block>)
     requires { length (flat blocks.old.items) ≤ 131072 }
     ensures same { flat blocks.new.items ≡ flat blocks.old.items }
@@ -76,7 +77,7 @@ fn lay(blocks: &mut Vec<Block>)
     }
 }
 
-/// Halves a block.
+/// Splits a block into two.
 fn split(alloc: Global, blocks: &mut Vec<Block>, index: usize) -> Result<(), Memory>
     requires laid { IsLaid blocks.old.items }
     requires there { index < length blocks.old.items }
@@ -92,7 +93,7 @@ fn split(alloc: Global, blocks: &mut Vec<Block>, index: usize) -> Result<(), Mem
     Ok(())
 }
 
-/// Makes the first block, or halves the full block where a place is to be inserted.
+/// Creates the first block, or splits the block at position `at` if it is full.
 fn make_room(alloc: Global, blocks: &mut Vec<Block>, at: usize) -> Result<(), Memory>
     requires laid { IsLaid blocks.old.items }
     requires within { at ≤ length (flat blocks.old.items) }
@@ -112,7 +113,7 @@ fn make_room(alloc: Global, blocks: &mut Vec<Block>, at: usize) -> Result<(), Me
     split(alloc, blocks, index)
 }
 
-/// Inserts a place into its block, if there is memory.
+/// Inserts a slab index into its block. Fails if memory runs out.
 fn put(blocks: &mut Vec<Block>, at: usize, place: u32) -> Result<(), Memory>
     requires laid { IsLaid blocks.old.items }
     requires some { 0 < length blocks.old.items }
@@ -130,7 +131,7 @@ fn put(blocks: &mut Vec<Block>, at: usize, place: u32) -> Result<(), Memory>
     Ok(())
 }
 
-/// The places of two blocks.
+/// Returns the slab indexes of two blocks.
 fn joined(alloc: Global, first: &[u32], second: &[u32]) -> Result<Vec<u32>, Memory>
     ensures { IfOk result (λ v. v.items ≡ first.now ++ second.now) }
 {
@@ -139,8 +140,8 @@ fn joined(alloc: Global, first: &[u32], second: &[u32]) -> Result<Vec<u32>, Memo
     Ok(items)
 }
 
-/// Takes a block out that is empty, and joins one with the next one where both are short, and there
-/// is memory.
+/// Removes a block if it is empty. Joins a block with the next one if both are short, unless memory
+/// runs out.
 fn join(alloc: Global, blocks: &mut Vec<Block>, index: usize)
     requires { index < length blocks.old.items }
     ensures { flat blocks.new.items ≡ flat blocks.old.items }
@@ -162,7 +163,7 @@ fn join(alloc: Global, blocks: &mut Vec<Block>, index: usize)
     }
 }
 
-/// Takes a range out of a list.
+/// Removes the range from `start` up to `end` from a list.
 fn cut(items: &mut Vec<u32>, start: usize, end: usize)
     requires ordered { start ≤ end }
     requires within { end ≤ length items.old.items }
@@ -173,7 +174,7 @@ fn cut(items: &mut Vec<u32>, start: usize, end: usize)
     items.truncate(left);
 }
 
-/// Removes from a block the part from a place of the list on, up to another.
+/// Removes the list positions from `start` up to `end` from a block.
 fn cut_block(block: &mut Block, start: usize, end: usize)
     requires { start ≤ end }
     ensures items { block.new.items.items ≡ without_range (start - block.old.start)
@@ -185,7 +186,7 @@ fn cut_block(block: &mut Block, start: usize, end: usize)
     cut(&mut block.items, from, to);
 }
 
-/// Removes from all blocks the part from a place of the list on, up to another.
+/// Removes the list positions from `start` up to `end` from all blocks.
 fn cut_blocks(blocks: &mut Vec<Block>, start: usize, end: usize)
     requires laid { IsLaid blocks.old.items }
     requires ordered { start ≤ end }
@@ -219,7 +220,7 @@ impl Places {
         }
     }
 
-    /// How many there are.
+    /// Returns the length of the list.
     pub fn len(&self) -> usize
         ensures { result ≡ length self.now }
     {
@@ -229,8 +230,9 @@ impl Places {
         }
     }
 
-    /// The slab place at a place of the list, and its block. `first` and `last` are a hint: the
-    /// block is found between these if it is there, and else among all.
+    /// Returns the slab index at position `at` of the list, and the index of its block. `first` and
+    /// `last` are a hint: the search covers only the blocks between them if the position is there,
+    /// and all blocks otherwise.
     pub fn get_between(&self, first: usize, last: usize, at: usize) -> (usize, u32)
         requires { at < length self.now }
         ensures { result.1 ≡ slice_index self.now at }
@@ -240,7 +242,7 @@ impl Places {
         (index, block.items[at - block.start])
     }
 
-    /// The slab place at a place of the list.
+    /// Returns the slab index at position `at` of the list.
     pub fn get(&self, at: usize) -> u32
         requires { at < length self.now }
         ensures { result ≡ slice_index self.now at }
@@ -248,7 +250,7 @@ impl Places {
         self.get_between(0, 0, at).1
     }
 
-    /// Adds one before a place of the list.
+    /// Inserts a slab index before position `at` of the list.
     pub fn insert(&mut self, at: usize, place: u32) -> Result<(), Memory>
         requires within { at ≤ length self.old }
         requires short { length self.old < 131072 }
@@ -259,7 +261,7 @@ impl Places {
         put(&mut self.blocks, at, place)
     }
 
-    /// Removes the one at a place of the list.
+    /// Removes the slab index at position `at` of the list.
     pub fn remove(&mut self, at: usize)
         requires { at < length self.old }
         ensures { self.new ≡ remove self.old at }
@@ -271,7 +273,7 @@ impl Places {
         lay(&mut self.blocks);
     }
 
-    /// Removes those from a place of the list on, up to another.
+    /// Removes the slab indexes at the positions from `start` up to `end`.
     pub fn cut(&mut self, start: usize, end: usize)
         requires ordered { start ≤ end }
         requires within { end ≤ length self.old }
@@ -282,7 +284,7 @@ impl Places {
         lay(&mut self.blocks);
     }
 
-    /// Removes all.
+    /// Removes all slab indexes.
     pub fn clear(&mut self)
         ensures { self.new ≡ [] }
     {

@@ -26,19 +26,19 @@ use slab::Slab;
 use std::alloc::Global;
 use std::marker::Model;
 
-/// A cached Data, and the serial number of its use.
+/// A cached Data, with its serial number in the LRU order.
 #[derive(Drop)]
 pub struct Row {
     pub entry: Entry,
     pub serial: u64,
 }
 
-/// The cached Data, by full name in canonical order.
+/// The cached Data, in canonical order of their full names.
 #[derive(Drop)]
 pub struct Rows {
     entries: Slab<Row>,
     order: Places,
-    // What is known of parts of `order`, for Interests with MustBeFresh.
+    // Moments from which on ranges of `order` have no fresh Data, for Interests with MustBeFresh.
     blocks: Vec<Block>,
 }
 
@@ -56,7 +56,8 @@ impl Model for Rows {
         × AreBounds (shown (get r.entries) r.order) r.blocks.items };
 }
 
-/// Where the first full name that is not less than what is sought is. Each comparison counts.
+/// Returns the position of the first full name that is not less than `sought`. Adds one to `steps`
+/// for each comparison.
 fn lower_bound(entries: &Slab<Row>, order: &Places, sought: Sought<'_>, steps: &mut u64) -> usize
     requires rows { IsRows (get entries.now) order.now }
     requires short { length order.now < 131072 }
@@ -67,7 +68,7 @@ fn lower_bound(entries: &Slab<Row>, order: &Places, sought: Sought<'_>, steps: &
 {
     let mut low = 0;
     let mut high = order.len();
-    // Between these blocks the place is, which makes each next one quick to find.
+    // The position is between these blocks, so that the next lookup is fast.
     let mut first = 0;
     let mut last = usize::MAX;
     while low < high {
@@ -85,7 +86,7 @@ fn lower_bound(entries: &Slab<Row>, order: &Places, sought: Sought<'_>, steps: &
     low
 }
 
-/// Where the first is that can serve an Interest of this key.
+/// Returns the position of the first Data that can serve an Interest of this key.
 fn first_serving(
     entries: &Slab<Row>,
     order: &Places,
@@ -107,7 +108,8 @@ fn first_serving(
     first_from(entries, order, blocks, start, key, now)
 }
 
-/// The place of the first that can serve an Interest of this key, from the place of its name on.
+/// Returns the position of the first Data that can serve an Interest of this key. `start` is the
+/// position of the key's name.
 fn first_from(
     entries: &Slab<Row>,
     order: &Places,
@@ -136,7 +138,7 @@ fn first_from(
     None
 }
 
-/// Whether the row before a place of the list comes before a name.
+/// Returns whether the row before position `at` comes before a name.
 fn is_above(entries: &Slab<Row>, order: &Places, name: Name<'_>, at: usize) -> bool
     requires rows { IsRows (get entries.now) order.now }
     requires within { at ≤ length order.now }
@@ -150,7 +152,7 @@ fn is_above(entries: &Slab<Row>, order: &Places, name: Name<'_>, at: usize) -> b
     entries[order.get(at - 1) as usize].entry.is_below(name)
 }
 
-/// Whether a place of the list is that of a name.
+/// Returns whether `at` is the position of a name.
 fn is_lower(entries: &Slab<Row>, order: &Places, name: Name<'_>, at: usize) -> bool
     requires { IsRows (get entries.now) order.now }
     ensures { IsTrue result
@@ -176,7 +178,7 @@ impl Rows {
         }
     }
 
-    /// Where the first is that can serve an Interest of this key.
+    /// Returns the position of the first Data that can serve an Interest of this key.
     pub fn first_serving(&self, key: Key<'_>, now: u64, steps: &mut u64) -> Option<usize>
         requires short { length self.now < 131072 }
         requires room { steps.old ≤ 2 ^ 64 - 1 - 17 }
@@ -187,7 +189,7 @@ impl Rows {
         first_serving(&self.entries, &self.order, &self.blocks, key, now, steps)
     }
 
-    /// The place of the name of a key, if some Data can serve an Interest of this key.
+    /// Returns the position of a key's name, if some Data can serve an Interest of this key.
     pub fn start_for(&self, key: Key<'_>, now: u64) -> Option<usize>
         requires { length self.now < 131072 }
         ensures { MatchOption result (FirstWith (CanServe (plain_key key.entry) now) self.now None)
@@ -200,8 +202,8 @@ impl Rows {
         }
     }
 
-    /// The place of the first that can serve an Interest of this key. `place` may be that of its
-    /// name.
+    /// Returns the position of the first Data that can serve an Interest of this key. `place` may
+    /// be the position of the key's name.
     pub fn first_at(&self, place: usize, key: Key<'_>, now: u64) -> Option<usize>
         requires { length self.now < 131072 }
         ensures { FirstWith (CanServe (plain_key key.entry) now) self.now result }
@@ -214,7 +216,7 @@ impl Rows {
         first_from(&self.entries, &self.order, &self.blocks, start, key, now)
     }
 
-    /// How many there are. All that is true of them.
+    /// Returns the number of rows. The contract also states what holds of all rows.
     pub fn len(&self) -> usize
         ensures len { result ≡ length self.now }
         ensures valid { IsValidRows self.now }
@@ -222,7 +224,7 @@ impl Rows {
         self.order.len()
     }
 
-    /// The row at a place of the list.
+    /// Returns the row at position `at` of the list.
     pub fn row(&self, at: usize) -> &Row
         requires { at < length self.now }
         ensures { (d : Placed) → (slice_index_or self.now at d).1 ≡ result.now }
@@ -230,7 +232,7 @@ impl Rows {
         &self.entries[self.order.get(at) as usize]
     }
 
-    /// Removes all.
+    /// Removes all rows.
     pub fn clear(&mut self)
         ensures { self.new ≡ [] }
     {
@@ -239,7 +241,7 @@ impl Rows {
         self.blocks.clear();
     }
 
-    /// The place of what is sought, or the place to insert it at.
+    /// Returns the position of `sought`, or the position at which to insert it.
     pub fn place_for(&self, sought: Sought<'_>) -> usize
         requires { length self.now < 131072 }
         ensures { IsLower (sought_name sought.entry) self.now result }
@@ -248,7 +250,8 @@ impl Rows {
         lower_bound(&self.entries, &self.order, sought, &mut steps)
     }
 
-    /// Whether the Data at a place of the list has the full name of a Data of a name and octets.
+    /// Returns whether the Data at position `at` has the full name of a Data with this name and
+    /// these octets.
     pub fn is_full(&self, at: usize, name: Name<'_>, octets: &[u8]) -> bool
         ensures yes { IsTrue result → (at < length self.now)
             × ((d : Placed) → name_at (slice_index_or self.now at d)
@@ -263,7 +266,7 @@ impl Rows {
         self.row(at).entry.compare_full(name, octets).is_eq()
     }
 
-    /// Adds a row before the one at a place of the list. Returns its place in the slab.
+    /// Inserts a row before position `at` of the list. Returns its slab index.
     pub fn insert(&mut self, at: usize, row: Row) -> Result<u32, Memory>
         requires within { at ≤ length self.old }
         requires short { length self.old < 131072 }
@@ -287,7 +290,7 @@ impl Rows {
         }
     }
 
-    /// Makes the Data at a place of the list one that arrived at this moment.
+    /// Updates the FreshnessPeriod and the moment of arrival of the Data at position `at`.
     pub fn renew(&mut self, at: usize, freshness: u64, arrival: u64)
         requires { at < length self.old }
         ensures rows { (d : Placed) → let r = slice_index_or self.old at d in self.new
@@ -303,7 +306,7 @@ impl Rows {
         follow(&mut self.blocks, Change::Renewed(at, entry.fresh_until()));
     }
 
-    /// Removes the row at a place of the slab.
+    /// Removes the row at slab index `place`.
     pub fn forget(&mut self, place: u32)
         requires short { length self.old < 131072 }
         requires there { IsSome (lookup (nat_eq place) self.old) }
@@ -317,8 +320,8 @@ impl Rows {
         remove_row(&self.entries, &self.order, &mut self.blocks, at, until);
     }
 
-    /// Removes what begins with a name, the least full names first and at most `most`, and their
-    /// serial numbers. Returns how many.
+    /// Removes at most `most` Data whose full names begin with a name, the least full names first,
+    /// and their serial numbers. Returns the number of removed Data.
     pub fn remove_under(&mut self, used: &mut LruCache<u64, u32>, name: Name<'_>, most: u64) -> u64
         requires { length self.old < 131072 }
         ensures { (next : ℕ) → Sound self.old used.old.entries next
@@ -333,8 +336,8 @@ impl Rows {
     }
 }
 
-/// Removes from the slab and from `used` what begins with a name, from a place of the list on and
-/// at most `most`. Returns the place behind the last of them.
+/// Removes from the slab and from `used` at most `most` Data whose full names begin with a name,
+/// starting at a position of the list. Returns the position after the last of them.
 fn remove_under(
     entries: &mut Slab<Row>,
     used: &mut LruCache<u64, u32>,
@@ -366,7 +369,7 @@ fn remove_under(
     order.len()
 }
 
-/// Puts a row into the slab. Returns its place there.
+/// Puts a row into the slab. Returns its slab index.
 fn hold(entries: &mut Slab<Row>, row: Row) -> Result<u32, Memory>
     ensures vacant { IfOk result (λ p. get entries.old p ≡ None) }
     ensures held { IfOk result (λ p. get entries.new p ≡ Some row) }
@@ -383,7 +386,7 @@ fn hold(entries: &mut Slab<Row>, row: Row) -> Result<u32, Memory>
     }
 }
 
-/// Where in the list a place of the slab is.
+/// Returns the list position of the slab index `place`.
 fn index_of(entries: &Slab<Row>, order: &Places, place: u32) -> usize
     requires rows { IsRows (get entries.now) order.now }
     requires short { length order.now < 131072 }

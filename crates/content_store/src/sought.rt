@@ -7,16 +7,16 @@ ghost use Rattle.content_store.specs.Sought.{sought_name};
 use crate::entry::Entry;
 use ndn_names::Name;
 
-/// The name for which a halving seeks the place.
+/// The name that a binary search looks for.
 #[derive(Clone, Copy)]
 pub enum Sought<'a> {
     /// A name.
     Named(Name<'a>),
-    /// The full name of a Data of this name and these octets.
+    /// The full name of a Data with this name and these octets.
     Full(Name<'a>, &'a [u8]),
 }
 
-/// Whether the full name of an entry comes before what is sought.
+/// Returns whether the full name of an entry comes before the name `sought`.
 #[inline(always)]
 pub fn is_below(entry: &Entry, sought: Sought<'_>) -> bool
     ensures { result ≡ is_lt (name_cmp (full_name_of entry.now) (sought_name sought.entry)) }

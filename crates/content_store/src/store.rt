@@ -30,14 +30,15 @@ pub fn store_limits_are_as_promised()
     ensures { MAX_CAPACITY ≡ 65536 }
 {}
 
-/// Data that answer later Interests (NFD Developer's Guide, "Content Store"). It caches one of each
-/// full name, and at most as many as its capacity; the least recently used is evicted first.
+/// A content store: Data that answer later Interests (NFD Developer's Guide, "Content Store"). It
+/// caches each full name once, and at most `capacity` Data. When it is full, the least recently
+/// used Data is evicted.
 #[derive(Drop)]
 pub struct Store {
     alloc: Global,
     capacity: usize,
     rows: Rows,
-    // Places of rows by serial numbers; the least recently used is evicted first.
+    // The slab indexes of rows by serial number. The least recently used row is evicted first.
     used: LruCache<u64, u32>,
     next: u64,
 }
@@ -62,8 +63,8 @@ impl Store {
     ghost use Rattle.std.specs.Borrow.{sem};
     ghost use Rattle.content_store.specs.Lending.{EndsWith};
 
-    /// An empty store of at most `capacity` Data, from 1 to 65,536: `BadCapacity` for any other
-    /// capacity, and else `Memory` when memory runs out.
+    /// Creates an empty store for at most `capacity` Data. Returns `BadCapacity` unless `capacity`
+    /// is from 1 to 65,536, and `Memory` if memory runs out.
     pub fn new(alloc: Global, capacity: usize) -> Result<Store, StoreFault>
         ensures ok { IfOk result (λ s. s ≡ record { cached = []; capacity = capacity }) }
         ensures store { IfOk result IsStore }
@@ -88,14 +89,14 @@ impl Store {
         })
     }
 
-    /// The greatest number of Data that it caches.
+    /// Returns the greatest number of Data that the store can cache.
     pub fn capacity(&self) -> usize
         ensures { result ≡ self.now.capacity }
     {
         self.capacity
     }
 
-    /// The number of Data that it has cached.
+    /// Returns the number of cached Data.
     pub fn len(&self) -> usize
         ensures exact { result ≡ length self.now.cached }
         ensures store { IsStore self.now }
@@ -103,19 +104,19 @@ impl Store {
         self.rows.len()
     }
 
-    /// Whether it is empty.
+    /// Returns whether the store is empty.
     pub fn is_empty(&self) -> bool
         ensures { IsTrue result ↔ (self.now.cached ≡ []) }
     {
         self.len() == 0
     }
 
-    /// Caches a Data that arrived at this moment, in milliseconds since 1970, in place of one of
-    /// the same full name, and as the most recently used. If there was none and the store is full,
-    /// the least recently used is evicted. A Data that is cached already needs no memory, and is
-    /// not refused. Returns false, and leaves the store as it was, when memory runs out, and where
-    /// a cached Data of this full name has other octets. After 2^64 - 1 full names, the next new
-    /// one empties the store instead, and false is returned.
+    /// Caches a Data that arrived at `arrival`, in milliseconds since 1970, as the most recently
+    /// used. It replaces a cached Data with the same full name. If there is none and the store is
+    /// full, the least recently used Data is evicted. A Data that is already cached needs no
+    /// memory, and is not refused. Returns false and leaves the store unchanged if memory runs out,
+    /// or if a cached Data with the same full name has other octets. After 2^64 - 1 full names, the
+    /// next new one empties the store instead, and the result is false.
     pub fn put(&mut self, packet: &Data<'_>, arrival: u64) -> bool
         ensures ok { IsTrue result
             → self.new ≡ with_cached self.old (cached_at packet.now arrival) }
@@ -152,9 +153,9 @@ impl Store {
         true
     }
 
-    /// The octets of the Data that an Interest of this key gets at this moment, in milliseconds
-    /// since 1970: the least full name that answers and, with MustBeFresh, whose period since its
-    /// arrival is not over. It is then the most recently used.
+    /// Returns the octets of the Data with the least full name that answers an Interest of this
+    /// key. With MustBeFresh, only Data count whose FreshnessPeriod after the arrival has not ended
+    /// at `now`, in milliseconds since 1970. The returned Data becomes the most recently used.
     pub fn find(&mut self, key: Key<'_>, now: u64) -> Option<&[u8]>
         ensures found { GivesData (plain_key key.entry) now self.old.cached
             (option_map (λ o. o.now) result) }
@@ -169,8 +170,8 @@ impl Store {
         Some(self.rows.row(at).entry.octets())
     }
 
-    /// As `find`. Each comparison of the halving that seeks the first full name not less than the
-    /// Interest's name adds one to `steps`, at most 17.
+    /// Returns what `find` returns. Each comparison of the binary search for the first full name
+    /// not less than the Interest's name adds one to `steps`, at most 17.
     pub fn find_counted(&mut self, key: Key<'_>, now: u64, steps: &mut u64) -> Option<&[u8]>
         requires { steps.old ≤ 2 ^ 64 - 1 - 17 }
         ensures found { GivesData (plain_key key.entry) now self.old.cached
@@ -187,7 +188,8 @@ impl Store {
         Some(self.rows.row(at).entry.octets())
     }
 
-    /// A place for `serve_at`, where `find` would give something for this key at this moment.
+    /// Returns a position for `serve_at`, if `find` would return a Data for this key at this
+    /// moment.
     pub fn place_for(&self, key: Key<'_>, now: u64) -> Option<usize>
         ensures { MatchOption result
             (All (λ c. ¬ CanServe (plain_key key.entry) now c) self.now.cached)
@@ -197,8 +199,8 @@ impl Store {
         self.rows.start_for(key, now)
     }
 
-    /// As `find`, without its halving where `place_for` gave this place for this key, and the store
-    /// is as it was then.
+    /// Returns what `find` returns, but without a binary search if `place` is what `place_for`
+    /// returned for this key, and the store has not changed since.
     pub fn serve_at(&mut self, place: usize, key: Key<'_>, now: u64) -> Option<&[u8]>
         ensures found { GivesData (plain_key key.entry) now self.old.cached
             (option_map (λ o. o.now) result) }
@@ -212,8 +214,8 @@ impl Store {
         Some(self.rows.row(at).entry.octets())
     }
 
-    /// Erases Data whose full names begin with a name, the least full names first, at most `count`,
-    /// and returns how many.
+    /// Removes at most `count` Data whose full names begin with a name, the least full names first.
+    /// Returns the number of removed Data.
     pub fn erase(&mut self, name: Name<'_>, count: Option<u64>) -> u64
         ensures erased { Erases (components name.entry) count
             self.old.cached self.new.cached result }
@@ -225,8 +227,9 @@ impl Store {
     }
 }
 
-/// Renews the Data of this full name, as one that arrived at this moment. It is then the most
-/// recently used, and its serial number stays. Returns false where its octets are others.
+/// Renews the cached Data at position `at`, which has the full name of `packet`, as one that
+/// arrived at `arrival`. It becomes the most recently used, and keeps its serial number. Returns
+/// false and changes nothing if the cached octets differ from those of `packet`.
 fn put_same(
     rows: &mut Rows,
     used: &mut LruCache<u64, u32>,
@@ -253,7 +256,7 @@ fn put_same(
     true
 }
 
-/// Makes the Data at a place of the list the most recently used.
+/// Makes the Data at position `at` of the list the most recently used.
 fn promote(rows: &Rows, used: &mut LruCache<u64, u32>, at: usize)
     requires { at < length rows.now }
     ensures { UsesAt rows.now used.old at used.new }
@@ -261,8 +264,8 @@ fn promote(rows: &Rows, used: &mut LruCache<u64, u32>, at: usize)
     used.promote(&rows.row(at).serial);
 }
 
-/// Puts a row before the one at a place of the list. What is displaced is removed. When memory runs
-/// out, nothing changes.
+/// Inserts a row before position `at` of the list, and removes the row that is evicted, if any. If
+/// memory runs out, nothing changes.
 fn put_new(rows: &mut Rows, used: &mut LruCache<u64, u32>, at: usize, row: Row) -> bool
     requires sound { Sound rows.old used.old.entries row.serial }
     requires short { length rows.old ≤ 65536 }

@@ -1,6 +1,6 @@
-//! Puts a million names into a map, removes each again as the 64th after it comes, and prints what
-//! is left. By the map's invariant a node without a value and without children is removed, so a map
-//! without names has no node.
+//! Puts a million names into a map, removes each name after 64 further names were put in, and
+//! prints how many names remain. By the map's invariant, a node without a value and without
+//! children is removed, so a map without names has no node.
 #![tactic(auto)]
 
 use name_trie::NameMap;
@@ -13,10 +13,11 @@ use std::io;
 /// The number of names.
 const NAMES: u64 = 1_000_000;
 
-/// The number of the latest names that stay in the map.
+/// How many of the latest names stay in the map.
 const STANDING: u64 = 64;
 
-/// The name of a number: of 4,096 that follow one another all have the same first component.
+/// Returns the name for a number. The names of 4,096 consecutive numbers have the same first
+/// component.
 fn name_of(alloc: Global, number: u64) -> Result<NameBuf, Memory> {
     let mut name = NameBuf::new(alloc);
     for part in [number / 4096, number % 4096] {
@@ -26,8 +27,8 @@ fn name_of(alloc: Global, number: u64) -> Result<NameBuf, Memory> {
     Ok(name)
 }
 
-/// Puts a name in and removes the one `STANDING` names before it. Returns the number left in the
-/// map.
+/// Puts a name into the map, and removes the name that was put in `STANDING` names earlier. Returns
+/// how many names the map then has.
 fn put_and_remove(alloc: Global, names: &mut NameMap<u64>, number: u64) -> Result<usize, Memory> {
     let name = name_of(alloc, number)?;
     if names.len() < usize::MAX {
@@ -39,8 +40,8 @@ fn put_and_remove(alloc: Global, names: &mut NameMap<u64>, number: u64) -> Resul
     Ok(names.len())
 }
 
-/// Puts all names in and removes them. Returns the greatest number left after one, and the number
-/// left at the end.
+/// Puts all names into the map and removes them. Returns the greatest number of names that the map
+/// had after a removal, and the number that it has at the end.
 fn rounds(alloc: Global) -> Result<(usize, usize), Memory> {
     let mut names = NameMap::new(alloc);
     let mut most = 0;

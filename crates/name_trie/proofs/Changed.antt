@@ -1,4 +1,4 @@
--- What a change of a trie's nodes does to walks and look-ups.
+-- The effect of a change of a trie's nodes on walks and lookups.
 use Rattle.std.proofs.Common.{◌≡◌, ◌≢◌, ◌≤◌, ℕ, true, false, cond, List, [], ◌∷◌, ◌++◌, length, refl, sym, ap, subst, ◌∙◌, arith, eqb, ◌⊎◌, inl, inr}
 use Rattle.std.specs.Prelude.{Option, None, Some, reverse, IsSome, Result, Ok, Err, IfOk, OnOk, OnErr}
 use Rattle.std.specs.Option.{option_and_then, option_map}
@@ -18,7 +18,7 @@ use Rattle.name_trie.specs.Changes.{Joins, Starts, Cuts, IsBare, Sets, Turns, La
 use Rattle.name_trie.proofs.Revised.{equal, get-revise}
 use Rattle.name_trie.proofs.Walks.{walk_none}
 
--- ---- a key, where it is not k
+-- ---- an index, unless it is k
 
 pub unless_is_self : (k : ℕ) → unless_is k k ≡ None
 unless_is_self k = ap (λ b. cond b None (Some k)) (eq-eqb k k refl)
@@ -38,7 +38,7 @@ unless_some k (Some i) j e =
       | false ↦ λ t e. (e, λ is. let same : i ≡ k = (let one : i ≡ j = cc in one ∙ is) in eqb-false i k t same)
     ] refl e
 
--- whether a key is k
+-- whether an index is k
 pub same_or : (j k : ℕ) (P : Type 0) → (j ≡ k → P) → (j ≢ k → P) → P
 same_or j k P same other =
     elim (eqb j k) as (λ b. eqb j k ≡ b → P) [
@@ -95,7 +95,7 @@ module _ {V : Type 0} (h : Heap V) where
     live_climb [] k e = (None, sound.top k e)
     live_climb (c ∷ p) k e = (let a = down_some (climb root p) c k e in (Some a.0, sound.back a.0 c k a.2))
 
-    -- a node that a name leads to is there
+    -- a node that a name leads to exists
     pub live : (p : List Field) (k : ℕ) → walk h root p ≡ Some k → (u : Option ℕ) × (up h k ≡ Some u)
     live p k e = live_climb (reverse p) k (sym (climb_is root (reverse p)) ∙ ap (walk h root) (reverse-reverse p) ∙ e)
 
@@ -106,7 +106,7 @@ module _ {V : Type 0} (h : Heap V) where
         let way = sound.reach k up_k.0 up_k.1 in
         subst (λ (q : List Field). length q ≤ 64) (one_walk way.0 p k way.2 e) way.1
 
--- ---- a node that holds nothing, there or not
+-- ---- a node without a value and children, present or absent
 
 module _ {V : Type 0} (k : ℕ) (h : Heap V) (root : Option ℕ) (h' : Heap V) (root' : Option ℕ) (lacks : Lacks k h root h' root') where
   down_lacks : (o : Option ℕ) (c : Field) → down h' (unless k o) c ≡ unless k (down h o c)
@@ -130,11 +130,11 @@ module _ {V : Type 0} (k : ℕ) (h : Heap V) (root : Option ℕ) (h' : Heap V) (
   pub walks_lacking : (q : List Field) → walk h' root' q ≡ unless k (walk h root q)
   walks_lacking q = ap (λ o. walk h' o q) lacks.roots ∙ walk_lacks root q
 
-  -- a node that holds nothing is no value's
+  -- removing a node without a value changes no lookup
   pub lookups_lacking : SameLookups h root h' root'
   lookups_lacking q = ap (option_and_then (value h')) (walks_lacking q) ∙ value_lacks (walk h root q)
 
-  -- what a name led to, it leads to still, but for k
+  -- every walk that ends at a node other than k still ends there
   pub walks_kept : (q : List Field) (j : ℕ) → j ≢ k → walk h root q ≡ Some j → walk h' root' q ≡ Some j
   walks_kept q j ne e = walks_lacking q ∙ ap (unless k) e ∙ unless_is_other k j ne
 
@@ -228,14 +228,14 @@ module _ {V : Type 0} (k at : ℕ) (c : Field) (h h' : Heap V) (joins : Joins k 
       (λ not_at. ap (option_map (λ n. n.parent)) (joins.others a not_k not_at))
 
   module _ (root : Option ℕ) (sound : Sound h root) (absent : child h at c ≡ None) where
-    -- no link led to k
+    -- no link led to k before
     unlinked : (a : ℕ) (d : Field) → child h a d ≢ Some k
     unlinked a d e = (let low = sound.back a d k e in let none = up_none in cc)
 
     rootless : root ≢ Some k
     rootless e = (let high = sound.top k e in let none = up_none in cc)
 
-    -- the links that there are now
+    -- the links after the child is added
     child_now : (a : ℕ) (d : Field) (j : ℕ) → child h' a d ≡ Some j → ((a ≡ at) × (d ≡ c) × (j ≡ k)) ⊎ (child h a d ≡ Some j)
     child_now a d j e =
         same_or a k _
@@ -338,7 +338,7 @@ module _ {V : Type 0} (k : ℕ) (h h' : Heap V) (starts : Starts k h h') (sound 
         (λ ne. absurd (let way = sound.reach j u (sym (started_up j ne) ∙ e) in let none = walk_none h way.0 in cc));
   }
 
--- ---- a node that holds nothing is cut off
+-- ---- a node without a value and children is removed
 
 module _ {V : Type 0} (k : ℕ) (o : Option ℕ) (h h' : Heap V) (root : Option ℕ) (cuts : Cuts k o h h') (sound : Sound h root) (bare : IsBare h k) where
   cut_children : Node V → Node V
@@ -386,7 +386,7 @@ module _ {V : Type 0} (k : ℕ) (o : Option ℕ) (h h' : Heap V) (root : Option 
         (λ apart. ap (option_map (λ n. n.parent)) (cuts.others a ne apart));
   }
 
--- ---- for callers
+-- ---- lemmas for callers
 
 pub same_heap : {V : Type 0} (h h' : Heap V) → ((j : ℕ) → h' j ≡ h j) → h' ≡ h
 same_heap h h' e = λ i j. e j i
@@ -394,7 +394,7 @@ same_heap h h' e = λ i j. e j i
 pub some_along : {X : Type 0} (o p : Option X) → o ≡ p → IsSome p → IsSome o
 some_along {X} o p e some = subst (λ (r : Option X). IsSome r) (sym e) some
 
--- where a walk ends at a node, it begins at one
+-- a walk that ends at a node begins at a node
 pub begins : {V : Type 0} (h : Heap V) (o : Option ℕ) (q : List Field) → IsSome (walk h o q) → IsSome o
 begins h None q some = some_along None (walk h None q) (sym (walk_none h q)) some
 begins h (Some k) q some = refl

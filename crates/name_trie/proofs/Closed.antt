@@ -1,4 +1,4 @@
--- Nodes whose values change, each by itself.
+-- Changes of single nodes' values.
 use Rattle.std.proofs.Common.{◌≡◌, ◌≢◌, ℕ, ◌+◌, ◌-◌, ◌≤◌, true, false, cond, List, [], ◌∷◌, length, refl, sym, ap, ◌∙◌, arith}
 use Rattle.std.specs.Prelude.{Option, None, Some, IsSome, is_some, is_none, ◌&&◌}
 use Rattle.std.specs.Option.{option_and_then, option_map}
@@ -17,7 +17,7 @@ use Rattle.name_trie.proofs.Counts.{len_fewer, len_set, not_empty as not_zero}
 use Rattle.name_trie.proofs.Changed.{same_or, one_walk, set_turns, there_by_up}
 use Rattle.name_trie.proofs.Walks.{get-table, get-table_long, same_table, put_table, remove_table, by_length}
 
--- a node that has a value is there
+-- a node that has a value exists
 pub up_of : {V : Type 0} (o : Option (Node V)) (x : V) → option_and_then (λ n. n.value) o ≡ Some x → (u : Option ℕ) × (option_map (λ n. n.parent) o ≡ Some u)
 up_of None x e = absurd cc
 up_of (Some n) x e = (n.parent, refl)
@@ -25,7 +25,7 @@ up_of (Some n) x e = (n.parent, refl)
 pub up_there : {V : Type 0} (f : Heap V) (j : ℕ) → IsSome (f j) → (u : Option ℕ) × (up f j ≡ Some u)
 up_there {V} f j some = elim (f j) as (λ (o : Option (Node V)). IsSome o → (u : Option ℕ) × (option_map (λ n. n.parent) o ≡ Some u)) [ None ↦ λ e. absurd cc | (Some n) ↦ λ e. (n.parent, refl) ] some
 
--- a value that changes twice
+-- two successive changes of one value
 pub turned_twice : {V : Type 0} (k : ℕ) (v w : Option V) (h h1 h2 : Heap V) → Turns k v h h1 → Turns k w h1 h2 → Turns k w h h2
 turned_twice k v w h h1 h2 first second = record {
   links = λ a c. second.links a c ∙ first.links a c;
@@ -69,7 +69,7 @@ module _ {V : Type 0} (k : ℕ) (v : Option V) (h h' : Heap V) (turns : Turns k 
               cc)
         ] refl
 
-    -- a value that is none stays none
+    -- a node without a value stays without one
     pub unturned : value h k ≡ None → v ≡ None → (q : List Field) → lookup h' root q ≡ lookup h root q
     unturned was now q =
         ap (option_and_then (value h')) (walk_same root q) ∙ stays (walk h root q)
@@ -78,7 +78,7 @@ module _ {V : Type 0} (k : ℕ) (v : Option V) (h h' : Heap V) (turns : Turns k 
         stays None = refl
         stays (Some j) = same_or j k (value h' j ≡ value h j) (λ e. ap (value h') e ∙ turns.here ∙ now ∙ sym (ap (value h) e ∙ was)) (λ ne. turns.others j ne)
 
-    -- how many names have a value then
+    -- the number of names with a value after the change
     pub count_turned : (change : V → Option V) → v ≡ option_and_then change (value h k)
         → len (table_of h' root) + cond (is_some (value h k) && is_none v) 1 0 ≡ len (table_of h root)
     count_turned change is =
@@ -112,7 +112,7 @@ module _ {V : Type 0} (k : ℕ) (v : Option V) (h h' : Heap V) (turns : Turns k 
         bare = sym (turns.others j ne) ∙ bare.bare;
       }
 
--- a value that is set, as one that changes
+-- setting a node's value is a special case of changing it
 module _ {V : Type 0} (k : ℕ) (v : Option V) (h h' : Heap V) (sets : Sets k v h h') (root : Option ℕ) where
   pub walk_set : (q : List Field) → walk h' root q ≡ walk h root q
   walk_set = walk_turned k v h h' (set_turns k v h h' sets) root
@@ -124,14 +124,14 @@ module _ {V : Type 0} (k : ℕ) (v : Option V) (h h' : Heap V) (sets : Sets k v 
     pub lookup_set : (name : List Field) → walk h root name ≡ Some k → (q : List Field) → lookup h' root q ≡ cond (eq_by_cmp name_cmp q name) v (lookup h root q)
     lookup_set = lookup_turned k v h h' (set_turns k v h h' sets) root sound
 
--- a table in which one name has this value, or none
+-- the table in which `name` has the value `v`, or none
 pub with_value_table : {V : Type 0} (h h' : Heap V) (root root' : Option ℕ) (name : List Field) (v : Option V) → length name ≤ 64
     → ((q : List Field) → lookup h' root' q ≡ cond (eq_by_cmp name_cmp q name) v (lookup h root q))
     → table_of h' root' ≡ with_value (table_of h root) name v
 with_value_table h h' root root' name None le is = remove_table h h' root root' name le is
 with_value_table h h' root root' name (Some x) le is = put_table h h' root root' name x le is
 
--- each value is changed, or gone
+-- every value is changed or removed
 module _ {V : Type 0} (change : V → Option V) (h h' : Heap V) (root root' : Option ℕ) where
   pub revise_table : ((q : List Field) → lookup h' root' q ≡ option_and_then change (lookup h root q)) → table_of h' root' ≡ revise change (table_of h root)
   revise_table is = same_map name_cmp-total name_cmp-antisymmetric _ _ (λ q.

@@ -1,4 +1,4 @@
--- How many names have a value.
+-- The number of names that have a value.
 use Rattle.std.proofs.Common.{◌≡◌, ◌≢◌, ◌+◌, ◌-◌, true, false, cond, List, refl, sym, ap, ◌∙◌}
 use Rattle.std.specs.Prelude.{Option, None, Some, is_some, is_none}
 use Rattle.std.specs.Option.{option_map}

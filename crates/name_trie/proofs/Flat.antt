@@ -1,4 +1,4 @@
--- A map from names to rows, as a map from keys: what it finds, and how many keys it has.
+-- Flattening a map from names to rows into a map from keys: its lookups, and its number of keys.
 use Rattle.std.proofs.Common.{◌≡◌, ℕ, suc, ◌+◌, Bool, true, false, cond, List, [], ◌∷◌, ◌++◌, map, length, refl, sym, ap, subst, ◌∙◌, arith, length-append}
 use lib.Dec.{T}
 use Rattle.std.specs.Prelude.{Option, None, Some, ◌&&◌}
@@ -32,7 +32,7 @@ no_row : {X : Type 0} (b : Bool) → ◌≡◌ {A = Option X} None (cond b None 
 no_row true = refl
 no_row false = refl
 
--- keys are pairs of a name and a rest, in lexicographic order
+-- a key is a name and a rest, compared in lexicographic order
 pub record MakesKeys {N F K : Type 0} (R : N → N → Ordering) (S : F → F → Ordering) (Q : K → K → Ordering) (key : N → F → K) (name : K → N) (rest : K → F) : Type 0 where
   pub ties : (k : K) (n : N) (f : F) → eq_by_cmp Q k (key n f) ≡ (eq_by_cmp R (name k) n && eq_by_cmp S (rest k) f)
   pub by_name : (n m : N) (f g : F) → R n m ≡ Less → Q (key n f) (key m g) ≡ Less
@@ -89,7 +89,7 @@ module _ {N F K X : Type 0} {R : N → N → Ordering} {S : F → F → Ordering
         or_none None = refl
         or_none (Some x) = refl
 
-    -- what stands under a key is what its name's row has
+    -- the value under a key is the value in the row of the key's name
     pub get-flatten : (t : FinMap R (FinMap S X)) (k : K) → get (flatten Q key t) k ≡ option_and_then (λ r. get r (rest k)) (get t (name k))
     unfolding flatten
     get-flatten t k =
@@ -106,7 +106,7 @@ module _ {N F K X : Type 0} {R : N → N → Ordering} {S : F → F → Ordering
       length-append (row e.0 (entries e.1)) (flat key es)
       ∙ (λ i. (length-map_row e.0 (entries e.1) ∙ sym (len-entries e.1)) i + length_flat es i)
 
-  -- there are as many keys as the rows have entries
+  -- the number of keys is the total number of entries in the rows
   pub len-flatten : (t : FinMap R (FinMap S X)) → len (flatten Q key t) ≡ total (λ r. len r) (entries t)
   unfolding flatten
   len-flatten t =
@@ -116,7 +116,7 @@ pub below_less : {K X : Type 0} {R : K → K → Ordering} → IsTotalOrder R �
 below_less o x y [] p h = tt
 below_less {R = R} o x y (e ∷ es) p h = both_of _ _ (less_so (R x e.0) (o.trans x y e.0 p (is_less _ (first_of _ _ h)))) (below_less o x y es p (second_of _ _ h))
 
--- ---- the sizes of all values, when one changes
+-- ---- the total size of all values after one of them changes
 
 module _ {N V : Type 0} {R : N → N → Ordering} (order : IsTotalOrder R) (anti : IsAntisymmetric R) (size : V → ℕ) where
   pub total_put : (k : N) (v : V) (es : List (N × V)) → T (is_sorted R es) → total size (put R k v es) + size_of size (find R k es) ≡ total size es + size v
@@ -128,11 +128,11 @@ module _ {N V : Type 0} {R : N → N → Ordering} (order : IsTotalOrder R) (ant
         | Greater ↦ λ _. omega (arith, total_put k v es (second_of _ _ h))
       ] refl
 
-  -- the sizes of all, where one name has this value
+  -- the total size after a value is inserted
   pub total-insert : (t : FinMap R V) (k : N) (v : V) → total size (entries (insert t k v)) + size_of size (get t k) ≡ total size (entries t) + size v
   total-insert t k v = (λ i. total size (entries-insert order t k v i) + size_of size (get-entries t k i)) ∙ total_put k v (entries t) (entries_sorted t)
 
-  -- the sizes of all, where one name has none
+  -- the total size after a value is removed
   pub total-remove : (t : FinMap R V) (k : N) → total size (entries (remove t k)) + size_of size (get t k) ≡ total size (entries t)
   total-remove t k =
       elim (get t k) as (λ o. get t k ≡ o → total size (entries (remove t k)) + size_of size o ≡ total size (entries t)) [

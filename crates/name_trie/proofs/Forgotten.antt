@@ -1,4 +1,4 @@
--- Rows without the one of a child.
+-- The rows of a node after a child's row is removed.
 use Rattle.std.proofs.Common.{◌≡◌, ◌≢◌, ℕ, zero, suc, ◌<◌, true, false, cond, List, [], ◌∷◌, ◌++◌, length, get_or, take, drop, refl, sym, ap, ◌∙◌, arith}
 use lib.Dec.{T}
 use Rattle.std.specs.Prelude.{None, Some}
@@ -15,7 +15,7 @@ use Rattle.name_trie.proofs.Changed.{unless_is_self, unless_is_other}
 use Rattle.name_trie.proofs.Halves.{lower_before, row_at}
 use Rattle.name_trie.proofs.Revised.{equal, find_below}
 
--- rows none of which is the child's
+-- if no row is the child's, all rows stay
 pub others_stay : {K : Type 0} (child : ℕ) (rows : List (K × ℕ)) → All (λ row. row.1 ≢ child) rows → revised (unless_is child) rows ≡ rows
 others_stay child [] all = refl
 others_stay child (x ∷ rows) all =
@@ -23,7 +23,7 @@ others_stay child (x ∷ rows) all =
     ap (λ o. with_entry x.0 o (revised (unless_is child) rows)) (unless_is_other child x.1 (all 0 x (omega arith))) ∙ ap (λ l. x ∷ l) rest
 
 module _ {K : Type 0} {R : K → K → Ordering} (total : IsTotalOrder R) (anti : IsAntisymmetric R) (child : ℕ) where
-  -- what is found in the rest is found in the whole
+  -- what is found in the remaining rows is found in all rows
   found_more : (x : K × ℕ) (rows : List (K × ℕ)) → T (below_all R x.0 rows) → (k : K) → find R k rows ≡ Some child → find R k (x ∷ rows) ≡ Some child
   found_more x rows below k found =
       elim (eq_by_cmp R k x.0) as (λ b. eq_by_cmp R k x.0 ≡ b → cond b (Some x.1) (find R k rows) ≡ Some child) [
@@ -37,7 +37,7 @@ module _ {K : Type 0} {R : K → K → Ordering} (total : IsTotalOrder R) (anti 
   found_first : (x : K × ℕ) (rows : List (K × ℕ)) → find R x.0 (x ∷ rows) ≡ Some x.1
   found_first x rows = ap (λ o. cond (is_eq o) (Some x.1) (find R x.0 rows)) (tied_itself total x.0)
 
-  -- rows none of which is the child's
+  -- if the child is found under no key, the rows do not change
   unchanged : (rows : List (K × ℕ)) → T (is_sorted R rows) → ((k : K) → find R k rows ≢ Some child) → revised (unless_is child) rows ≡ rows
   unchanged [] sorted none = refl
   unchanged (x ∷ rows) sorted none =
@@ -45,7 +45,7 @@ module _ {K : Type 0} {R : K → K → Ordering} (total : IsTotalOrder R) (anti 
       let rest = unchanged rows (second_of _ _ sorted) (λ k e. none k (found_more x rows (first_of _ _ sorted) k e)) in
       ap (λ o. with_entry x.0 o (revised (unless_is child) rows)) (unless_is_other child x.1 other) ∙ ap (λ l. x ∷ l) rest
 
-  -- the child stands under one key at most
+  -- the child is found under at most one key
   abbrev IsOnce : List (K × ℕ) → Type 0
   IsOnce rows = (j k : K) → find R j rows ≡ Some child → find R k rows ≡ Some child → j ≡ k
 

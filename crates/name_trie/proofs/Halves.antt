@@ -1,4 +1,4 @@
--- Rows before a row that is less than a key are less too.
+-- If a row is less than a key, so are all rows before it.
 use Rattle.std.proofs.Common.{◌≡◌, ℕ, zero, suc, ◌+◌, ◌<◌, ◌≤◌, true, false, List, [], ◌∷◌, length, get_or, take, refl, sym, ap, subst, ◌∙◌, arith, ltb}
 use lib.Dec.{T}
 use Rattle.std.specs.declared.cmp.Ordering.{Ordering}
@@ -28,7 +28,7 @@ module _ {K X : Type 0} {R : K → K → Ordering} (total : IsTotalOrder R) wher
   upto k (e ∷ rows) (suc at) row lt is sorted gt =
       (lower total k e.0 row.0 (below_at e.0 rows at row (omega arith) is (first_of _ _ sorted)) gt, upto k rows at row (omega arith) is (second_of _ _ sorted) gt)
 
-  -- the rows before a row that ties are less
+  -- if a row has the key, all rows before it are less than the key
   before : (k : K) (rows : List (K × X)) (at : ℕ) (row : K × X) → at < length rows → row ≡ get_or rows at row → T (is_sorted R rows) → R k row.0 ≡ Equal → AllLower R k (take at rows)
   before k [] at row lt is sorted tie = absurd (omega arith)
   before k (e ∷ rows) zero row lt is sorted tie = tt
@@ -51,7 +51,8 @@ row_at (e ∷ rows) zero lt = (e, refl)
 row_at (e ∷ rows) (suc at) lt = row_at rows at (omega arith)
 
 module _ {K X : Type 0} {R : K → K → Ordering} (total : IsTotalOrder R) where
-  -- where the rows before a place are less, and the row there is greater, the key goes there
+  -- if the rows before index `at` are less than the key and the row there is greater, the key is
+  -- inserted at `at`
   pub gap_is : (k : K) (rows : List (K × X)) (at : ℕ) → at ≤ length rows → AllLower R k (take at rows)
       → ((row : K × X) → at < length rows → row ≡ get_or rows at row → R k row.0 ≡ Less) → T (is_sorted R rows)
       → (at ≤ length rows) × ((v : X) → put R k v rows ≡ insert rows at (k, v)) × (find R k rows ≡ None)

@@ -1,4 +1,4 @@
--- The number of the first octets goes before the octets.
+-- Comparing the first octets as a number, before the octets themselves.
 use Rattle.std.proofs.Common.{◌≡◌, ℕ, zero, suc, ◌+◌, ◌*◌, ◌^◌, ◌<◌, ◌≤◌, List, [], ◌∷◌, length, refl, sym, ap, subst, ◌∙◌, add-one, arith}
 use Rattle.std.proofs.Math.Nat.{pow-succ', pow-le-pow_right}
 use Rattle.std.proofs.lemmas.List.{get_or_past}
@@ -24,7 +24,7 @@ small (suc n) octets are =
     let less : head n octets * 256 + slice_index octets n < 256 * 256 ^ n = mul-add-lt (head n octets) 256 (slice_index octets n) (256 ^ n) (small n octets are) (are n) in
     subst (λ (m : ℕ). head n octets * 256 + slice_index octets n < m) (sym (pow-succ' 256 n)) less
 
--- fewer than eight octets leave room for one more
+-- the number of fewer than eight octets has room for one more octet
 pub room : (n : ℕ) (octets : List ℕ) → AreOctets octets → n < 8 → head n octets < 2 ^ 56
 room n octets are lt =
     let most : 256 ^ n ≤ 256 ^ 7 = pow-le-pow_right {n = 256} (omega arith) {i = n} {j = 7} (omega arith) in
@@ -34,13 +34,13 @@ pub next : (n : ℕ) (octets : List ℕ) → head (n + 1) octets ≡ head n octe
 unfolding head
 next n octets = rw add-one refl
 
--- past the last octet stand zeros
+-- positions after the last octet count as zeros
 pub past : (n : ℕ) (octets : List ℕ) → length octets ≤ n → head (n + 1) octets ≡ head n octets * 256
 past n octets le =
     let none : slice_index octets n ≡ 0 = get_or_past octets n 0 le in
     omega (arith, next n octets, none)
 
--- eight octets, the first of them the most significant, are their head
+-- the first eight octets, read as a big-endian number, are the head
 pub big_endian : (octets eight : List ℕ) → ((i : ℕ) → i < 8 → slice_index eight i ≡ slice_index octets i) → from_be_bytes w64 eight ≡ head 8 octets
 unfolding head
 big_endian octets eight same =
@@ -90,7 +90,7 @@ less (suc n) a b are bare lt =
     ] in
     by (nat_cmp (head n a) (head n b)) refl
 
--- to compare the numbers first makes no difference
+-- comparing the heads first does not change the result
 pub by_head : (n : ℕ) (a b : List ℕ) → AreOctets a → AreOctets b → ordering_then (nat_cmp (head n a) (head n b)) (slice_cmp nat_cmp a b) ≡ slice_cmp nat_cmp a b
 by_head n a b are bare =
     let by : (o : Ordering) → o ≡ nat_cmp (head n a) (head n b) → ordering_then o (slice_cmp nat_cmp a b) ≡ slice_cmp nat_cmp a b = λ o.
@@ -101,7 +101,7 @@ by_head n a b are bare =
     ] in
     by (nat_cmp (head n a) (head n b)) refl
 
--- of no more than eight octets the numbers tell all
+-- two values of equal length with up to eight octets are ordered by their heads alone
 pub by_head_alone : (a b : List ℕ) → AreOctets a → AreOctets b → length a ≡ length b → length a ≤ 8 → nat_cmp (head 8 a) (head 8 b) ≡ slice_cmp nat_cmp a b
 by_head_alone a b are bare len short =
     let by : (o : Ordering) → o ≡ nat_cmp (head 8 a) (head 8 b) → o ≡ slice_cmp nat_cmp a b = λ o.

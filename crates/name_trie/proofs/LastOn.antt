@@ -1,4 +1,4 @@
--- The last value on a walk is that of the longest prefix.
+-- The last value on a walk is the value of the longest prefix.
 use Rattle.std.proofs.Common.{◌≡◌, ℕ, zero, suc, ◌≤◌, List, [], ◌∷◌, length, take, refl, sym, ap, ◌∙◌, arith}
 use Rattle.std.proofs.lemmas.List.{length-take-le}
 use Rattle.std.specs.Prelude.{Option, None, Some}
@@ -18,7 +18,7 @@ module _ {X : Type 0} where
   or_nothing (Some x) = refl
 
 module _ {V : Type 0} (h : Heap V) where
-  -- as `longest_within`, by walks
+  -- `longest_within`, computed by walks
   abbrev within : Option ℕ → List Field → ℕ → Option V
   within o name zero = lookup h o []
   within o name (suc n) = option_or (lookup h o (take (suc n) name)) (within o name n)

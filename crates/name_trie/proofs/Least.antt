@@ -1,4 +1,5 @@
--- A change of each value of a map, which goes where none is left; and the least of the values' moments.
+-- Changing each value of a map, where a map without values is removed. Also the least deadline of
+-- the values.
 use Rattle.std.proofs.Common.{◌≡◌, ℕ, suc, ◌<◌, true, false, cond, eqb, List, [], ◌∷◌, length, refl, sym, ap, subst, ◌∙◌, arith}
 use Rattle.std.specs.Prelude.{Option, None, Some, min}
 use Rattle.std.specs.Option.{option_and_then}
@@ -18,7 +19,7 @@ module _ {K X : Type 0} (R : K → K → Ordering) (change : X → Option X) whe
   unfolding revise
   entries-revise m = entries-from_sorted R (revised change (entries m)) (sorted_revised R change (entries m) (entries_sorted m))
 
-  -- what a change of each value finds
+  -- the value that a lookup finds after each value is changed
   pub get-each : IsAntisymmetric R → (m : FinMap R X) (k : K) → option_and_then (λ (n : FinMap R X). get n k) (each change m) ≡ option_and_then change (get m k)
   get-each anti m k =
       elim (eqb (len (revise change m)) 0) as (λ b. eqb (len (revise change m)) 0 ≡ b → option_and_then (λ (n : FinMap R X). get n k) (cond b None (Some (revise change m))) ≡ option_and_then change (get m k)) [
@@ -81,7 +82,7 @@ module _ {K X : Type 0} (timer : X → ℕ) (change : X → Option X) (now : ℕ
         not_none [] all some = absurd (some refl)
         not_none (e ∷ es) all some = least_after (timer e.1) es all.0 all.1
 
--- to change each row's entries is to change each key's
+-- changing the entries of each row is the same as changing the entry of each key
 module _ {N F K X : Type 0} {R : N → N → Ordering} {S : F → F → Ordering} {Q : K → K → Ordering} (key : N → F → K) (name : K → N) (rest : K → F) (makes : MakesKeys R S Q key name rest) where
   pub flatten-revise : IsAntisymmetric R → IsAntisymmetric S → IsTotalOrder Q → IsAntisymmetric Q → (change : X → Option X) (t : FinMap R (FinMap S X))
       → flatten Q key (revise (each change) t) ≡ revise change (flatten Q key t)

@@ -40,7 +40,7 @@ module _ {V : Type 0} where
       ap (λ (n : List Field). (n, r.1) ∷ named front (map (λ r. (c ∷ r.0, r.1)) rs)) (sym (append_assoc front (c ∷ []) r.0))
       ∙ ap (λ l. ((front ++ c ∷ []) ++ r.0, r.1) ∷ l) (named_under front c rs)
 
-  -- one more child
+  -- the rows below one more child
   pub below_more : (front : List Field) (f : Option ℕ → List (List Field × V)) (xs : List (Field × ℕ)) (e : Field × ℕ)
       → named front (below f (xs ++ e ∷ [])) ≡ named front (below f xs) ++ named (front ++ e.0 ∷ []) (f (Some e.1))
   below_more front f xs e =
@@ -117,7 +117,7 @@ module _ {V : Type 0} where
       with_first (value h k) (below (rows h n) (links h k)) (root_below (rows h n) (links h k))
       (sorted_below (rows h n) (λ o. sorted_rows h n o) (links h k) (links_in_order (h k)))
 
-  -- the rows are the table's entries
+  -- the rows of the trie are the entries of its table
   pub entries_table : (h : Heap V) (root : Option ℕ) → entries (table_of h root) ≡ rows h 65 root
   unfolding table_of
   entries_table h root =

@@ -1,4 +1,4 @@
--- Rows whose values are changed, some of which go.
+-- Rows after their values are changed, and some of them removed.
 use Rattle.std.proofs.Common.{◌≡◌, Bool, true, false, cond, List, [], ◌∷◌, refl, sym, ap, subst, ◌∙◌}
 use lib.Dec.{T}
 use Rattle.std.specs.Prelude.{Option, None, Some, option_and_then, ◌&&◌}
@@ -28,7 +28,7 @@ module _ {K X Y : Type 0} (R : K → K → Ordering) (change : X → Option Y) w
       let rest = sorted_revised es (second_of _ _ h) in
       elim (change e.1) as (λ o. T (is_sorted R (with_entry e.0 o (revised change es)))) [ None ↦ rest | (Some x) ↦ both_of _ _ (below_revised e.0 es (first_of _ _ h)) rest ]
 
--- ---- the map with each value changed, or gone
+-- ---- the map after each value is changed or removed
 
 pub revise-empty : {K X Y : Type 0} (R : K → K → Ordering) (change : X → Option Y) → revise change (empty {X = X} {R = R}) ≡ empty
 unfolding revise
@@ -53,7 +53,7 @@ unfolding revise
 from_revised R change es sorted = ap (λ l. from_sorted {R = R} (revised change l)) (sym (entries-from_sorted R es sorted))
 
 module _ {K X Y : Type 0} {R : K → K → Ordering} (anti : IsAntisymmetric R) (change : X → Option Y) where
-  -- the first of some entries, where its value stays or goes
+  -- a lookup of the first key, whose value is kept or removed
   first_found : (q k : K) (o : Option Y) (rest : List (K × Y)) → eq_by_cmp R q k ≡ true → find R q rest ≡ None → find R q (with_entry k o rest) ≡ o
   first_found q k None rest t none = none
   first_found q k (Some x) rest t none = ap (λ b. cond b (Some x) (find R q rest)) t

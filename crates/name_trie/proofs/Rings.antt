@@ -1,4 +1,4 @@
--- The timers after a value changed.
+-- The timers after a value has changed.
 use Rattle.std.proofs.Common.{◌≡◌, ◌≢◌, ℕ, zero, suc, ◌+◌, ◌-◌, ◌<◌, ◌≤◌, Bool, true, false, cond, not, eqb, refl, sym, ap, ◌∙◌, arith}
 use Rattle.std.specs.Prelude.{◌&&◌, ◌||◌, Option, None, Some, IsSome, nat_le}
 use Rattle.std.specs.Option.{option_map, option_and_then, option_eq}
@@ -79,7 +79,7 @@ pub same_timers : {V : Type 0} (timer : V → ℕ) (h h' : Heap V) (timers : Tim
 same_timers timer h h' timers same was t = was t ∙ ap (λ o. rings (option_map timer o) t.deadline) (sym (same t.key))
 
 module _ {V : Type 0} (timer : V → ℕ) (k : ℕ) (h h' : Heap V) (others : (j : ℕ) → j ≢ k → value h' j ≡ value h j) (timers : TimerSet) (was : IsTimed timer h timers) where
-  -- the old timer stops, the new one starts
+  -- the old timer is stopped, and the new one is started
   pub retimed : IsTimed timer h' (started k (timer_at timer h' k) (stopped k (timer_at timer h k) timers))
   retimed t =
       let o = timer_at timer h k in
@@ -90,16 +90,16 @@ module _ {V : Type 0} (timer : V → ℕ) (k : ℕ) (h h' : Heap V) (others : (j
       (λ ne. started_elsewhere k o' (stopped k o timers) t ne ∙ stopped_elsewhere k o timers t ne ∙ was t
       ∙ ap (λ w. rings (option_map timer w) t.deadline) (sym (others t.key ne)))
 
--- a value's timer is there
+-- the timer of each value exists
 pub timer_there : {V : Type 0} (timer : V → ℕ) (h : Heap V) (timers : TimerSet) → IsTimed timer h timers → (k d : ℕ) → timer_at timer h k ≡ Some d → contains timers (timer_for k d) ≡ true
 timer_there timer h timers was k d e = was (timer_for k d) ∙ ap (λ o. rings o d) e ∙ eq-eqb d d refl
 
--- what has a timer after a change had one before
+-- a node that has a timer after the change had one before
 pub had_timer : {V : Type 0} (timer : V → ℕ) (f : V → Option V) (o : Option V) → IsSome (option_map timer (option_and_then f o)) → (d : ℕ) × (option_map timer o ≡ Some d)
 had_timer timer f None some = absurd cc
 had_timer timer f (Some v) some = (timer v, refl)
 
--- ---- how many are due
+-- ---- the number of timers that are due
 
 abbrev is_due : ℕ → Timer → Bool
 is_due now t = nat_le t.deadline now
@@ -147,7 +147,7 @@ not_empty s t is =
     ] in
     cases (set.len s) refl
 
--- a due timer that gives way to a later one or to none leaves fewer due
+-- replacing a due timer by a later one, or by none, reduces the number of due timers
 pub fewer_due : (now k d : ℕ) (o : Option ℕ) (timers : TimerSet) → contains timers (timer_for k d) ≡ true → d ≤ now → ((e : ℕ) → o ≡ Some e → now < e)
     → due now (started k o (stopped k (Some d) timers)) < due now timers
 fewer_due now k d o timers there le later =
@@ -163,7 +163,7 @@ pub rings_is : (o : Option ℕ) (d : ℕ) → rings o d ≡ true → o ≡ Some 
 rings_is None d e = absurd cc
 rings_is (Some x) d e = ap Some (sym (eqb-true d x e))
 
--- ---- a change that leaves what is not due, and leaves nothing due
+-- ---- a change that affects only due values, and leaves no value due
 
 module _ {V : Type 0} (timer : V → ℕ) (change : V → Option V) (now : ℕ) (idle : (v : V) → now < timer v → change v ≡ Some v) (later : (v w : V) → change v ≡ Some w → now < timer w) where
   pub later_than : (o : Option V) (e : ℕ) → option_map timer (option_and_then change o) ≡ Some e → now < e
@@ -181,7 +181,7 @@ module _ {V : Type 0} (timer : V → ℕ) (change : V → Option V) (now : ℕ) 
   twice None = refl
   twice (Some v) = elim (change v) as (λ w. change v ≡ w → option_and_then change w ≡ w) [ None ↦ λ _. refl | (Some w) ↦ λ at. idle w (later v w at) ] refl
 
-  -- to change one value early makes no difference to the change of all
+  -- changing one value in advance does not affect a change of all values
   pub changed_early : (k : ℕ) (h h' : Heap V) → Turns k (option_and_then change (value h k)) h h' → (root : Option ℕ) (q : List Field) → option_and_then change (lookup h' root q) ≡ option_and_then change (lookup h root q)
   changed_early k h h' turns root q = ap (λ o. option_and_then change (option_and_then (value h') o)) (walk_turned k _ h h' turns root q) ∙ at (walk h root q)
     where
@@ -191,7 +191,7 @@ module _ {V : Type 0} (timer : V → ℕ) (change : V → Option V) (now : ℕ) 
           (λ e. ap (λ (i : ℕ). option_and_then change (value h' i)) e ∙ ap (option_and_then change) turns.here ∙ twice (value h k) ∙ ap (λ (i : ℕ). option_and_then change (value h i)) (sym e))
           (λ ne. ap (option_and_then change) (turns.others j ne))
 
-  -- where no timer is due, nothing is left to change
+  -- if no timer is due, no value changes
   pub none_due : (h : Heap V) (timers : TimerSet) → IsTimed timer h timers → NoneDue now timers → (root : Option ℕ) (q : List Field) → option_and_then change (lookup h root q) ≡ lookup h root q
   none_due h timers timed none root q = at (walk h root q)
     where
@@ -202,7 +202,7 @@ module _ {V : Type 0} (timer : V → ℕ) (change : V → Option V) (now : ℕ) 
         | (Some v) ↦ λ is. idle v (none (timer_for j (timer v)) (timer_there timer h timers timed j (timer v) (ap (option_map timer) is)))
       ] refl
 
--- ---- a value that is taken out, and one that is set
+-- ---- removing a value, and setting one
 
 module _ {V : Type 0} (k : ℕ) (h h' : Heap V) where
   pub set_others : (v : Option V) → Sets k v h h' → (j : ℕ) → j ≢ k → value h' j ≡ value h j

@@ -1,4 +1,4 @@
--- What is seen of a trie's values.
+-- What a visitor sees of a trie's values.
 use Rattle.std.proofs.Common.{◌≡◌, ◌≢◌, ℕ, zero, ◌+◌, ◌-◌, ◌<◌, List, [], ◌∷◌, ◌++◌, length, take, get_or, fold, refl, sym, ap, ◌∙◌}
 use Rattle.std.specs.Prelude.{Option, None, Some, map}
 use Rattle.std.specs.Option.{option_and_then}
@@ -17,7 +17,7 @@ module _ {V : Type 0} where
   values_named front [] = refl
   values_named front (r ∷ rs) = ap (λ vs. r.1 ∷ vs) (values_named front rs)
 
-  -- one more child
+  -- the values below one more child
   values_more : (f : Option ℕ → List (List Field × V)) (xs : List (Field × ℕ)) (e : Field × ℕ)
       → map (λ r. r.1) (below f (xs ++ e ∷ [])) ≡ map (λ r. r.1) (below f xs) ++ map (λ r. r.1) (f (Some e.1))
   values_more f xs e =
@@ -37,7 +37,7 @@ module _ {V : Type 0} where
     seen_first None rs = refl
     seen_first (Some v) rs = refl
 
-    -- a node's value is seen first, and then those below it
+    -- a node's value is seen before the values below the node
     pub seen_there : (h : Heap V) (n k : ℕ) (node : Node V) → n ≢ zero → h k ≡ Some node
         → fold see s (map (λ r. r.1) (rows h n (Some k))) ≡ fold see (taken see s node.value) (map (λ r. r.1) (below (rows h (n - 1)) (entries node.children)))
     seen_there h n k node ne e =

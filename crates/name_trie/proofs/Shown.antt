@@ -1,4 +1,4 @@
--- What a walk over a trie shows.
+-- What a walk over a trie shows to a visitor.
 use Rattle.std.proofs.Common.{◌≡◌, ◌≢◌, ℕ, zero, suc, ◌+◌, ◌-◌, ◌<◌, ◌≤◌, false, cond, List, [], ◌∷◌, ◌++◌, append_assoc, length, take, get_or, refl, sym, ap, subst, ◌∙◌, arith}
 use Rattle.std.proofs.lemmas.List.{append-nil, take_more}
 use Rattle.std.proofs.lemmas.List.Sums.{fold-append}
@@ -23,7 +23,7 @@ use Rattle.name_trie.specs.Taken.{taken, taken_along}
 use Rattle.name_trie.specs.Trie.{Heap, child, value, links, links_of, lookup, below, rows, named}
 use Rattle.name_trie.proofs.Listed.{below_more, named_nothing, rows_at}
 
--- ---- entries at their places
+-- ---- entries by index
 
 module _ {K X : Type 0} {R : K → K → Ordering} (total : IsTotalOrder R) where
   below_at : (k : K) (es : List (K × X)) (i : ℕ) (d : K × X) → i < length es → T (below_all R k es) → T (is_lt (R k (get_or es i d).0))
@@ -40,14 +40,14 @@ module _ {K X : Type 0} {R : K → K → Ordering} (total : IsTotalOrder R) wher
       let apart : eq_by_cmp R row.0 e.0 ≡ false = (eq_by_cmp_equiv total).symm row.0 e.0 ∙ ap is_eq less in
       ap (λ b. cond b (Some e.1) (find R row.0 es)) apart ∙ found_at es (second_of _ _ sorted) i d (omega (arith, lt))
 
-  -- the map has each of its entries
+  -- a map contains each of its entries
   pub entry_is_there : (m : FinMap R X) (i : ℕ) (d : K × X) → i < length (entries m) → get m (get_or (entries m) i d).0 ≡ Some (get_or (entries m) i d).1
   entry_is_there m i d lt = get-entries m (get_or (entries m) i d).0 ∙ found_at (entries m) (entries_sorted m) i d lt
 
 -- ---- what is known below a node
 
 module _ {S V : Type 0} (own below : S → V → S) where
-  -- the same is taken where the same values stand below two first parts
+  -- the result is the same below two fronts with the same values
   taken_moved : (s : S) (f g : List Field → Option V) (front front' rest : List Field) → ((p : List Field) → f (front ++ p) ≡ g (front' ++ p))
       → taken_along own below s f front rest ≡ taken_along own below s g front' rest
   taken_moved s f g front front' [] same = ap (taken own s) (ap f (sym (append-nil front)) ∙ same [] ∙ ap g (append-nil front'))
@@ -56,12 +56,12 @@ module _ {S V : Type 0} (own below : S → V → S) where
       ∙ taken_moved (taken below s (g front')) f g (front ++ c ∷ []) (front' ++ c ∷ []) rest
       (λ p. ap f (append_assoc front (c ∷ []) p) ∙ same (c ∷ p) ∙ sym (ap g (append_assoc front' (c ∷ []) p)))
 
--- what is known at a name, by what is known past its value
+-- what is known at a name follows from what is known after its value
 pub here_is : {W V : Type 0} (past : W → V → W) (before : W) (v : Option V) (o : Option W) → o ≡ option_map (past before) v → unwrap_or o before ≡ taken past before v
 here_is past before None o is = ap (λ o. unwrap_or o before) is
 here_is past before (Some v) o is = ap (λ o. unwrap_or o before) is
 
--- a child stands under its component
+-- each child is found under its component
 pub linked_row : (m : Links) (items : List (Field × ℕ)) (i : ℕ) (row : Field × ℕ) → i < length items → row ≡ get_or items i row → items ≡ entries m → get m row.0 ≡ Some row.1
 linked_row m items i row lt is all =
     let at_place : row ≡ get_or (entries m) i row = is ∙ ap (λ l. get_or l i row) all in
@@ -86,7 +86,7 @@ module _ {S W V : Type 0} (show : S → List ℕ → W → S) where
   shown_first s front known past before None es is = refl
   shown_first s front known past before (Some v) es is = λ i. shown_after show front known (show s (append-nil front i) (is i)) es
 
-  -- a node's name is shown first, and then those below it
+  -- a node's name is shown before the names below it
   pub shown_node : (s : S) (front : List ℕ) (past : W → V → W) (before : W) (h : Heap V) (n k : ℕ) (node : Node V) (here : Option W) → n ≢ zero → h k ≡ Some node → here ≡ option_map (past before) node.value
       → shown_after show front (known_at past before (lookup h (Some k))) s (rows h n (Some k))
       ≡ shown_after show front (known_at past before (lookup h (Some k))) (shown_if show s front here) (below (rows h (n - 1)) (entries node.children))
@@ -107,7 +107,7 @@ module _ {S W V : Type 0} (show : S → List ℕ → W → S) where
       ap (λ t. shown_after show front known t (named (c ∷ []) es)) (λ i. show s (sym (append_assoc front (element c) (octets_of e.0)) i) (same e.0 i))
       ∙ shown_under (show s ((front ++ element c) ++ octets_of e.0) (known' e.0)) front known known' c es same
 
-  -- the names below one more child
+  -- the names below one more child are shown
   pub shown_more : (s s1 s2 : S) (front : List ℕ) (known known' : List Field → W) (f : Option ℕ → List (List Field × V)) (items : List (Field × ℕ)) (i : ℕ) (row : Field × ℕ)
       → i < length items → row ≡ get_or items i row → ((q : List Field) → known (row.0 ∷ q) ≡ known' q)
       → s1 ≡ shown_after show front known s (below f (take i items)) → s2 ≡ shown_after show (front ++ element row.0) known' s1 (f (Some row.1))
@@ -122,7 +122,7 @@ module _ {S W V : Type 0} (show : S → List ℕ → W → S) where
       ∙ ap all (ap (λ l. l ++ under) (sym (named_nothing (below f (take i items)))) ∙ sym (below_more [] f (take i items) row) ∙ named_nothing (below f (take i items ++ row ∷ [])))
       ∙ ap (λ xs. all (below f xs)) (ap (λ (r : Field × ℕ). take i items ++ r ∷ []) is ∙ sym (take_more items i row lt))
 
-  -- ---- names that are short
+  -- ---- names of at most 64 components
 
   abbrev AreShort : ℕ → List (List Field × V) → Type 0
   AreShort n [] = Unit {0}
@@ -158,7 +158,7 @@ module _ {S W V : Type 0} (show : S → List ℕ → W → S) where
       ap (λ w. shown_known show known (show s (octets_of e.0) w) es) (same e.0 short.0)
       ∙ known_same (show s (octets_of e.0) (known' e.0)) known known' n es short.1 same
 
-  -- the same is shown where the same is known of all names of at most 64 components
+  -- the result depends only on what is known at names of at most 64 components
   pub rows_same : (s : S) (known known' : List Field → W) (h : Heap V) (root : Option ℕ) → ((q : List Field) → length q ≤ 64 → known q ≡ known' q)
       → shown_known show known s (rows h 65 root) ≡ shown_known show known' s (rows h 65 root)
   rows_same s known known' h root same = known_same s known known' 65 (rows h 65 root) (short_rows h 65 root) (λ q lt. same q (omega (arith, lt)))

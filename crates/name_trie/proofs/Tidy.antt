@@ -1,4 +1,4 @@
--- Which nodes hold nothing, after a change.
+-- Which nodes have neither value nor children after a change.
 use Rattle.std.proofs.Common.{◌≡◌, ◌≢◌, ℕ, refl, sym, ap, ◌∙◌, ◌⊎◌, inl, inr}
 use Rattle.std.specs.Prelude.{Option, None, Some, IsSome, Result, Ok, Err, IfOk, OnErr}
 use Rattle.std.specs.Option.{option_and_then, option_map}
@@ -58,7 +58,7 @@ module _ {V : Type 0} (h h' : Heap V) where
         (λ is. some_map (λ (m : Node V). record m { children = revise (unless_is k) m.children }) (h j) (some_along _ (h' j) (sym (cuts.above j is ne)) some))
         (λ apart. some_along (h j) (h' j) (sym (cuts.others j ne apart)) some)
 
--- a node with a child holds something
+-- a node with a child is not bare
 pub linked : {V : Type 0} (h : Heap V) (at : ℕ) (c : Field) (k : ℕ) → child h at c ≡ Some k → (j : ℕ) → IsBare h j → j ≢ at
 linked h at c k e j bare is = (let none : child h at c ≡ None = ap (λ (i : ℕ). child h i c) (sym is) ∙ bare.leaf c in cc)
 
@@ -66,7 +66,7 @@ pub none_linked : (m : Links) → ((c : Field) → get m c ≡ None) → len m �
 none_linked m none =
     ap len (same_map component_cmp-total component_cmp-antisymmetric m empty (λ c. none c ∙ sym (get-empty component_cmp c))) ∙ len-empty component_cmp ℕ
 
--- a new node that holds nothing is the one that is answered
+-- the only new bare node is the one that is returned
 pub made_or : {E : Type 0} {P : ℕ → Type 0} {Q X : Type 0} (r : Result ℕ E) (j : ℕ) → IfOk r P → OnErr r Q → ((k : ℕ) → P k → (j ≡ k) ⊎ X) → (Q → X) → (r ≡ Ok j) ⊎ X
 made_or {E} {X = X} (Ok k) j ok err good bad =
     let answer : ℕ → Result ℕ E = λ i. Ok i in

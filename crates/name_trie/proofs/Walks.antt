@@ -1,4 +1,4 @@
--- What walks find in a trie, and the table that it is.
+-- What walks find in a trie, and the table that the trie represents.
 use Rattle.std.proofs.Common.{◌≡◌, ℕ, zero, suc, ◌<◌, ◌≤◌, Bool, true, false, cond, List, [], ◌∷◌, ◌++◌, length, refl, sym, ap, subst, ◌∙◌, arith, ltb}
 use lib.Dec.{T}
 use Rattle.std.specs.Prelude.{Option, None, Some, map}
@@ -32,7 +32,7 @@ module _ {X : Type 0} where
   or_cond true x o p = refl
   or_cond false x o p = refl
 
-  -- names under one component
+  -- rows under one component
   under : Field → List (List Field × X) → List (List Field × X)
   under e rs = map (λ r. (e ∷ r.0, r.1)) rs
 
@@ -137,7 +137,7 @@ module _ {V : Type 0} (h : Heap V) where
   unfolding table_of
   get-table_long root q le = get-from_entries name_cmp-total (rows h 65 root) q ∙ rows_long 65 root q le
 
-  -- a name that leads to no value has none in the table
+  -- a name that leads to no value has no value in the table
   pub get_nothing : (root : Option ℕ) (q : List Field) → lookup h root q ≡ None → get (table_of h root) q ≡ None
   get_nothing root q none =
       elim (ltb (length q) 65) as (λ t. ltb (length q) 65 ≡ t → get (table_of h root) q ≡ None) [
@@ -153,7 +153,7 @@ module _ {V : Type 0} (h h' : Heap V) (root root' : Option ℕ) where
         | false ↦ λ t. long (omega (arith, ltb-false (length q) 65 t))
       ] refl
 
-  -- a change of what a name leads to is one of the table
+  -- a changed lookup of a name is a changed lookup in the table
   pub get_changed : (f : V → Option V) (q : List Field) → lookup h' root' q ≡ option_and_then f (lookup h root q) → get (table_of h' root') q ≡ option_and_then f (get (table_of h root) q)
   get_changed f q is = by_length _ _ q
       (λ le. get-table h' root' q le ∙ is ∙ sym (ap (option_and_then f) (get-table h root q le)))
@@ -193,7 +193,7 @@ empty_table h = same_map name_cmp-total name_cmp-antisymmetric _ _ (λ q.
     (λ le. get-table h None q le ∙ lookup_none h q ∙ sym (get-empty name_cmp q))
     (λ le. get-table_long h None q le ∙ sym (get-empty name_cmp q)))
 
--- to remove a name without a value changes nothing
+-- removing a name without a value changes nothing
 pub remove_absent : {V : Type 0} (m : ByName V) (name : List Field) → get m name ≡ None → m ≡ remove m name
 remove_absent m name none = same_map name_cmp-total name_cmp-antisymmetric _ _ (λ q.
     sym (get-remove name_cmp-total m name q

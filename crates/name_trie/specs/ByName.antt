@@ -1,4 +1,4 @@
--- Finite maps from names to values, and the look-ups of tables.
+-- Finite maps from names to values, and lookups in tables.
 use Rattle.std.specs.Prelude.{◌≡◌, ℕ, ◌<◌, ◌≤◌, zero, suc, List, [], ◌∷◌, Option, None, Some, IsSome, length, take}
 use Rattle.std.specs.declared.cmp.Ordering.{Ordering}
 use Rattle.std.specs.Option.{option_or}
@@ -6,42 +6,42 @@ use Rattle.std.specs.FinMap.{FinMap, entries, from_sorted, get, insert, remove}
 use Rattle.ndn_tlv.specs.Element.{Field}
 use Rattle.ndn_names.specs.Order.{name_cmp}
 
--- an entry before others, if it has a value
+-- the entries, with an entry for `k` in front if it has a value
 abbrev pub with_entry : {K X : Type 0} → K → Option X → List (K × X) → List (K × X)
 with_entry k None es = es
 with_entry k (Some x) es = (k, x) ∷ es
 
--- the entries with each value changed, or its entry removed
+-- the entries after each value is changed, or its entry removed
 abbrev pub revised : {K X Y : Type 0} → (X → Option Y) → List (K × X) → List (K × Y)
 revised change [] = []
 revised change (e ∷ es) = with_entry e.0 (change e.1) (revised change es)
 
--- the map with each value changed, or its entry removed
+-- the map after each value is changed, or its entry removed
 unfoldable pub revise : {K X Y : Type 0} {R : K → K → Ordering} → (X → Option Y) → FinMap R X
     → FinMap R Y
 revise change m = from_sorted (revised change (entries m))
 
--- values by name, in canonical order
+-- maps from names to values, in canonical order
 abbrev pub ByName : Type 0 → Type 0
 ByName X = FinMap name_cmp X
 
--- the value of the longest prefix that has one, among those of at most n components
+-- the value that a longest prefix match finds among prefixes of at most n components
 abbrev pub longest_within : {X : Type 0} → ByName X → List Field → ℕ → Option X
 longest_within table name zero = get table []
 longest_within table name (suc n) =
     option_or (get table (take (suc n) name)) (longest_within table name n)
 
--- the value of the longest prefix of a name that has one
+-- the value that a longest prefix match of a name finds
 abbrev pub longest : {X : Type 0} → ByName X → List Field → Option X
 longest table name = longest_within table name (length name)
 
--- the first n components are the longest prefix of a name that has a value
+-- the first n components of the name are its longest prefix with a value
 abbrev pub IsLongest : {X : Type 0} → ByName X → List Field → ℕ → Type 0
 IsLongest table name n =
     (n ≤ length name) × IsSome (get table (take n name))
     × ((m : ℕ) → n < m → m ≤ length name → get table (take m name) ≡ None)
 
--- the map with this value of a name, or with none
+-- the map after a name's value is set, or removed
 abbrev pub with_value : {X : Type 0} → ByName X → List Field → Option X → ByName X
 with_value table name None = remove table name
 with_value table name (Some x) = insert table name x

@@ -13,7 +13,7 @@ abbrev pub bare : {V : Type 0} → Option ℕ → Node V
 bare parent = record { parent = parent; hint = tt; children = empty; value = None }
 
 module _ {V : Type 0} where
-  -- a bare node k is below a node now
+  -- A bare node k is added as the child of node `at` for the component `c`.
   pub record Joins (k at : ℕ) (c : Field) (h h' : Heap V) : Type 0 where
     pub node : Node V
     pub there : h at ≡ Some node
@@ -22,19 +22,19 @@ module _ {V : Type 0} where
     pub above : h' at ≡ Some (record node { children = insert node.children c k })
     pub others : (j : ℕ) → j ≢ k → j ≢ at → h' j ≡ h j
 
-  -- a bare node k is the root now
+  -- A bare node k is added as the root.
   pub record Starts (k : ℕ) (h h' : Heap V) : Type 0 where
     pub fresh : h k ≡ None
     pub leaf : h' k ≡ Some (bare None)
     pub others : (j : ℕ) → j ≢ k → h' j ≡ h j
 
-  -- a node is there, and has no value and no children
+  -- The node k exists, and has no value and no children.
   pub record IsBare (h : Heap V) (k : ℕ) : Type 0 where
     pub there : IsSome (h k)
     pub leaf : (c : Field) → child h k c ≡ None
     pub bare : value h k ≡ None
 
-  -- k, below o, is removed, and the links from o to it
+  -- The node k, whose parent is o, is removed, and so are the links from o to k.
   pub record Cuts (k : ℕ) (o : Option ℕ) (h h' : Heap V) : Type 0 where
     pub was : up h k ≡ Some o
     pub gone : h' k ≡ None
@@ -43,14 +43,14 @@ module _ {V : Type 0} where
         (λ (m : Node V). record m { children = revise (unless_is k) m.children }) (h p)
     pub others : (j : ℕ) → j ≢ k → o ≢ Some j → h' j ≡ h j
 
-  -- a node has this value now, or none
+  -- The value of the node k is set to v.
   pub record Sets (k : ℕ) (v : Option V) (h h' : Heap V) : Type 0 where
     pub node : Node V
     pub there : h k ≡ Some node
     pub here : h' k ≡ Some (record node { value = v })
     pub others : (j : ℕ) → j ≢ k → h' j ≡ h j
 
-  -- k had no value and no children, and is removed with the links to it
+  -- The node k had no value and no children, and is removed with all links to it.
   pub record Lacks (k : ℕ) (h : Heap V) (root : Option ℕ) (h' : Heap V) (root' : Option ℕ)
       : Type 0 where
     pub roots : root' ≡ unless k root
@@ -61,31 +61,31 @@ module _ {V : Type 0} where
     pub values : (a : ℕ) → value h' a ≡ value h a
     pub ups : (a : ℕ) → a ≢ k → up h' a ≡ up h a
 
-  -- each name leads to the same value
+  -- each name leads to the same value as before
   abbrev pub SameLookups : Heap V → Option ℕ → Heap V → Option ℕ → Type 0
   SameLookups h root h' root' = (q : List Field) → lookup h' root' q ≡ lookup h root q
 
-  -- what a name led to, it leads to still
+  -- each name that led to a node still leads to that node
   abbrev pub KeepsWalks : Heap V → Option ℕ → Heap V → Option ℕ → Type 0
   KeepsWalks h root h' root' =
       (q : List Field) (k : ℕ) → walk h root q ≡ Some k → walk h' root' q ≡ Some k
 
--- a node that a name of less than 64 components leads to
+-- a name of fewer than 64 components leads to the node
 abbrev pub HasRoomBelow : {V : Type 0} → Heap V → Option ℕ → ℕ → Type 0
 HasRoomBelow h root at = (front : List Field) × (length front < 64) × (walk h root front ≡ Some at)
 
--- the name of the prepared call leads to a node, which is not removed
+-- the reserved name leads to the reserved node, which is not removed
 abbrev pub IsHeld : {V : Type 0} → Heap V → Option ℕ → Option (List Field × ℕ) → Type 0
 IsHeld h root None = Unit {0}
 IsHeld h root (Some p) = walk h root p.0 ≡ Some p.1
 
--- a node has this value now, or none, and nothing else changes
+-- The value of the node k is v afterwards, and nothing else changes.
 pub record Turns {V : Type 0} (k : ℕ) (v : Option V) (h h' : Heap V) : Type 0 where
   pub links : (a : ℕ) (c : Field) → child h' a c ≡ child h a c
   pub ups : (a : ℕ) → up h' a ≡ up h a
   pub here : value h' k ≡ v
   pub others : (a : ℕ) → a ≢ k → value h' a ≡ value h a
 
--- each node but the reserved one has a value or children
+-- every node except the reserved one has a value or children
 abbrev pub IsTidy : {V : Type 0} → Heap V → Option ℕ → Type 0
 IsTidy h kept = (j : ℕ) → IsBare h j → kept ≡ Some j

@@ -1,12 +1,12 @@
 -- The first octets of a component as a number.
 use Rattle.std.specs.Prelude.{◌≡◌, ◌<◌, ℕ, zero, suc, ◌+◌, ◌*◌, List, slice_index}
 
--- the first n octets as a number, with zeros after the last
+-- the first n octets as a number, padded with zeros
 unfoldable pub head : ℕ → List ℕ → ℕ
 head zero octets = 0
 head (suc n) octets = head n octets * 256 + slice_index octets n
 
--- this is the number of the first eight of these octets
+-- `number` is the number of the first eight of the octets
 pub record IsHead (octets : List ℕ) (number : ℕ) : Type 0 where
   pub is : number ≡ head 8 octets
   pub fit : (i : ℕ) → slice_index octets i < 256

@@ -1,4 +1,4 @@
--- Maps that are removed when they are empty, and the least of their values' moments.
+-- Maps that are removed once they are empty, and the least deadline of their values.
 use Rattle.std.specs.Prelude.{ℕ, List, [], ◌∷◌, Option, None, Some, min, nat_eq, if◌then◌else◌}
 use Rattle.std.specs.declared.cmp.Ordering.{Ordering}
 use Rattle.std.specs.FinMap.{FinMap, len}
@@ -7,17 +7,17 @@ use Rattle.name_trie.specs.ByName.{revise}
 abbrev pub nonempty : {K X : Type 0} {R : K → K → Ordering} → FinMap R X → Option (FinMap R X)
 nonempty m = if nat_eq (len m) 0 then None else Some m
 
--- each value changed, or removed; and the map removed where no value is left
+-- the map after each value is changed or removed, or `None` if no value is left
 abbrev pub each : {K X : Type 0} {R : K → K → Ordering} → (X → Option X) → FinMap R X
     → Option (FinMap R X)
 each change m = nonempty (revise change m)
 
--- the least of this and the moments of these values
+-- the least of n and the deadlines of these values
 abbrev pub least_from : {K X : Type 0} → (X → ℕ) → ℕ → List (K × X) → ℕ
 least_from timer n [] = n
 least_from timer n (e ∷ es) = least_from timer (min n (timer e.1)) es
 
--- the least of the moments of these values, or 0 where there is none
+-- the least deadline of these values, or 0 if there are none
 abbrev pub least : {K X : Type 0} → (X → ℕ) → List (K × X) → ℕ
 least timer [] = 0
 least timer (e ∷ es) = least_from timer (timer e.1) es

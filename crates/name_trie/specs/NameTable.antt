@@ -1,4 +1,4 @@
--- A table by name, and the call that may be prepared.
+-- A table by name, and the name of the prepared call.
 use Rattle.std.specs.Prelude.{List, Option, refl}
 use Rattle.std.specs.Coded.{Coded, code_by, coded×, coded_option}
 use Rattle.std.specs.FinMap as map
@@ -8,7 +8,7 @@ use Rattle.name_trie.specs.ByName.{ByName}
 
 pub record NameTable (X : Type 0) : Type 0 where
   pub table : ByName X
-  -- the name of the call that is prepared
+  -- the name of the prepared call, if there is one
   pub prepared : Option (List Field)
 
 abbrev pub name_table_code : {X : Type 0} → Coded X → Coded (NameTable X)

@@ -1,32 +1,32 @@
--- What is known at the names of a table, and what is shown of them.
+-- What is known at the names of a table, and what is shown of it.
 use Rattle.std.specs.Prelude.{ℕ, List, [], ◌++◌, Option, None, Some, fold}
 use Rattle.ndn_tlv.specs.Element.{Field}
 use Rattle.ndn_names.specs.Name.{octets_of}
 use Rattle.name_trie.specs.Taken.{taken_along}
 
--- what is known at a name: what was known before, past the values of its proper prefixes, the
--- shortest first, and past its own
+-- What is known at a name: `before`, updated with the values of the name's proper prefixes, the
+-- shortest first, and then with the name's own value.
 abbrev pub known_at : {W V : Type 0} → (W → V → W) → W → (List Field → Option V) → List Field → W
 known_at past before value name = taken_along past past before value [] name
 
--- what s becomes where it is shown these names, one after the other, each with what is known there
+-- the visitor s after it is shown each name in order, with what is known there
 abbrev pub shown_known : {S W V : Type 0} → (S → List ℕ → W → S) → (List Field → W) → S
     → List (List Field × V) → S
 shown_known {S} {W} {V} show known s es =
     fold {A = List Field × V} {B = S} (λ s e. show s (octets_of e.0) (known e.0)) s es
 
--- what s becomes where it is shown these names, one after the other, each with its value
+-- the visitor s after it is shown each name in order, with the name's value
 abbrev pub shown_each : {S X : Type 0} → (S → List ℕ → X → S) → S → List (List Field × X) → S
 shown_each {S} {X} show s es =
     fold {A = List Field × X} {B = S} (λ s e. show s (octets_of e.0) e.1) s es
 
--- as `shown_known`, where the octets of each name come after others
+-- the same result as `shown_known`, but with the octets `front` before each name
 abbrev pub shown_after : {S W V : Type 0} → (S → List ℕ → W → S) → List ℕ → (List Field → W) → S
     → List (List Field × V) → S
 shown_after {S} {W} {V} show front known s es =
     fold {A = List Field × V} {B = S} (λ s e. show s (front ++ octets_of e.0) (known e.0)) s es
 
--- what s becomes where it is shown a name, if something is known there
+-- the visitor s after it is shown a name, if something is known there
 abbrev pub shown_if : {S W : Type 0} → (S → List ℕ → W → S) → S → List ℕ → Option W → S
 shown_if show s name None = s
 shown_if show s name (Some w) = show s name w

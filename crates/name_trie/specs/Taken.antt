@@ -1,25 +1,25 @@
--- What is taken out of the values of a name's prefixes and of the name.
+-- What is taken from the values of a name and of its prefixes.
 use Rattle.std.specs.Prelude.{List, [], ◌∷◌, ◌++◌, Option, None, Some, if◌then◌else◌}
 use Rattle.std.specs.Ordering.{eq_by_cmp}
 use Rattle.ndn_tlv.specs.Element.{Field}
 use Rattle.ndn_names.specs.Order.{component_cmp}
 
--- what s becomes where it takes from a value, if there is one
+-- the visitor s after it has taken from the value, if there is one
 abbrev pub taken : {S V : Type 0} → (S → V → S) → S → Option V → S
 taken take s None = s
 taken take s (Some v) = take s v
 
--- What s becomes where it takes from the values of a name and of its prefixes, the shortest first:
--- by `below` at a proper prefix, by `own` at the name. The name has two parts, and those prefixes
--- count that begin with the first.
+-- The visitor s after it has taken from the values along a name, the shortest prefix first: by
+-- `below` at a proper prefix, by `own` at the whole name. The name is split into `front` and a
+-- rest, and only prefixes that begin with `front` count.
 abbrev pub taken_along : {S V : Type 0} → (own below : S → V → S) → S → (List Field → Option V)
     → List Field → List Field → S
 taken_along own below s value front [] = taken own s (value front)
 taken_along own below s value front (c ∷ rest) =
     taken_along own below (taken below s (value front)) value (front ++ c ∷ []) rest
 
--- how the value of a name q changes: by `below` where q is a proper prefix of the second name, by
--- `own` where it is that name
+-- how the value of the first name changes: by `below` if that name is a proper prefix of the second
+-- name, by `own` if both names are equal
 abbrev pub changed_along : {V : Type 0} → (own below : V → Option V) → List Field → List Field
     → V → Option V
 changed_along own below [] [] = own

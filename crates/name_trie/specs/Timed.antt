@@ -1,4 +1,4 @@
--- Values with deadlines, their timers, and their count.
+-- Values with deadlines, their timers, and their total size.
 use Rattle.std.specs.Prelude.{◌≡◌, ◌<◌, ◌+◌, ◌%◌, ◌^◌, ℕ, Bool, true, false, ◌==◌, Option, None, Some}
 use Rattle.std.specs.Option.{option_map}
 use Rattle.std.specs.FinSet as set
@@ -11,12 +11,12 @@ use Rattle.name_trie.specs.Trie.{Heap, value, table_of}
 abbrev pub timer_at : {V : Type 0} → (V → ℕ) → Heap V → ℕ → Option ℕ
 timer_at timer h k = option_map timer (value h k)
 
--- whether there is a timer for this moment
+-- whether the optional deadline is d
 abbrev pub rings : Option ℕ → ℕ → Bool
 rings None d = false
 rings (Some e) d = d == e
 
--- each value has its timer, and there is no other
+-- each value has its timer, and there are no other timers
 abbrev pub IsTimed : {V : Type 0} → (V → ℕ) → Heap V → TimerSet → Type 0
 IsTimed timer h timers =
     (t : Timer) → set.contains timers t ≡ rings (timer_at timer h t.key) t.deadline
@@ -32,22 +32,22 @@ abbrev pub started : ℕ → Option ℕ → TimerSet → TimerSet
 started k None timers = timers
 started k (Some d) timers = set.insert timers (timer_for k d)
 
--- while a call is prepared there is room for one timer more
+-- there is room for one more timer while a call is prepared
 abbrev pub HasTimerRoom : Bool → Waiting → Type 0
 HasTimerRoom false w = Unit {0}
 HasTimerRoom true w = set.len w.timers < w.capacity
 
--- ---- the count
+-- ---- the total size
 
--- how many entries a node's value counts for
+-- the number of entries that a node's value counts as
 abbrev pub size_at : {V : Type 0} → (V → ℕ) → Heap V → ℕ → ℕ
 size_at size h k = size_of size (value h k)
 
--- a count, which wraps, follows a sum in which one size replaces another
+-- `len` becomes `len'` when the size `was` in the sum is replaced by `is`; both wrap at 2^64
 abbrev pub Recounts : (was is len len' : ℕ) → Type 0
 Recounts was is len len' =
     (sum sum' : ℕ) → sum' + was ≡ sum + is → len ≡ sum % 2 ^ 64 → len' ≡ sum' % 2 ^ 64
 
--- the sizes of all values together; it wraps
+-- `len` is the total size of all values, wrapping at 2^64
 abbrev pub IsCounted : {V : Type 0} → (V → ℕ) → Heap V → Option ℕ → ℕ → Type 0
 IsCounted size h root len = len ≡ total size (entries (table_of h root)) % 2 ^ 64

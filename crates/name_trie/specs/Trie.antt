@@ -1,4 +1,4 @@
--- A trie of names, whose nodes are stored under keys: what a walk from its root finds.
+-- A trie of names whose nodes have indexes, and what walks from its root find.
 use Rattle.std.specs.Prelude.{◌≡◌, ◌≤◌, ℕ, zero, suc, List, [], ◌∷◌, ◌++◌, Option, None, Some, map, length}
 use Rattle.std.specs.Option.{option_and_then, option_map, option_or}
 use Rattle.std.specs.FinMap.{get, entries, from_entries}
@@ -6,7 +6,7 @@ use Rattle.ndn_tlv.specs.Element.{Field}
 use Rattle.name_trie.specs.ByName.{ByName, with_entry}
 use Rattle.name_trie.specs.declared.node.Node.{Node}
 
--- nodes by key
+-- nodes by index
 abbrev pub Heap : Type 0 → Type 0
 Heap V = ℕ → Option (Node V)
 
@@ -14,26 +14,26 @@ abbrev pub links_of : {V : Type 0} → Option (Node V) → List (Field × ℕ)
 links_of None = []
 links_of (Some n) = entries n.children
 
--- the names below a node, where f gives those of each child
+-- the rows below a node, where f returns the rows of each child
 abbrev pub below : {V : Type 0} → (Option ℕ → List (List Field × V)) → List (Field × ℕ)
     → List (List Field × V)
 below f [] = []
 below f (e ∷ es) = map (λ r. (e.0 ∷ r.0, r.1)) (f (Some e.1)) ++ below f es
 
 module _ {V : Type 0} (h : Heap V) where
-  -- the child of a node for a component
+  -- the child of the node k for a component
   abbrev pub child : ℕ → Field → Option ℕ
   child k c = option_and_then (λ n. get n.children c) (h k)
 
-  -- the value of a node
+  -- the value of the node k
   abbrev pub value : ℕ → Option V
   value k = option_and_then (λ n. n.value) (h k)
 
-  -- the parent that a node names, if there is such a node
+  -- the parent of the node k, if the node exists
   abbrev pub up : ℕ → Option (Option ℕ)
   up k = option_map (λ n. n.parent) (h k)
 
-  -- the children of a node
+  -- the children of the node k
   abbrev pub links : ℕ → List (Field × ℕ)
   links k = links_of (h k)
 
@@ -49,23 +49,24 @@ module _ {V : Type 0} (h : Heap V) where
   abbrev pub lookup : Option ℕ → List Field → Option V
   lookup o name = option_and_then value (walk o name)
 
-  -- the names of less than this many components that lead to a value, in canonical order
+  -- the names of fewer than n components that have a value, with their values, in canonical order
   unfoldable pub rows : ℕ → Option ℕ → List (List Field × V)
   rows zero o = []
   rows (suc n) None = []
   rows (suc n) (Some k) = with_entry [] (value k) (below (rows n) (links k))
 
-  -- the table that the trie is: names have at most 64 components
+  -- the table that the trie represents; names have at most 64 components
   unfoldable pub table_of : Option ℕ → ByName V
   table_of root = from_entries (rows 65 root)
 
--- the value of the last node that has one on a walk, or else the best so far
+-- the last value on a walk along a name, or `best` if there is none
 abbrev pub last_on : {V : Type 0} → Heap V → Option ℕ → List Field → Option V → Option V
 last_on h None q best = best
 last_on h (Some k) [] best = option_or (value h k) best
 last_on h (Some k) (c ∷ cs) best = last_on h (child h k c) cs (option_or (value h k) best)
 
--- each node but the root has one place, and each is reached
+-- Each node except the root is the child of exactly one node under one component, and some name of
+-- at most 64 components leads to each node.
 pub record Sound {V : Type 0} (h : Heap V) (root : Option ℕ) : Type 0 where
   pub back : (a : ℕ) (c : Field) (k : ℕ) → child h a c ≡ Some k → up h k ≡ Some (Some a)
   pub once : (a : ℕ) (c d : Field) (k : ℕ) → child h a c ≡ Some k → child h a d ≡ Some k → c ≡ d
@@ -73,6 +74,6 @@ pub record Sound {V : Type 0} (h : Heap V) (root : Option ℕ) : Type 0 where
   pub reach : (k : ℕ) (u : Option ℕ) → up h k ≡ Some u
       → (q : List Field) × (length q ≤ 64) × (walk h root q ≡ Some k)
 
--- rows whose names continue a first part
+-- the rows with `front` before each name
 abbrev pub named : {V : Type 0} → List Field → List (List Field × V) → List (List Field × V)
 named front rs = map (λ r. (front ++ r.0, r.1)) rs

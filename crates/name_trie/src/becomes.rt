@@ -7,7 +7,7 @@ use crate::change::take_value;
 use crate::node::{Node, set_value};
 use slab::Slab;
 
-/// What a value, or none, becomes.
+/// A rule that gives a name a new value, from its old value or from none.
 pub trait Becomes<V> {
     ghost becomes: { Self → Option V → V };
 
@@ -15,7 +15,8 @@ pub trait Becomes<V> {
         ensures { result ≡ becomes self old };
 }
 
-/// Puts what a node's value, or none, becomes in its place. Returns whether it had none.
+/// Sets the value of a node to what `how` makes of its old value, which may be absent. Returns
+/// whether the node had no value.
 pub fn put_at<V: Drop, B: Becomes<V> + Drop>(nodes: &mut Slab<Node<V>>, k: usize, how: B) -> bool
     requires { IsSome (get nodes.old k) }
     ensures turns { Turns k (Some (B.becomes how (value_in (get nodes.old) k)))

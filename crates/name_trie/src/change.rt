@@ -12,7 +12,7 @@ use crate::node::{Node, prune, set_value};
 use ndn_names::Name;
 use slab::Slab;
 
-/// What becomes of a value.
+/// A rule that changes or removes a value.
 pub trait Change<V> {
     ghost change: { Self → V → Option V };
 
@@ -20,7 +20,7 @@ pub trait Change<V> {
         ensures { result ≡ change self.now value };
 }
 
-/// Takes a node's value.
+/// Removes and returns a node's value.
 pub fn take_value<V>(nodes: &mut Slab<Node<V>>, k: usize) -> Option<V>
     ensures old { result ≡ value_in (get nodes.old) k }
     ensures sets { IsSome result → Sets k None (get nodes.old) (get nodes.new) }
@@ -29,7 +29,8 @@ pub fn take_value<V>(nodes: &mut Slab<Node<V>>, k: usize) -> Option<V>
     nodes.get_mut(k)?.value.take()
 }
 
-/// Changes a node's value, if it has one. Returns whether the value was removed.
+/// Changes or removes a node's value, if it has one, as `how` says. Returns whether the value was
+/// removed.
 pub fn change_at<V: Drop, C: Change<V>>(nodes: &mut Slab<Node<V>>, k: usize, how: &C) -> bool
     ensures turns { Turns k (option_and_then (C.change how.now) (value_in (get nodes.old) k))
         (get nodes.old) (get nodes.new) }
@@ -46,7 +47,8 @@ pub fn change_at<V: Drop, C: Change<V>>(nodes: &mut Slab<Node<V>>, k: usize, how
     false
 }
 
-/// Removes nodes without a value and children, from each node upward.
+/// Removes all nodes without a value and children, except `kept`; then their parents, if these are
+/// left without a value and children.
 pub fn prune_all<V: Drop>(nodes: &mut Slab<Node<V>>, root: &mut Option<usize>, kept: Option<usize>)
     requires { Sound (get nodes.old) root.old }
     ensures sound { Sound (get nodes.new) root.new }
@@ -61,7 +63,7 @@ pub fn prune_all<V: Drop>(nodes: &mut Slab<Node<V>>, root: &mut Option<usize>, k
     }
 }
 
-/// Changes all values. Returns how many were removed.
+/// Changes or removes each value, as `how` says. Returns the number of removed values.
 pub fn change_all<V: Drop, C: Change<V>>(
     nodes: &mut Slab<Node<V>>,
     root: &mut Option<usize>,

@@ -16,7 +16,7 @@ use std::alloc::Global;
 use std::cmp::Ordering;
 use std::marker::Model;
 
-/// The children of a node, in canonical order of their components: the keys of their nodes.
+/// The indexes of a node's children, in canonical order of their components.
 #[derive(Drop)]
 pub struct Children {
     rows: Rows<(ComponentBuf, usize)>,
@@ -52,7 +52,7 @@ impl Children {
         self.rows.as_slice().is_empty()
     }
 
-    /// Whether there is a child whose component has this type or a lesser one.
+    /// Returns whether a child's component has type `kind` or a lesser type.
     pub fn has_up_to(&self, kind: u16) -> bool
         ensures yes { IsTrue result
             → (c : Field) × (c.0 ≤ kind) × IsSome (map.get self.now c) }
@@ -65,14 +65,14 @@ impl Children {
         }
     }
 
-    /// The children with their components, in canonical order.
+    /// Returns the components of the children with their indexes, in canonical order.
     pub fn rows(&self) -> &[(ComponentBuf, usize)]
         ensures { result.now ≡ map.entries self.now }
     {
         self.rows.as_slice()
     }
 
-    /// The child of a component.
+    /// Returns the child for a component.
     pub fn get(&self, component: Component<'_>) -> Option<usize>
         ensures { result ≡ map.get self.now (field_of component.entry) }
     {
@@ -83,7 +83,7 @@ impl Children {
         }
     }
 
-    /// Adds a child of a component that has none.
+    /// Adds a child for a component that has no child yet.
     pub fn insert(
         &mut self,
         alloc: Global,
@@ -101,8 +101,8 @@ impl Children {
         Ok(())
     }
 
-    /// Removes a child, which is under one component at most. The search begins where the hint
-    /// points.
+    /// Removes a child, which is under at most one component. The search begins at the position
+    /// that `hint` gives.
     pub fn forget(&mut self, child: usize, hint: &Hint)
         requires { (c d : Field) → map.get self.old c ≡ Some child → map.get self.old d ≡ Some child
             → c ≡ d }
@@ -114,7 +114,7 @@ impl Children {
     }
 }
 
-/// The first row that may be the hint's.
+/// Returns the index of the first row that is not before `hint`.
 fn start_of(rows: &[(ComponentBuf, usize)], hint: &Hint) -> usize
     ensures { result ≤ length rows.now }
 {
@@ -134,7 +134,7 @@ fn start_of(rows: &[(ComponentBuf, usize)], hint: &Hint) -> usize
     low
 }
 
-/// A child's row among those from one place to another.
+/// Returns the index of a child's row in `rows[from..to]`.
 fn row_within(rows: &[(ComponentBuf, usize)], child: usize, from: usize, to: usize) -> Option<usize>
     requires { to ≤ length rows.now }
     ensures found { IfSome result (λ at. (at < length rows.now)
@@ -149,7 +149,8 @@ fn row_within(rows: &[(ComponentBuf, usize)], child: usize, from: usize, to: usi
     None
 }
 
-/// Where the row of a child is: looked for from where the hint points to the end, and then before.
+/// Returns the index of a child's row. The search runs from the position that `hint` gives to the
+/// end, and then over the rows before it.
 fn row_of(rows: &[(ComponentBuf, usize)], child: usize, hint: &Hint) -> Option<usize>
     ensures found { IfSome result (λ at. (at < length rows.now)
         × HoldsAt (λ row. row.1 ≡ child) rows.now at) }
@@ -162,7 +163,7 @@ fn row_of(rows: &[(ComponentBuf, usize)], child: usize, hint: &Hint) -> Option<u
     }
 }
 
-/// The place of the child's row, or the place to insert it at.
+/// Returns the index of a component's row, or the index at which to insert it.
 #[inline(always)]
 fn place_of(rows: &[(ComponentBuf, usize)], component: Component<'_>) -> Result<usize, usize>
     requires { T (map.is_sorted component_cmp rows.now) }

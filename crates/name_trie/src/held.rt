@@ -15,7 +15,7 @@ use slab::Slab;
 use std::alloc::Global;
 use timers::Timers;
 
-/// Removes the nodes that only the reserved name needs, but not a node that has to stay.
+/// Removes the nodes that exist only for the reserved name, but never the node `kept`.
 pub fn release<V: Drop>(
     nodes: &mut Slab<Node<V>>,
     root: &mut Option<usize>,
@@ -36,7 +36,8 @@ pub fn release<V: Drop>(
     }
 }
 
-/// A name with its node, which is made where it is missing, and room for one more timer.
+/// Returns a copy of a name with its node, which is created if it is missing. Reserves room for one
+/// more timer.
 pub fn hold<V: Drop>(
     alloc: Global,
     nodes: &mut Slab<Node<V>>,
@@ -63,7 +64,7 @@ pub fn hold<V: Drop>(
     Ok((key, k))
 }
 
-/// The node that is reserved.
+/// Returns the reserved node.
 pub fn held_node(held: &Option<(NameBuf, usize)>) -> Option<usize>
     ensures { result ≡ option_map (λ p. p.1) held.now }
 {
@@ -73,7 +74,7 @@ pub fn held_node(held: &Option<(NameBuf, usize)>) -> Option<usize>
     }
 }
 
-/// The node to reserve, where it was made.
+/// Returns the node of a successful reservation.
 pub fn node_held(made: &Result<(NameBuf, usize), Memory>) -> Option<usize>
     ensures ok { IfOk made.now (λ p. result ≡ Some p.1) }
     ensures err { OnErr made.now (result ≡ None) }
@@ -84,7 +85,7 @@ pub fn node_held(made: &Result<(NameBuf, usize), Memory>) -> Option<usize>
     }
 }
 
-/// The reserved node, where it is that of this name.
+/// Returns the reserved node if it is reserved for this name.
 fn held_for(held: &Option<(NameBuf, usize)>, name: Name<'_>) -> Option<usize>
     ensures yes { IfSome result (λ k. held.now ≡ Some (components name.entry, k)) }
     ensures no { result ≡ None → (k : ℕ) → held.now ≡ Some (components name.entry, k) → ⊥ }
@@ -97,7 +98,7 @@ fn held_for(held: &Option<(NameBuf, usize)>, name: Name<'_>) -> Option<usize>
     None
 }
 
-/// As `find`, without a walk where the name is the reserved one.
+/// Returns the node of a name, as `find` does, but without a walk if the name is the reserved one.
 pub fn node_of<V>(
     nodes: &Slab<Node<V>>,
     root: Option<usize>,
@@ -113,7 +114,7 @@ pub fn node_of<V>(
     find(nodes, root, name)
 }
 
-/// Ends the reservation, unless it is for this name. Returns the reservation that is left.
+/// Ends the reservation, unless it is for this name. Returns the reservation that remains.
 pub fn release_other<V: Drop>(
     nodes: &mut Slab<Node<V>>,
     root: &mut Option<usize>,
@@ -138,7 +139,8 @@ pub fn release_other<V: Drop>(
     None
 }
 
-/// As `make_path`, without a walk where a node is reserved, which is that of this name.
+/// Returns the node of a name, as `make_path` does, but without a walk if a node is reserved, which
+/// then belongs to this name.
 fn path_to<V: Drop>(
     alloc: Global,
     nodes: &mut Slab<Node<V>>,
@@ -164,7 +166,7 @@ fn path_to<V: Drop>(
     }
 }
 
-/// Makes room for the timer of a node's value, where it has none.
+/// Makes room for one more timer, if the node has no value.
 fn reserve_for<V>(nodes: &Slab<Node<V>>, timers: &mut Timers, k: usize) -> Result<(), Memory>
     ensures timers { timers.new.timers ≡ timers.old.timers }
     ensures capacity { timers.old.capacity ≤ timers.new.capacity }
@@ -180,8 +182,8 @@ fn reserve_for<V>(nodes: &Slab<Node<V>>, timers: &mut Timers, k: usize) -> Resul
     Ok(())
 }
 
-/// The node of a name, made where it is missing, and room for the timer of its value. The name is
-/// the reserved one, or none is reserved.
+/// Returns the node of a name, which is created if it is missing, and reserves room for the timer
+/// of its value. No other name may be reserved.
 pub fn place_for<V: Drop>(
     alloc: Global,
     nodes: &mut Slab<Node<V>>,

@@ -1,4 +1,4 @@
-//! Values by name, in a trie: look-ups, changes and the longest prefix in the time of one walk.
+//! Values by name, in a trie. A lookup, a change or a longest prefix match takes one walk.
 #![tactic(auto)]
 
 mod becomes;

@@ -10,7 +10,7 @@ use ndn_tlv::Memory;
 use slab::Slab;
 use std::alloc::Global;
 
-/// The name with one more component.
+/// Returns the name `front` extended by one component.
 fn extended(alloc: Global, front: &NameBuf, component: Component<'_>) -> Result<NameBuf, Memory>
     ensures { IfOk result (λ name. name ≡ front.now ++ field_of component.entry ∷ []) }
 {
@@ -21,7 +21,7 @@ fn extended(alloc: Global, front: &NameBuf, component: Component<'_>) -> Result<
     Ok(name)
 }
 
-/// Adds the row of a node, if it has a value.
+/// Appends the row of a node, if it has a value.
 fn list_value<'a, V>(
     alloc: Global,
     node: &'a Node<V>,
@@ -39,7 +39,7 @@ fn list_value<'a, V>(
     Ok(())
 }
 
-/// Adds the rows of a node, and of those below it to a depth.
+/// Appends the rows of a node and of the nodes below it, down to a depth.
 pub fn list_below<'a, V>(
     alloc: Global,
     nodes: &'a Slab<Node<V>>,
@@ -66,7 +66,7 @@ pub fn list_below<'a, V>(
     Ok(())
 }
 
-/// The rows of a trie, in canonical order.
+/// Returns the rows of a trie, in canonical order.
 pub fn list<'a, V>(
     alloc: Global,
     nodes: &'a Slab<Node<V>>,

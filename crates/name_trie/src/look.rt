@@ -8,12 +8,12 @@ use crate::node::{Node, child_of, value_of};
 use ndn_names::Name;
 use slab::Slab;
 
-/// A visitor of the values of a name and of its prefixes, which may store references to them.
+/// A visitor of the values of a name and of its prefixes. It may store references to the values.
 pub trait Look<'a, V> {
-    /// What it becomes; `true` means that the value is the name's own.
+    /// The visitor after it has looked at a value. `true` marks the value of the name itself.
     ghost seen: { Bool → Self → V → Self };
 
-    /// Looks at a value, which is the name's own or that of a proper prefix.
+    /// Looks at a value: the name's own if `is_own` is set, else that of a proper prefix.
     fn look(&mut self, value: &'a V, is_own: bool)
         ensures { self.new ≡ seen is_own self.old value.now };
 }
@@ -27,7 +27,8 @@ fn look_at<'a, V, L: Look<'a, V>>(nodes: &'a Slab<Node<V>>, at: usize, is_own: b
     }
 }
 
-/// Looks at the values of a name's proper prefixes, the shortest first, and of the name.
+/// Looks at the values of a name's proper prefixes, the shortest first, and then at the value of
+/// the name.
 pub fn look_along<'a, V, L: Look<'a, V>>(
     nodes: &'a Slab<Node<V>>,
     root: Option<usize>,

@@ -16,11 +16,11 @@ use ndn_tlv::Memory;
 use std::alloc::Global;
 use std::marker::Model;
 
-/// Values by name, in canonical order.
+/// A map from names to values, in canonical order.
 #[derive(Drop)]
 pub struct NameMap<V> {
     trie: NameTrie<V>,
-    // How many names have a value.
+    // The number of names that have a value.
     len: usize,
 }
 
@@ -55,15 +55,15 @@ impl<V: Drop> NameMap<V> {
         self.len
     }
 
-    /// The value of a name.
+    /// Returns the value of a name.
     pub fn get(&self, name: Name<'_>) -> Option<&V>
         ensures { option_map (λ v. v.now) result ≡ map.get self.now.table (components name.entry) }
     {
         self.trie.get(name)
     }
 
-    /// Sets the value of a name. It returns `Memory` only for a name that has none; then nothing
-    /// changes, but no call is prepared any more.
+    /// Sets the value of a name. Returns `Memory` only for a name without a value. In that case the
+    /// values are unchanged, but a prepared call is cancelled.
     pub fn put(&mut self, name: Name<'_>, value: V) -> Result<(), Memory>
         requires { IsSome (map.get self.old.table (components name))
             ⊎ (map.len self.old.table + 1 < 2 ^ 64) }
@@ -80,7 +80,7 @@ impl<V: Drop> NameMap<V> {
         Ok(())
     }
 
-    /// Prepares one `put` or `put_with` of this name, which then cannot run out of memory.
+    /// Prepares one `put` or `put_with` of this name, so that the call cannot run out of memory.
     pub fn prepare(&mut self, name: Name<'_>) -> Result<(), Memory>
         ensures table { self.new.table ≡ self.old.table }
         ensures ok { OnOk result (self.new.prepared ≡ Some (components name.entry)) }
@@ -89,7 +89,7 @@ impl<V: Drop> NameMap<V> {
         self.trie.prepare(name)
     }
 
-    /// Ends what is prepared.
+    /// Cancels the prepared call.
     pub fn forget_prepared(&mut self)
         ensures table { self.new.table ≡ self.old.table }
         ensures prepared { self.new.prepared ≡ None }
@@ -107,7 +107,7 @@ impl<V: Drop> NameMap<V> {
         }
     }
 
-    /// All names with their values, in canonical order.
+    /// Returns all names with their values, in canonical order.
     pub fn list(&self, alloc: Global) -> Result<Vec<(NameBuf, &V)>, Memory>
         ensures { IfOk result (λ list. list_map (λ r. (r.0, r.1.now)) list.items
             ≡ map.entries self.now.table) }
@@ -115,7 +115,7 @@ impl<V: Drop> NameMap<V> {
         self.trie.list(alloc)
     }
 
-    /// The value of the longest prefix of a name that has one.
+    /// Returns the value that a longest prefix match of `name` finds.
     pub fn longest(&self, name: Name<'_>) -> Option<&V>
         ensures { option_map (λ v. v.now) result
             ≡ longest_in self.now.table (components name.entry) }
@@ -125,7 +125,7 @@ impl<V: Drop> NameMap<V> {
 }
 
 impl<V: Drop> NameMap<V> {
-    /// Changes the value of a name, if it has one.
+    /// Changes or removes the value of a name, if it has one, as `how` says.
     pub fn change<C: Change<V>>(&mut self, name: Name<'_>, how: &C)
         ensures table { self.new.table ≡ with_value self.old.table (components name.entry)
             (option_and_then (C.change how.now) (map.get self.old.table (components name.entry))) }
@@ -134,7 +134,7 @@ impl<V: Drop> NameMap<V> {
         self.len -= usize::from(self.trie.change(name, how));
     }
 
-    /// Changes all values.
+    /// Changes or removes each value, as `how` says.
     pub fn change_all<C: Change<V>>(&mut self, how: &C)
         ensures table { self.new.table ≡ revise (C.change how.now) self.old.table }
         ensures prepared { self.new.prepared ≡ self.old.prepared }
@@ -142,7 +142,7 @@ impl<V: Drop> NameMap<V> {
         self.len -= self.trie.change_all(how);
     }
 
-    /// Puts what a name's value, or none, becomes in its place.
+    /// Sets the value of a name to what `how` makes of its old value, which may be absent.
     pub fn put_with<B: Becomes<V> + Drop>(&mut self, name: Name<'_>, how: B) -> Result<(), Memory>
         requires { IsSome (map.get self.old.table (components name))
             ⊎ (map.len self.old.table + 1 < 2 ^ 64) }
@@ -162,8 +162,8 @@ impl<V: Drop> NameMap<V> {
 }
 
 impl<V: Drop> NameMap<V> {
-    /// Sees the values of a name's proper prefixes, the shortest first, and of the name. Adds one
-    /// to `steps` for each search among the children of a node.
+    /// Shows `see` the values of a name's proper prefixes, the shortest first, and then the value
+    /// of the name. Adds one to `steps` for each search among the children of a node.
     pub fn see_along<S: See<V>>(&self, name: Name<'_>, steps: &mut u64, see: &mut S)
         requires { steps.old + 64 < 2 ^ 64 }
         ensures seen { see.new ≡ taken_along S.seen S.seen see.old
@@ -174,15 +174,15 @@ impl<V: Drop> NameMap<V> {
         self.trie.see_along(name, steps, see);
     }
 
-    /// Sees all values, in the canonical order of their names.
+    /// Shows `see` all values, in the canonical order of their names.
     pub fn see_all<S: See<V>>(&self, see: &mut S)
         ensures { see.new ≡ fold S.seen see.old (map.values self.now.table) }
     {
         self.trie.see_all(see);
     }
 
-    /// Shows all names that have a value, in canonical order, each with what is known there. An
-    /// `Err` leaves some of them shown.
+    /// Shows all names that have a value, in canonical order, each with what is known there. On
+    /// `Err`, some of the names may have been shown.
     pub fn show_all<W: Carry<V> + Drop, S: Show<W>>(
         &self,
         before: &W,

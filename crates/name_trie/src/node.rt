@@ -15,25 +15,25 @@ use ndn_tlv::Memory;
 use slab::Slab;
 use std::alloc::Global;
 
-/// A node of a trie: the node for the name's prefix that leads to it.
+/// A node of a trie. It stands for the prefix that leads to it.
 #[derive(Drop)]
 pub struct Node<V> {
-    /// The node that it is a child of.
+    /// The index of the parent node.
     pub parent: Option<usize>,
-    /// Where its parent looks for it.
+    /// The hint for finding the node among its parent's children.
     pub hint: Hint,
     pub children: Children,
     pub value: Option<V>,
 }
 
-/// The child of a node for a component.
+/// Returns the child of a node for a component.
 pub fn child_of<V>(nodes: &Slab<Node<V>>, at: usize, component: Component<'_>) -> Option<usize>
     ensures { result ≡ child (get nodes.now) at (field_of component.entry) }
 {
     nodes.get(at)?.children.get(component)
 }
 
-/// Whether a node has a child whose component has this type or a lesser one.
+/// Returns whether a node has a child whose component has type `kind` or a lesser type.
 pub fn has_child_up_to<V>(nodes: &Slab<Node<V>>, at: usize, kind: u16) -> bool
     ensures yes { IsTrue result → (c : Field) × (c.0 ≤ kind)
         × IsSome (child (get nodes.now) at c) }
@@ -46,14 +46,14 @@ pub fn has_child_up_to<V>(nodes: &Slab<Node<V>>, at: usize, kind: u16) -> bool
     }
 }
 
-/// The value of a node.
+/// Returns the value of a node.
 pub fn value_of<V>(nodes: &Slab<Node<V>>, at: usize) -> Option<&V>
     ensures { option_map (λ v. v.now) result ≡ value (get nodes.now) at }
 {
     nodes.get(at)?.value.as_ref()
 }
 
-/// The node that a name leads to.
+/// Returns the node that a name leads to.
 pub fn find<V>(nodes: &Slab<Node<V>>, root: Option<usize>, name: Name<'_>) -> Option<usize>
     ensures { result ≡ walk (get nodes.now) root (components name.entry) }
 {
@@ -73,7 +73,7 @@ pub fn set_value<V: Drop>(nodes: &mut Slab<Node<V>>, at: usize, value: Option<V>
     nodes[at].value = value;
 }
 
-/// Adds a child without a value and children, for a component that has none.
+/// Adds a child without a value and children, for a component that has no child.
 pub fn add_child<V: Drop>(
     alloc: Global,
     nodes: &mut Slab<Node<V>>,
@@ -100,7 +100,7 @@ pub fn add_child<V: Drop>(
     Ok(k)
 }
 
-/// Whether a node is there, and has no value and no children.
+/// Returns whether a node exists, and has no value and no children.
 pub fn is_bare<V>(nodes: &Slab<Node<V>>, k: usize) -> bool
     ensures yes { IsTrue result → IsBare (get nodes.now) k }
     ensures no { IsBare (get nodes.now) k → IsTrue result }
@@ -111,7 +111,7 @@ pub fn is_bare<V>(nodes: &Slab<Node<V>>, k: usize) -> bool
     }
 }
 
-/// Adds a node without a parent, a value and children.
+/// Adds a node without parent, value and children.
 pub fn add_root<V: Drop>(alloc: Global, nodes: &mut Slab<Node<V>>) -> Result<usize, Memory>
     ensures ok { IfOk result (λ k. Starts k (get nodes.old) (get nodes.new)) }
     ensures err { OnErr result (SameValues nodes.old nodes.new) }
@@ -125,7 +125,7 @@ pub fn add_root<V: Drop>(alloc: Global, nodes: &mut Slab<Node<V>>) -> Result<usi
     Ok(k)
 }
 
-/// Removes a node, and the link to it. Returns its parent.
+/// Removes a node and the link to it. Returns its parent.
 pub fn cut<V: Drop>(nodes: &mut Slab<Node<V>>, k: usize) -> Option<usize>
     requires there { IsSome (get nodes.old k) }
     requires once { (a : ℕ) (c d : Field) → child (get nodes.old) a c ≡ Some k
@@ -142,7 +142,7 @@ pub fn cut<V: Drop>(nodes: &mut Slab<Node<V>>, k: usize) -> Option<usize>
     node.parent
 }
 
-/// A key, where it is not this one.
+/// Returns the index `key`, or `None` if it is `k`.
 fn without(key: Option<usize>, k: usize) -> Option<usize>
     ensures { result ≡ unless k key }
 {
@@ -152,8 +152,8 @@ fn without(key: Option<usize>, k: usize) -> Option<usize>
     }
 }
 
-/// Removes a node, and then those above it, while they have no value and no children: up to the
-/// root, or to a node that has to stay.
+/// Removes the node `from` if it has no value and no children, and then its ancestors in the same
+/// way, up to the root. Stops before the node `kept`.
 pub fn prune<V: Drop>(
     nodes: &mut Slab<Node<V>>,
     root: &mut Option<usize>,
@@ -180,7 +180,7 @@ pub fn prune<V: Drop>(
     }
 }
 
-/// The root. It is made, empty, if there is none.
+/// Returns the root, which is created without a value if it is missing.
 fn start<V: Drop>(
     alloc: Global,
     nodes: &mut Slab<Node<V>>,
@@ -203,7 +203,8 @@ fn start<V: Drop>(
     Ok(k)
 }
 
-/// The child of a node for a component. It is made, empty, if there is none.
+/// Returns the child of a node for a component. The child is created without a value if it is
+/// missing.
 fn step<V: Drop>(
     alloc: Global,
     nodes: &mut Slab<Node<V>>,
@@ -229,8 +230,8 @@ fn step<V: Drop>(
     add_child(alloc, nodes, at, component)
 }
 
-/// The node that a name leads to. The missing nodes are made, empty; when memory runs out, those
-/// that were made are removed again.
+/// Returns the node that a name leads to. Missing nodes are created without values. If memory runs
+/// out, the created nodes are removed again.
 pub fn make_path<V: Drop>(
     alloc: Global,
     nodes: &mut Slab<Node<V>>,
@@ -260,7 +261,7 @@ pub fn make_path<V: Drop>(
     Ok(at)
 }
 
-/// The value of the longest prefix of a name that has one.
+/// Returns the value that a longest prefix match of `name` finds.
 pub fn longest<'a, V>(
     nodes: &'a Slab<Node<V>>,
     root: Option<usize>,

@@ -7,7 +7,7 @@ use ndn_tlv::Memory;
 use std::alloc::Global;
 use std::{array, mem};
 
-/// A list of rows. One row lies in the value itself, since most lists have no more.
+/// A list of rows. A single row is stored inline, since most lists have no more.
 #[derive(Drop)]
 pub enum Rows<T> {
     Empty,
@@ -16,7 +16,7 @@ pub enum Rows<T> {
 }
 
 impl<T> Rows<T> {
-    /// The rows, to read.
+    /// Returns the rows as a slice.
     #[inline]
     pub fn as_slice(&self) -> &[T]
         requires { FitsInMemory T.row }
@@ -31,7 +31,7 @@ impl<T> Rows<T> {
 }
 
 impl<T: Drop> Rows<T> {
-    /// The rows. One row takes a place in this room.
+    /// Returns the rows as a vector. A single row is moved into `room`.
     fn into_vec(self, room: Vec<T>) -> Vec<T>
         requires empty { room.items ≡ [] }
         requires places { 2 ≤ vec_capacity room }
@@ -49,7 +49,7 @@ impl<T: Drop> Rows<T> {
         }
     }
 
-    /// Inserts a row.
+    /// Inserts a row at index `at`.
     pub fn insert(&mut self, alloc: Global, at: usize, row: T) -> Result<(), Memory>
         requires { at ≤ length (items_of self.old) }
         ensures ok { OnOk result (items_of self.new ≡ insert (items_of self.old) at row) }
@@ -68,7 +68,7 @@ impl<T: Drop> Rows<T> {
         Ok(())
     }
 
-    /// Removes a row.
+    /// Removes the row at index `at`.
     pub fn remove(&mut self, at: usize)
         requires { at < length (items_of self.old) }
         ensures { items_of self.new ≡ remove (items_of self.old) at }

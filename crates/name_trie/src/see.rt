@@ -8,17 +8,17 @@ use crate::node::{Node, child_of, value_of};
 use ndn_names::{MAX_COMPONENTS, Name};
 use slab::Slab;
 
-/// What sees values, one after the other.
+/// A visitor that is shown values one after the other.
 pub trait See<V> {
-    /// What it becomes.
+    /// The visitor after it has seen a value.
     ghost seen: { Self → V → Self };
 
-    /// Sees a value.
+    /// Shows the visitor a value.
     fn see(&mut self, value: &V)
         ensures { self.new ≡ seen self.old value.now };
 }
 
-/// Sees a node's value, if it has one.
+/// Shows `see` a node's value, if it has one.
 fn see_at<V, S: See<V>>(nodes: &Slab<Node<V>>, at: usize, see: &mut S)
     ensures { see.new ≡ taken S.seen see.old (value_in (get nodes.now) at) }
 {
@@ -27,8 +27,8 @@ fn see_at<V, S: See<V>>(nodes: &Slab<Node<V>>, at: usize, see: &mut S)
     }
 }
 
-/// Sees the values of a name's proper prefixes, the shortest first, and of the name. Adds one to
-/// `steps` for each search among the children of a node.
+/// Shows `see` the values of a name's proper prefixes, the shortest first, and then the value of
+/// the name. Adds one to `steps` for each search among the children of a node.
 pub fn see_along<V, S: See<V>>(
     nodes: &Slab<Node<V>>,
     root: Option<usize>,
@@ -54,7 +54,7 @@ pub fn see_along<V, S: See<V>>(
     }
 }
 
-/// Sees the values of a node, and of those below it to a depth.
+/// Shows `see` the values of a node and of the nodes below it, down to a depth.
 fn see_below<V, S: See<V>>(nodes: &Slab<Node<V>>, at: usize, depth: usize, see: &mut S)
     ensures { see.new ≡ fold S.seen see.old
         (map (λ r. r.1) (rows (get nodes.now) depth (Some at))) }
@@ -73,7 +73,7 @@ fn see_below<V, S: See<V>>(nodes: &Slab<Node<V>>, at: usize, depth: usize, see: 
     }
 }
 
-/// Sees all values, in the canonical order of their names.
+/// Shows `see` all values, in the canonical order of their names.
 pub fn see_all<V, S: See<V>>(nodes: &Slab<Node<V>>, root: Option<usize>, see: &mut S)
     ensures { see.new ≡ fold S.seen see.old (map (λ r. r.1) (rows (get nodes.now) 65 root)) }
 {

@@ -12,27 +12,27 @@ use ndn_tlv::{Memory, put_header};
 use slab::Slab;
 use std::alloc::Global;
 
-/// What is known at a name, and is carried on to the names below it.
+/// What is known at a name. It is carried on to the names below.
 pub trait Carry<V> {
-    /// What is known past a value.
+    /// What is known after a value is taken into account.
     ghost past: { Self → V → Self };
 
-    /// Carries it past a value.
+    /// Takes a value into account.
     fn carry(&self, value: &V) -> Self
         ensures { result ≡ past self.now value.now };
 }
 
-/// What is shown names, one after the other, each with something that belongs to it.
+/// A visitor that is shown names one after the other, each with something that belongs to it.
 pub trait Show<X> {
-    /// What it becomes.
+    /// The visitor after it has been shown a name.
     ghost shown: { Self → List ℕ → X → Self };
 
-    /// Shows a name, by its octets.
+    /// Shows the visitor a name, as its octets.
     fn show(&mut self, name: &[u8], of_name: &X) -> Result<(), Memory>
         ensures { OnOk result (self.new ≡ shown self.old name.now of_name.now) };
 }
 
-/// What is known past a value, if there is one.
+/// Returns what is known after a value is taken into account, if there is one.
 fn past_value<V, W: Carry<V> + Drop>(before: &W, value: &Option<V>) -> Option<W>
     ensures { result ≡ option_map (W.past before.now) value.now }
 {
@@ -42,7 +42,7 @@ fn past_value<V, W: Carry<V> + Drop>(before: &W, value: &Option<V>) -> Option<W>
     }
 }
 
-/// Shows a name that has a value, by what is known past the value, and gives what is known at the
+/// Shows a name that has a value, with what is known after that value. Returns what is known at the
 /// name.
 fn show_name<'a, W, S: Show<W>>(
     past: &'a Option<W>,
@@ -62,7 +62,7 @@ fn show_name<'a, W, S: Show<W>>(
     }
 }
 
-/// Appends the octets of a component, or some of them.
+/// Appends the octets of a component. If memory runs out, some octets may have been appended.
 fn put_component(name: &mut Vec<u8>, component: Component<'_>) -> Result<(), Memory>
     ensures { OnOk result
         (name.new.items ≡ name.old.items ++ element (field_of component.entry)) }
@@ -72,8 +72,8 @@ fn put_component(name: &mut Vec<u8>, component: Component<'_>) -> Result<(), Mem
     Ok(())
 }
 
-/// Shows the names of a node and of those below it to a depth that have a value. The octets of the
-/// node's name are in `name`.
+/// Shows the names with values at a node and below it, down to a depth. `name` holds the octets of
+/// the node's name.
 fn show_below<V, W: Carry<V> + Drop, S: Show<W>>(
     nodes: &Slab<Node<V>>,
     at: usize,

@@ -16,15 +16,16 @@ use ndn_names::Name;
 use slab::Slab;
 use timers::Timers;
 
-/// What takes something out of the values of a name and of its prefixes.
+/// A visitor that takes something from the values of a name and of its prefixes.
 pub trait Take<V> {
-    /// What it becomes; `true` means that the value is the name's own.
+    /// The visitor after it has taken from a value. `true` marks the value of the name itself.
     ghost taken: { Bool → Self → V → Self };
 
-    /// What is left of the value.
+    /// What remains of the value.
     ghost left: { Bool → V → Option V };
 
-    /// Takes from a value, which is the name's own or that of a proper prefix.
+    /// Takes from a value: the name's own if `is_own` is set, else that of a proper prefix. Returns
+    /// what remains of the value.
     fn take(&mut self, value: V, is_own: bool) -> Option<V>
         ensures taken { self.new ≡ taken is_own self.old value }
         ensures left { result ≡ left is_own value };
@@ -45,7 +46,7 @@ fn take_from<V: Drop, T: Take<V>>(nodes: &mut Slab<Node<V>>, k: usize, is_own: b
     set_value(nodes, k, Some(left));
 }
 
-/// Takes from a node's value, if it has one. Its timer and the count follow.
+/// Takes from a node's value, if it has one. Updates its timer and the total size.
 pub fn take_at<V: Timed + Drop, T: Take<V>>(
     nodes: &mut Slab<Node<V>>,
     timers: &mut Timers,
@@ -76,14 +77,15 @@ pub fn take_at<V: Timed + Drop, T: Take<V>>(
     *len = recount(*len, was, is);
 }
 
-/// The last node on the walk along a name, and whether it is the name's.
+/// The last node on the walk along a name, and whether it is the node of the whole name.
 #[derive(Clone, Copy)]
 pub struct End {
     pub at: usize,
     pub is_whole: bool,
 }
 
-/// Takes from the values of a name's proper prefixes, the shortest first, and of the name.
+/// Takes from the values of a name's proper prefixes, the shortest first, and then from the value
+/// of the name.
 pub fn take_along<V: Timed + Drop, T: Take<V>>(
     nodes: &mut Slab<Node<V>>,
     root: Option<usize>,

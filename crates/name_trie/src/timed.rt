@@ -13,7 +13,7 @@ use crate::node::{Node, prune, set_value, value_of};
 use slab::Slab;
 use timers::{Timer, Timers};
 
-/// A value with a deadline, which counts as a number of entries.
+/// A value with a deadline. It counts as a number of entries.
 pub trait Timed {
     ghost timer: { Self → ℕ };
 
@@ -26,7 +26,7 @@ pub trait Timed {
         ensures { result ≡ size self.now };
 }
 
-/// The deadline of a node's value.
+/// Returns the deadline of a node's value.
 pub fn timer_at<V: Timed>(nodes: &Slab<Node<V>>, k: usize) -> Option<u64>
     ensures { result ≡ timer_in V.timer (get nodes.now) k }
 {
@@ -34,7 +34,7 @@ pub fn timer_at<V: Timed>(nodes: &Slab<Node<V>>, k: usize) -> Option<u64>
     Some(value.timer())
 }
 
-/// The number of entries that a node's value counts as.
+/// Returns the number of entries that a node's value counts as.
 pub fn size_at<V: Timed>(nodes: &Slab<Node<V>>, k: usize) -> usize
     ensures { result ≡ size_in V.size (get nodes.now) k }
 {
@@ -44,14 +44,15 @@ pub fn size_at<V: Timed>(nodes: &Slab<Node<V>>, k: usize) -> usize
     }
 }
 
-/// A count with one size in place of another. It wraps, and so needs no bound.
+/// Returns the count after the size `was` is replaced by `is`. The count may wrap, and so needs no
+/// bound.
 pub fn recount(len: usize, was: usize, is: usize) -> usize
     ensures { Recounts was is len result }
 {
     len.wrapping_sub(was).wrapping_add(is)
 }
 
-/// Removes a key's timer.
+/// Removes a node's timer.
 fn stop(timers: &mut Timers, key: usize, old: Option<u64>)
     ensures timers { timers.new.timers ≡ stopped key old timers.old.timers }
     ensures room { (d : ℕ) → old ≡ Some d
@@ -65,7 +66,7 @@ fn stop(timers: &mut Timers, key: usize, old: Option<u64>)
     }
 }
 
-/// Inserts a key's timer. There is room for it.
+/// Inserts a node's timer. There must be room for it.
 fn start(timers: &mut Timers, key: usize, new: Option<u64>)
     requires { IsSome new → set.len timers.old.timers < timers.old.capacity }
     ensures timers { timers.new.timers ≡ started key new timers.old.timers }
@@ -76,7 +77,7 @@ fn start(timers: &mut Timers, key: usize, new: Option<u64>)
     }
 }
 
-/// Replaces a key's old timer by its new one. There was an old one if there is a new one.
+/// Replaces a node's old timer by its new one. There must be an old timer if there is a new one.
 pub fn retime(timers: &mut Timers, key: usize, old: Option<u64>, new: Option<u64>)
     requires had { IsSome new → IsSome old }
     requires there { (d : ℕ) → old ≡ Some d
@@ -92,7 +93,7 @@ pub fn retime(timers: &mut Timers, key: usize, old: Option<u64>, new: Option<u64
     start(timers, key, new);
 }
 
-/// Changes a node's value, if it has one, its timer and the count.
+/// Changes or removes a node's value, if it has one, and updates its timer and the total size.
 pub fn change_timed<V: Timed + Drop, C: Change<V>>(
     nodes: &mut Slab<Node<V>>,
     timers: &mut Timers,
@@ -120,8 +121,7 @@ pub fn change_timed<V: Timed + Drop, C: Change<V>>(
     *len = recount(*len, was, is);
 }
 
-/// Changes each value that is due, and with it all those that change. Values that become none are
-/// removed.
+/// Changes every value that is due, or removes it, as `how` says. `how` keeps all other values.
 pub fn expire<V: Timed + Drop, C: Change<V>>(
     nodes: &mut Slab<Node<V>>,
     root: &mut Option<usize>,
@@ -154,7 +154,7 @@ pub fn expire<V: Timed + Drop, C: Change<V>>(
     }
 }
 
-/// Takes a node's value, and its timer.
+/// Removes and returns a node's value, and removes its timer.
 fn take_timed<V: Timed + Drop>(
     nodes: &mut Slab<Node<V>>,
     timers: &mut Timers,
@@ -173,7 +173,7 @@ fn take_timed<V: Timed + Drop>(
     take_value(nodes, k)
 }
 
-/// Sets the value of a node that has none, and its timer.
+/// Sets the value of a node that has none, and inserts its timer.
 fn put_timed<V: Timed + Drop>(nodes: &mut Slab<Node<V>>, timers: &mut Timers, k: usize, value: V)
     requires timed { IsTimed V.timer (get nodes.old) timers.old.timers }
     requires node { IsSome (get nodes.old k) }
@@ -188,8 +188,8 @@ fn put_timed<V: Timed + Drop>(nodes: &mut Slab<Node<V>>, timers: &mut Timers, k:
     start(timers, k, new);
 }
 
-/// Puts what a node's value, or none, becomes in its place, its timer and its count. Where it has
-/// none there is room for a timer.
+/// Sets the value of a node to what `how` makes of its old value, which may be absent, and updates
+/// its timer and the total size. If the node has no value, there must be room for a timer.
 pub fn replace_at<V: Timed + Drop, B: Becomes<V> + Drop>(
     nodes: &mut Slab<Node<V>>,
     timers: &mut Timers,
@@ -214,7 +214,7 @@ pub fn replace_at<V: Timed + Drop, B: Becomes<V> + Drop>(
     *len = recount(*len, was, is);
 }
 
-/// Changes all values.
+/// Changes or removes each value, as `how` says.
 pub fn change_all_timed<V: Timed + Drop, C: Change<V>>(
     nodes: &mut Slab<Node<V>>,
     root: &mut Option<usize>,

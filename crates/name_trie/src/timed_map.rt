@@ -21,20 +21,20 @@ use std::alloc::Global;
 use std::marker::Model;
 use timers::Timers;
 
-/// Values by name, each with a deadline.
+/// A map from names to values with deadlines.
 #[derive(Drop)]
 pub struct TimedMap<V: Timed> {
     alloc: Global,
     nodes: Slab<Node<V>>,
     root: Option<usize>,
-    // The name that was prepared last, and its node, which is not removed: the calls of this name
-    // begin at it.
+    // The reserved name and its node: those of the last prepared call. The node is not removed, and
+    // calls for this name begin at it.
     held: Option<(NameBuf, usize)>,
-    // Whether the call that was prepared is still to come.
+    // Whether the prepared call is still to be made.
     is_ready: bool,
-    // One for each value. While a call is prepared there is room for one more.
+    // The timers, one for each value. While a call is prepared there is room for one more.
     timers: Timers,
-    // The sizes of all values together. It wraps.
+    // The total size of all values, wrapping.
     len: usize,
 }
 
@@ -78,7 +78,7 @@ impl<V: Timed + Drop> TimedMap<V> {
         }
     }
 
-    /// The sizes of all values together.
+    /// Returns the total size of all values.
     pub fn len(&self) -> usize
         requires { total V.size (map.entries self.now.table) < 2 ^ 64 }
         ensures { result ≡ total V.size (map.entries self.now.table) }
@@ -86,7 +86,7 @@ impl<V: Timed + Drop> TimedMap<V> {
         self.len
     }
 
-    /// The value of a name.
+    /// Returns the value of a name.
     pub fn get(&self, name: Name<'_>) -> Option<&V>
         ensures { option_map (λ v. v.now) result ≡ map.get self.now.table (components name.entry) }
     {
@@ -94,7 +94,7 @@ impl<V: Timed + Drop> TimedMap<V> {
         value_of(&self.nodes, k)
     }
 
-    /// The value of a name with one component more.
+    /// Returns the value of a name extended by one component.
     pub fn get_below(&self, name: Name<'_>, component: Component<'_>) -> Option<&V>
         ensures { option_map (λ v. v.now) result ≡ map.get self.now.table
             (components name.entry ++ field_of component.entry ∷ []) }
@@ -104,8 +104,8 @@ impl<V: Timed + Drop> TimedMap<V> {
         value_of(&self.nodes, k)
     }
 
-    /// Whether a name may have values of names with one component more, of this type or a lesser
-    /// one.
+    /// Returns whether an extension of the name by one component of type `kind` or a lesser type
+    /// may have a value.
     pub fn has_below(&self, name: Name<'_>, kind: u16) -> bool
         ensures { result ≡ false → (c : Field) → c.0 ≤ kind
             → map.get self.now.table (components name.entry ++ c ∷ []) ≡ None }
@@ -116,8 +116,8 @@ impl<V: Timed + Drop> TimedMap<V> {
         }
     }
 
-    /// Looks at the values of a name's proper prefixes, the shortest first, and of the name, in one
-    /// walk.
+    /// Looks at the values of a name's proper prefixes, the shortest first, and then at the value
+    /// of the name, in one walk.
     pub fn look_along<'a, L: Look<'a, V>>(&'a self, name: Name<'_>, look: &mut L)
         ensures { look.new ≡ taken_along (L.seen true) (L.seen false) look.old
             (map.get self.now.table) [] (components name.entry) }
@@ -125,7 +125,7 @@ impl<V: Timed + Drop> TimedMap<V> {
         look_along(&self.nodes, self.root, name, look);
     }
 
-    /// Puts what a name's value becomes in its place.
+    /// Sets the value of a name to what `how` makes of its old value, which may be absent.
     pub fn put_with<B: Becomes<V> + Drop>(&mut self, name: Name<'_>, how: B) -> Result<(), Memory>
         ensures ok { OnOk result (self.new.table ≡ map.insert self.old.table
             (components name.entry)
@@ -150,7 +150,7 @@ impl<V: Timed + Drop> TimedMap<V> {
         Ok(())
     }
 
-    /// Prepares one `put_with` of this name, which then cannot run out of memory.
+    /// Prepares one `put_with` of this name, so that the call cannot run out of memory.
     pub fn prepare(&mut self, name: Name<'_>) -> Result<(), Memory>
         ensures table { self.new.table ≡ self.old.table }
         ensures ok { OnOk result (self.new.prepared ≡ Some (components name.entry)) }
@@ -172,7 +172,7 @@ impl<V: Timed + Drop> TimedMap<V> {
         Ok(())
     }
 
-    /// Changes the values that are due.
+    /// Changes or removes the values that are due at `now`, as `how` says.
     pub fn expire<C: Change<V>>(&mut self, now: u64, how: &C)
         requires idle { (v : V) → now < V.timer v → C.change how.now v ≡ Some v }
         requires later { (v w : V) → C.change how.now v ≡ Some w → now < V.timer w }
@@ -191,7 +191,7 @@ impl<V: Timed + Drop> TimedMap<V> {
         );
     }
 
-    /// Changes all values.
+    /// Changes or removes each value, as `how` says.
     pub fn change_all<C: Change<V>>(&mut self, how: &C)
         ensures table { self.new.table ≡ revise (C.change how.now) self.old.table }
         ensures prepared { self.new.prepared ≡ self.old.prepared }
@@ -207,7 +207,7 @@ impl<V: Timed + Drop> TimedMap<V> {
         );
     }
 
-    /// Changes the value of a name, if it has one.
+    /// Changes or removes the value of a name, if it has one, as `how` says.
     pub fn change<C: Change<V>>(&mut self, name: Name<'_>, how: &C)
         ensures table { self.new.table ≡ with_value self.old.table (components name.entry)
             (option_and_then (C.change how.now) (map.get self.old.table (components name.entry))) }
@@ -221,9 +221,9 @@ impl<V: Timed + Drop> TimedMap<V> {
         prune(&mut self.nodes, &mut self.root, k, kept);
     }
 
-    /// Takes from the values of a name's proper prefixes, the shortest first, and of the name, in
-    /// one walk. Returns whether the name may have values of names with one component more, of this
-    /// type or a lesser one.
+    /// Takes from the values of a name's proper prefixes, the shortest first, and then from the
+    /// value of the name, in one walk. Returns whether an extension of the name by one component of
+    /// type `kind` or a lesser type may have a value.
     pub fn take_along<T: Take<V>>(&mut self, name: Name<'_>, kind: u16, how: &mut T) -> bool
         ensures changed { (q : List Field) → map.get self.new.table q ≡ option_and_then
             (changed_along (T.left true) (T.left false) q (components name.entry))
@@ -250,7 +250,7 @@ impl<V: Timed + Drop> TimedMap<V> {
         below
     }
 
-    /// Takes from the value of a name with one component more, as from a name's own.
+    /// Takes from the value of `name` extended by `component`. That value counts as the name's own.
     pub fn take_below<T: Take<V>>(&mut self, name: Name<'_>, component: Component<'_>, how: &mut T)
         ensures table { self.new.table ≡ with_value self.old.table
             (components name.entry ++ field_of component.entry ∷ [])

@@ -25,13 +25,13 @@ use slab::Slab;
 use std::alloc::Global;
 use std::marker::Model;
 
-/// Values by name.
+/// A map from names to values.
 #[derive(Drop)]
 pub struct NameTrie<V> {
     alloc: Global,
     nodes: Slab<Node<V>>,
     root: Option<usize>,
-    // The name of the call that is prepared, and its node, which is not removed.
+    // The reserved name and its node: those of the prepared call. The node is not removed.
     held: Option<(NameBuf, usize)>,
 }
 
@@ -80,7 +80,7 @@ fn put_value<V: Drop>(
     Ok(is_new)
 }
 
-/// Puts what the value of a name, or none, becomes in its place.
+/// Sets the value of a name to what `how` makes of its old value, which may be absent.
 fn put_value_with<V: Drop, B: Becomes<V> + Drop>(
     alloc: Global,
     nodes: &mut Slab<Node<V>>,
@@ -117,7 +117,7 @@ impl<V: Drop> NameTrie<V> {
         }
     }
 
-    /// The value of a name.
+    /// Returns the value of a name.
     pub fn get(&self, name: Name<'_>) -> Option<&V>
         ensures { option_map (λ v. v.now) result ≡ map.get self.now.table (components name.entry) }
     {
@@ -125,7 +125,7 @@ impl<V: Drop> NameTrie<V> {
         value_of(&self.nodes, k)
     }
 
-    /// All names with their values, in canonical order.
+    /// Returns all names with their values, in canonical order.
     pub fn list(&self, alloc: Global) -> Result<Vec<(NameBuf, &V)>, Memory>
         ensures { IfOk result (λ list. list_map (λ r. (r.0, r.1.now)) list.items
             ≡ map.entries self.now.table) }
@@ -133,7 +133,7 @@ impl<V: Drop> NameTrie<V> {
         list(alloc, &self.nodes, self.root)
     }
 
-    /// The value of the longest prefix of a name that has one.
+    /// Returns the value that a longest prefix match of `name` finds.
     pub fn longest(&self, name: Name<'_>) -> Option<&V>
         ensures { option_map (λ v. v.now) result
             ≡ longest_in self.now.table (components name.entry) }
@@ -141,8 +141,9 @@ impl<V: Drop> NameTrie<V> {
         longest(&self.nodes, self.root, name)
     }
 
-    /// Sets the value of a name. It returns `Memory` only for a name that has none; then nothing
-    /// changes, but no call is prepared any more. Returns whether the name had none.
+    /// Sets the value of a name. Returns whether the name had no value. Returns `Memory` only for a
+    /// name without a value. In that case the values are unchanged, but a prepared call is
+    /// cancelled.
     pub fn put(&mut self, name: Name<'_>, value: V) -> Result<bool, Memory>
         ensures added { IfOk result (λ is_new. is_new
             ≡ is_none (map.get self.old.table (components name.entry))) }
@@ -159,7 +160,7 @@ impl<V: Drop> NameTrie<V> {
         result
     }
 
-    /// Prepares one `put` or `put_with` of this name, which then cannot run out of memory.
+    /// Prepares one `put` or `put_with` of this name, so that the call cannot run out of memory.
     pub fn prepare(&mut self, name: Name<'_>) -> Result<(), Memory>
         ensures table { self.new.table ≡ self.old.table }
         ensures ok { OnOk result (self.new.prepared ≡ Some (components name.entry)) }
@@ -172,7 +173,7 @@ impl<V: Drop> NameTrie<V> {
         Ok(())
     }
 
-    /// Ends what is prepared.
+    /// Cancels the prepared call.
     pub fn forget_prepared(&mut self)
         ensures table { self.new.table ≡ self.old.table }
         ensures prepared { self.new.prepared ≡ None }
@@ -181,7 +182,7 @@ impl<V: Drop> NameTrie<V> {
         release(&mut self.nodes, &mut self.root, held, None);
     }
 
-    /// Removes the value of a name. Returns whether there was one.
+    /// Removes the value of a name. Returns whether the name had a value.
     pub fn remove(&mut self, name: Name<'_>) -> bool
         ensures removed { result ≡ is_some (map.get self.old.table (components name.entry)) }
         ensures table { self.new.table ≡ map.remove self.old.table (components name.entry) }
@@ -200,7 +201,8 @@ impl<V: Drop> NameTrie<V> {
 }
 
 impl<V: Drop> NameTrie<V> {
-    /// Changes the value of a name, if it has one. Returns whether the value was removed.
+    /// Changes or removes the value of a name, if it has one, as `how` says. Returns whether the
+    /// value was removed.
     pub fn change<C: Change<V>>(&mut self, name: Name<'_>, how: &C) -> bool
         ensures table { self.new.table ≡ with_value self.old.table (components name.entry)
             (option_and_then (C.change how.now) (map.get self.old.table (components name.entry))) }
@@ -216,7 +218,7 @@ impl<V: Drop> NameTrie<V> {
         went
     }
 
-    /// Changes all values. Returns how many were removed.
+    /// Changes or removes each value, as `how` says. Returns the number of removed values.
     pub fn change_all<C: Change<V>>(&mut self, how: &C) -> usize
         ensures table { self.new.table ≡ revise (C.change how.now) self.old.table }
         ensures prepared { self.new.prepared ≡ self.old.prepared }
@@ -226,7 +228,8 @@ impl<V: Drop> NameTrie<V> {
         change_all(&mut self.nodes, &mut self.root, kept, how)
     }
 
-    /// Puts what a name's value, or none, becomes in its place. Returns whether the name had none.
+    /// Sets the value of a name to what `how` makes of its old value, which may be absent. Returns
+    /// whether the name had no value.
     pub fn put_with<B: Becomes<V> + Drop>(&mut self, name: Name<'_>, how: B) -> Result<bool, Memory>
         ensures added { IfOk result (λ is_new. is_new
             ≡ is_none (map.get self.old.table (components name.entry))) }
@@ -246,8 +249,8 @@ impl<V: Drop> NameTrie<V> {
 }
 
 impl<V: Drop> NameTrie<V> {
-    /// Sees the values of a name's proper prefixes, the shortest first, and of the name. Adds one
-    /// to `steps` for each search among the children of a node.
+    /// Shows `see` the values of a name's proper prefixes, the shortest first, and then the value
+    /// of the name. Adds one to `steps` for each search among the children of a node.
     pub fn see_along<S: See<V>>(&self, name: Name<'_>, steps: &mut u64, see: &mut S)
         requires { steps.old + 64 < 2 ^ 64 }
         ensures seen { see.new ≡ taken_along S.seen S.seen see.old
@@ -258,7 +261,7 @@ impl<V: Drop> NameTrie<V> {
         see_along(&self.nodes, self.root, name, steps, see);
     }
 
-    /// Sees all values, in the canonical order of their names.
+    /// Shows `see` all values, in the canonical order of their names.
     pub fn see_all<S: See<V>>(&self, see: &mut S)
         ensures { see.new ≡ fold S.seen see.old (map.values self.now.table) }
     {

@@ -1,4 +1,4 @@
--- What a Data answers, and the faces that ask for it.
+-- The keys that a Data answers, and the faces that ask for the Data.
 use Rattle.std.proofs.Common.{◌≡◌, ◌⊎◌, inl, inr, ℕ, Bool, true, false, cond, List, [], ◌∷◌, ◌++◌, refl, sym, ap, subst, ◌∙◌, eqb, append_assoc}
 use Rattle.std.specs.Prelude.{Option, None, Some, IsTrue, is_some, ◌&&◌, ◌||◌}
 use Rattle.std.specs.Option.{option_and_then}
@@ -23,9 +23,10 @@ use Rattle.pit_fib.specs.Records.{InRecord}
 use Rattle.pit_fib.proofs.Askers.{face_added, or_more}
 use Rattle.pit_fib.proofs.KeptTables.{both_equal, row_changes}
 
--- ---- the keys that a walk along the Data's name answers
+-- ---- the keys that a walk along the Data's name finds
 
--- of a key, whether its name is the Data's, or a proper prefix where it has CanBePrefix
+-- whether a Data of this name answers a key, by the names alone: they are equal, or the key has
+-- CanBePrefix and its name is a proper prefix of the Data's name
 abbrev pub along : List Field → List Field → Bool → Bool
 along [] [] can_be_prefix = true
 along [] (c ∷ name) can_be_prefix = can_be_prefix
@@ -75,7 +76,7 @@ never_last true false = refl
 never_last false true = refl
 never_last false false = refl
 
--- a Data answers the keys along its name, and those of its full name
+-- a Data answers the keys along its name, and the keys of its full name
 pub answers_along : (q name : List Field) (digest : List ℕ) (p : Bool) → answers name digest q p ≡ (along q name p || eq_by_cmp name_cmp q (full_name name digest))
 unfolding answers
 answers_along [] [] digest p = refl
@@ -93,7 +94,7 @@ answers_along (d ∷ q) (c ∷ name) digest p =
     ∙ apart same (along q name p) (eq_by_cmp name_cmp q (full_name name digest))
     ∙ ap (λ b. (same && along q name p) || b) (sym (same_name d c q (full_name name digest)))
 
--- the walk leaves the values below the name
+-- the walk along a name leaves the values below that name unchanged
 pub below_stays : {V : Type 0} (own below : V → Option V) (name : List Field) (c : Field) → changed_along own below (name ++ c ∷ []) name ≡ Some
 below_stays own below [] c = refl
 below_stays own below (d ∷ name) c =
@@ -115,18 +116,18 @@ some-any f (e ∷ es) =
 contains-any : {X : Type 0} (m : FinMap nat_cmp X) (f : ℕ) → contains_key m f ≡ list_any (λ e. eqb e.0 f) (entries m)
 contains-any m f = ap is_some (get-entries m f) ∙ some-any f (entries m)
 
--- whether a face asks under a key
+-- whether the face asks under the key of this entry
 abbrev pub asks_in : Option Kept → ℕ → Bool
 asks_in None f = false
 asks_in (Some s) f = contains_key s.records.in_records f
 
--- whether a face asks under a key of a row that is answered
+-- whether the face asks under a key of this row that the Data answers
 abbrev pub asks_row : Bool → Option Row → ℕ → Bool
 asks_row is_own row f =
     cond is_own (asks_in (kept_in row (flags false false)) f || asks_in (kept_in row (flags false true)) f) false
     || (asks_in (kept_in row (flags true false)) f || asks_in (kept_in row (flags true true)) f)
 
--- whether it does along a name
+-- whether the face asks under a key that the walk along the name finds
 abbrev pub asks_along : (List Field → Option Row) → List Field → List Field → ℕ → Bool
 asks_along value front [] f = asks_row true (value front) f
 asks_along value front (c ∷ rest) f = asks_row false (value front) f || asks_along value (front ++ c ∷ []) rest f
@@ -142,7 +143,7 @@ right_true : (a b : Bool) → IsTrue b → IsTrue (a || b)
 right_true true b t = refl
 right_true false b t = t
 
--- faces in rising order, of those with this, and these ones
+-- `new` has the faces of `faces`, and those with `more`, in rising order
 pub record Gathers (P : ℕ → Type 0) (faces new : List ℕ) (more : ℕ → Bool) : Type 0 where
   pub rising : IsRising new
   pub within : (f : ℕ) → IsTrue (has_face f new) → P f
@@ -219,9 +220,9 @@ module _ (P : ℕ → Type 0) (few : AtMost64 P) where
       let a = gather_taken false (value front) faces rising all (λ f t. in_record f (left_true _ _ t)) in
       gather_both a (gather_along value (front ++ c ∷ []) rest _ a.rising a.within (λ f t. in_record f (right_true (asks_row false (value front) f) _ t)))
 
--- ---- who asks along a name
+-- ---- which faces ask along a name
 
--- a key under which a face asks, with the rest of its name after the front
+-- a key under which the face asks; `t` is the part of the key's name after `front`
 abbrev pub AsksAt : (List Field → Option Row) → List Field → (List Field → Bool → Bool) → ℕ → Type 0
 AsksAt value front test f = (t : List Field) × (g : Flags) × IsTrue (test t g.can_be_prefix) × IsTrue (asks_in (kept_in (value (front ++ t)) g) f)
 

@@ -1,4 +1,4 @@
--- Faces that are gathered, one after the other.
+-- How the faces that ask are collected, one after the other.
 use Rattle.std.proofs.Common.{◌≡◌, ℕ, suc, ◌<◌, Bool, true, false, cond, List, [], ◌∷◌, length, get_or, take, refl, sym, ap, subst, ◌∙◌, arith, eqb, ltb, zero, ◌⊎◌, inl, inr}
 use Rattle.std.specs.Prelude.{IsTrue, ◌||◌, nat_le}
 use Rattle.std.specs.List.{AllByRecursion, list_any}
@@ -47,7 +47,7 @@ all_has (f ∷ faces) = (ap (λ b. b || has_face f faces) (same f), wider f face
     wider f whole [] h = tt
     wider f whole (g ∷ faces) h = (ap (λ b. eqb f g || b) h.0 ∙ or_true (eqb f g), wider f whole faces h.1)
 
--- a face that is added, where there is room for it
+-- a face is added to the faces, if there is room for it
 module _ (P : ℕ → Type 0) (few : AtMost64 P) (face : ℕ) (has : P face) (faces new : List ℕ) (added : Bool) (rising : IsRising faces)
     (all : (f : ℕ) → IsTrue (has_face f faces) → P f) (is : (added, new) ≡ adding face faces) where
   each : (l : List ℕ) → AllByRecursion (λ f. IsTrue (has_face f faces)) l → AllByRecursion P l
@@ -93,7 +93,7 @@ pub wider : (a b d : Bool) → (IsTrue b → IsTrue d) → IsTrue (a || b) → I
 wider true b d sub e = refl
 wider false b d sub e = sub e
 
--- what some of the first items have some item has
+-- if one of the first `i` items passes the test, some item of the list passes it
 pub any_first : {X : Type 0} (p : X → Bool) (xs : List X) (i : ℕ) → IsTrue (list_any p (take i xs)) → IsTrue (list_any p xs)
 any_first p xs zero e = absurd (differ e)
   where

@@ -21,7 +21,7 @@ use Rattle.pit_fib.specs.Route.{Registered, is_capture, is_child_inherit, route_
 use Rattle.pit_fib.specs.Tables.{ByFace}
 use Rattle.pit_fib.proofs.Inheritance.{get-prefer}
 
--- ---- one map or none
+-- ---- a map, or an empty map instead
 
 get_if : (b : Bool) (m : ByFace) (f : ℕ) → get (cond b m empty) f ≡ cond b (get m f) None
 get_if true m f = refl
@@ -31,7 +31,7 @@ get_unless : (b : Bool) (m : ByFace) (f : ℕ) → get (cond b empty m) f ≡ co
 get_unless true m f = get-empty nat_cmp f
 get_unless false m f = refl
 
--- ---- the routes that a list has
+-- ---- the routes in a list
 
 abbrev Row : Type 0
 Row = RouteKey × Route
@@ -65,7 +65,7 @@ found_has k r (e ∷ rows) sorted has = elim has as (λ _. find route_cmp k (e �
       ] refl (found_has k r rows (second_of _ _ sorted) later)
 ]
 
--- ---- the least of them
+-- ---- the least cost of the routes
 
 lesser_below : (cost : ℕ) (o : Option ℕ) → lesser cost o ≤ cost
 lesser_below cost None = omega arith
@@ -104,11 +104,12 @@ module _ (wanted : Route → Bool) (f : ℕ) where
       ∙ ap (λ o. fold {A = Row} {B = Option ℕ} step o rows)
       (elim (wanted e.1) as (λ b. get (cond b (with_lesser acc e.0.face e.1.cost) acc) f ≡ cond b (cond (eq_by_cmp nat_cmp f e.0.face) (Some (lesser e.1.cost (get acc f))) (get acc f)) (get acc f)) [ true ↦ get_with acc e | false ↦ refl ])
 
-  -- a wanted route of the list has this cost
+  -- some wanted route in the list, on the face `f`, has this cost
   abbrev IsOne : List Row → ℕ → Type 0
   IsOne rows c = (e : Row) × Has rows e × (e.0.face ≡ f) × (wanted e.1 ≡ true) × (e.1.cost ≡ c)
 
-  -- what the list makes of a cost
+  -- the last argument is the least of the cost `o` and of the costs of the wanted routes in the
+  -- list on the face `f`, or None if there are none
   abbrev Says : Option ℕ → List Row → Option ℕ → Type 0
   Says o rows None = (o ≡ None) × ((e : Row) → Has rows e → e.0.face ≡ f → wanted e.1 ≡ false)
   Says o rows (Some c) = ((o ≡ Some c) ⊎ IsOne rows c) × ((x : ℕ) → o ≡ Some x → c ≤ x) × ((e : Row) → Has rows e → e.0.face ≡ f → wanted e.1 ≡ true → c ≤ e.1.cost)
@@ -167,7 +168,7 @@ module _ (wanted : Route → Bool) (f : ℕ) where
       ] refl
 
   module _ (m : Registered) where
-    -- what a cost, or none, says of the routes on the face
+    -- what a least cost, or None, says about the routes on the face
     abbrev Tells : Option ℕ → Type 0
     Tells None = HasNone wanted m f
     Tells (Some c) = IsLeastCost wanted m f c
@@ -208,9 +209,9 @@ module _ (wanted : Route → Bool) (f : ℕ) where
     only_none None t none = refl
     only_none (Some c) t none = absurd (let not_wanted = none t.origin t.route t.there in let is = t.is_wanted in cc)
 
--- ---- what prefixes hand down
+-- ---- what prefixes hand down to longer names
 
--- what a face inherits of the first n prefixes
+-- what a face inherits from the prefixes with fewer than n components
 record IsHandedDown (routes : Routes) (name : List Field) (n face cost : ℕ) : Type 0 where
   from : ℕ
   shorter : from < n

@@ -1,4 +1,4 @@
--- What expires under a key.
+-- What expires in the entry of a key.
 use Rattle.std.proofs.Common.{◌≡◌, ℕ, ◌<◌, true, false, cond, not, refl, sym, ap, subst, ◌∙◌, arith, ltb, eqb}
 use Rattle.std.specs.Prelude.{Option, None, Some}
 use Rattle.std.specs.Option.{option_map}
@@ -40,7 +40,8 @@ left_or_gone n f x =
     turned : (m : ℕ) → ltb 0 m ≡ not (eqb m 0)
     turned m = grind (arith, nat_tests)
 
--- an entry expires as its Interests do
+-- the entry after an expiry has the in-records that do not expire, or it is removed with the last
+-- of them
 living_each : (now : ℕ) (s : Kept) → living (expired now s) ≡ option_map (with_asks s) (each (until_after now) s.records.in_records)
 unfolding with_asks
 living_each now s = left_or_gone (len (revise (until_after now) s.records.in_records)) (with_asks s) (revise (until_after now) s.records.in_records)

@@ -1,4 +1,4 @@
--- What changes of an entry leave of it.
+-- What the changes of an entry leave in the entry.
 use Rattle.std.proofs.Common.{◌≡◌, ◌⊎◌, inl, inr, ℕ, ◌+◌, ◌-◌, ◌<◌, ◌≤◌, Bool, true, false, not, cond, length, List, [], ◌∷◌, nat_cmp, refl, sym, ap, subst, ◌∙◌, arith, eqb}
 use Rattle.std.proofs.lemmas.Bool.{eqb-true, eqb-false}
 use Rattle.ndn_names.proofs.Rows.{len-from_sorted}
@@ -21,7 +21,7 @@ use Rattle.name_trie.specs.Flat.{size_of}
 use Rattle.pit_fib.proofs.FibTables.{EntryLeads, IsPartOf, count_insert, count_remove}
 use Rattle.pit_fib.proofs.Routes.{from_kept, sorted_kept}
 
--- what is left is an entry, and not vacant
+-- an entry that is not removed is unchanged and not vacant
 pub left_is : (e part : Entry) → unless_vacant e ≡ Some part → (part ≡ e) × (is_vacant e ≡ false)
 left_is e part is =
     elim (is_vacant e) as (λ b. cond b None (Some e) ≡ Some part → (part ≡ e) × (b ≡ false)) [
@@ -29,7 +29,7 @@ left_is e part is =
       | false ↦ λ f. ((let same : e ≡ part = cc in sym same), refl)
     ] is
 
--- fewer of a map
+-- ---- maps from which values were removed
 some_kept : {X : Type 0} (b : Bool) (o : Option X) → IsSome (cond b None o) → IsSome o
 some_kept true o some = absurd cc
 some_kept false o some = some
@@ -42,7 +42,7 @@ fewer_by : (b : Bool) (n m : ℕ) → n ≡ cond b (m - 1) m → n ≤ m
 fewer_by true n m is = omega (arith, is)
 fewer_by false n m is = omega (arith, is)
 
--- ---- one hop, one route
+-- ---- one next hop or one route is removed
 
 pub part_without_hop : (face : ℕ) (whole part : Entry) → entry_without_hop face whole ≡ Some part → IsPartOf part whole
 part_without_hop face whole part is =
@@ -70,9 +70,9 @@ part_without_route key whole part is =
       kept = λ k r there. got_kept (eq_by_cmp route_cmp k key) _ r (sym (get-remove route_cmp-total whole.registered key k) ∙ there);
     })
 
--- ---- a face, a moment
+-- ---- the hops and routes of a face, or those due at a moment, are removed
 
--- what is not there is not there afterwards
+-- a key that has no value before a removal has no value afterwards
 pub fewer_rows : {K X : Type 0} (change : X → Option X) (es : List (K × X)) → length (revised change es) ≤ length es
 fewer_rows change [] = omega arith
 fewer_rows change (e ∷ es) =
@@ -122,7 +122,7 @@ module _ (face : ℕ) where
   alike : (q x : RouteKey) → route_cmp q x ≡ Equal → other x ≡ other q
   alike q x tie = ap other (sym (route_cmp-antisymmetric q x tie))
 
-  -- no more keys than there were
+  -- there are no more keys than before
   fewer_keys : (m : Registered) → len (retain_keys m other) ≤ len m
   fewer_keys m =
       let whole : from_sorted {R = route_cmp} (entries m) ≡ m = same_entries_map _ _ (entries-from_sorted route_cmp (entries m) (entries_sorted m)) in
@@ -152,7 +152,7 @@ module _ (face : ℕ) where
         kept = λ k r there. passed (other k) _ r (sym (get-retain_keys whole.registered other k (alike k)) ∙ there);
       })
 
--- ---- what is set
+-- ---- a next hop or a route is set
 
 pub held_in : {K X : Type 0} {R : K → K → Ordering} (m : FinMap R X) (k : K) → contains_key m k ≡ true → 0 < len m
 held_in {X = X} {R = R} m k there =
@@ -174,7 +174,7 @@ some_in total m k x =
     positive : (n : ℕ) → 0 < n → eqb n 0 ≡ false
     positive n less = elim (eqb n 0) as (λ b. eqb n 0 ≡ b → b ≡ false) [ true ↦ λ e. (let zero = eqb-true n 0 e in absurd (omega (arith, zero, less))) | false ↦ λ e. refl ] refl
 
--- the faces of an entry with one hop or route more
+-- the faces of an entry after one next hop or one route was added
 set_or : {X : Type 0} (b : Bool) (x : X) (o : Option X) {A : Type 0} → (b ≡ true → A) → IsSome (cond b (Some x) o) → IsSome o ⊎ A
 set_or true x o is some = inr (is refl)
 set_or false x o is some = inl some
@@ -206,7 +206,7 @@ hop_stands face cost e = ap (λ b. b && eqb (len e.registered) 0) (some_in nat_c
 pub route_stands : (key : RouteKey) (r : Route) (e : Entry) → is_vacant (entry_with_route key r e) ≡ false
 route_stands key r e = and_false (eqb (len e.hops) 0) (some_in route_cmp-total e.registered key r)
 
--- ---- an entry that is not there
+-- ---- changes of a name without an entry
 
 pub change_is : (g : Entry → Option Entry) (t : Routes) (name : List Field) → g no_entry ≡ None → option_and_then g (get t name) ≡ g (entry_at t name)
 change_is g t name none = elim (get t name) as (λ o. option_and_then g o ≡ g (unwrap_or o no_entry)) [ None ↦ sym none | (Some e) ↦ refl ]
@@ -228,7 +228,7 @@ no_route key =
     vacant_none (record no_entry { registered = remove no_entry.registered key }) (len-empty nat_cmp ℕ)
     (none_less _ _ _ (len-remove route_cmp-total no_entry.registered key) (len-empty route_cmp Route))
 
--- ---- counts
+-- ---- the number of routes
 
 vacant_is : (a b : Bool) → (a && b) ≡ true → b ≡ true
 vacant_is true b e = e
@@ -244,7 +244,7 @@ size_left e =
       | false ↦ λ v. refl
     ] refl
 
--- how many routes there are after a change of one entry
+-- the number of routes after one entry changed
 pub count_changed : (t : Routes) (name : List Field) (e : Entry) → route_count (with_value t name (unless_vacant e)) + len (registered_at t name) ≡ route_count t + len e.registered
 count_changed t name e =
     elim (unless_vacant e) as (λ o. unless_vacant e ≡ o → route_count (with_value t name o) + len (registered_at t name) ≡ route_count t + len e.registered) [

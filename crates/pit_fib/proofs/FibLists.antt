@@ -1,4 +1,4 @@
--- The list of all entries, those without anything left out.
+-- The list of all entries, without those that are vacant at the moment.
 use Rattle.std.proofs.Common.{◌≡◌, ℕ, ◌<◌, true, false, List, [], ◌∷◌, ◌++◌, length, get_or, refl, sym, ap, ◌∙◌}
 use Rattle.std.proofs.lemmas.List.{append-nil, map-append}
 use Rattle.std.specs.Prelude.{None, Some, IsSome, is_some, map}
@@ -15,7 +15,7 @@ use Rattle.pit_fib.specs.Effective.{effective, entry_listed, listed}
 use Rattle.pit_fib.specs.Fib.{Entry, Routes, entry_left_at, left_at}
 use Rattle.pit_fib.specs.Hops.{hops_of}
 
--- the entry at a place of the list
+-- the entry at index `i` of the list
 pub entry_at_place : (t : Routes) (i : ℕ) (row : List Field × Entry) → i < length (entries t) → row ≡ get_or (entries t) i row → get t row.0 ≡ Some row.1
 entry_at_place t i row lt is =
     ap (λ (r : List Field × Entry). get t r.0) is ∙ entry_is_there name_cmp-total t i row lt ∙ ap (λ (r : List Field × Entry). Some r.1) (sym is)
@@ -23,7 +23,7 @@ entry_at_place t i row lt is =
 pub left_there : (t : Routes) (now : ℕ) (name : List Field) (e : Entry) → get t name ≡ Some e → is_some (entry_left_at now e) ≡ true → IsSome (get (left_at now t) name)
 left_there t now name e is some = ap is_some (get-revise name_cmp-antisymmetric (entry_left_at now) t name ∙ ap (option_and_then (entry_left_at now)) is) ∙ some
 
--- ---- one entry more
+-- ---- one more entry in the list
 
 revised-append : (now : ℕ) (es : List (List Field × Entry)) (e : List Field × Entry) → revised (entry_left_at now) (es ++ e ∷ []) ≡ revised (entry_left_at now) es ++ with_entry e.0 (entry_left_at now e.1) []
 revised-append now [] e = refl

@@ -1,4 +1,4 @@
--- A route that is registered: what refuses it, and what it leaves.
+-- Registering a route: why it may be refused, and what the table is afterwards.
 use Rattle.std.proofs.Common.{◌≡◌, ◌⊎◌, inl, inr, ◌+◌, ◌<◌, ◌≤◌, ℕ, Bool, true, false, not, cond, List, length, refl, sym, ap, ◌∙◌, arith, ltb, leb}
 use Rattle.std.proofs.lemmas.Bool.{leb-false, ltb-false, lt-ltb}
 use mir.Val.{bool_byte}
@@ -16,7 +16,7 @@ use Rattle.pit_fib.specs.Tally.{sooner}
 use Rattle.pit_fib.specs.Within.{entry_with_route_within}
 use Rattle.pit_fib.proofs.FibTables.{count_insert, earlier_none, later_set}
 
--- memory for one route more is enough
+-- memory for one more route is enough
 pub set_route : (room : ℕ) (key : RouteKey) (r : Route) (e : Entry) → len e.registered < room → entry_with_route_within room key r e ≡ entry_with_route key r e
 set_route room key r e fits = λ i. record e { registered = ap (λ b. cond b (insert e.registered key r) e.registered) (lt-ltb (len e.registered) room fits) i }
 
@@ -33,7 +33,7 @@ pub route_new : (n : ℕ) (b : Bool) → n ≡ bool_byte (not b) → n ≡ cond 
 route_new n true is = is
 route_new n false is = is
 
--- ---- what is not refused
+-- ---- what follows if the route is not refused
 
 module _ (t : Routes) (name : List Field) (key : RouteKey) (none : route_refusal t name key ≡ None) where
   both : (ltb 32 (length name) ≡ false) × (is_full_for_route t name key ≡ false)
@@ -81,7 +81,7 @@ module _ (t : Routes) (name : List Field) (key : RouteKey) (none : route_refusal
       at_most_one true = omega arith
       at_most_one false = omega arith
 
--- ---- when it ends
+-- ---- the earliest deadline after a route was added
 
 sooner_was : (moment : ℕ) (deadline : Option ℕ) → sooner moment deadline ≤ moment
 sooner_was moment None = omega arith

@@ -1,4 +1,4 @@
--- What a walk over all names shows of their effective next hops, and of strategies.
+-- What a walk over all names shows: their effective next hops, or their strategies.
 use Rattle.std.proofs.Common.{◌≡◌, ℕ, suc, ◌+◌, ◌<◌, Bool, cond, List, [], ◌∷◌, ◌++◌, append_assoc, length, get_or, refl, sym, ap, ◌∙◌, arith}
 use Rattle.std.proofs.lemmas.List.{append-nil}
 use Rattle.std.specs.Prelude.{Option, None, Some, is_some, map as list_map}
@@ -24,7 +24,7 @@ use Rattle.pit_fib.specs.Tables.{ByFace}
 use Rattle.pit_fib.proofs.FibLists.{all_listed, left_there}
 use Rattle.pit_fib.proofs.Inheritance.{left_way_is}
 
--- ---- what is known at a name
+-- ---- what the walk knows at a name
 
 now_kept : (s : AtName) (o : Option Entry) → (taken past_at s o).now ≡ s.now
 now_kept s None = refl
@@ -34,7 +34,7 @@ way_kept : (s : AtName) (o : Option Entry) → (taken past_at s o).way ≡ taken
 way_kept s None = refl
 way_kept s (Some e) = refl
 
--- the way is that along the name
+-- the field `way` is the result of the walk along the name that collects the effective next hops
 way_along : (s : AtName) (f : List Field → Option Entry) (front rest : List Field)
     → (taken_along past_at past_at s f front rest).way ≡ taken_along past_entry past_entry s.way f front rest
 way_along s f front [] = way_kept s (f front)
@@ -42,7 +42,7 @@ way_along s f front (c ∷ rest) =
     way_along (taken past_at s (f front)) f (front ++ c ∷ []) rest
     ∙ ap (λ (w : Inheriting). taken_along past_entry past_entry w f (front ++ c ∷ []) rest) (way_kept s (f front))
 
--- and whether the entry is left is said of the name's own
+-- whether the entry remains at the moment depends only on the name's own entry
 left_along : (s : AtName) (f : List Field → Option Entry) (front rest : List Field) (e : Entry) → f (front ++ rest) ≡ Some e
     → (taken_along past_at past_at s f front rest).is_left ≡ is_some (entry_left_at s.now e)
 left_along s f front [] e is = ap (λ o. (taken past_at s o).is_left) (ap f (sym (append-nil front)) ∙ is)
@@ -50,7 +50,7 @@ left_along s f front (c ∷ rest) e is =
     left_along (taken past_at s (f front)) f (front ++ c ∷ []) rest e (ap f (append_assoc front (c ∷ []) rest) ∙ is)
     ∙ ap (λ (n : ℕ). is_some (entry_left_at n e)) (now_kept s (f front))
 
--- ---- all names
+-- ---- the effective next hops of all names
 
 module _ {S : Type 0} (show : S → List ℕ → List Hop → S) (t : Routes) (few : AtMost64 (LeadsTo t)) (now : ℕ) where
   abbrev known : List Field → AtName
@@ -83,13 +83,13 @@ module _ {S : Type 0} (show : S → List ℕ → List Hop → S) (t : Routes) (f
             ∙ rest (show s (octets_of e.0) (hops_of (effective (left_at now t) e.0)))
       ] refl
 
-  -- all names whose entries are left are shown, each with its effective next hops
+  -- each name whose entry remains at the moment is shown, with its effective next hops
   pub hops_are_shown : (s : S) → (shown_from s (entries t)).show ≡ shown_each show s (listed (left_at now t))
   hops_are_shown s =
       shown_left (entries t) (λ i d lt. entry_is_there name_cmp-total t i d lt) s
       ∙ ap (shown_each show s) (all_listed t now)
 
--- ---- strategies
+-- ---- the strategies of all names
 
 module _ {S X : Type 0} (show : S → List ℕ → X → S) (t : ByName X) (before : X) where
   abbrev latest : X → X → X
@@ -106,6 +106,6 @@ module _ {S X : Type 0} (show : S → List ℕ → X → S) (t : ByName X) (befo
       ap (λ (x : X). shown_known show (known_at latest before (get t)) (show s (octets_of e.0) x) es) (own_along before (get t) [] e.0 e.1 (each 0 e (omega arith)))
       ∙ own_shown es (λ i d lt. each (suc i) d (omega (arith, lt))) (show s (octets_of e.0) e.1)
 
-  -- each name is shown with its own value
+  -- each name is shown with the value of that name
   pub own_are_shown : (s : S) → shown_known show (known_at latest before (get t)) s (entries t) ≡ shown_each show s (entries t)
   own_are_shown s = own_shown (entries t) (λ i d lt. entry_is_there name_cmp-total t i d lt) s

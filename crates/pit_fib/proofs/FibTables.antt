@@ -1,4 +1,4 @@
--- Changes of the table of routes keep its limits.
+-- Changes of the table of routes keep it within its limits.
 use Rattle.std.proofs.Common.{◌≡◌, ◌⊎◌, inl, inr, ℕ, ◌+◌, ◌<◌, ◌≤◌, true, false, cond, List, [], ◌∷◌, length, nat_cmp, refl, sym, ap, subst, ◌∙◌, arith}
 use Rattle.std.specs.Prelude.{Option, None, Some, IsSome, unwrap_or, is_some}
 use Rattle.std.specs.Option.{option_and_then}
@@ -25,7 +25,7 @@ use Rattle.pit_fib.proofs.Limits.{limits_insert, limits_remove, limits_revise, l
 never : {A : Type 0} → false ≡ true → A
 never e = absurd cc
 
--- an entry has a next hop or a route on a face
+-- the entry has a next hop or a route on the face
 abbrev pub EntryLeads : Entry → ℕ → Type 0
 EntryLeads e f = IsSome (get e.hops f) ⊎ ((origin : ℕ) × IsSome (get e.registered (record { face = f; origin = origin })))
 
@@ -40,21 +40,21 @@ leads_nowhere : {A : Type 0} (f : ℕ) → EntryLeads no_entry f → A
 leads_nowhere f (inl some) = no_some _ (get-empty nat_cmp f) some
 leads_nowhere f (inr way) = no_some _ (get-empty route_cmp (record { face = f; origin = way.0 })) way.1
 
--- an entry that is part of another
+-- a removal turned the entry `whole` into `part`, which is not vacant
 pub record IsPartOf (part whole : Entry) : Type 0 where
   pub some : is_vacant part ≡ false
   pub fewer : len part.registered ≤ len whole.registered
   pub leads : (f : ℕ) → EntryLeads part f → EntryLeads whole f
   pub kept : (key : RouteKey) (r : Route) → get part.registered key ≡ Some r → get whole.registered key ≡ Some r
 
--- each entry of a table is part of one of another
+-- each entry of the new table is what a removal left of the entry of the same name in the old table
 abbrev pub IsShrunk : Routes → Routes → Type 0
 IsShrunk t new = (q : List Field) (part : Entry) → get new q ≡ Some part → (whole : Entry) × (get t q ≡ Some whole) × IsPartOf part whole
 
 entry_is : (t : Routes) (q : List Field) (e : Entry) → get t q ≡ Some e → entry_at t q ≡ e
 entry_is t q e is = ap (λ o. unwrap_or o no_entry) is
 
--- what leads somewhere stands in an entry
+-- a face with a next hop or a route has it in an entry of the table
 leads_by : {A : Type 0} (t : Routes) (f : ℕ) → ((q : List Field) (e : Entry) → get t q ≡ Some e → EntryLeads e f → A) → LeadsTo t f → A
 leads_by {A} t f by way =
     elim (get t way.0) as (λ o. get t way.0 ≡ o → EntryLeads (unwrap_or o no_entry) f → A) [
@@ -79,7 +79,7 @@ shrunk_within t new within shrunk names fewer = record {
 pub shrunk_later : (t new : Routes) (moment : ℕ) → IsShrunk t new → NoneEndsBefore moment t → NoneEndsBefore moment new
 shrunk_later t new moment shrunk later q e is key r there = (let s = shrunk q e is in later q s.0 s.1 key r (s.2.kept key r there))
 
--- ---- one entry changed
+-- ---- one entry is changed
 
 sum : Routes → ℕ
 sum t = route_count t
@@ -115,7 +115,8 @@ module _ (t : Routes) (within : IsWithinFib t) (name : List Field) where
   part_itself : (e : Entry) → is_vacant e ≡ false → IsPartOf e e
   part_itself e some = record { some = some; fewer = omega arith; leads = λ f l. l; kept = λ key r is. is }
 
-  -- what a change of one entry leaves
+  -- after a removal from one entry, each entry is what the removal left of an entry of the old
+  -- table
   pub shrunk_one : (g : Entry → Option Entry) → ((whole part : Entry) → g whole ≡ Some part → IsPartOf part whole) → IsShrunk t (Changed g)
   shrunk_one g parts q part =
       elim (get t name) as (λ o. get t name ≡ o → get (with_value t name (option_and_then g o)) q ≡ Some part → (whole : Entry) × (get t q ≡ Some whole) × IsPartOf part whole) [
@@ -164,7 +165,7 @@ module _ (t : Routes) (within : IsWithinFib t) (name : List Field) where
   pub within_one : (g : Entry → Option Entry) → ((whole part : Entry) → g whole ≡ Some part → IsPartOf part whole) → IsWithinFib (Changed g)
   within_one g parts = shrunk_within t (Changed g) within (shrunk_one g parts) (limits_one g) (count_one g parts)
 
--- ---- all entries changed
+-- ---- all entries are changed
 
 pub shrunk_all : (t : Routes) (g : Entry → Option Entry) → ((whole part : Entry) → g whole ≡ Some part → IsPartOf part whole) → IsShrunk t (revise g t)
 shrunk_all t g parts q part is =
@@ -189,7 +190,7 @@ fewer_all t g parts = subst (λ n. n ≤ route_count t) (sym (ap (total (λ (e :
 pub within_all : (t : Routes) → IsWithinFib t → (g : Entry → Option Entry) → ((whole part : Entry) → g whole ≡ Some part → IsPartOf part whole) → IsWithinFib (revise g t)
 within_all t within g parts = shrunk_within t (revise g t) within (shrunk_all t g parts) (limits_revise t within.names g) (fewer_all t g parts)
 
--- ---- the room of a prepared name
+-- ---- the memory for the routes of the prepared name
 
 fewer_there : (t new : Routes) → IsShrunk t new → (q : List Field) → len (registered_at new q) ≤ len (registered_at t q)
 fewer_there t new shrunk q =
@@ -208,7 +209,7 @@ pub shrunk_room : (t new : Routes) (room : ℕ) (p : Option (List Field)) → Is
 shrunk_room t new room None shrunk fits = tt
 shrunk_room t new room (Some q) shrunk fits = (let fewer = fewer_there t new shrunk q in omega (arith, fewer, fits))
 
--- ---- one entry set
+-- ---- one entry is set
 
 module _ (t : Routes) (within : IsWithinFib t) (name : List Field) (e : Entry) where
   leads_set : {A : Type 0} (f : ℕ) → (EntryLeads e f → EntryLeads (entry_at t name) f ⊎ A) → LeadsTo (insert t name e) f → LeadsTo t f ⊎ A
@@ -251,11 +252,11 @@ module _ (t : Routes) (within : IsWithinFib t) (name : List Field) (e : Entry) w
       before None at was = absent (get (empty {X = Route} {R = route_cmp}) key) r (get-empty route_cmp key) (sym (ap (λ o. get (unwrap_or o no_entry).registered key) at) ∙ was)
       before (Some y) at was = later name y at key r (sym (ap (λ o. get (unwrap_or o no_entry).registered key) at) ∙ was)
 
--- an earlier moment is as good
+-- if no route expires before the later moment, none expires before the earlier one
 pub earlier_none : (t : Routes) (early late : ℕ) → early ≤ late → NoneEndsBefore late t → NoneEndsBefore early t
 earlier_none t early late le later q e is key r there deadline ends = (let after = later q e is key r there deadline ends in omega (arith, le, after))
 
--- a face that a name has no hop on yet has room there
+-- if the face has no next hop at this name, the entry has room for one
 pub hop_room : (t : Routes) (name : List Field) (face : ℕ) → HasRoomFor t face → IsSome (get (entry_at t name).hops face) ⊎ (len (entry_at t name).hops < 64)
 hop_room t name face room = room_in (entry_at t name).hops face (at_most (λ f has. elim has as (λ _. LeadsTo t f ⊎ (f ≡ face)) [ (inl some) ↦ inl (name, inl some) | (inr is) ↦ inr is ]) room)
 

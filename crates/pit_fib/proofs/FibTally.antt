@@ -1,4 +1,5 @@
--- The tally of all routes, and what ends by a moment.
+-- The number of all routes, the first moment at which one expires, and the routes that are due at a
+-- moment.
 use Rattle.std.proofs.Common.{◌≡◌, ◌+◌, ◌^◌, ◌<◌, ◌≤◌, ℕ, true, false, cond, List, [], ◌∷◌, length, refl, sym, ap, subst, ◌∙◌, arith}
 use Rattle.std.proofs.lemmas.Bool.{lt-leb}
 use Rattle.std.specs.Prelude.{Option, None, Some, fold, map}
@@ -24,7 +25,7 @@ use Rattle.pit_fib.specs.Route.{has_come, is_due, route_cmp, route_cmp-antisymme
 use Rattle.pit_fib.specs.Tally.{earliest, left_after, left_of, sooner, tallied}
 use Rattle.pit_fib.proofs.FibEntries.{size, size_left}
 
--- a value that is found passes what all values pass
+-- a property that all values have is a property of a value that is found
 all_found : {K X : Type 0} (R : K → K → Ordering) (P : X → Type 0) (es : List (K × X)) → AllByRecursion (λ (e : K × X). P e.1) es → (q : K) (x : X) → find R q es ≡ Some x → P x
 all_found R P [] all q x is = absurd cc
 all_found R P (e ∷ es) all q x is =
@@ -36,7 +37,7 @@ all_found R P (e ∷ es) all q x is =
 pub all_got : {K X : Type 0} {R : K → K → Ordering} (P : X → Type 0) (m : FinMap R X) → AllByRecursion (λ (e : K × X). P e.1) (entries m) → (q : K) (x : X) → get m q ≡ Some x → P x
 all_got {R = R} P m all q x is = all_found R P (entries m) all q x (sym (get-entries m q) ∙ is)
 
--- ---- the first moment
+-- ---- the first moment at which a route expires
 
 sooner_le : (m : ℕ) (o : Option ℕ) → sooner m o ≤ m
 sooner_le m None = omega arith
@@ -50,7 +51,7 @@ earliest_le : (m : ℕ) (rows : List (RouteKey × Route)) → earliest m rows �
 earliest_le m [] = omega arith
 earliest_le m (row ∷ rows) = (let rest = earliest_le (sooner m row.1.deadline) rows in let first = sooner_le m row.1.deadline in omega (arith, rest, first))
 
--- a moment before which a route does not end
+-- the route does not expire before the moment `m`
 abbrev Ends : ℕ → Route → Type 0
 Ends m r = (d : ℕ) → r.deadline ≡ Some d → m ≤ d
 
@@ -65,7 +66,7 @@ earliest_ends m (row ∷ rows) = (
   earliest_ends (sooner m row.1.deadline) rows,
 )
 
--- ---- the tally
+-- ---- the count and the first moment for all entries
 
 abbrev sizes : List (List Field × Entry) → ℕ
 sizes es = total size es
@@ -106,7 +107,7 @@ tally_is t start zero few = record {
       (all_got (EntryEnds (of_all start (entries t)).next_due) t (tally_ends start (entries t)) q e is) key r there;
 }
 
--- ---- what does not end by a moment
+-- ---- routes that are not due at a moment
 
 same_row : (now : ℕ) (r : Route) → ((d : ℕ) → r.deadline ≡ Some d → now < d) → is_due now r ≡ false
 same_row now r later =
@@ -115,7 +116,7 @@ same_row now r later =
       | (Some d) ↦ λ is. lt-leb d now (later d is)
     ] refl
 
--- nothing ends before its moment
+-- nothing is due before the first moment at which a route expires
 pub none_due : (t : Routes) (now moment : ℕ) → HaveSome t → NoneEndsBefore moment t → now < moment → left_at now t ≡ t
 none_due t now moment some later less =
     same_map name_cmp-total name_cmp-antisymmetric _ _ (λ q.
@@ -136,7 +137,7 @@ none_due t now moment some later less =
     entry_of : Entry → Option Entry
     entry_of e = cond (is_vacant e) None (Some e)
 
--- ---- how many are left
+-- ---- how many routes remain
 
 pub left_total : (now : ℕ) (es : List (List Field × Entry)) → total size (revised (entry_left_at now) es) ≡ total (λ (e : Entry). left_of now (entries e.registered)) es
 left_total now [] = refl

@@ -1,4 +1,4 @@
--- The effective next hops of a name come together on the way along it.
+-- The effective next hops of a name are collected on a walk along the name.
 use Rattle.std.proofs.Common.{◌≡◌, inl, inr, ℕ, zero, suc, ◌+◌, ◌≤◌, Bool, true, false, not, cond, List, [], ◌∷◌, ◌++◌, append_assoc, length, take, nat_cmp, refl, sym, ap, subst, ◌∙◌, arith, eqb}
 use lib.Dec.{T}
 use Rattle.std.proofs.lemmas.Bool.{eqb-true}
@@ -33,7 +33,7 @@ use Rattle.pit_fib.proofs.FibTables.{EntryLeads}
 use Rattle.pit_fib.proofs.PendingFaces.{at_most, room_in}
 use Rattle.pit_fib.proofs.Within.{set_in_room}
 
--- ---- costs over others
+-- ---- costs that take precedence over others
 
 find_over : {K X : Type 0} (R : K → K → Ordering) (xs ys : List (K × X)) (q : K) → find R q (xs ++ ys) ≡ option_or (find R q xs) (find R q ys)
 find_over R [] ys q = refl
@@ -55,7 +55,7 @@ or_none (Some x) = refl
 none_last : (a : ByFace) → prefer a empty ≡ a
 none_last a = same_map nat_cmp_total nat_cmp-IsAntisymmetric _ _ (λ f. get-prefer a empty f ∙ ap (option_or (get a f)) (get-empty nat_cmp f) ∙ or_none (get a f))
 
--- the keys of all entries pass what every key with a value passes
+-- a property of each key with a value is a property of the key of each entry
 keys_all : {K X : Type 0} {R : K → K → Ordering} → IsTotalOrder R → (P : K → Type 0) (es : List (K × X)) → ((k : K) → IsSome (find R k es) → P k) → AllByRecursion (λ (e : K × X). P e.0) es
 keys_all total P [] there = tt
 keys_all {R = R} total P (e ∷ es) there = (
@@ -68,7 +68,7 @@ keys_all {R = R} total P (e ∷ es) there = (
     kept false k some = some
 
 module _ (P : ℕ → Type 0) (few : AtMost64 P) where
-  -- all faces are among these
+  -- each face in the map has the property `P`
   abbrev Among : ByFace → Type 0
   Among m = (f : ℕ) → IsSome (get m f) → P f
 
@@ -89,7 +89,7 @@ module _ (P : ℕ → Type 0) (few : AtMost64 P) where
   among_set : (m : ByFace) (k x : ℕ) → Among m → P k → Among (set_within m k x)
   among_set m k x among here = subst Among (sym (set_fits m k x among here)) (among_with m k x among here)
 
-  -- ---- costs laid over others
+  -- ---- costs written over others
 
   abbrev laid : ByFace → List (ℕ × ℕ) → ByFace
   laid acc es = fold {A = ℕ × ℕ} {B = ByFace} (λ costs e. set_within costs e.0 e.1) acc es
@@ -123,7 +123,7 @@ module _ (P : ℕ → Type 0) (few : AtMost64 P) where
   laid_among : (first second : ByFace) → Among first → Among second → Among (laid_over first second)
   laid_among first second a b = among_laid (entries first) (keys_of first a) second b
 
-  -- ---- the least costs
+  -- ---- the least costs of the routes
 
   module _ (at : Option ℕ) where
     abbrev live_rows : List (RouteKey × Route) → List (RouteKey × Route)
@@ -170,7 +170,7 @@ module _ (P : ℕ → Type 0) (few : AtMost64 P) where
           | false ↦ same
         ])
 
-    -- ---- whether some route counts
+    -- ---- whether a route passes a test and is not due
 
     any_live : (test : Route → Bool) (rows : List (RouteKey × Route)) → list_any (λ e. counts_at at e.1 && test e.1) rows ≡ list_any (λ e. test e.1) (live_rows rows)
     any_live test [] = sym (ap (list_any (λ e. test e.1)) live_nil)
@@ -195,9 +195,9 @@ module _ (P : ℕ → Type 0) (few : AtMost64 P) where
         not_none : (n : ℕ) → eqb (suc n) 0 ≡ false
         not_none n = grind (arith, nat_tests)
 
--- ---- one entry more on the way
+-- ---- the walk passes one more entry
 
--- what counts of an entry, where routes that end by a moment do not
+-- the routes of an entry without those that are due at the moment, if there is a moment
 abbrev live_map : Option ℕ → Registered → Registered
 live_map None m = m
 live_map (Some now) m = revise (until_due now) m
@@ -250,7 +250,7 @@ module _ (P : ℕ → Type 0) (few : AtMost64 P) (s : Inheriting) (among : (f : 
   hops_among : Among P few e.hops
   hops_among f some = leads f (inl some)
 
-  -- what names below inherit
+  -- the costs that the names below this entry inherit
   inherited_is : laid_over (least_within s.at true (entries e.registered)) (cond (not (has_capture_at s.at (entries e.registered))) s.inherited empty) ≡ passed_on (Some (live s.at e)) s.inherited
   inherited_is =
       laid_is P few _ _ (least_of true).1 (among_if (not (has_capture_at s.at (entries e.registered))))
@@ -263,7 +263,7 @@ module _ (P : ℕ → Type 0) (few : AtMost64 P) (s : Inheriting) (among : (f : 
   own_among : Among P few own
   own_among = laid_among P few _ _ (least_of false).1 (among_if (has_route_at s.at (entries e.registered) && not (has_capture_at s.at (entries e.registered))))
 
-  -- the name's own
+  -- the costs of the effective next hops of this name
   costs_are : laid_over e.hops own ≡ effective_of (live s.at e) s.inherited
   costs_are =
       laid_is P few e.hops own hops_among own_among
@@ -299,7 +299,7 @@ module _ (P : ℕ → Type 0) (few : AtMost64 P) (s : Inheriting) (among : (f : 
         | false ↦ laid_among P few _ _ (least_of true).1 (among_if (not (has_capture_at s.at (entries e.registered))))
       ]
 
--- ---- the way along a name
+-- ---- the walk along a name
 
 take_whole : (q : List Field) → take (length q) q ≡ q
 take_whole [] = refl
@@ -311,12 +311,12 @@ take_less (suc m) zero q le = absurd (omega arith)
 take_less (suc m) (suc n) [] le = refl
 take_less (suc m) (suc n) (c ∷ q) le = ap (λ l. c ∷ l) (take_less m n q (omega (arith, le)))
 
--- what a prefix hands down does not depend on what comes after it
+-- what a prefix hands down does not depend on the components after it
 handed_prefix : (t : Routes) (name : List Field) (n m : ℕ) → m ≤ n → handed_down t (take n name) m ≡ handed_down t name m
 handed_prefix t name n zero le = refl
 handed_prefix t name n (suc m) le = λ i. passed_on (get t (take_less m n name (omega (arith, le)) i)) (handed_prefix t name n m (omega (arith, le)) i)
 
--- the table without the routes that end by a moment
+-- the table without the routes that are due at the moment, if there is a moment
 abbrev live_table : Option ℕ → Routes → Routes
 live_table None t = t
 live_table (Some now) t = left_at now t
@@ -348,7 +348,7 @@ module _ (t : Routes) (few : AtMost64 (LeadsTo t)) (at : Option ℕ) (name : Lis
   abbrev start : Inheriting
   start = record { at = at; inherited = empty; costs = empty }
 
-  -- what is known after the first n prefixes
+  -- what is known after the prefixes with fewer than n components
   known : ℕ → Inheriting
   known zero = start
   known (suc n) = taken past_entry (known n) (get t (take n name))
@@ -375,7 +375,7 @@ module _ (t : Routes) (few : AtMost64 (LeadsTo t)) (at : Option ℕ) (name : Lis
   entry_faces : (q : List Field) (e : Entry) → get t q ≡ Some e → (f : ℕ) → EntryLeads e f → LeadsTo t f
   entry_faces q e is f l = (q, subst (λ x. EntryLeads x f) (sym (ap (λ o. unwrap_or o no_entry) is)) l)
 
-  -- what was inherited on the way is what the prefixes hand down
+  -- the costs that the walk has collected are the costs that the prefixes hand down
   inherited_at : (n : ℕ) → ((known n).inherited ≡ handed_down (live_table at t) name n) × Among (LeadsTo t) few (known n).inherited × ((known n).at ≡ at)
   unfolding known
   inherited_at zero = (refl, among_none (LeadsTo t) few, refl)
@@ -403,7 +403,7 @@ module _ (t : Routes) (few : AtMost64 (LeadsTo t)) (at : Option ℕ) (name : Lis
       none_left None = refl
       none_left (Some now) = refl
 
-  -- the costs at a prefix that has an entry
+  -- the effective costs at a prefix that has an entry
   costs_here : (n : ℕ) (e : Entry) → get t (take n name) ≡ Some e → (known (suc n)).costs ≡ effective_of (live at e) (handed_down (live_table at t) name n)
   unfolding known
   costs_here n e is =

@@ -1,4 +1,4 @@
--- What is kept under the keys of a table, and the records that it shows.
+-- The entries under the keys of a table, and the records that the table shows.
 use Rattle.std.proofs.Common.{◌≡◌, ◌⊎◌, inl, inr, ℕ, suc, ◌+◌, ◌<◌, ◌≤◌, Bool, true, false, cond, List, [], ◌∷◌, length, refl, sym, ap, subst, ◌∙◌, arith, Bor}
 use lib.Dec.{T}
 use Rattle.std.specs.Prelude.{Option, None, Some, IfSome, IsSome, IsTrue, ◌↔◌, not, is_some, unwrap_or, ◌&&◌}
@@ -34,7 +34,7 @@ use Rattle.pit_fib.proofs.PendingFaces.{Adds, none_few, stays_few}
 use Rattle.pit_fib.proofs.PendingTables.{one_key, dead_none}
 use Rattle.pit_fib.proofs.Rows.{flags_cmp-total, get-changed_row, kept_in_or, both}
 
--- ---- keys as names and flags
+-- ---- a key as a name and flags
 
 pub both_equal : (o p : Ordering) → is_eq (ordering_then o p) ≡ (is_eq o && is_eq p)
 both_equal Less p = refl
@@ -77,14 +77,14 @@ entries-shown : (m : FinMap key_cmp Kept) → entries (revise (λ s. Some s.reco
 unfolding revise
 entries-shown m = entries-from_sorted key_cmp (revised (λ s. Some s.records) (entries m)) (sorted_revised key_cmp (λ s. Some s.records) (entries m) (map.entries_sorted m))
 
--- there are as many keys as the rows have
+-- the table has as many keys as all rows together
 pub len-pending : (rows : Rows) → len (pending_of rows) ≡ total (λ (r : Row). len r) (entries rows)
 len-pending rows =
     let flat = flatten key_cmp key_at rows in
     len-entries (pending_of rows) ∙ ap length (entries-shown flat) ∙ length_kept (λ (s : Kept). s.records) (entries flat)
     ∙ sym (len-entries flat) ∙ len-flatten key_at (λ k. k.name) flags_of makes rows
 
--- ---- a table whose keys each change by themselves
+-- ---- a table in which each key changes on its own
 
 abbrev pub Steps : Cause → Rows → Rows → Type 0
 Steps cause rows new = (k : PlainKey) → kept_at new k ≡ option_and_then (kept_after cause k) (kept_at rows k)
@@ -102,7 +102,7 @@ step_follows cause rows new dead step k =
           | false ↦ refl
         ]
 
--- what is left of what is kept is alive, with the same memory
+-- an entry that a cause does not remove is alive, and has the same memory
 left_alive : (t s : Kept) → living t ≡ Some s → (is_alive s.records ≡ true) × (s.is_wide ≡ t.is_wide)
 left_alive t s e =
     elim (is_alive t.records) as (λ b. is_alive t.records ≡ b → cond b (Some t) None ≡ Some s → (is_alive s.records ≡ true) × (s.is_wide ≡ t.is_wide)) [
@@ -127,7 +127,7 @@ step_sends cause rows new key spare step (inl room) = inl room
 step_sends cause rows new key spare step (inr wide) = inr (λ s is.
     let was = (after_is cause key (kept_at rows key) s (sym (step key) ∙ is)).1 in was.2 ∙ wide was.0 was.1)
 
--- ---- the memory of what is prepared
+-- ---- the memory of the prepared calls
 
 pub step_memory : (cause : Cause) (old new : NameTable Row) (spare : ℕ) (prepared : Option Prepared) → Steps cause old.table new.table → new.prepared ≡ old.prepared
     → HasMemory old spare prepared → HasMemory new spare prepared
@@ -139,7 +139,7 @@ step_memory cause old new spare (Some p) step same h = (step_sends cause old.tab
     arrival None h = tt
     arrival (Some r) h = (h.0, h.1, same ∙ h.2)
 
--- ---- tables with fewer keys
+-- ---- tables from which keys were removed
 
 module _ {X : Type 0} (change : PlainKey → X → Option X) where
   revised_by : List (PlainKey × X) → List (PlainKey × X)
@@ -197,7 +197,7 @@ module _ {X : Type 0} (change : PlainKey → X → Option X) where
       let count : len n ≡ length rows = ap len one ∙ len-from_sorted key_cmp rows (sorted_by (entries m) sorted) in
       omega (arith, count, fewer_rows (entries m), len-entries m)
 
--- ---- a table within its limits
+-- ---- a table is within its limits
 
 abbrev left : Records → Option Records
 left r = cond (is_alive r) (Some r) None
@@ -223,7 +223,7 @@ step_within cause rows new dead none step h = record {
   bounded = (let less = step_fewer cause rows new step in let most = h.bounded in omega (arith, less, most));
 }
 
--- under each of its keys some face asks
+-- under each key of the table some face asks
 pub holds_the_living : (rows : Rows) (pending : Pending) → AreAlive rows → pending_of rows ≡ pending → HoldsTheLiving pending
 holds_the_living rows pending alive is = subst HoldsTheLiving is (λ k.
     ap is_some (get-pending rows k) ∙ at (kept_at rows k) (alive k) ∙ ap is_alive (sym (records_kept rows k)))
@@ -232,7 +232,7 @@ holds_the_living rows pending alive is = subst HoldsTheLiving is (λ k.
     at None h = sym dead_none
     at (Some s) h = sym (h s refl)
 
--- a key under which some face asks is kept
+-- a key under which some face asks has an entry
 pub kept_where_alive : (rows : Rows) (k : PlainKey) → is_alive (records_at (pending_of rows) k) ≡ true → (s : Kept) × (kept_at rows k ≡ Some s) × (records_at (pending_of rows) k ≡ s.records)
 kept_where_alive rows k alive = at (kept_at rows k) refl
   where
@@ -277,7 +277,7 @@ step_one change key rows new is k =
     ] refl
     ∙ ap (λ b. cond b (option_and_then change (kept_at rows k)) (kept_at rows k)) (sym (key_ties k key))
 
--- a change of one key's records is a step of a cause that changes no other's
+-- a change of the records of one key is a step by a cause that changes no other key
 pub one_steps : (cause : Cause) (change : Kept → Option Kept) (key : PlainKey) (rows new : Rows) → AreAlive rows
     → ((k : PlainKey) (r : Records) → same_key k key ≡ false → changed cause k r ≡ r)
     → ((k : PlainKey) (s : Kept) → same_key k key ≡ true → change s ≡ kept_after cause k s)
@@ -297,7 +297,7 @@ one_steps cause change key rows new alive others own is k =
     there t (Some s) h =
         sym (ap (λ r. living (record { records = r; is_wide = s.is_wide })) (others k s.records t) ∙ ap (λ b. cond b (Some s) None) (h s refl))
 
--- ---- a row that is put
+-- ---- a row is put into the table
 
 row_put : (row : Option Row) (f g : Flags) (s : Kept) → get (with_kept f s row) g ≡ cond (same_flags g f) (Some s) (kept_in row g)
 row_put row f g s = get-insert flags_cmp-total (unwrap_or row empty) f s g ∙ ap (cond (same_flags g f) (Some s)) (kept_in_or row g)
@@ -315,7 +315,7 @@ step_put key s rows new is k =
     ] refl
     ∙ ap (λ b. cond b (Some s) (kept_at rows k)) (sym (key_ties k key))
 
--- a table in which this is kept under one key
+-- a table in which the entry `s` was put under one key
 module _ (cause : Cause) (key : PlainKey) (s : Kept) (rows new : Rows) (alive : AreAlive rows) (is_alive_here : is_alive s.records ≡ true)
     (puts : (k : PlainKey) → kept_at new k ≡ cond (same_key k key) (Some s) (kept_at rows k)) where
   pub put_alive : AreAlive new
@@ -360,7 +360,7 @@ module _ (cause : Cause) (key : PlainKey) (s : Kept) (rows new : Rows) (alive : 
       by_key None e (inl some) = absurd cc
       by_key None e (inr less) = omega (arith, e, less)
 
--- ---- what a look-up shows
+-- ---- what a lookup shows
 
 none_in : (rows : Rows) → rows ≡ empty → (k : PlainKey) → kept_at rows k ≡ None
 none_in rows is k = ap (λ (t : Rows). kept_at t k) is ∙ ap (λ o. kept_in o (flags_of k)) (get-empty name_cmp k.name)
@@ -398,7 +398,7 @@ turned : (b : Bool) (c : Bool) → c ≡ not b → b ≡ not c
 turned true c e = ap not (sym e)
 turned false c e = ap not (sym e)
 
--- a key is new exactly where nothing is kept under it
+-- a key is new exactly if it has no entry
 pub new_where_absent : (rows : Rows) (pending : Pending) (key : PlainKey) (found : Option (Bor Kept)) → AreAlive rows → pending_of rows ≡ pending
     → option_map (λ e. e.now) found ≡ kept_at rows key → (b : Bool) → is_some found ≡ not b → (many : Type 0) → many
     → IsTrue b ↔ ((is_alive (records_at pending key) ≡ false) × many)

@@ -1,4 +1,4 @@
--- A search along a name for a face's last in-record.
+-- The search along a name for the last in-record of a face.
 use Rattle.std.proofs.Common.{◌≡◌, ◌≤◌, ◌<◌, ℕ, zero, suc, true, false, List, [], ◌∷◌, ◌++◌, length, take, drop, refl, sym, ap, ◌∙◌, arith}
 use Rattle.std.specs.Prelude.{Option, None, Some}
 use Rattle.std.specs.FinMap.{get}
@@ -9,7 +9,7 @@ use Rattle.pit_fib.specs.Kept.{Row, Rows}
 use Rattle.pit_fib.specs.Last.{last_above, last_along, last_in_row, last_seen}
 use Rattle.pit_fib.specs.Records.{InRecord}
 
--- the component at a place, between those before it and those after it
+-- the component at index `n`, between the components before it and those after it
 parts : (n : ℕ) (name : List Field) → n < length name → (c : Field) × (drop n name ≡ c ∷ drop (suc n) name) × (take n name ++ c ∷ [] ≡ take (suc n) name)
 parts n [] less = absurd (omega arith)
 parts zero (c ∷ name) less = (c, refl, refl)
@@ -24,7 +24,8 @@ seen_own face last None = refl
 seen_own face last (Some row) = refl
 
 module _ (rows : Rows) (face : ℕ) (name : List Field) where
-  -- what the rest of the walk makes of the last so far is what the whole walk makes
+  -- the walk from index `n` on, started with the last in-record found before it, finds what the
+  -- whole walk finds
   walked : (n : ℕ) → n ≤ length name
       → taken_along (last_seen true) (last_seen false) (face, last_above rows face name n) (get rows) (take n name) (drop n name)
       ≡ taken_along (last_seen true) (last_seen false) (face, None) (get rows) [] name

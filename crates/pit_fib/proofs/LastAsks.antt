@@ -1,4 +1,4 @@
--- The last of a face's in-records that a Data answers, and its token.
+-- The last in-record of a face that a Data answers, and the token of this in-record.
 use Rattle.std.proofs.Common.{◌≡◌, ◌⊎◌, inl, inr, ℕ, zero, suc, ◌<◌, ◌≤◌, Bool, true, false, cond, List, [], ◌∷◌, ◌++◌, length, take, refl, sym, ap, subst, ◌∙◌, arith, append_assoc, ltb}
 use Rattle.std.specs.Prelude.{◌≢◌, Option, None, Some, IsTrue, ◌&&◌, ◌||◌}
 use Rattle.std.specs.Option.{option_and_then}
@@ -25,7 +25,7 @@ use Rattle.pit_fib.specs.Tokens.{IsNotAfter, IsTokenFor}
 use Rattle.pit_fib.proofs.Answered.{along, answers_along, not_true, or_cases}
 use Rattle.pit_fib.proofs.KeptTables.{makes, records_in, records_kept}
 
--- ---- one token at most
+-- ---- there is at most one token
 
 reversed : (o p : Ordering) → o ≢ Greater → p ≢ Greater → o ≡ ordering_reverse p → o ≡ Equal
 reversed Equal p n m e = refl
@@ -57,9 +57,10 @@ one_token records name digest face a b (inr some) (inr other) =
     (sym some.2.asks.1 ∙ ap (λ k. get (records k).in_records face) keys ∙ other.2.asks.1) in
     some.3 ∙ ap (λ (r : InRecord). r.token) in_records ∙ sym other.3
 
--- ---- the last of the keys that were seen
+-- ---- the last in-record under the keys that were searched
 
--- of the in-records under the keys that were seen, this is the last
+-- this in-record is the last of the in-records under the keys that were searched, or None if there
+-- is none
 abbrev pub IsLastOf : (PlainKey → Option InRecord) → (PlainKey → Type 0) → Option InRecord → Type 0
 IsLastOf at Seen None = (k : PlainKey) (r : InRecord) → Seen k → at k ≡ Some r → ⊥
 IsLastOf at Seen (Some best) =
@@ -81,7 +82,7 @@ not_greater o e g = cc
 not_itself : (k key : PlainKey) → k ≡ key → key_cmp k key ≢ Greater
 not_itself k key e g = let tied : key_cmp k key ≡ Equal = ap (key_cmp k) (sym e) ∙ tied_itself key_cmp-total k in cc
 
--- what is not after one is not after a later one
+-- an in-record that does not come after another does not come after a still later one either
 moved : (k key new : PlainKey) (r b s : InRecord) → b.deadline ≤ s.deadline → key_cmp k new ≢ Greater → IsNotAfter k r key b → IsNotAfter k r new s
 moved k key new r b s le order (inl less) = inl (omega arith)
 moved k key new r b s le order (inr same) =
@@ -212,7 +213,7 @@ one_of : (k : PlainKey) (q : List Field) (x y : Bool) → k.name ≡ q → k.can
 one_of k q x y n p m = λ i. record { name = n i; can_be_prefix = p i; must_be_fresh = m i }
 
 module _ (rows : Rows) (face : ℕ) (at : PlainKey → Option InRecord) (shown : (k : PlainKey) → at k ≡ ask_in face (kept_at rows k)) where
-  -- the keys with CanBePrefix
+  -- the search through the keys of a name with CanBePrefix
   prefix_more : (Seen : PlainKey → Type 0) (q : List Field) (best : Option InRecord) (row : Row) → get rows q ≡ Some row → ((k : PlainKey) (y : Bool) → Seen k → key_cmp k (key_at q (flags true y)) ≢ Greater) → IsLastOf at Seen best
       → IsLastOf at (λ k. (Seen k ⊎ (k ≡ key_at q (flags true false))) ⊎ (k ≡ key_at q (flags true true))) (last_prefix face best row)
   prefix_more Seen q best row here order h =
@@ -227,7 +228,7 @@ module _ (rows : Rows) (face : ℕ) (at : PlainKey → Option InRecord) (shown :
       ]) (is (flags true true))
       (one_more at Seen third best (ask (flags true false)) (λ k s. order k false s) (is (flags true false)) h)
 
-  -- the keys without it
+  -- the search through the keys of a name without CanBePrefix
   exact_more : (Seen : PlainKey → Type 0) (q : List Field) (best : Option InRecord) (row : Row) → get rows q ≡ Some row → ((k : PlainKey) (y : Bool) → Seen k → key_cmp k (key_at q (flags false y)) ≢ Greater) → IsLastOf at Seen best
       → IsLastOf at (λ k. (Seen k ⊎ (k ≡ key_at q (flags false false))) ⊎ (k ≡ key_at q (flags false true))) (last_exact face best row)
   exact_more Seen q best row here order h =
@@ -242,7 +243,7 @@ module _ (rows : Rows) (face : ℕ) (at : PlainKey → Option InRecord) (shown :
       ]) (is (flags false true))
       (one_more at Seen first best (ask (flags false false)) (λ k s. order k false s) (is (flags false false)) h)
 
-  -- the keys of a name that a Data answers
+  -- a key of this name that the Data answers
   abbrev pub OfName : Bool → List Field → PlainKey → Type 0
   OfName is_own q k = (k.name ≡ q) × IsTrue (is_answered is_own (flags_of k))
 
@@ -251,7 +252,7 @@ module _ (rows : Rows) (face : ℕ) (at : PlainKey → Option InRecord) (shown :
       none_more at Seen (OfName is_own q) best
       (λ k own. shown k ∙ ap (λ n. ask_in face (option_and_then (λ r. get r (flags_of k)) (get rows n))) own.0 ∙ ap (λ (o : Option Row). ask_in face (option_and_then (λ r. get r (flags_of k)) o)) none) h
 
-  -- of a proper prefix of the Data's name
+  -- the search through a row whose name is a proper prefix of the Data's name
   prefix_row : (Seen : PlainKey → Type 0) (q : List Field) (best : Option InRecord) (row : Row) → get rows q ≡ Some row → ((k : PlainKey) → Seen k → IsProperPrefix k.name q) → IsLastOf at Seen best
       → IsLastOf at (λ k. Seen k ⊎ OfName false q k) (last_prefix face best row)
   prefix_row Seen q best row here order h =
@@ -277,7 +278,7 @@ module _ (rows : Rows) (face : ℕ) (at : PlainKey → Option InRecord) (shown :
   abbrev Four : (PlainKey → Type 0) → List Field → PlainKey → Type 0
   Four Seen q k = (Two Seen q k ⊎ (k ≡ key_at q (flags true false))) ⊎ (k ≡ key_at q (flags true true))
 
-  -- of the Data's own name
+  -- the search through the row of the Data's own name
   own_row : (Seen : PlainKey → Type 0) (q : List Field) (best : Option InRecord) (row : Row) → get rows q ≡ Some row → ((k : PlainKey) → Seen k → IsProperPrefix k.name q) → IsLastOf at Seen best
       → IsLastOf at (λ k. Seen k ⊎ OfName true q k) (last_prefix face (last_exact face best row) row)
   own_row Seen q best row here order h =
@@ -390,7 +391,7 @@ module _ (rows : Rows) (face : ℕ) (at : PlainKey → Option InRecord) (shown :
             | (inr e) ↦ inr (name_cmp-antisymmetric k.name (full_name name digest) (equal (name_cmp k.name (full_name name digest)) e), refl)
           ]
 
--- ---- the token
+-- ---- the token of the last in-record
 
 got_in : (o : Option Kept) (face : ℕ) → get (records_in o).in_records face ≡ ask_in face o
 got_in None face = get-empty nat_cmp face

@@ -1,4 +1,4 @@
--- Values by face, in their memory.
+-- Values by face, and the memory that they are stored in.
 use Rattle.std.proofs.Common.{◌≡◌, ℕ, ◌<◌, ◌≤◌, Bool, true, false, cond, List, [], length, sym, ap, ◌∙◌, arith, ltb, leb}
 use lib.Dec.{T}
 use Rattle.std.specs.Prelude.{IsTrue, ◌||◌}
@@ -16,7 +16,7 @@ pub wide : (n : ℕ) → 64 ≤ n → leb 64 n ≡ true
 wide n le = grind (arith, nat_tests)
 
 module _ {X : Type 0} where
-  -- rows in so much memory
+  -- these rows, stored in memory for `room` rows
   abbrev pub faced : List (ℕ × X) → ℕ → Faced X
   faced rows room = record { values = from_sorted rows; is_wide = leb 64 room }
 
@@ -33,7 +33,7 @@ module _ {X : Type 0} where
         let size : n ≡ len f.values = count ∙ sym (len-faced room f is) in
         ap (λ m. ltb m 2) size ∙ ap (λ b. b || ltb (len f.values) 2) (sym narrow)
 
-    -- where there is memory for one value more, it is in these rows' memory
+    -- if the values have memory for one more, the memory of these rows has room for it
     pub room_left : (room n : ℕ) (f : Faced X) → faced rows room ≡ f → n ≡ length rows → n < 64 → 2 ≤ room → IsTrue (has_place f) → n < room
     room_left room n f is count less few place =
         by_wide f.is_wide (ap (λ (m : Faced X). m.is_wide) is) place

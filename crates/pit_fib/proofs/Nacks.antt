@@ -1,4 +1,4 @@
--- The least reason of the faces asked.
+-- The least Nack reason in the out-records.
 use Rattle.std.proofs.Common.{◌≡◌, ◌⊎◌, inl, inr, ℕ, ◌≤◌, Bool, true, false, cond, List, [], ◌∷◌, refl, sym, ap, subst, ◌∙◌, arith, ltb}
 use lib.Dec.{T}
 use Rattle.std.specs.Prelude.{Option, Some, None, option_and_then, unwrap_or, min, ◌↔◌}
@@ -20,11 +20,11 @@ use Rattle.name_trie.proofs.Revised.{equal, find_below}
 abbrev Row : Type 0
 Row = ℕ × OutRecord
 
--- a row has a reason that is not less
+-- the row has a reason, which is at least `least`
 abbrev HasAbove : ℕ → Row → Type 0
 HasAbove least row = (reason : ℕ) × (row.1.reason ≡ Some reason) × (least ≤ reason)
 
--- of the rows
+-- some row has exactly the reason `least`
 abbrev IsOne : ℕ → List Row → Type 0
 IsOne least [] = ⊥
 IsOne least (row ∷ rows) = (row.1.reason ≡ Some least) ⊎ IsOne least rows
@@ -38,7 +38,7 @@ inside {a} {b} e = ap (λ o. unwrap_or o a) e
 nothing : {X : Type 0} {x : X} → None ≡ Some x → ⊥
 nothing e = absurd cc
 
--- ---- what the fold gives
+-- ---- what the fold over the rows returns
 
 pub fold_is : (start least : ℕ) (rows : List Row) → least_reason start rows ≡ Some least → IsLeast least start rows
 fold_is start least [] e = (tt, (let same = inside e in omega (arith, same)), inl (sym (inside e)))
@@ -74,7 +74,7 @@ is_fold start least (row ∷ rows) (all, le, one) =
     rest (inr (inl mine)) = inl (let same = inside (sym all.0.1 ∙ mine) in grind (arith, nat_tests, le, same))
     rest (inr (inr later)) = inr later
 
--- ---- rows, and the map that they are
+-- ---- sorted rows, and the map that they represent
 
 module _ (least : ℕ) where
   some_inside : {a b : OutRecord} → Some a ≡ Some b → a ≡ b
@@ -88,7 +88,7 @@ module _ (least : ℕ) where
         | false ↦ λ e. all_found rows all.1 face sent e
       ] e
 
-  -- what a later row has, all rows have
+  -- the out-record of a face in the later rows is its out-record in all rows
   kept : (row : Row) (rows : List Row) → T (is_sorted nat_cmp (row ∷ rows)) → (face : ℕ) (sent : OutRecord) → find nat_cmp face rows ≡ Some sent → find nat_cmp face (row ∷ rows) ≡ Some sent
   kept row rows sorted face sent e =
       elim (eq_by_cmp nat_cmp face row.0) as (λ b. eq_by_cmp nat_cmp face row.0 ≡ b → cond b (Some row.1) (find nat_cmp face rows) ≡ Some sent) [
@@ -123,13 +123,13 @@ module _ (least : ℕ) where
         | false ↦ λ e. inr (found_one rows face sent e is)
       ] e
 
--- ---- a Nack that was awaited
+-- ---- a Nack with the Nonce that was last sent to the face
 
 module _ (r : Records) (face : ℕ) (nonce : List ℕ) (reason : ℕ) where
   abbrev after : OutRecords
   after = with_reason face nonce reason r.out_records (map.get r.out_records face)
 
-  -- the face has the reason
+  -- after the Nack, the out-record of the face has the reason
   here : was_sent (map.get r.out_records face) nonce ≡ true → (sent : OutRecord) × (map.get after face ≡ Some sent) × (sent.reason ≡ Some reason)
   here was = go (map.get r.out_records face) was
     where

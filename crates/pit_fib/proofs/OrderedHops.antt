@@ -1,4 +1,4 @@
--- Where a hop stands among others, or would stand.
+-- The position at which a next hop is, or would be inserted, in an ordered list.
 use Rattle.std.proofs.Common.{◌≡◌, ℕ, suc, ◌+◌, ◌<◌, ◌≤◌, true, false, cond, List, [], ◌∷◌, ◌++◌, length, get_or, take, drop, refl, sym, ap, subst, ◌∙◌, arith}
 use Rattle.std.specs.Prelude.{insert}
 use Rattle.std.specs.List.{AllByRecursion}
@@ -8,7 +8,7 @@ use Rattle.pit_fib.specs.declared.hops.Hop.{Hop}
 use Rattle.std.proofs.lemmas.List.Sums.{fold-append}
 use Rattle.pit_fib.specs.Hops.{is_before, with_hop, unmarked_hop, in_order}
 
--- the hop stands before none of these
+-- the hop comes before none of these hops
 abbrev pub NoneAfter : Hop → List Hop → Type 0
 NoneAfter hop hops = AllByRecursion (λ h. is_before hop h ≡ false) hops
 

@@ -1,4 +1,4 @@
--- The faces of a pending Interest table.
+-- The faces with records in a pending Interest table.
 use Rattle.std.proofs.Common.{◌≡◌, ◌⊎◌, inl, inr, ℕ, ◌<◌, Bool, true, false, cond, List, [], ◌∷◌, length, refl, sym, ap, subst, ◌∙◌, arith, eqb, ltb, suc}
 use Rattle.std.specs.Prelude.{Option, Some, None, IsSome, is_some, option_and_then, ◌&&◌, ◌||◌}
 use Rattle.std.specs.Option.{option_map}
@@ -22,7 +22,7 @@ use Rattle.ndn_names.proofs.Rows.{first_of, second_of, is_less}
 use Rattle.pit_fib.proofs.RisingFaces.{with_rises}
 use Rattle.pit_fib.proofs.PendingPast.{get-changed, get-changed_asked}
 
--- the face to which a cause gives a record
+-- the cause gives the face `f` a record
 abbrev pub Adds : Cause → ℕ → Type 0
 Adds (Expires now) f = ⊥
 Adds (Arrives key face in_record) f = f ≡ face
@@ -36,7 +36,7 @@ Adds (Closed face) f = ⊥
 never : {A : Type 0} → false ≡ true → A
 never e = absurd cc
 
--- a value that is there or was
+-- ---- a value that is still in the map was there before
 module _ {X : Type 0} (A : Type 0) (was : Option X) where
   gone : (b : Bool) → IsSome (cond b None was) → IsSome was ⊎ A
   gone true e = never e
@@ -79,7 +79,7 @@ sent_before (Withdrawn key face) k f was e = inl e
 sent_before (Removed key) k f was e = gone ⊥ was (same_key k key) e
 sent_before (Closed face) k f was e = gone ⊥ was (eqb f face) e
 
--- a face has records of an entry
+-- the face has an in-record or an out-record among these records
 abbrev pub InRecords : Records → ℕ → Type 0
 InRecords r f = IsSome (get r.in_records f) ⊎ IsSome (get r.out_records f)
 
@@ -97,28 +97,28 @@ in_settled : (r : Records) (f : ℕ) (b : Bool) → InRecords (cond b r no_recor
 in_settled r f true e = e
 in_settled r f false e = in_none f e
 
--- a face in the records of a key was in them, or the cause put it there
+-- a face with a record under a key had one before the cause, or the cause gave it one
 pub in_after : (cause : Cause) (k : PlainKey) (r : Records) (f : ℕ) → InRecords (records_after cause k r) f → InRecords r f ⊎ Adds cause f
 in_after cause k r f e = in_changed cause k r f (in_settled (changed cause k r) f (is_alive (changed cause k r)) e)
 
--- a face with a record had one, or the cause gave it one
+-- a face with a record in the table had one before the cause, or the cause gave it one
 pub had_record : (cause : Cause) (old new : Pending) → Follows cause old new → (f : ℕ) → HasRecord new f → HasRecord old f ⊎ Adds cause f
 had_record cause old new follows f (k, e) =
     let now : InRecords (records_after cause k (records_at old k)) f = subst (λ r. InRecords r f) (follows k) e in
     let before = in_changed cause k (records_at old k) f (in_settled (changed cause k (records_at old k)) f (is_alive (changed cause k (records_at old k))) now) in
     elim before [ (inl was) ↦ inl (k, was) | (inr adds) ↦ inr adds ]
 
--- a cause that gives no face a record
+-- the cause gives no face a record
 abbrev pub GivesNone : Cause → Type 0
 GivesNone cause = (f : ℕ) → Adds cause f → ⊥
 
--- After a cause that gives none, as time, Data, a Nack, a withdrawal, a removal or a closing, a face
--- with a record had one before.
+-- If the cause gives no face a record (expiry, Data, a Nack, a withdrawal, a removal or a closing),
+-- each face with a record had one before.
 pub had_records : (cause : Cause) (old new : Pending) → GivesNone cause → Follows cause old new → (f : ℕ) → HasRecord new f → HasRecord old f
 had_records cause old new none follows f has =
     elim (had_record cause old new follows f has) [ (inl was) ↦ was | (inr adds) ↦ absurd (none f adds) ]
 
--- a face that closed has no record
+-- a face that was closed has no record
 closed_asks : (face : ℕ) (k : PlainKey) (was : Option InRecord) → IsSome (in_record_after (Closed face) k face was) → ⊥
 closed_asks face k was e = never (subst (λ b. IsSome (cond b None was)) (same face) e)
   where
@@ -147,12 +147,13 @@ all_before sub (f ∷ faces) h = (sub f h.0, all_before sub faces h.1)
 pub at_most : {P Q : ℕ → Type 0} → ((f : ℕ) → P f → Q f) → AtMost64 Q → AtMost64 P
 at_most sub few faces rising all = few faces rising (all_before sub faces all)
 
--- a cause that gives no record leaves few faces
+-- after a cause that gives no face a record, at most 64 faces have records
 pub stays_few : (cause : Cause) (old new : Pending) → ((f : ℕ) → Adds cause f → ⊥) → Follows cause old new → AtMost64 (HasRecord old) → AtMost64 (HasRecord new)
 stays_few cause old new none follows few =
     at_most (λ f has. elim (had_record cause old new follows f has) [ (inl was) ↦ was | (inr adds) ↦ absurd (none f adds) ]) few
 
--- one that gives a face a record, where there is room for it
+-- after a cause that gives one face a record, at most 64 faces have records, if there was room for
+-- this face
 pub grows_few : (cause : Cause) (old new : Pending) (face : ℕ) → ((f : ℕ) → Adds cause f → f ≡ face) → Follows cause old new
     → AtMost64 (λ f. HasRecord old f ⊎ (f ≡ face)) → AtMost64 (HasRecord new)
 grows_few cause old new face one follows room =
@@ -211,13 +212,13 @@ all_with P f [] h all = (h, tt)
 all_with P f (g ∷ faces) h all =
     elim (ltb f g) as (λ b. AllByRecursion P (cond b (f ∷ g ∷ faces) (g ∷ with_face f faces))) [ true ↦ (h, all) | false ↦ (all.0, all_with P f faces h all.1) ]
 
--- a list of faces that has room for one more, or has it
+-- a rising list of faces either contains the face `f` or has room for it
 pub room_in_list : (P : ℕ → Type 0) (f : ℕ) (faces : List ℕ) → AtMost64 (λ g. P g ⊎ (g ≡ f)) → IsRising faces → AllByRecursion P faces → has_face f faces ≡ false → length faces < 64
 room_in_list P f faces few rising all out =
     let more = few (with_face f faces) (with_rises f faces rising out) (all_with (λ g. P g ⊎ (g ≡ f)) f faces (inr refl) (all_before (λ g h. inl h) faces all)) in
     omega (arith, more, length_with f faces)
 
--- each face of a sorted list has a value there
+-- each face of a sorted list has a value in that list
 each_found : {X : Type 0} (es : List (ℕ × X)) → T (is_sorted nat_cmp es) → AllByRecursion (λ f. IsSome (find nat_cmp f es)) (faces_of es)
 unfolding faces_of
 each_found [] h = tt

@@ -1,4 +1,4 @@
--- Keys, and causes where nobody asks.
+-- Keys, and causes when no face asks.
 use Rattle.std.proofs.Common.{◌≡◌, ℕ, ◌-◌, true, false, cond, List, refl, sym, ap, subst, ◌∙◌, ltb}
 use Rattle.std.specs.Prelude.{is_some}
 use Rattle.std.specs.FinMap as map
@@ -22,7 +22,7 @@ equal Less e = absurd cc
 equal Equal e = refl
 equal Greater e = absurd cc
 
--- keys that compare alike are one
+-- two keys that compare as equal are the same key
 pub one_key : (x y : PlainKey) → same_key x y ≡ true → x ≡ y
 one_key x y e = key_cmp-antisymmetric x y (equal (key_cmp x y) e)
 
@@ -39,7 +39,7 @@ same_turned x y =
       ] refl
     ] refl
 
--- ---- causes that change each entry
+-- ---- causes that change every entry
 
 pub dead_none : is_alive no_records ≡ false
 dead_none = ap (ltb 0) (len-empty nat_cmp InRecord)

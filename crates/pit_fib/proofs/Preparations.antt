@@ -28,15 +28,16 @@ none_left (Some r) b e t = absurd cc
 pub some_left : (ready : Option Ready) (b : Bool) → is_some ready ≡ not b → b ≡ false → is_some ready ≡ true
 some_left ready b e f = e ∙ ap not f
 
--- the calls that are prepared are sendings of this key
+-- the prepared calls are `sent` calls of this key
 pub are_sendings : (p : Prepared) (key : PlainKey) (b : Bool) → is_some p.arrival ≡ not b → b ≡ true → same_key p.key key ≡ true → calls_of (Some p) ≡ Some (key, None)
 are_sendings p key b e t same = λ i. Some (one_key p.key key same i, room_of (none_left p.arrival b e t i))
 
--- those of another key are not
+-- prepared calls of another key are not calls of this key
 another_key : (p : Prepared) (key : PlainKey) (room : Option ℕ) → same_key p.key key ≡ false → calls_of (Some p) ≡ Some (key, room) → ⊥
 another_key p key room other e = differ (sym (same_self key) ∙ ap (λ k. same_key k key) (sym (ap (key_in key) e)) ∙ other)
 
--- nor are those of an arrival
+-- if an `arrive` is prepared, or if calls of another key are, the prepared calls are not only
+-- `sent` calls of this key
 pub not_sendings : (p : Prepared) (key : PlainKey) → (is_some p.arrival ≡ true) ⊎ (same_key p.key key ≡ false) → calls_of (Some p) ≡ Some (key, None) → ⊥
 not_sendings p key (inr other) e = another_key p key None other e
 not_sendings p key (inl some) e = at p.arrival some (ap room_in e)
@@ -45,7 +46,7 @@ not_sendings p key (inl some) e = at p.arrival some (ap room_in e)
     at None some e = absurd cc
     at (Some r) some e = absurd cc
 
--- the calls that are prepared are an arrival of this key and so many octets
+-- the prepared calls begin with an `arrive` of this key, with memory for `room` octets
 pub is_arrival : (p : Prepared) (key : PlainKey) → is_some p.arrival ≡ true → same_key p.key key ≡ true → (room : ℕ) × (calls_of (Some p) ≡ Some (key, Some room))
 is_arrival p key some same =
     let found = at p.arrival some in (found.0, λ i. Some (one_key p.key key same i, found.1 i))
@@ -54,7 +55,7 @@ is_arrival p key some same =
     at None some = absurd cc
     at (Some r) some = (r.size, refl)
 
--- sendings, or calls of another key, are not
+-- prepared `sent` calls, or calls of another key, do not include an `arrive` of this key
 pub not_arrival : (p : Prepared) (key : PlainKey) (room : ℕ) → (p.arrival ≡ None) ⊎ (same_key p.key key ≡ false) → calls_of (Some p) ≡ Some (key, Some room) → ⊥
 not_arrival p key room (inr other) e = another_key p key (Some room) other e
 not_arrival p key room (inl none) e = apart (sym (ap room_of none) ∙ ap room_in e)
@@ -65,7 +66,7 @@ not_arrival p key room (inl none) e = apart (sym (ap room_of none) ∙ ap room_i
 pub arrival_room : (p : Prepared) (key : PlainKey) (room : ℕ) → calls_of (Some p) ≡ Some (key, Some room) → room_of p.arrival ≡ Some room
 arrival_room p key room e = ap room_in e
 
--- ---- the memory of the calls that are prepared
+-- ---- the memory of the prepared calls
 
 pub memory_ready : (rows : NameTable Row) (spare : ℕ) (prepared : Option Prepared) → HasMemory rows spare prepared → IfSome prepared (λ p. IfSome p.arrival IsReady)
 memory_ready rows spare None h = tt
@@ -75,7 +76,8 @@ memory_ready rows spare (Some p) h = at p.arrival h.1
     at None h = tt
     at (Some r) h = h.0
 
--- where an arrival of this key is prepared, so is its name, and there is memory for all sendings
+-- if an `arrive` of this key is prepared, its name is prepared too, and there is memory for `sent`
+-- calls to all faces
 pub memory_arrives : (rows : NameTable Row) (spare room : ℕ) (key : PlainKey) (prepared : Option Prepared) → HasMemory rows spare prepared → calls_of prepared ≡ Some (key, Some room)
     → (64 ≤ spare) × (rows.prepared ≡ Some key.name)
 memory_arrives rows spare room key None h e = absurd cc
@@ -86,19 +88,19 @@ memory_arrives rows spare room key (Some p) h e =
     at None h e = absurd cc
     at (Some r) h e = (h.1, h.2)
 
--- the memory for sendings of this key
+-- if `sent` calls of this key are prepared, there is memory for them
 pub memory_sends : (rows : NameTable Row) (spare : ℕ) (key : PlainKey) (room : Option ℕ) (prepared : Option Prepared) → HasMemory rows spare prepared → calls_of prepared ≡ Some (key, room)
     → CanSend rows.table key spare
 memory_sends rows spare key room None h e = absurd cc
 memory_sends rows spare key room (Some p) h e = subst (λ k. CanSend rows.table k spare) (ap (key_in key) e) h.0
 
--- calls without an arrival want memory for sendings alone
+-- calls without an `arrive` need memory for the out-records only
 pub memory_after : (rows : NameTable Row) (spare : ℕ) (prepared : Option Prepared) → HasNoArrival prepared → ((key : PlainKey) → calls_of prepared ≡ Some (key, None) → CanSend rows.table key spare)
     → HasMemory rows spare prepared
 memory_after rows spare None none h = tt
 memory_after rows spare (Some p) none h = (h p.key (λ i. Some (p.key, room_of (none i))), rw none tt)
 
--- an arrival of an Interest of so many octets, and what comes after it
+-- the memory of a prepared `arrive` with `size` octets, and of the `sent` calls after it
 pub memory_new : (rows : NameTable Row) (spare size : ℕ) (p : Prepared) → 64 ≤ spare → rows.prepared ≡ Some p.key.name → room_of p.arrival ≡ Some size → IfSome p.arrival IsReady
     → HasMemory rows spare (Some p)
 memory_new rows spare size p room name is ready = (inl room, at p.arrival ready)

@@ -1,4 +1,4 @@
--- Where a face stands in a rising list, or would stand.
+-- The position at which a face is, or would be inserted, in a rising list.
 use Rattle.std.proofs.Common.{◌≡◌, ℕ, suc, ◌+◌, ◌<◌, ◌≤◌, Bool, true, false, cond, List, [], ◌∷◌, ◌++◌, length, get_or, take, drop, refl, sym, ap, subst, ◌∙◌, arith, eqb, ltb}
 use Rattle.std.specs.Prelude.{insert, ◌||◌}
 use Rattle.std.specs.List.{AllByRecursion}
@@ -18,7 +18,7 @@ pub below_more : (f : ℕ) (faces : List ℕ) (at g : ℕ) → at < length faces
 below_more f faces at g lt is h low =
     subst (AllBelow f) (sym (take_more faces at g lt ∙ ap (λ x. take at faces ++ x ∷ []) (sym is))) (below_push f (take at faces) g h low)
 
--- ---- past smaller faces
+-- ---- inserting a face after smaller faces
 
 with_past : (f : ℕ) (front rest : List ℕ) → AllBelow f front → with_face f (front ++ rest) ≡ front ++ with_face f rest
 with_past f [] rest h = refl
@@ -31,7 +31,7 @@ has_past f [] rest h = refl
 has_past f (g ∷ front) rest h =
     ap (λ b. b || has_face f (front ++ rest)) (ne_eqb g f (λ e. let lt = h.0 in omega (arith, e))) ∙ has_past f front rest h.1
 
--- ---- before greater faces
+-- ---- inserting a face before greater faces
 
 lacks_above : (f : ℕ) (faces : List ℕ) → AllByRecursion (λ g. f < g) faces → has_face f faces ≡ false
 lacks_above f [] h = refl
@@ -86,7 +86,7 @@ module _ (f : ℕ) (faces : List ℕ) (n : ℕ) (le : length faces ≤ n) (low :
       drop_end [] = refl
       drop_end (x ∷ l) = drop_end l
 
--- ---- the list with a face rises
+-- ---- the list is still rising after a face was inserted
 
 with_above : (g f : ℕ) (faces : List ℕ) → g < f → AllByRecursion (λ m. g < m) faces → AllByRecursion (λ m. g < m) (with_face f faces)
 with_above g f [] lt h = (lt, tt)

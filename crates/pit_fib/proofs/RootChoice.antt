@@ -1,4 +1,4 @@
--- A map of values by name in which `/` stands, and the same map without it.
+-- A map of values by name in which `/` has a value, compared with the same map without `/`.
 use Rattle.std.proofs.Common.{◌≡◌, ℕ, zero, suc, ◌+◌, Bool, true, false, cond, List, [], ◌∷◌, length, take, refl, sym, ap, ◌∙◌}
 use Rattle.std.specs.Prelude.{Option, None, Some, is_some}
 use Rattle.std.specs.declared.cmp.Ordering.TheVariants.{Less}
@@ -13,7 +13,7 @@ use Rattle.ndn_names.specs.Key.{name_cmp-total, name_cmp-antisymmetric}
 use Rattle.name_trie.specs.ByName.{ByName, longest, longest_within}
 use Rattle.pit_fib.specs.StrategyTable.{without_choice}
 
--- one of two branches, whatever the first test, where both give the same
+-- if the outer tests agree, a second test in the other branch makes no difference
 one_test : {A : Type 0} (b : Bool) (x y z : A) → cond b x z ≡ cond b x (cond b y z)
 one_test true x y z = refl
 one_test false x y z = refl

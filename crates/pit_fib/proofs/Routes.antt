@@ -1,4 +1,4 @@
--- Registered routes of a name.
+-- The registered routes of a name.
 use Rattle.std.proofs.Common.{◌≡◌, ℕ, zero, suc, ◌+◌, ◌<◌, Bool, true, false, cond, List, [], ◌∷◌, ◌++◌, length, take, get_or, refl, sym, ap, ◌∙◌, arith}
 use Rattle.std.proofs.lemmas.List.{take_more}
 use Rattle.std.specs.List.{list_any}
@@ -12,7 +12,7 @@ use Rattle.pit_fib.specs.declared.route.RouteKey.{RouteKey}
 use Rattle.pit_fib.specs.Tally.{left_of}
 use Rattle.pit_fib.specs.Route.{is_due, route_cmp, route_cmp-antisymmetric, route_cmp-total, until_due}
 
--- the routes that do not end by a moment
+-- the routes that are not due at the moment
 pub left_rows : (now : ℕ) (rows : List (RouteKey × Route)) → filter (λ row. not (is_due now row.1)) rows ≡ revised (until_due now) rows
 left_rows now [] = refl
 left_rows now (row ∷ rows) =
@@ -31,11 +31,11 @@ from_kept test rows sorted =
     ∙ find-where_key route_cmp test q (λ x t. ap test (sym (route_cmp-antisymmetric q x t))) rows
     ∙ sym (get-retain_keys (from_sorted rows) test q (λ x t. ap test (sym (route_cmp-antisymmetric q x t))) ∙ ap (λ o. cond (test q) o None) (get-from_sorted route_cmp rows q sorted)))
 
--- what stands where no row is
+-- the default row for an index without a row
 abbrev pub no_row : RouteKey × Route
 no_row = (record { face = 0; origin = 0 }, record { cost = 0; flags = 0; deadline = None })
 
--- some row passes a test
+-- if the row at index `at` passes the test, some row passes it
 pub any_at : (test : RouteKey × Route → Bool) (rows : List (RouteKey × Route)) (at : ℕ) (d : RouteKey × Route) → at < length rows → test (get_or rows at d) ≡ true → list_any test rows ≡ true
 any_at test [] at d lt passes = absurd (omega arith)
 any_at test (row ∷ rows) zero d lt passes = ap (λ b. b || list_any test rows) passes
@@ -48,7 +48,7 @@ any_at test (row ∷ rows) (suc at) d lt passes = later (test row) (any_at test 
 pub both_true : {a b : Bool} → a ≡ true → b ≡ true → (a && b) ≡ true
 both_true {a} {b} p q = ap (λ x. x && b) p ∙ q
 
--- one row more
+-- the number of remaining routes grows by one row at a time
 pub left_more : (now : ℕ) (rows : List (RouteKey × Route)) (at : ℕ) (d : RouteKey × Route) → at < length rows
     → left_of now (take (at + 1) rows) ≡ left_of now (take at rows) + cond (is_due now (get_or rows at d).1) 0 1
 left_more now rows at d lt = ap (left_of now) (take_more rows at d lt) ∙ counted (take at rows) (get_or rows at d)

@@ -1,4 +1,5 @@
--- The hops of an entry stand by cost and then by face, and are its faces with their costs.
+-- The next hops of an entry are ordered by cost and then by face, and are exactly its faces with
+-- their costs.
 use Rattle.std.proofs.Common.{◌≡◌, ◌≢◌, ◌⊎◌, inl, inr, ℕ, zero, suc, ◌<◌, true, false, cond, List, [], ◌∷◌, length, get_or, nat_cmp, refl, sym, ap, subst, ◌∙◌, arith}
 use lib.Dec.{T}
 use Rattle.std.specs.Prelude.{None, Some, fold}
@@ -13,7 +14,7 @@ use Rattle.pit_fib.specs.declared.hops.Hop.{Hop}
 use Rattle.pit_fib.specs.Tables.{ByFace}
 use Rattle.pit_fib.specs.Hops.{is_before, with_hop, unmarked_hop, hops_of, AreInOrder, AreHopsOf}
 
--- ---- the order
+-- ---- the order of next hops
 
 turned : (a b : Hop) → is_before a b ≡ false → a.face ≢ b.face → is_before b a ≡ true
 turned a b passed apart = grind (arith, nat_tests)
@@ -27,7 +28,7 @@ never_both a b there back = absurd (grind (arith, nat_tests))
 chained : (a b c : Hop) → is_before a b ≡ true → is_before b c ≡ true → is_before a c ≡ true
 chained a b c first second = grind (arith, nat_tests)
 
--- ---- what a list has
+-- ---- the hops that a list contains
 
 Has : List Hop → Hop → Type 0
 Has [] g = ⊥
@@ -60,7 +61,7 @@ unfolding Has
 all_if P [] each = tt
 all_if P (h ∷ hops) each = (each h (inl refl), all_if P hops (λ g has. each g (inr has)))
 
--- ---- one hop more
+-- ---- one more hop is inserted
 
 more_has : (hop : Hop) (hops : List Hop) (g : Hop) → Has (with_hop hop hops) g → (hop ≡ g) ⊎ Has hops g
 unfolding Has
@@ -101,9 +102,10 @@ more_in_order hop (h ∷ hops) order apart =
       )
     ] refl
 
--- ---- all hops of some costs
+-- ---- the hops of a list of costs
 
--- a face that is not found is not the first one
+-- if a face is not found in the costs, it is not the first face, and is not found in the other
+-- costs
 not_first : (face : ℕ) (e : ℕ × ℕ) (costs : List (ℕ × ℕ)) → find nat_cmp face (e ∷ costs) ≡ None → (face ≢ e.0) × (find nat_cmp face costs ≡ None)
 not_first face e costs none =
     elim (eq_by_cmp nat_cmp face e.0) as (λ b. eq_by_cmp nat_cmp face e.0 ≡ b → cond b (Some e.1) (find nat_cmp face costs) ≡ None → (face ≢ e.0) × (find nat_cmp face costs ≡ None)) [
@@ -125,7 +127,7 @@ all_in_order (e ∷ costs) hops sorted order apart =
       | (inr old) ↦ (not_first g.face e costs (apart g old)).1
     ])
 
--- a hop of these costs
+-- the hop has a face of these costs, with that face's cost
 IsOf : List (ℕ × ℕ) → Hop → Type 0
 IsOf costs g = (find nat_cmp g.face costs ≡ Some g.cost) × (g.local ≡ false)
 
@@ -185,7 +187,7 @@ none_has : {P : Type 0} (g : Hop) → Has [] g → P
 unfolding Has
 none_has g has = absurd has
 
--- ---- the law
+-- ---- the two laws of `hops_of`
 
 pub hops_sorted : (costs : ByFace) → AreInOrder (hops_of costs)
 hops_sorted costs = all_in_order (entries costs) [] (entries_sorted costs) tt (λ g has. none_has g has)
@@ -200,7 +202,7 @@ hops_same costs g = (
   λ is. if_has (hops_of costs) g (all_has (entries costs) [] g (inr (sym (get-entries costs g.face) ∙ is.0, is.1))),
 )
 
--- lists in order that have the same hops are the same
+-- two ordered lists with the same hops are equal
 same_hops : (xs ys : List Hop) → AreInOrder xs → AreInOrder ys → ((g : Hop) → Has xs g → Has ys g) → ((g : Hop) → Has ys g → Has xs g) → xs ≡ ys
 unfolding Has
 same_hops [] [] p q to back = refl

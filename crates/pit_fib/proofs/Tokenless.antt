@@ -1,4 +1,4 @@
--- Tables of Interests that came with no PIT token.
+-- Tables in which no Interest has a PIT token.
 use Rattle.std.proofs.Common.{◌≡◌, inl, inr, ℕ, Bool, true, false, cond, List, refl, sym, ap, subst, ◌∙◌}
 use Rattle.std.specs.Prelude.{Option, None, Some, ◌&&◌, ◌||◌, ◌==◌, is_some, nat_lt, unwrap_or}
 use Rattle.std.specs.Option.{option_map}
@@ -18,7 +18,7 @@ use Rattle.pit_fib.proofs.KeptTables.{Steps, step_follows}
 use Rattle.pit_fib.proofs.LastAsks.{token_is_for}
 use Rattle.pit_fib.proofs.PendingPast.{get-changed, get-settled}
 
--- the cause brings no token
+-- the cause does not bring a token
 abbrev pub IsBare : Cause → Type 0
 IsBare (Arrives key face in_record) = in_record.token ≡ None
 IsBare _ = Unit {0}
@@ -68,7 +68,7 @@ neither : (a b : Bool) → (a || b) ≡ false → (a ≡ false) × (b ≡ false)
 neither false b e = (refl, e)
 neither true b e = absurd cc
 
--- an Interest with this token came
+-- an Interest with this token arrived
 pub arrived_knows : {A : Type 0} (token : Option A) (show : A → List ℕ) (key : PlainKey) (face : ℕ) (in_record : InRecord) (rows new : Rows) (has_tokens : Bool) → in_record.token ≡ option_map show token
     → Follows (Arrives key face in_record) (pending_of rows) (pending_of new) → KnowsTokens has_tokens rows → KnowsTokens (has_tokens || is_some token) new
 arrived_knows token show key face in_record rows new has_tokens is follows knows none =
@@ -80,7 +80,7 @@ tokenless_empty pending e k f r is =
     let nobody : records_at pending k ≡ no_records = ap (λ p. records_at p k) e ∙ ap (λ (o : Option Records). unwrap_or o no_records) (get-empty key_cmp k) in
     none_bare r (sym (ap (λ (m : Records). get m.in_records f) nobody ∙ get-empty nat_cmp f) ∙ is)
 
--- no token goes out of a table without tokens
+-- if no Interest in the table has a token, no token is sent
 pub none_for : (pending : Pending) (name : List Field) (digest : List ℕ) (face : ℕ) (token : Option (List ℕ)) → HaveNoTokens pending
     → IsTokenFor (records_at pending) name digest face token → IsTokenFor (records_at pending) name digest face None
 none_for pending name digest face token none (inl nobody) = inl (nobody.0, refl)

@@ -1,5 +1,5 @@
--- What changes the records of a key (NFD Developer's Guide, "Pending Interest Table", "Forwarding
--- Pipelines").
+-- The causes that change the records of a key (NFD Developer's Guide, "Pending Interest Table",
+-- "Forwarding Pipelines").
 use Rattle.std.specs.Prelude.{◌≡◌, ℕ, Bool, List, Option, None, Some, nat_lt, if◌then◌else◌}
 use Rattle.std.specs.Ordering.{eq_by_cmp}
 use Rattle.std.specs.FinMap as map
@@ -10,15 +10,15 @@ use Rattle.name_trie.specs.ByName.{revise}
 use Rattle.pit_fib.specs.Records.{InRecord, OutRecord, OutRecords, Records, Pending, no_records, is_alive, records_at, same_nonce}
 
 pub data Cause : Type 0 where
-  -- time passed: in-records whose deadline is not after now expire
+  -- time passed: in-records expire whose deadline is `now` or earlier
   Expires : (now : ℕ) → Cause
-  -- an Interest of a key came from a face
+  -- an Interest of this key arrived on a face
   Arrives : (key : PlainKey) (face : ℕ) (in_record : InRecord) → Cause
-  -- an Interest of a key was sent to a face
+  -- an Interest of this key was sent to a face
   SentTo : (key : PlainKey) (face : ℕ) (nonce : List ℕ) (moment : ℕ) → Cause
-  -- Data of this name and implicit digest came, and may be sent
+  -- a Data of this name and implicit digest came, and satisfies the Interests that it answers
   Satisfied : (name : List Field) (digest : List ℕ) → Cause
-  -- a Nack came from a face
+  -- a Nack arrived on a face
   NackCame : (key : PlainKey) (face : ℕ) (nonce : List ℕ) (reason : ℕ) → Cause
   -- the in-record of a face was removed
   Withdrawn : (key : PlainKey) (face : ℕ) → Cause
@@ -30,27 +30,28 @@ pub data Cause : Type 0 where
 abbrev pub same_key : PlainKey → PlainKey → Bool
 same_key = eq_by_cmp key_cmp
 
--- an in-record that is still pending after this moment
+-- an in-record whose deadline is later than `now`, or None
 abbrev pub until_after : ℕ → InRecord → Option InRecord
 until_after now in_record = if nat_lt now in_record.deadline then Some in_record else None
 
--- the out-record of a sending to which no Nack came so far
+-- the out-record of an Interest that was just sent, to which no Nack has come yet
 abbrev pub sent_at : List ℕ → ℕ → OutRecord
 sent_at nonce moment = record { nonce = nonce; moment = moment; reason = None }
 
--- an out-record, with the reason of a Nack that has its Nonce
+-- an out-record with the reason of a Nack, if the Nack has the Nonce of the out-record
 abbrev pub nacked_with : List ℕ → ℕ → OutRecord → OutRecord
 nacked_with nonce reason out_record =
     if same_nonce out_record.nonce nonce then record out_record { reason = Some reason }
     else out_record
 
--- the out-records, with the reason of a Nack from a face whose out-record was this
+-- the out-records with the reason of a Nack from a face, where `out_record` is the face's
+-- out-record
 abbrev pub with_reason : ℕ → List ℕ → ℕ → OutRecords → Option OutRecord → OutRecords
 with_reason face nonce reason out_records None = out_records
 with_reason face nonce reason out_records (Some out_record) =
     map.insert out_records face (nacked_with nonce reason out_record)
 
--- the records of a key with the cause's own change
+-- the records of a key with the change that the cause itself makes
 abbrev pub changed : Cause → PlainKey → Records → Records
 changed (Expires now) k r = record r { in_records = revise (until_after now) r.in_records }
 changed (Arrives key face in_record) k r =
@@ -74,14 +75,14 @@ changed (Closed face) k r =
       out_records = map.remove r.out_records face;
     }
 
--- where no in-record is left, the out-records are removed too
+-- the records of a key; if no in-record is left, the out-records are removed too
 abbrev pub settled : Records → Records
 settled r = if is_alive r then r else no_records
 
 abbrev pub records_after : Cause → PlainKey → Records → Records
 records_after cause k r = settled (changed cause k r)
 
--- at each key the cause leads from the old records to the new
+-- for each key, the cause leads from the old records to the new records
 abbrev pub Follows : Cause → Pending → Pending → Type 0
 Follows cause old new =
     (k : PlainKey) → records_at new k ≡ records_after cause k (records_at old k)

@@ -1,5 +1,5 @@
--- The effective next hops of a name: its own, and those that it inherits from shorter names (NFD
--- Developer's Guide, "Routing Information Base", "RIB to FIB update").
+-- The effective next hops of a name: its own next hops and routes, and the routes that it inherits
+-- from shorter names (NFD Developer's Guide, "Routing Information Base", "RIB to FIB update").
 use Rattle.std.specs.Prelude.{◌≡◌, ℕ, zero, suc, ◌<◌, ◌≤◌, List, ◌++◌, length, take, map as list_map, fold, min, Bool, true, false, not, Option, None, Some, ◌==◌, ◌&&◌, if◌then◌else◌}
 use Rattle.std.specs.List.{list_any}
 use Rattle.std.specs.FinMap as map
@@ -12,11 +12,11 @@ use Rattle.pit_fib.specs.Hops.{hops_of}
 use Rattle.pit_fib.specs.Route.{Registered, is_capture, is_child_inherit}
 use Rattle.pit_fib.specs.Tables.{ByFace}
 
--- the first costs, and of faces that have none there the second
+-- the costs in `first`, and for faces without a cost there, the costs in `second`
 abbrev pub prefer : ByFace → ByFace → ByFace
 prefer first second = map.from_entries (map.entries first ++ map.entries second)
 
--- the lesser of a cost and that which a face has
+-- the lesser of `cost` and the cost that a face already has, if it has one
 abbrev pub lesser : ℕ → Option ℕ → ℕ
 lesser cost None = cost
 lesser cost (Some other) = min cost other
@@ -24,7 +24,7 @@ lesser cost (Some other) = min cost other
 abbrev pub with_lesser : ByFace → ℕ → ℕ → ByFace
 with_lesser costs face cost = map.insert costs face (lesser cost (map.get costs face))
 
--- of each face the least cost of these routes that are wanted
+-- for each face, the least cost of those routes in the list that are wanted
 abbrev pub least_costs : (Route → Bool) → List (RouteKey × Route) → ByFace
 least_costs wanted routes =
     fold {A = RouteKey × Route} {B = ByFace}
@@ -34,25 +34,26 @@ least_costs wanted routes =
 abbrev pub has_capture : Registered → Bool
 has_capture registered = list_any (λ e. is_capture e.1) (map.entries registered)
 
--- What the names below an entry inherit: its child-inherit routes, and for other faces what it
--- inherits itself, unless it has a capture route.
+-- The costs that the names below an entry inherit: the costs of its child-inherit routes and, for
+-- other faces, the costs that the entry inherits itself, unless it has a capture route.
 abbrev pub passed_on : Option Entry → ByFace → ByFace
 passed_on None above = above
 passed_on (Some e) above =
     prefer (least_costs is_child_inherit (map.entries e.registered))
     (if has_capture e.registered then map.empty else above)
 
--- what the first n prefixes of a name hand down to what is below them
+-- the costs that the prefixes with fewer than n components of a name hand down
 abbrev pub handed_down : Routes → List Field → ℕ → ByFace
 handed_down routes name zero = map.empty
 handed_down routes name (suc n) =
     passed_on (map.get routes (take n name)) (handed_down routes name n)
 
--- a name inherits where it has routes, and none of them is a capture route
+-- a name inherits if it has routes, and none of them is a capture route
 abbrev pub does_inherit : Registered → Bool
 does_inherit registered = not (map.len registered == 0) && not (has_capture registered)
 
--- the next hops of an entry, for other faces its routes, and for others again what it inherits
+-- the costs of an entry's next hops; for faces without a next hop, the costs of its routes; for the
+-- remaining faces, the costs that it inherits
 abbrev pub effective_of : Entry → ByFace → ByFace
 effective_of e above =
     prefer e.hops (prefer (least_costs (λ _. true) (map.entries e.registered))
@@ -63,7 +64,7 @@ abbrev pub effective : Routes → List Field → ByFace
 effective routes name =
     effective_of (entry_at routes name) (handed_down routes name (length name))
 
--- those of the longest prefix that has an entry, among the prefixes of at most n components
+-- the costs at the longest prefix that has an entry, among the prefixes of at most n components
 abbrev pub longest_costs : Routes → List Field → ℕ → ByFace
 longest_costs routes name zero =
     if map.contains_key routes (take 0 name) then effective routes (take 0 name) else map.empty
@@ -71,7 +72,7 @@ longest_costs routes name (suc n) =
     if map.contains_key routes (take (suc n) name) then effective routes (take (suc n) name)
     else longest_costs routes name n
 
--- the next hops of the longest prefix that has an entry
+-- the effective next hops of the longest prefix that has an entry
 abbrev pub longest_hops : Routes → List Field → List Hop
 longest_hops routes name = hops_of (longest_costs routes name (length name))
 
@@ -82,9 +83,9 @@ entry_listed routes e = (e.0, hops_of (effective routes e.0))
 abbrev pub listed : Routes → List (List Field × List Hop)
 listed routes = list_map (entry_listed routes) (map.entries routes)
 
--- ---- the same, face by face
+-- ---- the same costs, defined face by face
 
--- a route on this face that is wanted has this cost, and none has a lesser one
+-- a wanted route on this face has this cost, and no wanted route on this face has a lesser cost
 pub record IsLeastCost (wanted : Route → Bool) (registered : Registered) (face cost : ℕ) : Type 0
   where
     pub origin : ℕ
@@ -102,8 +103,9 @@ HasNone wanted registered face =
     (origin : ℕ) (r : Route)
     → map.get registered (record { face = face; origin = origin }) ≡ Some r → wanted r ≡ false
 
--- A name inherits this cost for a face: it is the least of the child-inherit routes on that face of
--- the nearest proper prefix that has one, and no prefix between has a capture route.
+-- The name inherits this cost for the face: it is the least cost of the child-inherit routes on
+-- that face at the nearest proper prefix that has such a route, and no prefix between the two has a
+-- capture route.
 pub record IsInherited (routes : Routes) (name : List Field) (face cost : ℕ) : Type 0 where
   pub from : ℕ
   pub shorter : from < length name
@@ -113,7 +115,7 @@ pub record IsInherited (routes : Routes) (name : List Field) (face cost : ℕ) :
   pub unbroken : (m : ℕ) → from < m → m < length name
       → has_capture (registered_at routes (take m name)) ≡ false
 
--- why a face has this cost among the effective next hops of a name
+-- why the face has this cost among the effective next hops of the name
 pub data IsEffective (routes : Routes) (name : List Field) (face cost : ℕ) : Type 0 where
   OwnHop : map.get (costs_at routes name) face ≡ Some cost → IsEffective routes name face cost
   OwnRoute : map.get (costs_at routes name) face ≡ None

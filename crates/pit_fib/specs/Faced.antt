@@ -1,4 +1,4 @@
--- Values by face and the memory for them, for private contracts.
+-- Values by face and the memory for them, for the contracts of private functions.
 use Rattle.std.specs.Prelude.{ℕ, Bool, true, false, refl, nat_lt, nat_le, if◌then◌else◌, ◌||◌}
 use Rattle.std.specs.Coded.{Coded, code_by, coded×, coded_bool, coded_ℕ}
 use Rattle.std.specs.Ordering.{nat_cmp}
@@ -8,7 +8,7 @@ use Rattle.pit_fib.specs.declared.room.TheConstants.{FEW}
 
 pub record Faced (X : Type 0) : Type 0 where
   pub values : map.FinMap nat_cmp X
-  -- whether there is memory for the values of all faces
+  -- whether there is memory for the values of 64 faces
   pub is_wide : Bool
 
 abbrev pub faced_code : {X : Type 0} → Coded X → Coded (Faced X)
@@ -16,16 +16,16 @@ faced_code {X} x =
     code_by (map.FinMap nat_cmp X × Bool) (coded× (map.code coded_ℕ x) coded_bool)
     (λ f. (f.values, f.is_wide)) (λ p. record { values = p.0; is_wide = p.1 }) (λ _. refl)
 
--- no values yet, in memory for this many
+-- no values, in memory for `room` values
 abbrev pub none_in : {X : Type 0} → ℕ → Faced X
 none_in room = record { values = map.empty; is_wide = nat_le MAX_FACES room }
 
--- there is memory for one value more
+-- there is memory for one more value
 abbrev pub has_place : {X : Type 0} → Faced X → Bool
 has_place f = f.is_wide || nat_lt (map.len f.values) FEW
 
--- Whether there can be memory for the value of one face more, and the values in it: in their own
--- memory, or in this, which has room for the given number.
+-- Whether there can be memory for the value of one more face, and the values in that memory: their
+-- own memory, or the supplied memory, which has room for `room` values.
 abbrev pub placed : {X : Type 0} → ℕ → Faced X → Bool × Faced X
 placed room f =
     if nat_le MAX_FACES (map.len f.values) then (false, f) else (
@@ -36,7 +36,7 @@ placed room f =
 abbrev pub with_face_value : {X : Type 0} → ℕ → X → Faced X → Faced X
 with_face_value face x f = record f { values = map.insert f.values face x }
 
--- the value of a face set, where there can be memory for it
+-- the values with the value of a face set, or unchanged if there can be no memory for it
 abbrev pub set_in : {X : Type 0} → ℕ → ℕ → X → Faced X → Faced X
 set_in room face x f =
     if map.contains_key f.values face then with_face_value face x f else (

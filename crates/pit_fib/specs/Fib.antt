@@ -29,14 +29,14 @@ entry_code =
 abbrev pub Routes : Type 0
 Routes = ByName Entry
 
--- neither next hops nor routes
+-- an entry with neither next hops nor routes
 abbrev pub no_entry : Entry
 no_entry = record { hops = map.empty; registered = map.empty }
 
 abbrev pub entry_at : Routes → List Field → Entry
 entry_at routes name = unwrap_or (map.get routes name) no_entry
 
--- the costs of a name's next hops
+-- the costs of the next hops of a name
 abbrev pub costs_at : Routes → List Field → ByFace
 costs_at routes name = (entry_at routes name).hops
 
@@ -44,31 +44,31 @@ costs_at routes name = (entry_at routes name).hops
 abbrev pub registered_at : Routes → List Field → Registered
 registered_at routes name = (entry_at routes name).registered
 
--- how many routes are registered
+-- how many routes are registered in the table
 abbrev pub route_count : Routes → ℕ
 route_count routes = total (λ e. map.len e.registered) (map.entries routes)
 
--- a name has a next hop or a route on this face
+-- some name has a next hop or a route on this face
 abbrev pub LeadsTo : Routes → ℕ → Type 0
 LeadsTo routes face =
     (name : List Field) × (IsSome (map.get (costs_at routes name) face)
     ⊎ ((origin : ℕ) × IsSome (map.get (registered_at routes name)
     (record { face = face; origin = origin }))))
 
--- the faces of all next hops and routes, and this one, are at most 64
+-- the faces of all next hops and routes, together with `face`, are at most 64
 abbrev pub HasRoomFor : Routes → ℕ → Type 0
 HasRoomFor routes face = AtMost64 (λ f. LeadsTo routes f ⊎ (f ≡ face))
 
--- ---- what changes
+-- ---- changes of the table
 
--- an entry without next hops and routes is removed
+-- whether an entry has neither next hops nor routes, so that it is removed
 abbrev pub is_vacant : Entry → Bool
 is_vacant e = (map.len e.hops == 0) && (map.len e.registered == 0)
 
 abbrev pub unless_vacant : Entry → Option Entry
 unless_vacant e = if is_vacant e then None else Some e
 
--- with the next hop of this face, of this cost
+-- the entry with a next hop on this face, with this cost
 abbrev pub entry_with_hop : ℕ → ℕ → Entry → Entry
 entry_with_hop face cost e = record e { hops = map.insert e.hops face cost }
 
@@ -76,7 +76,7 @@ abbrev pub with_next_hop : Routes → List Field → ℕ → ℕ → Routes
 with_next_hop routes name face cost =
     map.insert routes name (entry_with_hop face cost (entry_at routes name))
 
--- without the next hop of this face
+-- the entry without the next hop on this face, or None if nothing is left of the entry
 abbrev pub entry_without_hop : ℕ → Entry → Option Entry
 entry_without_hop face e = unless_vacant (record e { hops = map.remove e.hops face })
 
@@ -84,7 +84,7 @@ abbrev pub without_next_hop : Routes → List Field → ℕ → Routes
 without_next_hop routes name face =
     with_value routes name (entry_without_hop face (entry_at routes name))
 
--- with a registered route; of one face and origin a name has one route
+-- the entry with a registered route; a name has only one route for each face and origin
 abbrev pub entry_with_route : RouteKey → Route → Entry → Entry
 entry_with_route key route e = record e { registered = map.insert e.registered key route }
 
@@ -92,7 +92,7 @@ abbrev pub with_route : Routes → List Field → RouteKey → Route → Routes
 with_route routes name key route =
     map.insert routes name (entry_with_route key route (entry_at routes name))
 
--- without a registered route
+-- the entry without a registered route, or None if nothing is left of the entry
 abbrev pub entry_without_route : RouteKey → Entry → Option Entry
 entry_without_route key e = unless_vacant (record e { registered = map.remove e.registered key })
 
@@ -100,7 +100,8 @@ abbrev pub without_route : Routes → List Field → RouteKey → Routes
 without_route routes name key =
     with_value routes name (entry_without_route key (entry_at routes name))
 
--- without the next hops and routes of a face that closed
+-- the entry without the next hops and routes of a face that was closed, or None if nothing is left
+-- of the entry
 abbrev pub entry_without_face : ℕ → Entry → Option Entry
 entry_without_face face e =
     unless_vacant (record {
@@ -111,7 +112,8 @@ entry_without_face face e =
 abbrev pub without_face : Routes → ℕ → Routes
 without_face routes face = revise (entry_without_face face) routes
 
--- what is left at a moment: routes end at their deadlines
+-- the entry without the routes that are due at the moment `now`, or None if nothing is left of the
+-- entry
 abbrev pub entry_left_at : ℕ → Entry → Option Entry
 entry_left_at now e =
     unless_vacant (record e { registered = revise (until_due now) e.registered })
@@ -119,14 +121,14 @@ entry_left_at now e =
 abbrev pub left_at : ℕ → Routes → Routes
 left_at now routes = revise (entry_left_at now) routes
 
--- how many routes end by a moment
+-- how many routes are due at the moment `now`
 abbrev pub due_count : ℕ → Routes → ℕ
 due_count now routes = route_count routes - route_count (left_at now routes)
 
--- ---- what is refused
+-- ---- why a route is refused
 
--- Why the table takes no route of the name: more than 32 components; a new name in a table of
--- 4,096, or a new route in one of 16,384.
+-- Why the table refuses a route for the name: the name has more than 32 components, the name is new
+-- and the table has 4,096 names, or the route is new and the table has 16,384 routes.
 abbrev pub is_full_for_route : Routes → List Field → RouteKey → Bool
 is_full_for_route routes name key =
     (not (map.contains_key routes name) && nat_le MAX_ENTRIES (map.len routes))

@@ -1,4 +1,4 @@
--- The two flags of a key, in the order of keys of one name.
+-- The two flags of a key, and their order among the keys of one name.
 use Rattle.std.specs.Prelude.{Bool, List, refl}
 use Rattle.std.specs.Coded.{Coded, code_by, coded×, coded_bool}
 use Rattle.std.specs.declared.cmp.Ordering.{Ordering}
@@ -11,7 +11,7 @@ abbrev pub flags : Bool → Bool → Flags
 flags can_be_prefix must_be_fresh =
     record { can_be_prefix = can_be_prefix; must_be_fresh = must_be_fresh }
 
--- by CanBePrefix, then by MustBeFresh; a flag that is not set comes first
+-- flags are ordered by CanBePrefix, then by MustBeFresh; a flag that is not set comes first
 abbrev pub flags_cmp : Flags → Flags → Ordering
 flags_cmp =
     then_cmp (on (λ f. f.can_be_prefix) bool_cmp) (on (λ f. f.must_be_fresh) bool_cmp)
@@ -27,7 +27,7 @@ flags_code =
 abbrev pub flags_of : PlainKey → Flags
 flags_of k = flags k.can_be_prefix k.must_be_fresh
 
--- the key of a name and flags
+-- the key with this name and these flags
 abbrev pub key_at : List Field → Flags → PlainKey
 key_at name f = record {
   name = name;

@@ -6,38 +6,38 @@ use Rattle.pit_fib.specs.declared.hops.Hop.{Hop}
 use Rattle.pit_fib.specs.FaceSet.{has_face}
 use Rattle.pit_fib.specs.Tables.{ByFace}
 
--- by cost, then by face
+-- next hops are ordered by cost, then by face
 abbrev pub is_before : Hop → Hop → Bool
 is_before a b = nat_lt a.cost b.cost || ((a.cost == b.cost) && nat_lt a.face b.face)
 
--- the hops with one more, at its place in this order
+-- the hops with `hop` inserted, in order
 abbrev pub with_hop : Hop → List Hop → List Hop
 with_hop hop [] = hop ∷ []
 with_hop hop (h ∷ hops) = if is_before hop h then hop ∷ h ∷ hops else h ∷ with_hop hop hops
 
--- a cost by face, as a hop of which is not known whether it is Local
+-- a face and its cost as a next hop; whether the face is Local is not known yet
 abbrev pub unmarked_hop : ℕ × ℕ → Hop
 unmarked_hop e = record { face = e.0; cost = e.1; local = false }
 
--- costs by face, as hops in order
+-- faces and their costs as next hops, in order
 abbrev pub in_order : List (ℕ × ℕ) → List Hop
 in_order costs = fold {A = ℕ × ℕ} {B = List Hop} (λ hops e. with_hop (unmarked_hop e) hops) [] costs
 
--- the hops of an entry, in order
+-- the next hops of an entry, in order
 abbrev pub hops_of : ByFace → List Hop
 hops_of costs = in_order (entries costs)
 
--- each hop is less than every later one in this order
+-- each hop comes before all later ones in this order
 abbrev pub AreInOrder : List Hop → Type 0
 AreInOrder [] = Unit {0}
 AreInOrder (h ∷ hops) = AllByRecursion (λ g. is_before h g ≡ true) hops × AreInOrder hops
 
--- these are the faces with their costs, and no others
+-- the hops are the faces in `costs` with their costs, and no others
 abbrev pub AreHopsOf : ByFace → List Hop → Type 0
 AreHopsOf costs hops = (hop : Hop) → Contains hops hop
     ↔ ((get costs hop.face ≡ Some hop.cost) × (hop.local ≡ false))
 
--- the hops, with `local` set on these faces
+-- the hops, with `local` set for the faces in `locals`
 abbrev pub marked : List ℕ → List Hop → List Hop
 marked locals hops =
     map {A = Hop} (λ h. record h { local = h.local || has_face h.face locals }) hops

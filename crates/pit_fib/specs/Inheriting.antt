@@ -1,4 +1,5 @@
--- How the effective next hops of a name come together on the way along it, for private contracts.
+-- How the effective next hops of a name are collected on a walk along the name, for the contracts
+-- of private functions.
 use Rattle.std.specs.Prelude.{ℕ, List, Bool, true, false, not, Option, None, Some, fold, ◌==◌, ◌&&◌, ◌||◌, if◌then◌else◌}
 use Rattle.std.specs.List.{list_any}
 use Rattle.std.specs.FinMap as map
@@ -11,17 +12,17 @@ use Rattle.pit_fib.specs.Route.{is_capture, is_child_inherit, is_due}
 use Rattle.pit_fib.specs.Tables.{ByFace}
 use Rattle.pit_fib.specs.Within.{set_within}
 
--- costs over others
+-- the costs in `first`, and for faces without a cost there, the costs in `second`
 abbrev pub laid_over : ByFace → ByFace → ByFace
 laid_over first second =
     fold {A = ℕ × ℕ} {B = ByFace} (λ costs e. set_within costs e.0 e.1) second (map.entries first)
 
--- whether a route counts where those that end by a moment do not
+-- whether a route counts: if there is a moment, routes that are due at that moment do not count
 abbrev pub counts_at : Option ℕ → Route → Bool
 counts_at None r = true
 counts_at (Some now) r = not (is_due now r)
 
--- whether a route counts for a name, or for the names below it
+-- whether a route counts for a name itself or, if `below` is true, for the names below it
 abbrev pub counts_for : Option ℕ → Bool → Route → Bool
 counts_for at below r = counts_at at r && (not below || is_child_inherit r)
 
@@ -37,7 +38,7 @@ has_route_at at rows = list_any (λ e. counts_at at e.1) rows
 abbrev pub has_capture_at : Option ℕ → List (RouteKey × Route) → Bool
 has_capture_at at rows = list_any (λ e. counts_at at e.1 && is_capture e.1) rows
 
--- what is known after one entry more on the way
+-- what is known after the walk has passed one more entry
 abbrev pub past_entry : Inheriting → Entry → Inheriting
 past_entry s e =
     let rows = map.entries e.registered in

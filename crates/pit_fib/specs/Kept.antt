@@ -1,4 +1,5 @@
--- The entry of a key, and what the calls of the table make of it, for private contracts.
+-- The entry of a key, and how each call of the table changes it, for the contracts of private
+-- functions.
 use Rattle.std.specs.Prelude.{ℕ, ◌-◌, ◌==◌, Bool, true, false, List, [], ◌∷◌, length, take, drop, Option, None, Some, nat_lt, min, unwrap_or, refl, ◌||◌, if◌then◌else◌}
 use Rattle.std.specs.Coded.{Coded, code_by, coded×, coded_bool}
 use Rattle.std.specs.Option.{option_map, option_and_then}
@@ -18,16 +19,16 @@ use Rattle.pit_fib.specs.Pit.{all_nacked, least_reason, was_sent}
 use Rattle.pit_fib.specs.Records.{InRecord, OutRecord, Records, Pending, no_records, is_alive, records_code}
 use Rattle.pit_fib.specs.Cause.{Cause, changed, until_after, with_reason}
 
--- the Interest in octets that end with its token of this length
+-- the octets of the Interest, which come before those of its token, of length `token_len`
 abbrev pub interest_in : ℕ → List ℕ → List ℕ
 interest_in token_len octets = take (length octets - token_len) octets
 
--- the token at the end of these octets, if it has any
+-- the token at the end of these octets, if there is one
 abbrev pub token_in : ℕ → List ℕ → Option (List ℕ)
 token_in token_len octets =
     if token_len == 0 then None else Some (drop (length octets - token_len) octets)
 
--- the records, and whether there is memory for out-records of all faces
+-- an entry: its records, and whether there is memory for the out-records of all faces
 pub record Kept : Type 0 where
   pub records : Records
   pub is_wide : Bool
@@ -37,11 +38,11 @@ kept_code =
     code_by (Records × Bool) (coded× records_code coded_bool)
     (λ s. (s.records, s.is_wide)) (λ p. record { records = p.0; is_wide = p.1 }) (λ _. refl)
 
--- an entry without records, with memory for this many out-records
+-- an entry without records, in memory for `room` out-records
 abbrev pub new_in : ℕ → Kept
 new_in room = record { records = no_records; is_wide = (none_in {X = OutRecord} room).is_wide }
 
--- the out-records with their memory
+-- the out-records of an entry, with their memory
 abbrev pub kept_out_records : Kept → Faced OutRecord
 kept_out_records s = record { values = s.records.out_records; is_wide = s.is_wide }
 
@@ -49,7 +50,8 @@ abbrev pub with_out_records : Kept → Faced OutRecord → Kept
 with_out_records s f =
     record { records = record s.records { out_records = f.values }; is_wide = f.is_wide }
 
--- with the in-record of a face, which has one, or fewer than 64 have
+-- the entry with the in-record of a face set, or unchanged if the face is new and 64 faces have
+-- in-records
 abbrev pub with_in_record : ℕ → InRecord → Kept → Kept
 with_in_record face in_record s =
     if map.contains_key s.records.in_records face || nat_lt (map.len s.records.in_records) MAX_FACES
@@ -59,7 +61,8 @@ with_in_record face in_record s =
       };
     } else s
 
--- with the out-record of a face, in the memory of the out-records or in this
+-- the entry with the out-record of a face, stored in the out-records' own memory or in the supplied
+-- memory
 abbrev pub sent_in : ℕ → ℕ → OutRecord → Kept → Kept
 sent_in room face out_record s =
     with_out_records s (set_in room face out_record (kept_out_records s))
@@ -92,19 +95,19 @@ nacked face nonce reason s = record s {
   };
 }
 
--- the entry, while it has an in-record
+-- the entry, if it has an in-record; otherwise it is removed
 abbrev pub living : Kept → Option Kept
 living s = if is_alive s.records then Some s else None
 
--- what a cause leaves of the entry of a key
+-- the entry of a key after a cause, or None if it is removed
 abbrev pub kept_after : Cause → PlainKey → Kept → Option Kept
 kept_after cause k s = living (record s { records = changed cause k s.records })
 
--- the deadline of an entry
+-- the least deadline of an entry's in-records
 abbrev pub deadline : Kept → ℕ
 deadline s = least (λ in_record. in_record.deadline) (map.entries s.records.in_records)
 
--- the faces, and those with an in-record
+-- the faces, and in addition those with an in-record
 abbrev pub with_faces_of : List (ℕ × InRecord) → List ℕ → List ℕ
 with_faces_of [] faces = faces
 with_faces_of (e ∷ es) faces = with_faces_of es (adding e.0 faces).1
@@ -113,7 +116,7 @@ abbrev pub with_asking : Option Kept → List ℕ → List ℕ
 with_asking None faces = faces
 with_asking (Some s) faces = with_faces_of (map.entries s.records.in_records) faces
 
--- the lesser of two moments, or the one that is there
+-- the lesser of two moments, or the only one, if the other is None
 abbrev pub lesser : Option ℕ → Option ℕ → Option ℕ
 lesser None b = b
 lesser (Some a) None = Some a
@@ -124,7 +127,7 @@ lesser (Some a) (Some b) = Some (min a b)
 abbrev pub Row : Type 0
 Row = map.FinMap flags_cmp Kept
 
--- what a test of flags has, in the order of the flags
+-- the values that `has` gives, in the order of the flags
 abbrev pub slots : {X : Type 0} → (Flags → Option X) → List (Flags × X)
 slots has =
     with_entry (flags false false) (has (flags false false)) (
@@ -135,52 +138,54 @@ slots has =
 unfoldable pub row_of : {X : Type 0} → (Flags → Option X) → map.FinMap flags_cmp X
 row_of has = map.from_sorted (slots has)
 
--- one of four values, by the flags
+-- one of four values, chosen by the flags
 abbrev pub by_flags : {X : Type 0} → X → X → X → X → Flags → X
 by_flags a b c d f =
     if f.can_be_prefix then (if f.must_be_fresh then d else c) else (
     if f.must_be_fresh then b else a)
 
--- each value changed, or removed; and the row removed where none is left
+-- the row after each of its values is changed or removed, or None if no value is left
 abbrev pub changed_row : (Flags → Kept → Option Kept) → Row → Option Row
 changed_row change row = nonempty (row_of (λ f. option_and_then (change f) (map.get row f)))
 
--- the change of one key's value alone
+-- a change of the value under one key only
 abbrev pub only : Flags → (Kept → Option Kept) → Flags → Kept → Option Kept
 only f change g s = if same_flags g f then change s else Some s
 
--- the entry under the key of these flags, if the row is there
+-- the entry under the key with these flags, if there is a row
 abbrev pub kept_in : Option Row → Flags → Option Kept
 kept_in row f = option_and_then (λ r. map.get r f) row
 
--- the row with this entry under the key of these flags
+-- the row with the entry `s` under the key with these flags
 abbrev pub with_kept : Flags → Kept → Option Row → Row
 with_kept f s row = map.insert (unwrap_or row map.empty) f s
 
--- the row after an Interest of a face came, where a new entry has memory for this many out-records
+-- the row after the Interest of a face arrived; a new entry has memory for `room` out-records
 abbrev pub row_arrived : Flags → ℕ → InRecord → ℕ → Option Row → Row
 row_arrived f face in_record room row =
     with_kept f (with_in_record face in_record (unwrap_or (kept_in row f) (new_in room))) row
 
--- the row with this entry under the key of these flags, if it is one
+-- the row with the entry under the key with these flags, if there is an entry
 abbrev pub with_kept_if : Flags → Option Kept → Option Row → Row
 with_kept_if f None row = unwrap_or row map.empty
 with_kept_if f (Some s) row = with_kept f s row
 
--- the row after a sending to a face, with this memory for its out-record beside the entry's own
+-- the row after an Interest was sent to a face; the call supplies memory for `room` out-records in
+-- addition to the entry's own
 abbrev pub row_sent : Flags → ℕ → OutRecord → ℕ → Option Row → Row
 row_sent f face out_record room row =
     with_kept_if f (option_map (sent_in room face out_record) (kept_in row f)) row
 
--- of the keys of a name, whether a Data answers them: all if it is the Data's name or full name,
--- and else, if it is a prefix of that, those with CanBePrefix
+-- Whether a Data answers the key with these flags. If the key's name is the Data's name or full
+-- name, the Data answers all keys of the name; if it is a proper prefix, only those with
+-- CanBePrefix.
 abbrev pub is_answered : Bool → Flags → Bool
 is_answered is_own f = is_own || f.can_be_prefix
 
 abbrev pub unanswered : Bool → Flags → Kept → Option Kept
 unanswered is_own f s = if is_answered is_own f then None else Some s
 
--- the faces, and those with an in-record under the keys that are answered
+-- the faces, and in addition those with an in-record under the keys that the Data answers
 abbrev pub with_answered : Bool → List ℕ → Row → List ℕ
 with_answered is_own faces row =
     with_asking (map.get row (flags true true)) (
@@ -201,12 +206,12 @@ kept_at rows k = option_and_then (λ r. map.get r (flags_of k)) (map.get rows k.
 abbrev pub pending_of : Rows → Pending
 pending_of rows = revise (λ s. Some s.records) (flatten key_cmp key_at rows)
 
--- whether the last sending to a face had this Nonce
+-- whether the last Interest that was sent to the face had this Nonce
 abbrev pub was_sent_in : Option Kept → ℕ → List ℕ → Bool
 was_sent_in None face nonce = false
 was_sent_in (Some s) face nonce = was_sent (map.get s.records.out_records face) nonce
 
--- the result of the Nacks of a key, of which one had this reason
+-- the result of a Nack under this key, where one out-record has the reason `reason`
 abbrev pub answer_in : Option Kept → ℕ → Nacked
 answer_in None reason = NoPending
 answer_in (Some s) reason = all_nacked (least_reason reason (map.entries s.records.out_records))

@@ -1,5 +1,6 @@
--- Which of a face's in-records is the last: that of the latest deadline, and of one deadline that
--- of the greatest key. And whether any in-record has a token. For private contracts.
+-- Which in-record of a face is the last: the one with the latest deadline and, among in-records
+-- with the same deadline, the one with the greatest key. Also whether any in-record has a token.
+-- For the contracts of private functions.
 use Rattle.std.specs.Prelude.{◌≡◌, ℕ, zero, suc, Bool, true, false, List, Option, None, Some, length, nat_lt, if◌then◌else◌, take}
 use Rattle.std.specs.Option.{option_and_then}
 use Rattle.std.specs.FinMap as map
@@ -10,7 +11,7 @@ use Rattle.pit_fib.specs.Kept.{Kept, Row, Rows, pending_of}
 use Rattle.pit_fib.specs.Records.{InRecord}
 use Rattle.pit_fib.specs.Tokens.{HaveNoTokens}
 
--- the later of two in-records, the second where their deadlines are the same
+-- the later of two in-records, or `b` if their deadlines are the same
 abbrev pub later : Option InRecord → Option InRecord → Option InRecord
 later None b = b
 later (Some a) None = Some a
@@ -19,19 +20,20 @@ later (Some a) (Some b) = if nat_lt b.deadline a.deadline then Some a else Some 
 abbrev pub ask_in : ℕ → Option Kept → Option InRecord
 ask_in face kept = option_and_then (λ s. map.get s.records.in_records face) kept
 
--- the later of this and the in-records of a face under the keys without CanBePrefix
+-- the last of `last` and of the face's in-records under the keys of the row without CanBePrefix
 abbrev pub last_exact : ℕ → Option InRecord → Row → Option InRecord
 last_exact face last row =
     later (later last (ask_in face (map.get row (flags false false))))
     (ask_in face (map.get row (flags false true)))
 
--- and under those with it
+-- the last of `last` and of the face's in-records under the keys of the row with CanBePrefix
 abbrev pub last_prefix : ℕ → Option InRecord → Row → Option InRecord
 last_prefix face last row =
     later (later last (ask_in face (map.get row (flags true false))))
     (ask_in face (map.get row (flags true true)))
 
--- under those with it and, if the name is a Data's own, the others
+-- the last of `last` and of the face's in-records under the keys of the row with CanBePrefix; if
+-- the name is the Data's own, the keys without CanBePrefix count too
 abbrev pub last_in : Bool → ℕ → Option InRecord → Row → Option InRecord
 last_in is_own face last row =
     last_prefix face (if is_own then last_exact face last row else last) row
@@ -40,26 +42,26 @@ abbrev pub last_in_row : Bool → ℕ → Option InRecord → Option Row → Opt
 last_in_row is_own face last None = last
 last_in_row is_own face last (Some row) = last_in is_own face last row
 
--- what a search for a face's last in-record becomes where it looks at a row
+-- the state of a search for a face's last in-record after it has looked at one more row
 abbrev pub last_seen : Bool → ℕ × Option InRecord → Row → ℕ × Option InRecord
 last_seen is_own s row = (s.0, last_in is_own s.0 s.1 row)
 
--- under the names of fewer than n components that a name begins with
+-- the face's last in-record under the prefixes of a name that have fewer than n components
 abbrev pub last_above : Rows → ℕ → List Field → ℕ → Option InRecord
 last_above rows face name zero = None
 last_above rows face name (suc n) =
     last_in_row false face (last_above rows face name n) (map.get rows (take n name))
 
--- under a name and its proper prefixes
+-- the face's last in-record under a name and its proper prefixes
 abbrev pub last_along : Rows → ℕ → List Field → Option InRecord
 last_along rows face name =
     last_in_row true face (last_above rows face name (length name)) (map.get rows name)
 
--- under what Data of this name and implicit digest answers
+-- the face's last in-record under the keys that a Data of this name and implicit digest answers
 abbrev pub last_of : Rows → ℕ → List Field → List ℕ → Option InRecord
 last_of rows face name digest =
     last_in_row true face (last_along rows face name) (map.get rows (full_name name digest))
 
--- a table has tokens only where this is true
+-- an in-record of the table can have a token only if `has_tokens` is true
 abbrev pub KnowsTokens : Bool → Rows → Type 0
 KnowsTokens has_tokens rows = has_tokens ≡ false → HaveNoTokens (pending_of rows)

@@ -10,41 +10,41 @@ use Rattle.pit_fib.specs.declared.route.RouteKey.{RouteKey}
 use Rattle.pit_fib.specs.FaceSet.{AtMost64}
 use Rattle.pit_fib.specs.Fib.{Entry, LeadsTo, Routes, is_vacant, registered_at, route_count}
 
--- each name has at most 32 components
+-- each name in the table has at most 32 components
 abbrev pub AreShallow : {X : Type 0} → ByName X → Type 0
 AreShallow table =
     (name : List Field) → IsSome (map.get table name) → length name ≤ MAX_DEPTH
 
--- at most 4,096 names, of at most 32 components
+-- the table has at most 4,096 names, each of at most 32 components
 pub record IsWithinLimits {X : Type 0} (table : ByName X) : Type 0 where
   pub bounded : map.len table ≤ MAX_ENTRIES
   pub shallow : AreShallow table
 
--- each name has next hops or routes
+-- each name in the table has next hops or routes
 abbrev pub HaveSome : Routes → Type 0
 HaveSome routes =
     (name : List Field) (e : Entry) → map.get routes name ≡ Some e → is_vacant e ≡ false
 
--- the limits of a table of routes
+-- a table of routes is within its limits
 pub record IsWithinFib (routes : Routes) : Type 0 where
   pub names : IsWithinLimits routes
   pub some : HaveSome routes
   pub registered : route_count routes ≤ MAX_ROUTES
   pub faces : AtMost64 (LeadsTo routes)
 
--- no route expires before a moment
+-- no route expires before the moment
 abbrev pub NoneEndsBefore : ℕ → Routes → Type 0
 NoneEndsBefore moment routes =
     (name : List Field) (e : Entry) → map.get routes name ≡ Some e
     → (key : RouteKey) (r : Route) → map.get e.registered key ≡ Some r
     → (deadline : ℕ) → r.deadline ≡ Some deadline → moment ≤ deadline
 
--- there are this many routes, and none expires before a moment
+-- the table has `count` routes, and none of them expires before `next_due`
 pub record IsTallied (routes : Routes) (count next_due : ℕ) : Type 0 where
   pub counted : count ≡ route_count routes
   pub later : NoneEndsBefore next_due routes
 
--- there is memory for the routes of the name that is prepared, and one more
+-- there is memory for the routes of the prepared name, and one more
 abbrev pub IsRoomFor : Routes → ℕ → Option (List Field) → Type 0
 IsRoomFor routes room None = Unit {0}
 IsRoomFor routes room (Some name) = map.len (registered_at routes name) < room

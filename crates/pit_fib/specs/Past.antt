@@ -7,12 +7,12 @@ use Rattle.ndn_packets.specs.Key.{PlainKey}
 use Rattle.pit_fib.specs.Records.{InRecord, OutRecord, Records, no_records, is_alive}
 use Rattle.pit_fib.specs.Cause.{Cause, Expires, Arrives, SentTo, Satisfied, NackCame, Withdrawn, Removed, Closed, same_key, until_after, sent_at, nacked_with, records_after}
 
--- the records after these causes, the last cause first
+-- the records of a key after these causes, where the last cause comes first in the list
 abbrev pub records_after_all : List Cause → PlainKey → Records
 records_after_all [] k = no_records
 records_after_all (cause ∷ before) k = records_after cause k (records_after_all before k)
 
--- what one more cause does to the in-record of a face
+-- the in-record of a face after one more cause
 abbrev pub in_record_after : Cause → PlainKey → ℕ → Option InRecord → Option InRecord
 in_record_after (Expires now) k f was = option_and_then (until_after now) was
 in_record_after (Arrives key face in_record) k f was =
@@ -30,7 +30,7 @@ abbrev pub in_record_of : List Cause → PlainKey → ℕ → Option InRecord
 in_record_of [] k f = None
 in_record_of (cause ∷ before) k f = in_record_after cause k f (in_record_of before k f)
 
--- what one more cause does to the out-record of a face, where an in-record is left after it
+-- the out-record of a face after one more cause, if the key still has an in-record
 abbrev pub out_record_after : Cause → PlainKey → ℕ → Option OutRecord → Option OutRecord
 out_record_after (Expires now) k g was = was
 out_record_after (Arrives key face in_record) k g was = was
@@ -44,8 +44,8 @@ out_record_after (Withdrawn key face) k g was = was
 out_record_after (Removed key) k g was = if same_key k key then None else was
 out_record_after (Closed face) k g was = if g == face then None else was
 
--- the out-record of a face: the last sending to it since the key has had an in-record without a
--- break
+-- the out-record of a face: the last Interest that was sent to it during the current uninterrupted
+-- period in which the key has an in-record
 abbrev pub out_record_of : List Cause → PlainKey → ℕ → Option OutRecord
 out_record_of [] k g = None
 out_record_of (cause ∷ before) k g =

@@ -1,5 +1,5 @@
--- The pending Interest table: what it answers, what it can take, and the call that may be prepared
--- (NFD Developer's Guide, "Pending Interest Table", "Incoming Interest Pipeline", "Incoming Nack
+-- The pending Interest table: its results, its limits, and the calls that may be prepared (NFD
+-- Developer's Guide, "Pending Interest Table", "Incoming Interest Pipeline", "Incoming Nack
 -- Pipeline").
 use Rattle.std.specs.Prelude.{◌≡◌, ◌⊎◌, ℕ, ◌≤◌, List, [], ◌∷◌, length, min, Bool, Option, None, Some, IsSome, IsTrue, false, option_and_then, ◌==◌, ◌&&◌, ◌||◌, not, refl, if◌then◌else◌}
 use Rattle.std.specs.Coded.{Coded, code_by, coded×, coded_option, coded_ℕ}
@@ -18,8 +18,8 @@ use Rattle.pit_fib.specs.Cause.{with_reason}
 
 pub record PitState : Type 0 where
   pub pending : Pending
-  -- the key of the calls that are prepared: an `arrive` of an Interest and a token of at most this
-  -- many octets together, and the `sent` calls after it; with None the `sent` calls alone
+  -- the key of the prepared calls: with a number, one `arrive` of an Interest and a token of at
+  -- most so many octets together, and the `sent` calls after it; with None, only the `sent` calls
   pub prepared : Option (PlainKey × Option ℕ)
 
 abbrev pub pit_code : Coded PitState
@@ -29,38 +29,38 @@ pit_code =
     (coded_option (coded× key_code (coded_option coded_ℕ))))
     (λ s. (s.pending, s.prepared)) (λ p. record { pending = p.0; prepared = p.1 }) (λ _. refl)
 
--- ---- the faces of a table
+-- ---- the faces with records in a table
 
--- a face has an in-record or an out-record, under some key
+-- the face has an in-record or an out-record under some key
 abbrev pub HasRecord : Pending → ℕ → Type 0
 HasRecord pending face =
     (key : PlainKey) × (IsSome (map.get (records_at pending key).in_records face)
     ⊎ IsSome (map.get (records_at pending key).out_records face))
 
--- the faces that have a record, and this one, are at most 64
+-- the faces that have a record, together with `face`, are at most 64
 abbrev pub HasRoomFor : Pending → ℕ → Type 0
 HasRoomFor pending face = AtMost64 (λ f. HasRecord pending f ⊎ (f ≡ face))
 
 -- ---- PIT tokens
 
--- the octets of a PIT token, and none where there is no token
+-- the octets of a PIT token, or no octets if there is no token
 abbrev pub token_octets : Option (List ℕ) → List ℕ
 token_octets None = []
 token_octets (Some token) = token
 
--- how many octets a PIT token has: 0 where there is no token
+-- the length of a PIT token in octets, or 0 if there is no token
 abbrev pub token_len : Option (List ℕ) → ℕ
 token_len token = length (token_octets token)
 
--- ---- answers
+-- ---- the results of calls
 
--- a face has a pending Interest that Data of this name and implicit digest answers
+-- the face has a pending Interest that a Data of this name and implicit digest answers
 abbrev pub WaitsFor : Pending → List Field → List ℕ → ℕ → Type 0
 WaitsFor pending name digest face =
     (key : PlainKey) × IsTrue (answers name digest key.name key.can_be_prefix)
     × IsSome (map.get (records_at pending key).in_records face)
 
--- whether the last sending to a face had this Nonce
+-- whether the last Interest that was sent to the face had this Nonce
 abbrev pub was_sent : Option OutRecord → List ℕ → Bool
 was_sent None nonce = false
 was_sent (Some out_record) nonce = same_nonce out_record.nonce nonce
@@ -69,19 +69,20 @@ abbrev pub asks_with : Option InRecord → List ℕ → Bool
 asks_with None nonce = false
 asks_with (Some in_record) nonce = same_nonce in_record.nonce nonce
 
--- An Interest loops where the in-record of another face or an out-record has its Nonce, and the
--- in-record of its own face has another or is not there.
+-- An Interest loops if the in-record of another face, or an out-record, has its Nonce, while the
+-- in-record of its own face has another Nonce or does not exist.
 abbrev pub loops : Records → ℕ → List ℕ → Bool
 loops r face nonce =
     not (asks_with (map.get r.in_records face) nonce)
     && (list_any (λ e. not (e.0 == face) && same_nonce e.1.nonce nonce) (map.entries r.in_records)
     || list_any (λ e. same_nonce e.1.nonce nonce) (map.entries r.out_records))
 
--- when each face was last sent an Interest of the key
+-- for each face, when an Interest of the key was last sent to it
 abbrev pub moments : OutRecords → ByFace
 moments out_records = revise (λ out_record. Some out_record.moment) out_records
 
--- the least of the reasons and this one, or None where some out-record has no reason
+-- the least of `least` and of the reasons in the out-records, or None if some out-record has no
+-- reason
 abbrev pub least_reason : ℕ → List (ℕ × OutRecord) → Option ℕ
 least_reason least [] = Some least
 least_reason least (e ∷ es) =
@@ -91,14 +92,14 @@ abbrev pub all_nacked : Option ℕ → Nacked
 all_nacked None = Waiting
 all_nacked (Some reason) = All reason
 
--- each out-record has the reason of a Nack, and this is the least of them
+-- each out-record has the reason of a Nack, and `least` is the least of these reasons
 pub record IsLeastReason (out_records : OutRecords) (least : ℕ) : Type 0 where
   pub each : (face : ℕ) (out_record : OutRecord) → map.get out_records face ≡ Some out_record
       → (reason : ℕ) × (out_record.reason ≡ Some reason) × (least ≤ reason)
   pub one : (face : ℕ) × (out_record : OutRecord)
       × (map.get out_records face ≡ Some out_record) × (out_record.reason ≡ Some least)
 
--- the result of a Nack of this Nonce and reason from a face
+-- the result of a Nack with this Nonce and reason from this face
 abbrev pub nacked_answer : Records → ℕ → List ℕ → ℕ → Nacked
 nacked_answer r face nonce reason =
     if was_sent (map.get r.out_records face) nonce then all_nacked (least_reason reason

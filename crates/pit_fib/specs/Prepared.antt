@@ -1,4 +1,4 @@
--- The calls of a pending Interest table that are prepared, for private contracts.
+-- The prepared calls of a pending Interest table, for the contracts of private functions.
 use Rattle.std.specs.Prelude.{◌≡◌, ◌⊎◌, ℕ, ◌≤◌, true, [], Option, None, Some, IfSome}
 use Rattle.std.specs.Option.{option_map}
 use Rattle.std.specs.Vec.{vec_capacity}
@@ -14,41 +14,41 @@ use Rattle.pit_fib.specs.Records.{is_alive}
 use Rattle.pit_fib.specs.Kept.{Kept, Row, Rows, kept_at, pending_of}
 use Rattle.pit_fib.specs.Pit.{HasRecord}
 
--- the octets for which there is room
+-- the number of octets for which there is room
 abbrev pub room_of : Option Ready → Option ℕ
 room_of ready = option_map (λ r. r.size) ready
 
--- the calls that are prepared, as a part of the table's state
+-- the prepared calls, as they appear in the state of the table
 abbrev pub calls_of : Option Prepared → Option (PlainKey × Option ℕ)
 calls_of None = None
 calls_of (Some p) = Some (p.key, room_of p.arrival)
 
--- memory for the octets of an Interest
+-- there is memory for the octets of an Interest
 pub record IsReady (r : Ready) : Type 0 where
   pub octets : r.octets.items ≡ []
   pub room : r.size ≤ vec_capacity r.octets
 
--- no arrival is prepared
+-- no `arrive` is prepared
 abbrev pub HasNoArrival : Option Prepared → Type 0
 HasNoArrival prepared = IfSome prepared (λ p. p.arrival ≡ None)
 
--- There is memory for sendings to all faces under a key: the entry's, or spare memory for the given
--- number.
+-- There is memory for the out-records of all faces under a key: the entry's own memory, or the
+-- spare memory, which has room for `spare` out-records.
 abbrev pub CanSend : Rows → PlainKey → ℕ → Type 0
 CanSend rows key spare =
     (MAX_FACES ≤ spare) ⊎ ((s : Kept) → kept_at rows key ≡ Some s → s.is_wide ≡ true)
 
--- there is memory for the calls that are prepared
+-- there is memory for the prepared calls
 abbrev pub HasMemory : NameTable Row → ℕ → Option Prepared → Type 0
 HasMemory rows spare prepared =
     IfSome prepared (λ p. CanSend rows.table p.key spare × IfSome p.arrival (λ r.
     IsReady r × (MAX_FACES ≤ spare) × (rows.prepared ≡ Some p.key.name)))
 
--- each key has an in-record
+-- each key of the table has an in-record
 abbrev pub AreAlive : Rows → Type 0
 AreAlive rows = (k : PlainKey) (s : Kept) → kept_at rows k ≡ Some s → is_alive s.records ≡ true
 
--- a table within its limits
+-- the table is within its limits
 pub record IsWithin (rows : Rows) : Type 0 where
   pub alive : AreAlive rows
   pub few : AtMost64 (HasRecord (pending_of rows))

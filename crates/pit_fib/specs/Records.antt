@@ -1,6 +1,6 @@
 -- The records of pending Interests under one key (NFD Developer's Guide, "Pending Interest Table"):
--- an in-record for each face that sent such an Interest, and an out-record for each face that one
--- was sent to.
+-- an in-record for each face that sent an Interest of the key, and an out-record for each face that
+-- an Interest of the key was sent to.
 use Rattle.std.specs.Prelude.{◌≡◌, ℕ, Bool, List, Option, nat_eq, nat_lt, unwrap_or, refl}
 use Rattle.std.specs.Coded.{Coded, code_by, coded×, coded_list, coded_ℕ, coded_option}
 use Rattle.std.specs.Ordering.{nat_cmp}
@@ -8,16 +8,16 @@ use Rattle.std.specs.FinMap as map
 use lib.Pointwise.{pointwise}
 use Rattle.ndn_packets.specs.Key.{PlainKey, key_cmp}
 
--- the last Interest of a face as it came, its deadline, in milliseconds since 1970, and the PIT
--- token that came with it, if any (NDNLPv2, "PIT Token")
+-- the last Interest from a face, as it was received, with its Nonce, its deadline in milliseconds
+-- since 1970, and the PIT token that came with it, if any (NDNLPv2, "PIT Token")
 pub record InRecord : Type 0 where
   pub interest : List ℕ
   pub nonce : List ℕ
   pub deadline : ℕ
   pub token : Option (List ℕ)
 
--- the last sending to a face: its Nonce, its moment in milliseconds since 1970, and the reason of
--- the last Nack of that Nonce that came back since, if any
+-- the last Interest that was sent to a face: its Nonce, the moment in milliseconds since 1970, and
+-- the reason of the last Nack with this Nonce that has come back since, if any
 pub record OutRecord : Type 0 where
   pub nonce : List ℕ
   pub moment : ℕ
@@ -38,21 +38,21 @@ pub record Records : Type 0 where
 abbrev pub no_records : Records
 no_records = record { in_records = map.empty; out_records = map.empty }
 
--- there is an in-record
+-- whether there is an in-record
 abbrev pub is_alive : Records → Bool
 is_alive r = nat_lt 0 (map.len r.in_records)
 
 abbrev pub same_nonce : List ℕ → List ℕ → Bool
 same_nonce = pointwise nat_eq
 
--- the records by key
+-- the records of all keys
 abbrev pub Pending : Type 0
 Pending = map.FinMap key_cmp Records
 
 abbrev pub records_at : Pending → PlainKey → Records
 records_at pending key = unwrap_or (map.get pending key) no_records
 
--- the table has the keys under which there is an in-record, and no other
+-- the keys of the table are exactly those under which there is an in-record
 abbrev pub HoldsTheLiving : Pending → Type 0
 HoldsTheLiving pending =
     (key : PlainKey) → map.contains_key pending key ≡ is_alive (records_at pending key)

@@ -7,7 +7,8 @@ use Rattle.pit_fib.specs.declared.fib.TheConstants.{MAX_DEPTH, MAX_ENTRIES}
 use Rattle.pit_fib.specs.declared.fault.TableFault.{TableFault}
 use Rattle.pit_fib.specs.declared.fault.TableFault.TheVariants.{TooDeep, TableFull}
 
--- why a table takes no value of a name: more than 32 components, or a new name in a table of 4,096
+-- why the table refuses a value for a name: the name has more than 32 components, or the name is
+-- new and the table has 4,096 names
 abbrev pub refusal : {X : Type 0} → ByName X → List Field → Option TableFault
 refusal table name =
     if nat_lt MAX_DEPTH (length name) then Some TooDeep else (

@@ -9,7 +9,7 @@ use Rattle.ndn_names.specs.Key.{both_tie}
 use Rattle.pit_fib.specs.declared.route.Route.{Route}
 use Rattle.pit_fib.specs.declared.route.RouteKey.{RouteKey}
 
--- by face, then by origin
+-- routes are ordered by face, then by origin
 abbrev pub route_cmp : RouteKey → RouteKey → Ordering
 route_cmp = then_cmp (on (λ k. k.face) nat_cmp) (on (λ k. k.origin) nat_cmp)
 
@@ -50,15 +50,15 @@ is_child_inherit r = r.flags % 2 == 1
 abbrev pub is_capture : Route → Bool
 is_capture r = r.flags / 2 % 2 == 1
 
--- a moment has come
+-- whether the deadline is `now` or earlier
 abbrev pub has_come : ℕ → Option ℕ → Bool
 has_come now None = false
 has_come now (Some deadline) = nat_le deadline now
 
--- the route ends by this moment
+-- whether the route expires by the moment `now`
 abbrev pub is_due : ℕ → Route → Bool
 is_due now r = has_come now r.deadline
 
--- a route after a moment, if it does not end by then
+-- the route, or None if it expires by the moment `now`
 abbrev pub until_due : ℕ → Route → Option Route
 until_due now r = if is_due now r then None else Some r

@@ -10,16 +10,16 @@ use Rattle.name_trie.specs.ByName.{ByName}
 abbrev pub Choices : Type 0
 Choices = ByName StrategyId
 
--- a new table: best-route at `/`
+-- a new table, which has only best-route at `/`
 abbrev pub only_best_route : Choices
 only_best_route = map.insert map.empty [] BestRoute
 
--- without the strategy of a name; that of `/` stays
+-- the table without the strategy of a name; the strategy of `/` stays
 abbrev pub without_choice : {X : Type 0} → ByName X → List Field → ByName X
 without_choice choices [] = choices
 without_choice choices (c ∷ name) = map.remove choices (c ∷ name)
 
--- strategies as values of a model
+-- whether the strategy is multicast; the code of a strategy in a model is this Boolean
 abbrev pub is_multicast : StrategyId → Bool
 is_multicast BestRoute = false
 is_multicast Multicast = true

@@ -1,4 +1,4 @@
--- Counts over all registered routes, for private contracts.
+-- Counts over all registered routes, for the contracts of private functions.
 use Rattle.std.specs.Prelude.{ℕ, ◌+◌, ◌-◌, ◌^◌, List, Option, None, Some, fold, length, min}
 use Rattle.std.specs.FinMap as map
 use Rattle.name_trie.specs.ByName.{revised}
@@ -9,7 +9,7 @@ use Rattle.pit_fib.specs.declared.tally.Tally.{Tally}
 use Rattle.pit_fib.specs.Fib.{Entry}
 use Rattle.pit_fib.specs.Route.{until_due}
 
--- a sum that stops at the greatest u64
+-- a sum, at most the greatest u64
 abbrev pub stopped_sum : ℕ → ℕ → ℕ
 stopped_sum a b = min (a + b) (2 ^ 64 - 1)
 
@@ -17,7 +17,7 @@ abbrev pub sooner : ℕ → Option ℕ → ℕ
 sooner moment None = moment
 sooner moment (Some deadline) = min moment deadline
 
--- the least of a moment and those at which the routes end
+-- the earliest of `moment` and of the deadlines of the routes
 abbrev pub earliest : ℕ → List (RouteKey × Route) → ℕ
 earliest moment rows =
     fold {A = RouteKey × Route} {B = ℕ} (λ m e. sooner m e.1.deadline) moment rows
@@ -28,7 +28,7 @@ tallied t e = record {
   next_due = earliest t.next_due (map.entries e.registered);
 }
 
--- how many of the routes do not end by a moment
+-- how many of the routes are not due at the moment `now`
 abbrev pub left_of : ℕ → List (RouteKey × Route) → ℕ
 left_of now rows = length (revised (until_due now) rows)
 

@@ -7,28 +7,29 @@ use Rattle.ndn_packets.specs.Answers.{answers}
 use Rattle.ndn_packets.specs.Key.{PlainKey, key_cmp}
 use Rattle.pit_fib.specs.Records.{InRecord, Pending, Records, records_at}
 
--- a face has this in-record under a key that Data of this name and implicit digest answers
+-- the face has this in-record under a key that a Data of this name and implicit digest answers
 abbrev pub IsAsker : (PlainKey → Records) → List Field → List ℕ → ℕ → PlainKey → InRecord → Type 0
 IsAsker records name digest face key in_record =
     IsTrue (answers name digest key.name key.can_be_prefix)
     × (map.get (records key).in_records face ≡ Some in_record)
 
--- an in-record does not come after another: its deadline is earlier, or the same and its key is not
--- greater, by name in canonical order, then by CanBePrefix, then by MustBeFresh
+-- the in-record does not come after `last`: its deadline is earlier, or the deadlines are the same
+-- and its key is not greater; keys are ordered by name in canonical order, then by CanBePrefix,
+-- then by MustBeFresh
 abbrev pub IsNotAfter : PlainKey → InRecord → PlainKey → InRecord → Type 0
 IsNotAfter key in_record last_key last =
     (in_record.deadline < last.deadline)
     ⊎ ((in_record.deadline ≡ last.deadline) × (key_cmp key last_key ≢ Greater))
 
--- the last of a face's in-records that the Data answers
+-- the in-record is the last of the face's in-records that the Data answers
 pub record IsLast (records : PlainKey → Records) (name : List Field) (digest : List ℕ) (face : ℕ)
     (key : PlainKey) (in_record : InRecord) : Type 0 where
   pub asks : IsAsker records name digest face key in_record
   pub last : (other_key : PlainKey) (other : InRecord)
       → IsAsker records name digest face other_key other → IsNotAfter other_key other key in_record
 
--- the token that is sent to a face with the Data: that of the last of its in-records that the Data
--- answers, or none where there is no such in-record
+-- the token that is sent to the face with the Data: the token of the last of the face's in-records
+-- that the Data answers, or None if the Data answers none
 abbrev pub IsTokenFor : (PlainKey → Records) → List Field → List ℕ → ℕ → Option (List ℕ) → Type 0
 IsTokenFor records name digest face token =
     (((key : PlainKey) (in_record : InRecord)

@@ -1,4 +1,4 @@
--- What is set where there is room for it, for private contracts.
+-- Setting a value if there is room for it, for the contracts of private functions.
 use Rattle.std.specs.Prelude.{ℕ, nat_lt, ◌||◌, if◌then◌else◌}
 use Rattle.std.specs.FinMap as map
 use Rattle.pit_fib.specs.declared.face_set.TheConstants.{MAX_FACES}
@@ -8,7 +8,7 @@ use Rattle.pit_fib.specs.Fib.{Entry}
 use Rattle.pit_fib.specs.Route.{Registered}
 use Rattle.pit_fib.specs.Tables.{ByFace}
 
--- the number of a face set, where at most 64 faces have one then
+-- the costs with the cost of `face` set, or unchanged if the face is new and 64 faces have a cost
 abbrev pub set_within : ByFace → ℕ → ℕ → ByFace
 set_within costs face cost =
     if map.contains_key costs face || nat_lt (map.len costs) MAX_FACES
@@ -17,7 +17,7 @@ set_within costs face cost =
 abbrev pub entry_with_hop_within : ℕ → ℕ → Entry → Entry
 entry_with_hop_within face cost e = record e { hops = set_within e.hops face cost }
 
--- a route set in memory for this many
+-- the routes with `route` added, if the memory has room for one more than there are
 abbrev pub with_route_within : ℕ → RouteKey → Route → Registered → Registered
 with_route_within room key route registered =
     if nat_lt (map.len registered) room then map.insert registered key route else registered

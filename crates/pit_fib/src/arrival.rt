@@ -1,4 +1,4 @@
-//! What a call of the pending Interest table makes of a row, with memory that it brings.
+//! How a call of the pending Interest table changes a row, with the memory that the call supplies.
 
 ghost use Rattle.std.specs.Prelude.{◌≡◌, ◌≤◌, Option, None, Some, unwrap_or};
 ghost use Rattle.std.specs.Option.{option_map};
@@ -17,8 +17,8 @@ use name_trie::Becomes;
 use ndn_tlv::Memory;
 use std::alloc::Global;
 
-/// Memory for the records of one arrival: those of a new entry, or the Interests of an entry whose
-/// own memory is full; and slots for a name without entries.
+/// Memory for the records of one arrival: for the records of a new entry, or for the in-records of
+/// an entry whose own memory is full. Also slots for a name without entries.
 #[derive(Drop)]
 pub struct RecordRoom {
     in_records: Room<InRecord>,
@@ -46,7 +46,7 @@ impl RecordRoom {
     }
 }
 
-/// An Interest of a face arrives.
+/// The change of a row when the Interest of a face arrives.
 #[derive(Drop)]
 pub struct Arrival {
     pub flags: Flags,
@@ -84,7 +84,7 @@ impl Becomes<Row> for Arrival {
     }
 }
 
-/// An Interest is sent to a face.
+/// The change of a row when an Interest is sent to a face.
 #[derive(Drop)]
 pub struct Departure {
     pub flags: Flags,
@@ -118,14 +118,14 @@ impl Becomes<Row> for Departure {
     }
 }
 
-/// The slots of a row, if there is memory for them.
+/// Returns the slots of a row, if there is memory for them.
 fn slots_of(row: Option<Row>) -> Option<Box<Slots>>
     ensures { unwrap_or (option_map (λ s. s.value) result) map.empty ≡ unwrap_or row map.empty }
 {
     row?.into_slots()
 }
 
-/// The entry, or a new one in this memory.
+/// Returns the entry, or a new entry in this memory if there is none.
 fn entry_or_new(
     entry: Option<Entry>,
     in_records: Room<InRecord>,

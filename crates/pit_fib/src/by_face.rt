@@ -8,9 +8,9 @@ use crate::face_set::MAX_FACES;
 use std::cmp::Ordering;
 use std::marker::Model;
 
-/// Numbers of at most 64 faces, in rising order of the faces: the costs of an entry's hops, or when
-/// an Interest was last sent to a face, in milliseconds since 1970. They are an array, and never
-/// allocate.
+/// A number for each of at most 64 faces, in rising order of the faces: the costs of an entry's
+/// next hops, or when an Interest was last sent to a face, in milliseconds since 1970. The numbers
+/// are in an array, so this never allocates.
 #[derive(Drop)]
 pub struct Used {
     places: [(u64, u64); MAX_FACES],
@@ -37,7 +37,7 @@ impl Model for Used {
 }
 
 impl Used {
-    /// No faces.
+    /// Returns a value in which no face has a number.
     pub fn new() -> Used
         ensures { result ≡ map.empty }
     {
@@ -55,7 +55,7 @@ impl Used {
         &self.places[..self.len]
     }
 
-    /// The number of faces.
+    /// Returns how many faces have a number.
     pub fn len(&self) -> usize
         ensures exact { result ≡ map.len self.now }
         ensures small { result ≤ MAX_FACES }
@@ -63,7 +63,7 @@ impl Used {
         self.as_slice().len()
     }
 
-    /// The number of a face.
+    /// Returns the number that is kept for a face.
     pub fn get(&self, face: u64) -> Option<u64>
         ensures { result ≡ map.get self.now face }
     {
@@ -73,7 +73,8 @@ impl Used {
         }
     }
 
-    /// The face and its number at a place, counted from 0 in rising order.
+    /// Returns the face at index `i`, counted from 0 in rising order of the faces, and the number
+    /// that is kept for it.
     pub fn at(&self, i: usize) -> Option<(u64, u64)>
         ensures { result ≡ slice_get (map.entries self.now) i }
     {
@@ -81,8 +82,8 @@ impl Used {
         Some(*place)
     }
 
-    /// Sets the number of a face. Returns false, and changes nothing, for a new face when there are
-    /// 64.
+    /// Sets the number that is kept for a face. Returns false, and changes nothing, if the face is
+    /// new and 64 faces have a number.
     pub fn insert(&mut self, face: u64, number: u64) -> bool
         ensures ok { IsTrue result → self.new ≡ map.insert self.old face number }
         ensures full { result ≡ false → (self.new ≡ self.old) × (map.get self.old face ≡ None)
@@ -103,14 +104,14 @@ impl Used {
         true
     }
 
-    /// Removes a face.
+    /// Removes a face and the number that is kept for it.
     pub(crate) fn remove(&mut self, face: u64)
         ensures { self.new ≡ map.remove self.old face }
     {
         self.len = without_face(&mut self.places, self.len, face);
     }
 
-    /// The same numbers once more.
+    /// Returns a copy.
     pub(crate) fn copied(&self) -> Used
         ensures { result ≡ self.now }
     {
@@ -121,7 +122,8 @@ impl Used {
     }
 }
 
-/// Of the first `len` places, moves those of other faces to the front, and returns their number.
+/// Moves the entries of other faces among the first `len` entries to the front, and returns how
+/// many there are.
 fn without_face(places: &mut [(u64, u64)], len: usize, face: u64) -> usize
     requires { len ≤ length places.old }
     ensures fewer { result ≤ len }
@@ -139,7 +141,7 @@ fn without_face(places: &mut [(u64, u64)], len: usize, face: u64) -> usize
     kept
 }
 
-/// The place of the face, or the place to insert it at.
+/// Returns the index of the face's entry, or the index at which to insert it.
 pub fn place_of<V>(places: &[(u64, V)], face: u64) -> Result<usize, usize>
     requires { T (map.is_sorted nat_cmp places.now) }
     ensures found { IfOk result (λ at. (at < length places.now)

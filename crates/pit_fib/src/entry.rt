@@ -19,13 +19,13 @@ use crate::nacked::Nacked;
 use crate::room::Room;
 use std::marker::Model;
 
-/// The last Interest of a face, as it came.
+/// The last Interest from a face, as it was received.
 #[derive(Drop)]
 pub struct InRecord {
-    // Those of the Interest, then those of its PIT token.
+    // The octets of the Interest, followed by the octets of its PIT token.
     octets: Vec<u8>,
     nonce: [u8; 4],
-    // How many of the octets are the token's: 0 where there is none.
+    // How many of the octets belong to the token; 0 if there is no token.
     token_len: u8,
     deadline: u64,
 }
@@ -50,7 +50,8 @@ impl Model for InRecord {
 }
 
 impl InRecord {
-    /// The Interest and the token in these octets, the last `token_len` of which are the token.
+    /// Returns the in-record of an Interest and its token, where the last `token_len` of `octets`
+    /// are the token.
     pub fn new(octets: Vec<u8>, token_len: u8, nonce: [u8; 4], deadline: u64) -> InRecord
         requires { (token_len ≤ length octets.items) × (token_len ≤ 32) }
         ensures { result ≡ record {
@@ -68,14 +69,14 @@ impl InRecord {
         }
     }
 
-    /// The octets of the Interest.
+    /// Returns the octets of the Interest.
     fn interest(&self) -> &[u8]
         ensures { result.now ≡ self.now.interest }
     {
         &self.octets[..self.octets.len() - usize::from(self.token_len)]
     }
 
-    /// The token.
+    /// Returns the PIT token, if the Interest has one.
     pub fn token(&self) -> Option<&[u8]>
         ensures token { option_map (λ t. t.now) result ≡ self.now.token }
         ensures sizes { IfSome result (λ t. (1 ≤ length t.now) × (length t.now ≤ 32)) }
@@ -86,7 +87,7 @@ impl InRecord {
         Some(&self.octets[self.octets.len() - usize::from(self.token_len)..])
     }
 
-    /// Its deadline, in milliseconds since 1970.
+    /// Returns the deadline of the Interest, in milliseconds since 1970.
     pub fn deadline(&self) -> u64
         ensures { result ≡ self.now.deadline }
     {
@@ -94,13 +95,13 @@ impl InRecord {
     }
 }
 
-/// The last sending to a face.
+/// The last Interest that was sent to a face.
 #[derive(Clone, Copy)]
 pub struct OutRecord {
     nonce: [u8; 4],
-    // In milliseconds since 1970.
+    // When the Interest was sent, in milliseconds since 1970.
     moment: u64,
-    // Of the Nack that came back.
+    // The reason of the Nack that came back for this Nonce, if any.
     reason: Option<u64>,
 }
 
@@ -117,7 +118,8 @@ impl Model for OutRecord {
 }
 
 impl OutRecord {
-    /// A sending now, in milliseconds since 1970, to which no Nack came so far.
+    /// Returns the out-record of an Interest that is sent now, in milliseconds since 1970, and to
+    /// which no Nack has come yet.
     pub fn new(nonce: [u8; 4], now: u64) -> OutRecord
         ensures { result ≡ sent_at nonce now }
     {
@@ -128,7 +130,7 @@ impl OutRecord {
         }
     }
 
-    /// With the reason of a Nack that has its Nonce.
+    /// Returns the out-record with the reason of a Nack, if the Nack has the same Nonce.
     fn nacked_with(self, nonce: [u8; 4], reason: u64) -> OutRecord
         ensures { result ≡ nacked_with nonce reason self }
     {
@@ -143,7 +145,7 @@ impl OutRecord {
 }
 
 impl FaceMap<OutRecord> {
-    /// Whether the last sending to a face had this Nonce.
+    /// Returns whether the last Interest that was sent to the face had this Nonce.
     fn was_sent(&self, face: u64, nonce: [u8; 4]) -> bool
         ensures { result ≡ was_sent (map.get self.now.values face) nonce }
     {
@@ -153,7 +155,7 @@ impl FaceMap<OutRecord> {
         }
     }
 
-    /// Records the reason of a Nack, where its Nonce was the last one sent to the face.
+    /// Records the reason of a Nack, if its Nonce is the last one that was sent to the face.
     fn nacked(&mut self, face: u64, nonce: [u8; 4], reason: u64)
         ensures { self.new ≡ record self.old {
           values = with_reason face nonce reason
@@ -165,7 +167,7 @@ impl FaceMap<OutRecord> {
         }
     }
 
-    /// The least of the reasons and this one, if each face has a reason.
+    /// Returns the least of `reason` and of the reasons of all faces, if each face has a reason.
     fn least_reason(&self, reason: u64) -> Option<u64>
         ensures { result ≡ least_reason reason (map.entries self.now.values) }
     {
@@ -178,7 +180,8 @@ impl FaceMap<OutRecord> {
 }
 
 impl FaceMap<InRecord> {
-    /// The least deadline of the in-records, in milliseconds since 1970, or 0 where there is none.
+    /// Returns the least deadline of the in-records, in milliseconds since 1970, or 0 if there are
+    /// none.
     fn deadline(&self) -> u64
         ensures { result ≡ least (λ r. r.deadline) (map.entries self.now.values) }
     {
@@ -190,7 +193,7 @@ impl FaceMap<InRecord> {
     }
 }
 
-/// The lesser of two moments, or the one that is there.
+/// Returns the lesser of two moments, or the only one, if the other is `None`.
 pub fn lesser(a: Option<u64>, b: Option<u64>) -> Option<u64>
     ensures { result ≡ lesser a b }
 {
@@ -222,7 +225,7 @@ impl Model for Entry {
 }
 
 impl Entry {
-    /// An entry without records, in this memory.
+    /// Returns an entry without records, in this memory.
     pub fn new(in_records: Room<InRecord>, out_records: Room<OutRecord>) -> Entry
         requires in_records { FEW ≤ in_records }
         requires out_records { FEW ≤ out_records }
@@ -234,29 +237,30 @@ impl Entry {
         }
     }
 
-    /// Whether it has an in-record.
+    /// Returns whether the entry has an in-record.
     fn is_alive(&self) -> bool
         ensures { result ≡ is_alive self.now.records }
     {
         !self.in_records.is_empty()
     }
 
-    /// The entry, while it has an in-record.
+    /// Returns the entry if it has an in-record, and `None` otherwise.
     pub fn living(self) -> Option<Entry>
         ensures { result ≡ living self }
     {
         if self.is_alive() { Some(self) } else { None }
     }
 
-    /// The least deadline of the in-records, in milliseconds since 1970.
+    /// Returns the least deadline of the in-records, in milliseconds since 1970, or 0 if there are
+    /// none.
     pub fn deadline(&self) -> u64
         ensures { result ≡ deadline self.now }
     {
         self.in_records.deadline()
     }
 
-    /// Makes or replaces the Interest of a face, which has one, or fewer than 64 have. Where there
-    /// is no memory for it, the Interests move into this.
+    /// Adds or replaces the in-record of a face, which must have one already unless fewer than 64
+    /// faces have one. If the entry's own memory is full, the in-records move into `room`.
     pub fn arrive(&mut self, face: u64, in_record: InRecord, room: Room<InRecord>)
         requires { MAX_FACES ≤ room }
         ensures { self.new ≡ with_in_record face in_record self.old }
@@ -264,7 +268,7 @@ impl Entry {
         self.in_records.set(face, in_record, room);
     }
 
-    /// Whether there is memory for an out-record of this face.
+    /// Returns whether the entry's memory has room for an out-record of this face.
     pub fn has_place_for(&self, face: u64) -> bool
         ensures { result ≡ (map.contains_key self.now.records.out_records face
             || has_place (kept_out_records self.now)) }
@@ -272,14 +276,14 @@ impl Entry {
         self.out_records.get(face).is_some() || self.out_records.has_place()
     }
 
-    /// Makes or replaces the out-record of a face, in the memory of the out-records or in this.
+    /// Adds or replaces the out-record of a face, in the out-records' own memory or in `room`.
     pub fn sent(&mut self, face: u64, out_record: OutRecord, room: Room<OutRecord>)
         ensures { self.new ≡ sent_in room face out_record self.old }
     {
         self.out_records.set(face, out_record, room);
     }
 
-    /// Whether an Interest of this Nonce from a face loops.
+    /// Returns whether an Interest with this Nonce from this face loops.
     pub fn loops(&self, face: u64, nonce: [u8; 4]) -> bool
         ensures { result ≡ loops_in self.now.records face nonce }
     {
@@ -310,7 +314,7 @@ impl Entry {
             .any(|row| row.1.nonce == nonce)
     }
 
-    /// When each face was last sent the Interest.
+    /// Returns when the Interest was last sent to each face.
     pub fn moments(&self) -> Used
         ensures { result ≡ moments_of self.now.records.out_records }
     {
@@ -321,7 +325,7 @@ impl Entry {
         moments
     }
 
-    /// The octets of the Interest of a face.
+    /// Returns the octets of the face's Interest.
     pub fn interest_of(&self, face: u64) -> Option<&[u8]>
         ensures { option_map (λ o. o.now) result
             ≡ option_map (λ r. r.interest) (map.get self.now.records.in_records face) }
@@ -330,7 +334,7 @@ impl Entry {
         Some(in_record.interest())
     }
 
-    /// The token of the Interest of a face.
+    /// Returns the PIT token of the face's Interest.
     pub fn token_of(&self, face: u64) -> Option<&[u8]>
         ensures token { option_map (λ t. t.now) result ≡ option_and_then (λ r. r.token)
             (map.get self.now.records.in_records face) }
@@ -339,28 +343,29 @@ impl Entry {
         self.in_records.get(face)?.token()
     }
 
-    /// The Interest of a face.
+    /// Returns the in-record of the face.
     fn in_record_of(&self, face: u64) -> Option<&InRecord>
         ensures { option_map (λ r. r.now) result ≡ map.get self.now.records.in_records face }
     {
         self.in_records.get(face)
     }
 
-    /// Whether the last sending to a face had this Nonce.
+    /// Returns whether the last Interest that was sent to the face had this Nonce.
     pub fn was_sent(&self, face: u64, nonce: [u8; 4]) -> bool
         ensures { result ≡ was_sent (map.get self.now.records.out_records face) nonce }
     {
         self.out_records.was_sent(face, nonce)
     }
 
-    /// Records the reason of a Nack, where its Nonce was the last one sent to its face.
+    /// Records the reason of a Nack, if its Nonce is the last one that was sent to the face.
     pub fn nacked(&mut self, face: u64, nonce: [u8; 4], reason: u64)
         ensures { self.new ≡ nacked face nonce reason self.old }
     {
         self.out_records.nacked(face, nonce, reason);
     }
 
-    /// Whether each out-record has the reason of a Nack, of which one had this.
+    /// Returns whether each out-record has the reason of a Nack, where `reason` is the reason of
+    /// one of them.
     pub fn answer(&self, reason: u64) -> Nacked
         ensures { result
             ≡ all_nacked (least_reason reason (map.entries self.now.records.out_records)) }
@@ -371,21 +376,21 @@ impl Entry {
         }
     }
 
-    /// Removes the Interest of a face.
+    /// Removes the in-record of a face.
     pub fn withdraw(&mut self, face: u64)
         ensures { self.new ≡ withdrawn face self.old }
     {
         self.in_records.remove(face);
     }
 
-    /// Removes the Interests whose deadline is not after this moment.
+    /// Removes the in-records whose deadline is `now` or earlier.
     pub fn expire(&mut self, now: u64)
         ensures { self.new ≡ expired now self.old }
     {
         self.in_records.expire(now);
     }
 
-    /// Removes a face.
+    /// Removes the records of a face.
     pub fn close_face(&mut self, face: u64)
         ensures { self.new ≡ without_face face self.old }
     {
@@ -394,8 +399,8 @@ impl Entry {
     }
 }
 
-/// The later of two Interests, the second where their deadlines are the same, or the one that is
-/// there.
+/// Returns the later of two in-records: `b` if their deadlines are the same, or the only one, if
+/// the other is `None`.
 pub fn later<'a>(a: Option<&'a InRecord>, b: Option<&'a InRecord>) -> Option<&'a InRecord>
     ensures { option_map (λ r. r.now) result
         ≡ later (option_map (λ r. r.now) a.entry) (option_map (λ r. r.now) b.entry) }
@@ -413,7 +418,7 @@ pub fn later<'a>(a: Option<&'a InRecord>, b: Option<&'a InRecord>) -> Option<&'a
     }
 }
 
-/// The Interest of a face, if there is an entry.
+/// Returns the in-record of a face, if there is an entry.
 pub fn in_record_of(entry: &Option<Entry>, face: u64) -> Option<&InRecord>
     ensures { option_map (λ r. r.now) result ≡ ask_in face entry.now }
 {
@@ -423,7 +428,7 @@ pub fn in_record_of(entry: &Option<Entry>, face: u64) -> Option<&InRecord>
     }
 }
 
-/// Adds the faces with an in-record, if there is an entry.
+/// Adds the faces with an in-record in the entry, if there is one.
 pub fn add_faces(entry: &Option<Entry>, faces: &mut Faces)
     ensures { faces.new ≡ with_asking entry.now faces.old }
 {
@@ -432,7 +437,7 @@ pub fn add_faces(entry: &Option<Entry>, faces: &mut Faces)
     }
 }
 
-/// Adds the faces of these Interests.
+/// Adds the faces of these in-records.
 fn add_faces_of(rows: &[(u64, InRecord)], faces: &mut Faces)
     ensures { faces.new ≡ with_faces_of rows.now faces.old }
 {

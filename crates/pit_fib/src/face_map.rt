@@ -14,8 +14,8 @@ use crate::face_set::MAX_FACES;
 use crate::room::{FEW, Room};
 use std::marker::Model;
 
-/// Values of at most 64 faces, in rising order of the faces. There is memory for a few of them, or
-/// for all.
+/// A value for each of at most 64 faces, in rising order of the faces. There is memory for a few
+/// values, or for all 64.
 #[derive(Drop)]
 pub struct FaceMap<V> {
     rows: Vec<(u64, V)>,
@@ -45,7 +45,7 @@ impl<V> Model for FaceMap<V> {
 }
 
 impl<V: Drop> FaceMap<V> {
-    /// No values, in this memory.
+    /// Returns a map without values, in this memory.
     pub fn new(room: Room<V>) -> FaceMap<V>
         requires { FEW ≤ room }
         ensures { result ≡ none_in room }
@@ -55,7 +55,7 @@ impl<V: Drop> FaceMap<V> {
         }
     }
 
-    /// The faces with their values, in rising order.
+    /// Returns the faces with their values, in rising order of the faces.
     pub fn rows(&self) -> &[(u64, V)]
         ensures rows { result.now ≡ map.entries self.now.values }
         ensures sorted { T (map.is_sorted nat_cmp result.now) }
@@ -70,7 +70,7 @@ impl<V: Drop> FaceMap<V> {
         self.rows.is_empty()
     }
 
-    /// The value of a face.
+    /// Returns the value of a face.
     pub fn get(&self, face: u64) -> Option<&V>
         ensures { option_map (λ v. v.now) result ≡ map.get self.now.values face }
     {
@@ -80,15 +80,15 @@ impl<V: Drop> FaceMap<V> {
         }
     }
 
-    /// Whether there is memory for one value more.
+    /// Returns whether there is memory for one more value.
     pub fn has_place(&self) -> bool
         ensures { result ≡ has_place self.now }
     {
         self.rows.capacity() >= MAX_FACES || self.rows.len() < FEW
     }
 
-    /// Makes room for one value more, in the values' own memory or in this. Returns false where
-    /// neither has room, and where there are 64 values.
+    /// Makes room for one more value, in the map's own memory or in `room`. Returns false if
+    /// neither has room, or if there are 64 values.
     fn make_place(&mut self, room: Room<V>) -> bool
         ensures { (result, self.new) ≡ placed room self.old }
     {
@@ -119,7 +119,7 @@ impl<V: Drop> FaceMap<V> {
         }
     }
 
-    /// Sets the value of a face, for which there is memory, or this.
+    /// Sets the value of a face, if the map's own memory or `room` has room for it.
     pub fn set(&mut self, face: u64, value: V, room: Room<V>)
         ensures { self.new ≡ set_in room face value self.old }
     {
@@ -128,7 +128,7 @@ impl<V: Drop> FaceMap<V> {
         }
     }
 
-    /// Sets the value of a face that has one.
+    /// Replaces the value of a face that has one.
     pub fn replace(&mut self, face: u64, value: V)
         requires { IsSome (map.get self.old.values face) }
         ensures { self.new ≡ with_face_value face value self.old }
@@ -145,7 +145,7 @@ impl<V: Drop> FaceMap<V> {
 }
 
 impl FaceMap<InRecord> {
-    /// Removes the Interests whose deadline is not after this moment.
+    /// Removes the in-records whose deadline is `now` or earlier.
     pub fn expire(&mut self, now: u64)
         ensures { self.new
             ≡ record self.old { values = revise (until_after now) self.old.values } }

@@ -7,7 +7,8 @@ use std::marker::Model;
 /// The greatest number of faces.
 pub const MAX_FACES: usize = 64;
 
-/// The numbers of at most 64 faces, in rising order. It is an array, and never allocates.
+/// The numbers of at most 64 faces, in rising order. The numbers are in an array, so this never
+/// allocates.
 #[derive(Drop)]
 pub struct Faces {
     places: [u64; MAX_FACES],
@@ -27,7 +28,7 @@ impl Model for Faces {
 }
 
 impl Faces {
-    /// No faces.
+    /// Returns the empty set of faces.
     pub fn new() -> Faces
         ensures { result ≡ [] }
     {
@@ -37,8 +38,8 @@ impl Faces {
         }
     }
 
-    /// Adds a face, unless it is there. Returns false, and changes nothing, for a new face when
-    /// there are 64.
+    /// Adds a face, unless the set has it already. Returns false, and changes nothing, if the face
+    /// is new and the set has 64 faces.
     pub fn insert(&mut self, face: u64) -> bool
         ensures { (result, self.new) ≡ adding face self.old }
     {
@@ -53,14 +54,14 @@ impl Faces {
         true
     }
 
-    /// Whether the face is there.
+    /// Returns whether the set has the face.
     pub fn contains(&self, face: u64) -> bool
         ensures { result ≡ has_face face self.now }
     {
         self.places[..self.len].iter().any(|f| *f == face)
     }
 
-    /// The number of faces.
+    /// Returns the number of faces.
     pub fn len(&self) -> usize
         ensures exact { result ≡ length self.now }
         ensures small { result ≤ MAX_FACES }
@@ -69,7 +70,7 @@ impl Faces {
         self.len
     }
 
-    /// The face at a place, counted from 0 in rising order.
+    /// Returns the face at index `i`, counted from 0 in rising order.
     pub fn get(&self, i: usize) -> Option<u64>
         ensures { result ≡ slice_get self.now i }
     {
@@ -77,7 +78,7 @@ impl Faces {
     }
 }
 
-/// The place of the face, or the place to insert it at.
+/// Returns the index of the face, or the index at which to insert it.
 fn place_of(faces: &[u64], face: u64) -> Result<usize, usize>
     requires { IsRising faces.now }
     ensures found { IfOk result (λ at. has_face face faces.now ≡ true) }

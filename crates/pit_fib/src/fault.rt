@@ -5,14 +5,14 @@ ghost use Rattle.pit_fib.specs.declared.fault.TableFault.TheVariants as faults;
 use ndn_tlv::Memory as NoMemory;
 use thiserror::Error;
 
-/// Why a table of names takes no entry. Of several faults, the first in this order
-/// is reported.
+/// Why a table of names refuses an entry. If there are several faults, the first in this order is
+/// reported.
 #[derive(Clone, Copy, Debug, PartialEq, Eq, Error)]
 pub enum TableFault {
     /// The name has more than 32 components.
     #[error("the name has more than 32 components")]
     TooDeep,
-    /// The name is new, and the table has 4,096.
+    /// The name is new, and the table has 4,096 names.
     #[error("the table has 4096 names")]
     TableFull,
     /// Out of memory.
@@ -28,10 +28,10 @@ impl From<NoMemory> for TableFault {
     }
 }
 
-/// Why the pending Interest table takes no Interest.
+/// Why the pending Interest table refuses an Interest.
 #[derive(Clone, Copy, Debug, PartialEq, Eq, Error)]
 pub enum PitFault {
-    /// The key is new, and 4,096 others have pending Interests.
+    /// The key is new, and Interests are pending under 4,096 other keys.
     #[error("Interests wait under 4096 keys")]
     PitFull,
     /// Out of memory.

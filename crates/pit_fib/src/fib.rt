@@ -27,7 +27,7 @@ use std::alloc::Global;
 use std::marker::Model;
 use std::mem;
 
-/// The greatest number of names of a table.
+/// The greatest number of names in a table.
 pub const MAX_ENTRIES: usize = 4096;
 
 /// The greatest number of components of a name in a table.
@@ -36,18 +36,19 @@ pub const MAX_DEPTH: usize = 32;
 /// The greatest number of registered routes.
 pub const MAX_ROUTES: usize = 16384;
 
-/// Where Interests are sent: next hops and registered routes by name (NFD Developer's Guide,
-/// "Forwarding Information Base", "Routing Information Base"). It has at most 4,096 names of at
-/// most 32 components, each with next hops or routes, at most 16,384 routes, and at most 64 faces.
+/// Where Interests are sent: the next hops and registered routes by name (NFD Developer's Guide,
+/// "Forwarding Information Base", "Routing Information Base"). The table has at most 4,096 names of
+/// at most 32 components, each with next hops or routes, at most 16,384 routes in all, and at most
+/// 64 faces.
 #[derive(Drop)]
 pub struct Fib {
     alloc: Global,
     entries: NameMap<Entry>,
-    // While a call is prepared, memory for the routes of its name and one more.
+    // While a call is prepared: memory for the routes of the call's name, and one more.
     room: Vec<(RouteKey, Route)>,
-    // How many routes are registered.
+    // The number of registered routes.
     count: usize,
-    // No route ends before this moment.
+    // No route expires before this moment, in milliseconds since 1970.
     next_due: u64,
 }
 
@@ -69,7 +70,7 @@ impl Model for Fib {
 }
 
 impl Fib {
-    /// No routes.
+    /// Returns a table without routes.
     pub fn new(alloc: Global) -> Fib
         ensures table { result.table ≡ map.empty }
         ensures prepared { result.prepared ≡ None }
@@ -83,7 +84,7 @@ impl Fib {
         }
     }
 
-    /// The number of names. The clauses beside `exact` are true of every table.
+    /// Returns the number of names. The clauses other than `exact` are true of every table.
     pub fn len(&self) -> usize
         ensures exact { result ≡ map.len self.now.table }
         ensures bounded { map.len self.now.table ≤ MAX_ENTRIES }
@@ -95,11 +96,12 @@ impl Fib {
         self.entries.len()
     }
 
-    /// Adds a next hop, or sets its cost. The faces of all next hops and routes, and this one, are
-    /// at most 64.
+    /// Adds a next hop, or sets its cost. The faces of all next hops and routes, together with
+    /// `face`, must be at most 64.
     ///
-    /// Returns the first fault in the order of `TableFault`; then nothing changes, but no call is
-    /// prepared any more. `Memory` never comes for a name that has an entry.
+    /// If it fails, it returns the first fault in the order of `TableFault`, and the table is
+    /// unchanged, but no call is prepared any more. `Memory` is never returned for a name that has
+    /// an entry.
     pub fn add(&mut self, name: Name<'_>, face: u64, cost: u64) -> Result<(), TableFault>
         requires { HasRoomFor self.old.table face }
         ensures ok { OnOk result
@@ -122,7 +124,7 @@ impl Fib {
         Ok(())
     }
 
-    /// Why the table takes no next hop of the name, if it does not.
+    /// Returns why the table refuses a next hop for the name, or `None` if it does not refuse one.
     pub fn refusal_of(&self, name: Name<'_>) -> Option<TableFault>
         ensures { result ≡ refusal self.now.table (components name.entry) }
     {
@@ -138,13 +140,14 @@ impl Fib {
         Some(TableFault::TableFull)
     }
 
-    /// Registers a route, which expires at its deadline, if it has one, in milliseconds since 1970.
-    /// Of the flags, 1 is child-inherit and 2 is capture. It replaces the name's route of this face
-    /// and origin. The faces of all next hops and routes, and this one, are at most 64.
+    /// Registers a route, which expires at its deadline, in milliseconds since 1970, if it has one.
+    /// In the flags, 1 is child-inherit and 2 is capture. The route replaces the name's route with
+    /// the same face and origin. The faces of all next hops and routes, together with `face`, must
+    /// be at most 64.
     ///
-    /// Returns the first fault in the order of `TableFault`; then nothing changes, but no call is
-    /// prepared any more. The table is full for a new name when it has 4,096, and for a new route
-    /// when it has 16,384.
+    /// If it fails, it returns the first fault in the order of `TableFault`, and the table is
+    /// unchanged, but no call is prepared any more. The table is full for a new name when it has
+    /// 4,096 names, and for a new route when it has 16,384 routes.
     pub fn register(
         &mut self,
         name: Name<'_>,
@@ -179,7 +182,8 @@ impl Fib {
         Ok(())
     }
 
-    /// Why the table takes no route of the name, of this face and origin, if it does not.
+    /// Returns why the table refuses a route with this name, face and origin, or `None` if it does
+    /// not refuse it.
     pub fn route_refusal_of(&self, name: Name<'_>, face: u64, origin: u64) -> Option<TableFault>
         ensures { result ≡ route_refusal self.now.table (components name.entry)
             (record { face = face; origin = origin }) }
@@ -193,7 +197,8 @@ impl Fib {
         None
     }
 
-    /// Prepares one `add` or one `register` of this name, which then cannot run out of memory.
+    /// Prepares one `add` or one `register` of this name. The prepared call cannot run out of
+    /// memory.
     pub fn prepare(&mut self, name: Name<'_>) -> Result<(), Memory>
         ensures table { self.new.table ≡ self.old.table }
         ensures ok { OnOk result (self.new.prepared ≡ Some (components name.entry)) }
@@ -206,7 +211,7 @@ impl Fib {
         self.entries.prepare(name)
     }
 
-    /// Ends what is prepared.
+    /// Discards the preparation of a call.
     pub fn forget_prepared(&mut self)
         ensures table { self.new.table ≡ self.old.table }
         ensures prepared { self.new.prepared ≡ None }
@@ -214,8 +219,8 @@ impl Fib {
         self.entries.forget_prepared();
     }
 
-    /// Removes the next hop of a face, if it is there. An entry without next hops and routes is
-    /// removed.
+    /// Removes the next hop on a face, if there is one. An entry is removed when it has neither
+    /// next hops nor routes.
     pub fn remove(&mut self, name: Name<'_>, face: u64)
         ensures table { self.new.table
             ≡ without_next_hop self.old.table (components name.entry) face }
@@ -224,8 +229,8 @@ impl Fib {
         self.entries.change(name, &WithoutHop { face });
     }
 
-    /// Removes the route of a face and an origin, if it is there. An entry without next hops and
-    /// routes is removed.
+    /// Removes the route with this face and origin, if there is one. An entry is removed when it
+    /// has neither next hops nor routes.
     pub fn unregister(&mut self, name: Name<'_>, face: u64, origin: u64)
         ensures table { self.new.table ≡ without_route self.old.table (components name.entry)
             (record { face = face; origin = origin }) }
@@ -238,7 +243,7 @@ impl Fib {
         self.entries.change(name, &WithoutRoute { key });
     }
 
-    /// Removes the next hops and the routes of a face. Entries without any are removed.
+    /// Removes the next hops and the routes of a face. Entries that then have neither are removed.
     pub fn close_face(&mut self, face: u64)
         ensures table { self.new.table ≡ without_face self.old.table face }
         ensures prepared { self.new.prepared ≡ self.old.prepared }
@@ -249,8 +254,8 @@ impl Fib {
         self.next_due = tally.next_due;
     }
 
-    /// Removes the routes that expire by a moment, in milliseconds since 1970, and returns their
-    /// number.
+    /// Removes the routes that expire by `now`, in milliseconds since 1970, and returns how many
+    /// there were.
     pub fn expire(&mut self, now: u64) -> u64
         ensures table { self.new.table ≡ left_at now self.old.table }
         ensures prepared { self.new.prepared ≡ self.old.prepared }
@@ -267,7 +272,7 @@ impl Fib {
         (before - tally.count) as u64
     }
 
-    /// How many routes `expire` at this moment would remove.
+    /// Returns how many routes `expire` would remove at this moment.
     pub fn due(&self, now: u64) -> u64
         ensures { result ≡ due_count now self.now.table }
     {
@@ -279,8 +284,8 @@ impl Fib {
         (self.count - left.count) as u64
     }
 
-    /// The effective next hops of the longest prefix of a name that has an entry. `local` is false
-    /// in each of them until `Hops::mark` sets it.
+    /// Returns the effective next hops of the longest prefix of a name that has an entry. In each
+    /// next hop `local` is false until `Hops::mark` sets it.
     pub fn longest(&self, name: Name<'_>) -> Hops
         ensures { result ≡ longest_hops self.now.table (components name.entry) }
     {
@@ -288,8 +293,8 @@ impl Fib {
         self.longest_counted(name, &mut steps)
     }
 
-    /// As `longest`. Adds one to the steps for each search among the children of a node. By the
-    /// clauses this is at most one for each component of the name.
+    /// Does the same as `longest`, and adds one to `steps` for each search among the children of a
+    /// node. According to the clauses, this is at most one search for each component of the name.
     pub fn longest_counted(&self, name: Name<'_>, steps: &mut u64) -> Hops
         requires { steps.old + 64 < 2 ^ 64 }
         ensures exact { result ≡ longest_hops self.now.table (components name.entry) }
@@ -301,8 +306,8 @@ impl Fib {
         hops_in_order(way.costs.as_slice())
     }
 
-    /// All names in canonical order, each with its effective next hops, as they are once the routes
-    /// that expire by this moment are removed.
+    /// Returns all names in canonical order, each with its effective next hops, as they are once
+    /// the routes that expire by `now` are removed.
     pub fn list(&self, alloc: Global, now: u64) -> Result<Vec<(NameBuf, Hops)>, Memory>
         ensures { IfOk result (λ list. list.items ≡ listed (left_at now self.now.table)) }
     {
@@ -317,7 +322,7 @@ impl Fib {
     }
 
     /// Shows all names in canonical order, each with its effective next hops, as they are once the
-    /// routes that expire by this moment are removed.
+    /// routes that expire by `now` are removed.
     pub fn show_all<S: Show<Hops> + Drop>(&self, now: u64, show: S) -> Result<S, Memory>
         ensures { IfOk result
             (λ s. s ≡ shown_each S.shown show (listed (left_at now self.now.table))) }
@@ -329,7 +334,7 @@ impl Fib {
 }
 
 impl Fib {
-    /// How many routes a name has.
+    /// Returns how many routes a name has.
     fn routes_of(&self, name: Name<'_>) -> usize
         ensures exact { result ≡ map.len (registered_at self.now.table (components name.entry)) }
         ensures few { result ≤ MAX_ROUTES }
@@ -340,7 +345,7 @@ impl Fib {
         }
     }
 
-    /// Whether a name has a route of this face and origin.
+    /// Returns whether a name has a route with this face and origin.
     fn has_route(&self, name: Name<'_>, key: RouteKey) -> bool
         ensures exact { result
             ≡ map.contains_key (registered_at self.now.table (components name.entry)) key }
@@ -351,7 +356,7 @@ impl Fib {
         }
     }
 
-    /// Whether the table is full for a route of this name, face and origin.
+    /// Returns whether the table is full for a route with this name, face and origin.
     fn is_full_for_route(&self, name: Name<'_>, key: RouteKey) -> bool
         ensures { result ≡ is_full_for_route self.now.table (components name.entry) key }
     {
@@ -359,7 +364,7 @@ impl Fib {
             || (self.count >= MAX_ROUTES && !self.has_route(name, key))
     }
 
-    /// Sets a route that is within the limits.
+    /// Sets a route that is within the limits of the table.
     fn put_route(&mut self, name: Name<'_>, key: RouteKey, route: Route) -> Result<(), Memory>
         requires room { HasRoomFor self.old.table key.face }
         requires taken { route_refusal self.old.table (components name) key ≡ None }
@@ -389,8 +394,8 @@ impl Fib {
         Ok(())
     }
 
-    /// The effective next hops of a name that has an entry, once the routes that expire by this
-    /// moment are removed.
+    /// Returns the effective next hops of a name, as they are once the routes that expire by `now`
+    /// are removed. The name must then still have an entry.
     fn hops_left_at(&self, name: Name<'_>, now: u64) -> Hops
         requires { IsSome (map.get (left_at now self.now.table) (components name)) }
         ensures { result
@@ -403,7 +408,7 @@ impl Fib {
     }
 }
 
-/// This memory, where it has room for `len` routes and one more, or other that has.
+/// Returns `room`, if it has room for `len` routes and one more, or else new memory that has.
 fn enough_room(
     alloc: Global,
     room: Vec<(RouteKey, Route)>,
@@ -419,7 +424,7 @@ fn enough_room(
     Ok(Vec::with_capacity(alloc, len + 1)?)
 }
 
-/// The tally of all entries.
+/// Returns the number of all routes, and the first moment at which one of them expires.
 fn tally(entries: &NameMap<Entry>) -> Tally
     requires { route_count entries.now.table ≤ MAX_ROUTES }
     ensures { IsTallied entries.now.table result.count result.next_due }

@@ -11,7 +11,7 @@ use name_trie::{Becomes, Change};
 use std::alloc::Global;
 use std::marker::Model;
 
-/// What a name of the table of routes has: next hops, and registered routes.
+/// What the table of routes has for one name: next hops, and registered routes.
 #[derive(Drop)]
 pub struct Entry {
     pub hops: Used,
@@ -29,7 +29,7 @@ impl Model for Entry {
 }
 
 impl Entry {
-    /// Neither next hops nor routes.
+    /// Returns an entry with neither next hops nor routes.
     fn new(alloc: Global) -> Entry
         ensures { result ≡ no_entry }
     {
@@ -39,7 +39,7 @@ impl Entry {
         }
     }
 
-    /// The entry, if there is one, or an empty one.
+    /// Returns the entry, or an empty one if there is none.
     fn or_new(alloc: Global, entry: Option<Entry>) -> Entry
         ensures { result ≡ unwrap_or entry no_entry }
     {
@@ -49,14 +49,14 @@ impl Entry {
         }
     }
 
-    /// Whether it has next hops, or routes that do not end by this moment.
+    /// Returns whether the entry has next hops, or routes that do not expire by `now`.
     pub fn is_left_at(&self, now: u64) -> bool
         ensures { result ≡ is_some (entry_left_at now self.now) }
     {
         self.hops.len() > 0 || left_of(self.registered.rows(), now) > 0
     }
 
-    /// The entry, unless it has neither next hops nor routes.
+    /// Returns the entry, or `None` if it has neither next hops nor routes.
     fn unless_vacant(self) -> Option<Entry>
         ensures { result ≡ unless_vacant self }
     {
@@ -68,7 +68,7 @@ impl Entry {
     }
 }
 
-/// Sets the next hop of a face.
+/// A change that sets the next hop on a face.
 #[derive(Drop)]
 pub struct WithHop {
     pub alloc: Global,
@@ -93,7 +93,8 @@ impl Becomes<Entry> for WithHop {
     }
 }
 
-/// Sets the registered route of a face and an origin, in this memory.
+/// A change that sets the registered route with a face and an origin, using the memory that it
+/// holds.
 #[derive(Drop)]
 pub struct WithRoute {
     pub alloc: Global,
@@ -123,7 +124,7 @@ impl Becomes<Entry> for WithRoute {
     }
 }
 
-/// Removes the next hop of a face.
+/// A change that removes the next hop on a face.
 #[derive(Drop)]
 pub struct WithoutHop {
     pub face: u64,
@@ -140,7 +141,7 @@ impl Change<Entry> for WithoutHop {
     }
 }
 
-/// Removes the registered route of a face and an origin.
+/// A change that removes the registered route with a face and an origin.
 #[derive(Drop)]
 pub struct WithoutRoute {
     pub key: RouteKey,
@@ -157,7 +158,7 @@ impl Change<Entry> for WithoutRoute {
     }
 }
 
-/// Removes the next hop and the registered routes of a face.
+/// A change that removes the next hop and the registered routes of a face.
 #[derive(Drop)]
 pub struct WithoutFace {
     pub face: u64,
@@ -175,7 +176,7 @@ impl Change<Entry> for WithoutFace {
     }
 }
 
-/// Removes the registered routes that end by a moment.
+/// A change that removes the registered routes that expire by a moment.
 #[derive(Drop)]
 pub struct WithoutDue {
     pub now: u64,

@@ -30,7 +30,7 @@ impl Flags {
         }
     }
 
-    /// Whether they are these.
+    /// Returns whether both flags are the same.
     pub fn is(self, other: Flags) -> bool
         ensures { result ≡ same_flags self other }
     {

@@ -15,7 +15,8 @@ pub struct Hop {
 }
 
 impl Hop {
-    /// Whether it is less than another: by cost, and by face at one cost.
+    /// Returns whether this hop comes before another: hops are ordered by cost, and hops of the
+    /// same cost by face.
     pub fn is_before(self, other: Hop) -> bool
         ensures { result ≡ is_hop_before self other }
     {
@@ -23,8 +24,8 @@ impl Hop {
     }
 }
 
-/// At most 64 next hops, in the order of their costs, and of their faces at one cost. They are an
-/// array, and never allocate.
+/// At most 64 next hops, ordered by cost, and next hops of the same cost by face. They are in an
+/// array, so this never allocates.
 #[derive(Drop)]
 pub struct Hops {
     places: [Hop; MAX_FACES],
@@ -44,7 +45,7 @@ impl Model for Hops {
 }
 
 impl Hops {
-    /// No hops.
+    /// Returns the empty list of next hops.
     pub(crate) fn new() -> Hops
         ensures { result ≡ [] }
     {
@@ -59,7 +60,7 @@ impl Hops {
         }
     }
 
-    /// Adds a hop at its place.
+    /// Inserts a hop in order.
     pub(crate) fn insert(&mut self, hop: Hop)
         requires { length self.old < MAX_FACES }
         ensures { self.new ≡ with_hop hop self.old }
@@ -76,7 +77,7 @@ impl Hops {
         &self.places[..self.len]
     }
 
-    /// The number of hops.
+    /// Returns the number of hops.
     pub fn len(&self) -> usize
         ensures exact { result ≡ length self.now }
         ensures small { result ≤ MAX_FACES }
@@ -84,14 +85,14 @@ impl Hops {
         self.as_slice().len()
     }
 
-    /// The hop at a place, counted from 0.
+    /// Returns the hop at index `i`, counted from 0.
     pub fn get(&self, i: usize) -> Option<Hop>
         ensures { result ≡ slice_get self.now i }
     {
         self.as_slice().get(i).copied()
     }
 
-    /// Marks these faces as Local.
+    /// Marks the hops on the faces in `locals` as Local.
     pub fn mark(&mut self, locals: &Faces)
         ensures { self.new ≡ marked locals.now self.old }
     {
@@ -102,7 +103,7 @@ impl Hops {
     }
 }
 
-/// The place to insert a hop at.
+/// Returns the index at which to insert a hop.
 fn place_of(hops: &[Hop], hop: Hop) -> usize
     ensures within { result ≤ length hops.now }
     ensures place { with_hop hop hops.now ≡ insert hops.now result hop }
@@ -115,7 +116,7 @@ fn place_of(hops: &[Hop], hop: Hop) -> usize
     hops.len()
 }
 
-/// Costs by face, as hops.
+/// Returns faces and their costs as next hops, in order.
 pub fn hops_in_order(costs: &[(u64, u64)]) -> Hops
     requires { length costs.now ≤ MAX_FACES }
     ensures { result ≡ in_order costs.now }

@@ -9,18 +9,19 @@ use crate::fib_entry::Entry;
 use crate::route::{Route, RouteKey};
 use name_trie::See;
 
-/// What is known on the way along a name, at the last entry that was seen: its effective next hops,
-/// and what the names below it inherit (NFD Developer's Guide, "Routing Information Base").
+/// What is known during a walk along a name, at the last entry that it passed: the effective next
+/// hops of that entry, and what the names below it inherit (NFD Developer's Guide, "Routing
+/// Information Base").
 #[derive(Drop)]
 pub struct Inheriting {
-    /// Where there is a moment, routes that end by then do not count.
+    /// If there is a moment, routes that expire by that moment do not count.
     pub at: Option<u64>,
     pub inherited: Used,
     pub costs: Used,
 }
 
 impl Inheriting {
-    /// Before the first entry.
+    /// Returns what is known before the first entry.
     pub fn new(at: Option<u64>) -> Inheriting
         ensures { result ≡ record { at = at; inherited = map.empty; costs = map.empty } }
     {
@@ -31,7 +32,7 @@ impl Inheriting {
         }
     }
 
-    /// The same once more.
+    /// Returns a copy.
     pub fn copied(&self) -> Inheriting
         ensures { result ≡ self.now }
     {
@@ -73,7 +74,8 @@ impl See<Entry> for Inheriting {
     }
 }
 
-/// Whether a route counts, where those that end by a moment do not.
+/// Returns whether a route counts: if `at` is a moment, routes that expire by that moment do not
+/// count.
 fn counts_at(route: Route, at: Option<u64>) -> bool
     ensures { result ≡ counts_at at route }
 {
@@ -83,7 +85,7 @@ fn counts_at(route: Route, at: Option<u64>) -> bool
     }
 }
 
-/// Whether some route counts.
+/// Returns whether some route counts.
 fn has_route_at(rows: &[(RouteKey, Route)], at: Option<u64>) -> bool
     ensures { result ≡ has_route_at at rows.now }
 {
@@ -95,7 +97,7 @@ fn has_route_at(rows: &[(RouteKey, Route)], at: Option<u64>) -> bool
     false
 }
 
-/// Whether some route counts that is a capture route.
+/// Returns whether some capture route counts.
 fn has_capture_at(rows: &[(RouteKey, Route)], at: Option<u64>) -> bool
     ensures { result ≡ has_capture_at at rows.now }
 {
@@ -107,7 +109,8 @@ fn has_capture_at(rows: &[(RouteKey, Route)], at: Option<u64>) -> bool
     false
 }
 
-/// Of each face the least cost of the routes that count, for the name or for those below it.
+/// Returns, for each face, the least cost of the routes that count for the name itself or, if
+/// `below` is true, for the names below it.
 fn least_within(rows: &[(RouteKey, Route)], at: Option<u64>, below: bool) -> Used
     ensures { result ≡ least_within at below rows.now }
 {
@@ -120,7 +123,7 @@ fn least_within(rows: &[(RouteKey, Route)], at: Option<u64>, below: bool) -> Use
     costs
 }
 
-/// Sets the cost of a face, where it has none or a greater one.
+/// Sets the cost of a face, if the face has no cost or a greater one.
 fn set_lesser(costs: &mut Used, face: u64, cost: u64)
     ensures { costs.new ≡ set_within costs.old face (lesser cost (map.get costs.old face)) }
 {
@@ -131,7 +134,7 @@ fn set_lesser(costs: &mut Used, face: u64, cost: u64)
     costs.insert(face, lesser);
 }
 
-/// The first costs, and of faces that have none there the second.
+/// Returns the costs in `first`, and for faces without a cost there, the costs in `second`.
 fn laid_over(first: &Used, second: Used) -> Used
     ensures { result ≡ laid_over first.now second }
 {

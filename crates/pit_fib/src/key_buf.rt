@@ -42,7 +42,7 @@ impl KeyBuf {
         })
     }
 
-    /// The key.
+    /// Returns the key as a view.
     pub fn view(&self) -> Key<'_>
         ensures { plain_key result ≡ self.now }
     {
@@ -53,7 +53,7 @@ impl KeyBuf {
         }
     }
 
-    /// Whether it is this key.
+    /// Returns whether this is the key `key`.
     pub fn is(&self, key: Key<'_>) -> bool
         ensures { result ≡ same_key self.now (plain_key key.entry) }
     {

@@ -1,4 +1,4 @@
-//! The last of a face's in-records that a Data answers.
+//! The search for the last in-record of a face that a Data answers.
 ghost use Rattle.std.specs.Prelude.{◌≡◌};
 ghost use Rattle.std.specs.Option.{option_map};
 ghost use Rattle.sha2.specs.Sha256.{sha256};
@@ -13,7 +13,7 @@ use ndn_names::{Component, Name};
 use ndn_packets::Data;
 use std::marker::Model;
 
-/// The last of a face's in-records so far.
+/// The last in-record of a face among those that the search has looked at.
 #[derive(Drop)]
 struct LastOf<'a> {
     face: u64,
@@ -43,8 +43,8 @@ impl<'a> Look<'a, Row> for LastOf<'a> {
     }
 }
 
-/// The last of a face's in-records under a name's keys, and those of its proper prefixes that have
-/// CanBePrefix.
+/// Returns the last of the face's in-records under the keys of this name, and under those keys of
+/// its proper prefixes that have CanBePrefix.
 fn last_along<'a>(rows: &'a TimedMap<Row>, name: Name<'_>, face: u64) -> Option<&'a InRecord>
     ensures { option_map (λ r. r.now) result
         ≡ last_along rows.now.table face (components name.entry) }
@@ -54,8 +54,8 @@ fn last_along<'a>(rows: &'a TimedMap<Row>, name: Name<'_>, face: u64) -> Option<
     look.last
 }
 
-/// The last of a face's in-records that a Data answers. The Data's digest is computed only where a
-/// key has one.
+/// Returns the last of the face's in-records that a Data answers. The Data's digest is computed
+/// only if some key has a digest.
 pub fn last_for<'a>(rows: &'a TimedMap<Row>, packet: &Data<'_>, face: u64) -> Option<&'a InRecord>
     ensures { option_map (λ r. r.now) result ≡ last_of rows.now.table face
         (components packet.now.name) (sha256 packet.now.whole.now) }

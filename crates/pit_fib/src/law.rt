@@ -22,8 +22,8 @@ use crate::face_set::MAX_FACES;
 use crate::fib::{MAX_DEPTH, MAX_ENTRIES, MAX_ROUTES};
 use crate::pit::MAX_PENDING;
 
-/// Law: of values by name, `longest` is that of the longest prefix of a name that has one, and none
-/// where no prefix has one.
+/// Law: in a map of values by name, `longest` is the value of the longest prefix of a name that has
+/// a value, or None if no prefix has one.
 pub fn longest_is_the_longest_prefix<V>()
     ensures found { (table : ByName V) (name : List Field) (n : ℕ) → IsLongest table name n
         → longest table name ≡ map.get table (take n name) }
@@ -32,8 +32,8 @@ pub fn longest_is_the_longest_prefix<V>()
         → longest table name ≡ None }
 {}
 
-/// Law: the hops of an entry are ordered by cost and then by face, they are exactly its faces with
-/// their costs, and no other list is both.
+/// Law: the next hops of an entry are ordered by cost and then by face, and they are exactly the
+/// entry's faces with their costs. No other list has both properties.
 pub fn hops_are_in_order()
     ensures sorted { (costs : ByFace) → AreInOrder (hops_of costs) }
     ensures same { (costs : ByFace) → AreHopsOf costs (hops_of costs) }
@@ -41,16 +41,17 @@ pub fn hops_are_in_order()
         → hops ≡ hops_of costs }
 {}
 
-/// Law: a face has a cost among the effective next hops of a name exactly where the name has a next
-/// hop of that cost there; or else a route there whose cost is the least of its routes there; or
-/// else, if it has routes and none is a capture route, where it inherits that cost.
+/// Law: a face has a cost among the effective next hops of a name exactly in these cases: the name
+/// has a next hop of that cost on the face; it has no next hop but routes on the face, and this is
+/// their least cost; or it has neither there, but has routes, none of them a capture route, and
+/// inherits that cost for the face.
 pub fn effective_hops_are_as_defined()
     ensures { (routes : Routes) (name : List Field) (face cost : ℕ)
         → (map.get (effective routes name) face ≡ Some cost) ↔ IsEffective routes name face cost }
 {}
 
-/// Law: an Interest is forwarded by the effective next hops of the longest prefix of its name that
-/// has an entry, and by none where no prefix has one.
+/// Law: the next hops for an Interest are the effective next hops of the longest prefix of its name
+/// that has an entry. There are none if no prefix has an entry.
 pub fn routes_are_those_of_the_longest_prefix()
     ensures found { (routes : Routes) (name : List Field) (n : ℕ) → IsLongest routes name n
         → longest_hops routes name ≡ hops_of (effective routes (take n name)) }
@@ -59,23 +60,25 @@ pub fn routes_are_those_of_the_longest_prefix()
         → longest_hops routes name ≡ hops_of map.empty }
 {}
 
-/// Law: the routes that expire by a moment are counted: those whose deadline is at most this
-/// moment.
+/// Law: `due_count` is the number of routes that expire by a moment, which are those whose deadline
+/// is at most this moment.
 pub fn routes_that_end_are_counted()
     ensures { (now : ℕ) (routes : Routes) → due_count now routes ≡ total
         (λ (e : Entry). length (filter (λ r. is_due now r.1) (map.entries e.registered)))
         (map.entries routes) }
 {}
 
-/// Law: of a map by face whose values are changed, each face has its own value changed, or none.
+/// Law: when the values of a map by face are changed, each face has its own value changed, or has
+/// none.
 pub fn revising_changes_each_value<V, W>()
     ensures { (change : V → Option W) (m : map.FinMap nat_cmp V) (face : ℕ)
         → map.get (revise change m) face ≡ option_and_then change (map.get m face) }
 {}
 
-/// Law: the records that causes, the last one first, leave of a key are, face by face, the last
-/// Interest that nothing has removed since, and the last sending since the key has had an in-record
-/// without a break. The key has an in-record exactly where such an Interest is left.
+/// Law: the records of a key after a list of causes, the last one first, can be told face by face:
+/// the in-record of a face is its last Interest that nothing has removed since, and the out-record
+/// of a face is the last Interest sent to it during the current uninterrupted period in which the
+/// key has had an in-record. The key has an in-record exactly if such an Interest is left.
 pub fn records_are_the_past()
     ensures in_records { (causes : List Cause) (key : PlainKey) (face : ℕ)
         → map.get (records_after_all causes key).in_records face ≡ in_record_of causes key face }
@@ -86,8 +89,9 @@ pub fn records_are_the_past()
         ↔ ((face : ℕ) × IsSome (in_record_of causes key face)) }
 {}
 
-/// Law: the result of a Nack is `NoPending` exactly where its Nonce was not the last one sent to
-/// its face, and otherwise a reason exactly where each out-record then has one: the least one.
+/// Law: the result of a Nack is `NoPending` exactly if its Nonce was not the last one sent to its
+/// face. Otherwise the result is a reason exactly if each out-record then has a reason, and it is
+/// the least of these.
 pub fn nacks_tell_the_least_reason()
     ensures pending { (r : Records) (face : ℕ) (nonce : List ℕ) (reason : ℕ)
         → (nacked_answer r face nonce reason ≡ answers.NoPending)
@@ -106,21 +110,22 @@ pub fn tokens_for_data_are_one()
         → IsTokenFor records name digest face b → a ≡ b }
 {}
 
-/// Law: tables that have only keys with in-records, and the same records at each key, are the same.
+/// Law: two tables that have only keys with in-records are equal if they have the same records for
+/// each key.
 pub fn records_tell_the_table()
     ensures { (a b : Pending) → HoldsTheLiving a → HoldsTheLiving b
         → ((key : PlainKey) → records_at a key ≡ records_at b key) → a ≡ b }
 {}
 
-/// Law: an expiry at an earlier moment first makes no difference.
+/// Law: an expiry gives the same records, whether or not there was an expiry at an earlier moment.
 pub fn expiry_may_come_twice()
     ensures { (m n : ℕ) (key : PlainKey) (r : Records) → m ≤ n
         → records_after (Expires n) key (records_after (Expires m) key r)
         ≡ records_after (Expires n) key r }
 {}
 
-/// Law: a table has at most 4,096 names or keys, a route or strategy at most 32 components, a key
-/// or the table of routes at most 64 faces, and there are at most 16,384 registered routes.
+/// Law: the limits are these: 4,096 names or keys in a table, 32 components in the name of a route
+/// or strategy, 64 faces under a key or in the table of routes, and 16,384 registered routes.
 pub fn table_limits_are_as_promised()
     ensures { (MAX_FACES ≡ 64) × (MAX_ENTRIES ≡ 4096) × (MAX_DEPTH ≡ 32) × (MAX_ROUTES ≡ 16384)
         × (MAX_PENDING ≡ 4096) }

@@ -1,5 +1,5 @@
-//! Where Interests are sent and which faces are waiting for Data: next hops and strategies by name,
-//! pending Interests by key, and lists of faces.
+//! Where Interests are sent, and which faces wait for Data: next hops and strategies by name,
+//! pending Interests by key, and sets of faces.
 #![tactic(auto)]
 
 mod array_list;

@@ -7,18 +7,19 @@ use crate::inheriting::Inheriting;
 use name_trie::{Carry, See, Show};
 use ndn_tlv::Memory;
 
-/// What is known at a name on a walk over all names.
+/// What is known at a name during a walk over all names.
 #[derive(Drop)]
 pub struct AtName {
     pub now: u64,
-    /// Whether its entry is left at the moment.
+    /// Whether the entry of the name remains at the moment `now`.
     pub is_left: bool,
-    /// The way to the name, its entry included.
+    /// What is known after a walk along the name, including the name's own entry.
     pub way: Inheriting,
 }
 
 impl AtName {
-    /// Before the first entry, at a moment in milliseconds since 1970.
+    /// Returns what is known before the first entry, for the moment `now` in milliseconds since
+    /// 1970.
     pub fn new(now: u64) -> AtName
         ensures { result ≡ start_at now }
     {
@@ -46,7 +47,7 @@ impl Carry<Entry> for AtName {
     }
 }
 
-/// Shows the effective next hops of the names whose entries are left.
+/// Shows the effective next hops of the names whose entries remain at the moment.
 #[derive(Drop)]
 pub struct AsHops<S> {
     pub show: S,

@@ -1,10 +1,10 @@
 /// The result of a Nack (NFD Developer's Guide, "Incoming Nack Pipeline").
 #[derive(Clone, Copy, Debug, PartialEq, Eq)]
 pub enum Nacked {
-    /// Its Nonce was not the last one sent to its face under its key.
+    /// The Nack's Nonce was not the last one sent to its face under its key.
     NoPending,
-    /// Some other out-record has no Nack.
+    /// Some other out-record has no Nack yet.
     Waiting,
-    /// Each out-record has the reason of a Nack. The least of them.
+    /// Each out-record has the reason of a Nack. Holds the least of these reasons.
     All(u64),
 }

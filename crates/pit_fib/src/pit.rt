@@ -39,19 +39,20 @@ use std::mem;
 /// The greatest number of keys with pending Interests.
 pub const MAX_PENDING: usize = MAX_ENTRIES;
 
-/// The pending Interest table (NFD Developer's Guide, "Pending Interest Table"): by key, an
-/// in-record for each face with a pending Interest, and an out-record for each face to which an
-/// Interest was sent. Each of its keys has an in-record. It has at most 4,096 keys, and records of
-/// at most 64 different faces.
+/// The pending Interest table (NFD Developer's Guide, "Pending Interest Table"). For each key it
+/// has an in-record for each face with a pending Interest, and an out-record for each face to which
+/// an Interest was sent. Each of its keys has an in-record. The table has at most 4,096 keys, and
+/// records of at most 64 different faces.
 #[derive(Drop)]
 pub struct Pit {
     alloc: Global,
-    // By name, and in order of their least deadlines.
+    // The rows by name, also kept in order of their least deadlines.
     rows: TimedMap<Row>,
     prepared: Option<Prepared>,
     // Spare memory for the out-records of an entry whose own memory is full.
     spare: Room<OutRecord>,
-    // Whether some Interest had a PIT token so far. While none had, no search looks for one.
+    // Whether any Interest so far had a PIT token. As long as none had, no search looks for a
+    // token.
     has_tokens: bool,
 }
 
@@ -75,7 +76,7 @@ impl Model for Pit {
 }
 
 impl Pit {
-    /// No Interests.
+    /// Returns a table without Interests.
     pub fn new(alloc: Global) -> Pit
         ensures pending { result.pending ≡ map.empty }
         ensures prepared { result.prepared ≡ None }
@@ -89,8 +90,8 @@ impl Pit {
         }
     }
 
-    /// The number of keys with pending Interests. The clauses beside `exact` are true of every
-    /// table.
+    /// Returns the number of keys with pending Interests. The clauses other than `exact` are true
+    /// of every table.
     pub fn len(&self) -> usize
         ensures exact { result ≡ map.len self.now.pending }
         ensures living { HoldsTheLiving self.now.pending }
@@ -100,16 +101,16 @@ impl Pit {
         self.rows.len()
     }
 
-    /// Whether no Interest is pending.
+    /// Returns whether no Interest is pending.
     pub fn is_empty(&self) -> bool
         ensures { IsTrue result ↔ (self.now.pending ≡ map.empty) }
     {
         self.len() == 0
     }
 
-    /// Whether an Interest of this key and Nonce from a face loops: the in-record of another face
-    /// or an out-record has the Nonce, and the face's own in-record has not (NFD Developer's Guide,
-    /// "Incoming Interest Pipeline").
+    /// Returns whether an Interest with this key and Nonce from a face loops: the in-record of
+    /// another face, or an out-record, has the Nonce, and the face's own in-record does not have it
+    /// (NFD Developer's Guide, "Incoming Interest Pipeline").
     pub fn loops(&self, key: Key<'_>, face: u64, nonce: [u8; 4]) -> bool
         ensures { result
             ≡ loops_in (records_at self.now.pending (plain_key key.entry)) face nonce }
@@ -120,10 +121,10 @@ impl Pit {
         }
     }
 
-    /// Prepares one `arrive` of this key, of an Interest and a PIT token of at most `octets` octets
-    /// together, and the `sent` calls of this key after it. They then cannot run out of memory
-    /// while only removals come in between. It fails only when memory runs out, and then no call is
-    /// prepared any more.
+    /// Prepares one `arrive` of this key, for an Interest and a PIT token of at most `octets`
+    /// octets together, and the `sent` calls of this key after it. The prepared calls cannot run
+    /// out of memory as long as only removals come in between. This fails only if memory runs out,
+    /// and then no call is prepared any more.
     pub fn prepare(&mut self, key: Key<'_>, octets: usize) -> Result<(), Memory>
         ensures pending { self.new.pending ≡ self.old.pending }
         ensures ok { OnOk result (self.new.prepared
@@ -141,11 +142,11 @@ impl Pit {
 
     /// Records the Interest of a face, in these octets, until a deadline in milliseconds since
     /// 1970, with the PIT token that came with it, of 1 to 32 octets (NDNLPv2, "PIT Token"). It
-    /// replaces the face's older one of this key, together with its token. The faces that have
-    /// records and this one are at most 64.
+    /// replaces the face's older Interest of this key and that Interest's token. The faces that
+    /// have records, together with `face`, must be at most 64.
     ///
-    /// When it fails, nothing changes, but no call is prepared any more: `PitFull` for a new key
-    /// when there are 4,096, else `Memory`.
+    /// If it fails, the records are unchanged, but no call is prepared any more. It fails with
+    /// `PitFull` if the key is new and there are 4,096 keys, and otherwise with `Memory`.
     pub fn arrive(
         &mut self,
         key: Key<'_>,
@@ -190,7 +191,7 @@ impl Pit {
         Ok(())
     }
 
-    /// Whether the key is new, and there are 4,096 others.
+    /// Returns whether the key is new, and the table has 4,096 other keys.
     fn is_full_for(&self, key: Key<'_>) -> bool
         ensures { IsTrue result
             ↔ ((is_alive (records_at self.now.pending (plain_key key.entry)) ≡ false)
@@ -199,7 +200,8 @@ impl Pit {
         self.rows.len() >= MAX_PENDING && entry_of(&self.rows, key).is_none()
     }
 
-    /// Records the Interest of a face. The key is known, or there is room for a new one.
+    /// Records the Interest of a face. The key must be in the table, or there must be room for a
+    /// new one.
     fn keep(
         &mut self,
         key: Key<'_>,
@@ -251,10 +253,11 @@ impl Pit {
         Ok(())
     }
 
-    /// Records that an Interest of this key and Nonce was sent to a face now, in milliseconds since
-    /// 1970, in place of the out-record before it. The key has an in-record, and the faces that
-    /// have records and this one are at most 64. A call that is not prepared may run out of memory;
-    /// then nothing changes, but no call is prepared any more.
+    /// Records that an Interest with this key and Nonce was sent to a face now, in milliseconds
+    /// since 1970; this replaces the face's older out-record. The key must have an in-record, and
+    /// the faces that have records, together with `face`, must be at most 64. A call that is not
+    /// prepared may run out of memory; then the records are unchanged, but no call is prepared any
+    /// more.
     pub fn sent(&mut self, key: Key<'_>, face: u64, nonce: [u8; 4], now: u64) -> Result<(), Memory>
         requires stands { is_alive (records_at self.old.pending (plain_key key)) ≡ true }
         requires room { HasRoomFor self.old.pending face }
@@ -282,7 +285,8 @@ impl Pit {
         Ok(())
     }
 
-    /// The faces to which Interests of this key were sent, and when, in milliseconds since 1970.
+    /// Returns the faces to which Interests of this key were sent, and when, in milliseconds since
+    /// 1970.
     pub fn used(&self, key: Key<'_>) -> Used
         ensures { result
             ≡ moments (records_at self.now.pending (plain_key key.entry)).out_records }
@@ -293,7 +297,7 @@ impl Pit {
         }
     }
 
-    /// The Interest of a face under this key, as it came.
+    /// Returns the Interest of a face under this key, as it was received.
     pub fn interest_of(&self, key: Key<'_>, face: u64) -> Option<&[u8]>
         ensures { option_map (λ o. o.now) result ≡ option_map (λ r. r.interest)
             (map.get (records_at self.now.pending (plain_key key.entry)).in_records face) }
@@ -301,15 +305,17 @@ impl Pit {
         entry_of(&self.rows, key)?.interest_of(face)
     }
 
-    /// Whether some pending Interest may have a PIT token (NDNLPv2, "PIT Token"). Where it is
-    /// false, none has; it stays true once a token has come.
+    /// Returns whether some pending Interest may have a PIT token (NDNLPv2, "PIT Token"). If the
+    /// result is false, no pending Interest has a token. Once a token has come, the result stays
+    /// true.
     pub fn has_tokens(&self) -> bool
         ensures { result ≡ false → HaveNoTokens self.now.pending }
     {
         self.has_tokens
     }
 
-    /// The PIT token that came with the Interest of a face under this key (NDNLPv2, "PIT Token").
+    /// Returns the PIT token that came with the Interest of a face under this key (NDNLPv2, "PIT
+    /// Token").
     pub fn token_of(&self, key: Key<'_>, face: u64) -> Option<&[u8]>
         ensures token { option_map (λ t. t.now) result ≡ option_and_then (λ r. r.token)
             (map.get (records_at self.now.pending (plain_key key.entry)).in_records face) }
@@ -318,11 +324,12 @@ impl Pit {
         entry_of(&self.rows, key)?.token_of(face)
     }
 
-    /// The PIT token that is sent to a face with a Data (NDNLPv2, "PIT Token"): of the Interests of
-    /// the face that the Data answers, whatever their MustBeFresh, that of the one with the latest
-    /// deadline and, among those of one deadline, of the one with the greatest key: by name in
-    /// canonical order, then by CanBePrefix, then by MustBeFresh. None where it came with no token,
-    /// and where the Data answers no Interest of the face.
+    /// Returns the PIT token that is sent to a face with a Data (NDNLPv2, "PIT Token"). It is the
+    /// token of the last of the face's Interests that the Data answers, whatever their MustBeFresh:
+    /// the Interest with the latest deadline and, among Interests with the same deadline, the one
+    /// with the greatest key, where keys are ordered by name in canonical order, then by
+    /// CanBePrefix, then by MustBeFresh. Returns `None` if that Interest came without a token, or
+    /// if the Data answers no Interest of the face.
     pub fn token_for(&self, packet: &Data<'_>, face: u64) -> Option<&[u8]>
         ensures token { IsTokenFor (records_at self.now.pending) (components packet.now.name)
             (sha256 packet.now.whole.now) face (option_map (λ t. t.now) result) }
@@ -364,7 +371,8 @@ impl Pit {
         faces
     }
 
-    /// The faces with a pending Interest that a Data answers: those that `satisfy` would return.
+    /// Returns the faces with a pending Interest that a Data answers: the faces that `satisfy`
+    /// would return.
     pub fn askers(&self, packet: &Data<'_>) -> Faces
         ensures rising { IsRising result }
         ensures faces { (face : ℕ) → IsTrue (has_face face result)
@@ -389,8 +397,8 @@ impl Pit {
         faces
     }
 
-    /// Records the reason of a Nack that came from a face, and returns its result. The records are
-    /// not removed, even if each face has answered with a Nack.
+    /// Records the reason of a Nack that came from a face, and returns the result of this Nack. The
+    /// records are not removed, even if each face has answered with a Nack.
     pub fn nacked(&mut self, key: Key<'_>, face: u64, nonce: [u8; 4], reason: u64) -> Nacked
         ensures answer { result ≡ nacked_answer
             (records_at self.old.pending (plain_key key.entry)) face nonce reason }
@@ -414,7 +422,7 @@ impl Pit {
         answer_of(&self.rows, key, reason)
     }
 
-    /// Removes the in-record of a face, if it is there.
+    /// Removes the in-record of a face, if there is one.
     pub fn withdraw(&mut self, key: Key<'_>, face: u64)
         ensures pending { Follows (Withdrawn (plain_key key.entry) face)
             self.old.pending self.new.pending }
@@ -437,7 +445,7 @@ impl Pit {
         self.rows.change(key.name, &RowRevision(Removal { flags }));
     }
 
-    /// Removes the Interests whose deadline is not after now, in milliseconds since 1970.
+    /// Removes the Interests whose deadline is `now` or earlier, in milliseconds since 1970.
     pub fn expire(&mut self, now: u64)
         ensures pending { Follows (Expires now) self.old.pending self.new.pending }
         ensures prepared { self.new.prepared ≡ self.old.prepared }
@@ -456,15 +464,15 @@ impl Pit {
     }
 }
 
-/// The entry of a key.
+/// Returns the entry of a key.
 fn entry_of<'a>(rows: &'a TimedMap<Row>, key: Key<'_>) -> Option<&'a Entry>
     ensures { option_map (λ e. e.now) result ≡ kept_at rows.now.table (plain_key key.entry) }
 {
     rows.get(key.name)?.get(Flags::of(key))
 }
 
-/// Adds the faces with an in-record under a name's keys, if it has any. Those with CanBePrefix
-/// count or, if the name is a Data's own, all.
+/// Adds the faces that have an in-record under the keys of a name, if there is a row for the name:
+/// under all keys if the name is a Data's own, and otherwise under those with CanBePrefix.
 fn add_of(row: Option<&Row>, is_own: bool, faces: &mut Faces)
     ensures { faces.new
         ≡ taken (with_answered is_own) faces.old (option_map (λ r. r.now) row.entry) }
@@ -474,7 +482,7 @@ fn add_of(row: Option<&Row>, is_own: bool, faces: &mut Faces)
     }
 }
 
-/// Whether the last sending to a face under this key had this Nonce.
+/// Returns whether the last Interest that was sent to the face under this key had this Nonce.
 fn was_sent(rows: &TimedMap<Row>, key: Key<'_>, face: u64, nonce: [u8; 4]) -> bool
     ensures { result ≡ was_sent_in (kept_at rows.now.table (plain_key key.entry)) face nonce }
 {
@@ -484,7 +492,8 @@ fn was_sent(rows: &TimedMap<Row>, key: Key<'_>, face: u64, nonce: [u8; 4]) -> bo
     }
 }
 
-/// Whether an entry's own memory has room for an out-record of this face, or there is no entry.
+/// Returns whether an entry's own memory has room for an out-record of this face, or there is no
+/// entry.
 fn has_place_for(rows: &TimedMap<Row>, key: Key<'_>, face: u64) -> bool
     ensures { result ≡ has_place_in (kept_at rows.now.table (plain_key key.entry)) face }
 {
@@ -494,7 +503,8 @@ fn has_place_for(rows: &TimedMap<Row>, key: Key<'_>, face: u64) -> bool
     }
 }
 
-/// Whether each out-record of a key has the reason of a Nack, of which one had this.
+/// Returns whether each out-record of a key has the reason of a Nack, where `reason` is the reason
+/// of one of them.
 fn answer_of(rows: &TimedMap<Row>, key: Key<'_>, reason: u64) -> Nacked
     ensures { result ≡ answer_in (kept_at rows.now.table (plain_key key.entry)) reason }
 {
@@ -504,7 +514,7 @@ fn answer_of(rows: &TimedMap<Row>, key: Key<'_>, reason: u64) -> Nacked
     }
 }
 
-/// Makes the memory one for the out-records of all faces.
+/// Makes `spare` large enough for the out-records of all 64 faces.
 fn widen(alloc: Global, spare: &mut Room<OutRecord>) -> Result<(), Memory>
     ensures { OnOk result (MAX_FACES ≤ spare.new) }
 {
@@ -514,7 +524,8 @@ fn widen(alloc: Global, spare: &mut Room<OutRecord>) -> Result<(), Memory>
     Ok(())
 }
 
-/// Memory for the out-records of all faces, this or new, unless there is a place for one already.
+/// Returns memory for the out-records of all faces, taken from `spare` or newly allocated. If
+/// `has_place` is true, no memory is needed, and `spare` is unchanged.
 fn room_for(
     alloc: Global,
     spare: &mut Room<OutRecord>,

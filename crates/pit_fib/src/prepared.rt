@@ -11,7 +11,7 @@ use ndn_packets::Key;
 use ndn_tlv::Memory;
 use std::alloc::Global;
 
-/// Memory for an arrival: for its octets, and for its records.
+/// Memory for one arrival: for its octets, and for its records.
 #[derive(Drop)]
 pub struct Ready {
     size: usize,
@@ -19,8 +19,8 @@ pub struct Ready {
     records: RecordRoom,
 }
 
-/// The calls of a key that are prepared: an arrival in this memory and the sendings after it, or
-/// those sendings alone.
+/// The prepared calls of a key: an `arrive` that uses this memory and the `sent` calls after it, or
+/// only `sent` calls.
 #[derive(Drop)]
 pub struct Prepared {
     key: KeyBuf,
@@ -42,7 +42,7 @@ impl Ready {
 }
 
 impl Prepared {
-    /// An arrival of this key with `size` octets, and the sendings after it.
+    /// Prepares an `arrive` of this key with `size` octets, and the `sent` calls after it.
     pub fn new(alloc: Global, key: Key<'_>, size: usize) -> Result<Prepared, Memory>
         ensures { IfOk result (λ made. (made.key ≡ plain_key key.entry)
             × (room_of made.arrival ≡ Some size) × IfSome made.arrival IsReady) }
@@ -56,7 +56,8 @@ impl Prepared {
     }
 }
 
-/// The memory of an arrival of this key, if it is prepared, and what is prepared after it.
+/// Returns the memory of an `arrive` of this key, if one is prepared, and the calls that stay
+/// prepared after it.
 pub fn arriving(prepared: Option<Prepared>, key: Key<'_>) -> (Option<Ready>, Option<Prepared>)
     requires { IfSome prepared (λ p. IfSome p.arrival IsReady) }
     ensures ready { IfSome result.0 IsReady }
@@ -80,7 +81,7 @@ pub fn arriving(prepared: Option<Prepared>, key: Key<'_>) -> (Option<Ready>, Opt
     (arrival, Some(after))
 }
 
-/// This memory, if it has room for `size` octets, or new.
+/// Returns `ready`, if it has room for `size` octets, or else new memory.
 fn ready_for(alloc: Global, ready: Option<Ready>, size: usize) -> Result<Ready, Memory>
     requires { IfSome ready IsReady }
     ensures ok { IfOk result (λ ready. (size ≤ ready.size) × IsReady ready) }
@@ -92,7 +93,7 @@ fn ready_for(alloc: Global, ready: Option<Ready>, size: usize) -> Result<Ready, 
     }
 }
 
-/// The octets of a token, if there is one.
+/// Returns the octets of a token, or none if there is no token.
 fn octets_of(token: Option<&[u8]>) -> &[u8]
     ensures { result.now ≡ token_octets (option_map (λ t. t.now) token.entry) }
 {
@@ -102,7 +103,8 @@ fn octets_of(token: Option<&[u8]>) -> &[u8]
     }
 }
 
-/// The octets of an Interest and its token, and memory for its records: in this memory, or in new.
+/// Returns the octets of an Interest and its token, and memory for its records. It uses `ready`, or
+/// allocates new memory.
 fn octets_and_room(
     alloc: Global,
     ready: Option<Ready>,
@@ -120,7 +122,8 @@ fn octets_and_room(
     Ok((ready.octets, ready.records))
 }
 
-/// A face's Interest with its token, and memory for its records: in this memory, or in new.
+/// Returns a face's in-record with its Interest and token, and memory for its records. It uses
+/// `ready`, or allocates new memory.
 pub fn in_record_and_room(
     alloc: Global,
     ready: Option<Ready>,
@@ -147,7 +150,7 @@ pub fn in_record_and_room(
     Ok((in_record, room))
 }
 
-/// What is prepared after a sending under this key.
+/// Returns the calls that stay prepared after a `sent` of this key.
 pub fn after_sending(prepared: Option<Prepared>, key: Key<'_>) -> Option<Prepared>
     ensures next { calls_of prepared ≡ Some (plain_key key.entry, None)
         → calls_of result ≡ calls_of prepared }

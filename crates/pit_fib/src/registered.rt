@@ -32,7 +32,7 @@ impl Model for Registered {
 }
 
 impl Registered {
-    /// No routes.
+    /// Returns a value without routes.
     pub fn new(alloc: Global) -> Registered
         ensures { result ≡ map.empty }
     {
@@ -41,7 +41,7 @@ impl Registered {
         }
     }
 
-    /// The routes in their order.
+    /// Returns the routes, ordered by face and then by origin.
     pub fn rows(&self) -> &[(RouteKey, Route)]
         ensures rows { result.now ≡ map.entries self.now }
         ensures sorted { T (map.is_sorted route_cmp result.now) }
@@ -49,22 +49,22 @@ impl Registered {
         &self.rows
     }
 
-    /// The number of routes.
+    /// Returns the number of routes.
     pub fn len(&self) -> usize
         ensures { result ≡ map.len self.now }
     {
         self.rows().len()
     }
 
-    /// Whether there is a route of this face and origin.
+    /// Returns whether there is a route with this face and origin.
     pub fn contains(&self, key: RouteKey) -> bool
         ensures { result ≡ map.contains_key self.now key }
     {
         place_of(self.rows(), key).is_ok()
     }
 
-    /// These routes with this one, in this memory. Where it has no room for one route more than
-    /// these, they stay as they are.
+    /// Returns these routes with `route` added, stored in `room`. If `room` has no room for one
+    /// more route than there are, the routes are unchanged.
     pub fn with(self, key: RouteKey, route: Route, room: Vec<(RouteKey, Route)>) -> Registered
         ensures { result ≡ with_route_within (vec_capacity room) key route self }
     {
@@ -79,7 +79,7 @@ impl Registered {
         Registered { rows }
     }
 
-    /// Removes the route of this face and origin.
+    /// Removes the route with this face and origin.
     pub fn remove(&mut self, key: RouteKey)
         ensures { self.new ≡ map.remove self.old key }
     {
@@ -94,7 +94,7 @@ impl Registered {
         self.rows.retain(|row| row.0.face != face);
     }
 
-    /// Removes the routes that end by this moment.
+    /// Removes the routes that expire by `now`.
     pub fn expire(&mut self, now: u64)
         ensures { self.new ≡ revise (until_due now) self.old }
     {
@@ -102,7 +102,7 @@ impl Registered {
     }
 }
 
-/// Puts a route in its place, for which there is room.
+/// Inserts a route in order, or replaces the route with the same key. There is room for it.
 fn put(rows: &mut Vec<(RouteKey, Route)>, key: RouteKey, route: Route)
     requires sorted { T (map.is_sorted route_cmp rows.old.items) }
     requires room { vec_len rows.old < vec_capacity rows.old }
@@ -114,7 +114,7 @@ fn put(rows: &mut Vec<(RouteKey, Route)>, key: RouteKey, route: Route)
     }
 }
 
-/// The place of the route of this face and origin, or the place to insert it at.
+/// Returns the index of the route with this face and origin, or the index at which to insert it.
 fn place_of(rows: &[(RouteKey, Route)], key: RouteKey) -> Result<usize, usize>
     requires { T (map.is_sorted route_cmp rows.now) }
     ensures found { IfOk result (λ at. (at < length rows.now)

@@ -1,4 +1,4 @@
-//! What each call of the pending Interest table makes of the entry of a key.
+//! How each call of the pending Interest table changes the entry of a key.
 
 use crate::entry::Entry;
 use crate::face_set::Faces;
@@ -7,7 +7,7 @@ use crate::row::Row;
 use crate::slots::Revision;
 use name_trie::{Look, Take};
 
-/// Removes the Interests whose deadline is not after now.
+/// A revision that removes the in-records whose deadline is `now` or earlier.
 #[derive(Drop)]
 pub struct Expiry {
     pub now: u64,
@@ -24,7 +24,7 @@ impl Revision for Expiry {
     }
 }
 
-/// Removes the records of a face that closed.
+/// A revision that removes the records of a face that was closed.
 #[derive(Drop)]
 pub struct Closing {
     pub face: u64,
@@ -41,7 +41,7 @@ impl Revision for Closing {
     }
 }
 
-/// Records the reason of a Nack under one key.
+/// A revision that records the reason of a Nack under one key.
 #[derive(Drop)]
 pub struct NackOf {
     pub flags: Flags,
@@ -64,7 +64,7 @@ impl Revision for NackOf {
     }
 }
 
-/// Removes the Interest of a face under one key.
+/// A revision that removes the in-record of a face under one key.
 #[derive(Drop)]
 pub struct Withdrawal {
     pub flags: Flags,
@@ -85,7 +85,7 @@ impl Revision for Withdrawal {
     }
 }
 
-/// Removes all records of one key.
+/// A revision that removes all records of one key.
 #[derive(Drop)]
 pub struct Removal {
     pub flags: Flags,
@@ -106,7 +106,8 @@ impl Revision for Removal {
     }
 }
 
-/// Removes the entries that a Data answers under a name that is its own, or a prefix of that.
+/// A revision that removes the entries that a Data answers, under the Data's own name or a prefix
+/// of it.
 #[derive(Drop)]
 pub struct Answered {
     pub is_own: bool,
@@ -126,7 +127,7 @@ impl Revision for Answered {
     }
 }
 
-/// Collects the faces of the Interests that a Data answers, and removes these.
+/// Collects the faces of the Interests that a Data answers, and removes these Interests.
 impl Take<Row> for Faces {
     ghost use Rattle.pit_fib.specs.Kept.{changed_row, unanswered, with_answered};
 

@@ -5,10 +5,11 @@ use ndn_tlv::Memory;
 use std::alloc::Global;
 use std::marker::Model;
 
-/// How many values of faces the memory of a new entry has room for.
+/// How many faces the memory of a new entry has room for.
 pub const FEW: usize = 2;
 
-/// Memory for values of faces, without any. Its model is how many there is room for.
+/// Memory for values of faces, still without values. Its model is the number of values that it has
+/// room for.
 #[derive(Drop)]
 pub struct Room<V> {
     rows: Vec<(u64, V)>,
@@ -29,7 +30,7 @@ impl<V> Model for Room<V> {
 }
 
 impl<V: Drop> Room<V> {
-    /// No memory.
+    /// Returns a value without memory.
     pub fn none(alloc: Global) -> Room<V>
         ensures { result ≡ 0 }
     {
@@ -38,7 +39,7 @@ impl<V: Drop> Room<V> {
         }
     }
 
-    /// Memory for this many values.
+    /// Allocates memory for `count` values.
     pub fn new(alloc: Global, count: usize) -> Result<Room<V>, Memory>
         ensures { IfOk result (λ room. room ≡ count) }
     {
@@ -46,14 +47,14 @@ impl<V: Drop> Room<V> {
         Ok(Room { rows })
     }
 
-    /// For how many values there is room.
+    /// Returns how many values there is room for.
     pub fn count(&self) -> usize
         ensures { result ≡ self.now }
     {
         self.rows.capacity()
     }
 
-    /// The memory.
+    /// Returns the memory as a vector without elements.
     pub fn into_rows(self) -> Vec<(u64, V)>
         ensures items { result.items ≡ [] }
         ensures room { vec_capacity result ≡ self }

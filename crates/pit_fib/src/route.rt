@@ -5,17 +5,17 @@ ghost use Rattle.pit_fib.specs.Route.{is_capture, is_child_inherit, is_due, rout
 
 use std::cmp::Ordering;
 
-/// The face and the origin of a registered route: a name has one route of each pair at most (NFD
-/// Management, "RIB Management").
+/// The face and the origin of a registered route. A name has at most one route for each such pair
+/// (NFD Management, "RIB Management").
 #[derive(Clone, Copy, Debug, PartialEq, Eq)]
 pub struct RouteKey {
     pub face: u64,
-    /// Who registered it, as a number.
+    /// Who registered the route, as a number.
     pub origin: u64,
 }
 
 impl RouteKey {
-    /// By face, then by origin.
+    /// Compares two keys by face, then by origin.
     pub fn compare(self, other: RouteKey) -> Ordering
         ensures { result ≡ route_cmp self other }
     {
@@ -32,26 +32,27 @@ pub struct Route {
     pub cost: u64,
     /// 1 is child-inherit and 2 is capture; other bits have no effect.
     pub flags: u64,
-    /// When it expires, in milliseconds since 1970, if it does.
+    /// When the route expires, in milliseconds since 1970, if it does.
     pub deadline: Option<u64>,
 }
 
 impl Route {
-    /// Whether longer names inherit it.
+    /// Returns whether longer names inherit the route.
     pub fn is_child_inherit(self) -> bool
         ensures { result ≡ is_child_inherit self }
     {
         self.flags % 2 == 1
     }
 
-    /// Whether its name inherits nothing, and longer names nothing of shorter ones than this.
+    /// Returns whether the route is a capture route: its name inherits nothing, and longer names
+    /// inherit nothing from names that are shorter than its name.
     pub fn is_capture(self) -> bool
         ensures { result ≡ is_capture self }
     {
         self.flags / 2 % 2 == 1
     }
 
-    /// Whether it expires by this moment.
+    /// Returns whether the route expires by `now`.
     pub fn is_due(self, now: u64) -> bool
         ensures { result ≡ is_due now self }
     {

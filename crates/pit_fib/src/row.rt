@@ -11,8 +11,8 @@ use crate::slots::{Revision, Slots};
 use name_trie::{Change, Timed};
 use std::marker::Model;
 
-/// The entries under the keys of one name. They are apart from the name's node, so that a node
-/// without a value is small.
+/// The entries under the keys of one name. They are stored apart from the name's node, so that a
+/// node without a value is small.
 #[derive(Drop)]
 pub struct Row {
     slots: Option<Box<Slots>>,
@@ -33,35 +33,35 @@ impl Model for Row {
 }
 
 impl Row {
-    /// Nothing, without memory.
+    /// Returns a row without entries and without memory.
     pub fn new() -> Row
         ensures { result ≡ map.empty }
     {
         Row { slots: None }
     }
 
-    /// The row of these slots.
+    /// Returns a row that has these slots.
     pub fn from_slots(slots: Box<Slots>) -> Row
         ensures { result ≡ slots.value }
     {
         Row { slots: Some(slots) }
     }
 
-    /// The slots, if there is memory for them.
+    /// Returns the slots, if the row has memory for them.
     pub fn into_slots(self) -> Option<Box<Slots>>
         ensures { unwrap_or (option_map (λ s. s.value) result) map.empty ≡ self }
     {
         self.slots
     }
 
-    /// The entry under the key of these flags.
+    /// Returns the entry under the key with these flags.
     pub fn get(&self, flags: Flags) -> Option<&Entry>
         ensures { option_map (λ e. e.now) result ≡ map.get self.now flags }
     {
         self.slots.as_ref()?.get(flags)
     }
 
-    /// What becomes of the entries, while some are left.
+    /// Returns the row after its entries are revised, or `None` if no entry is left.
     pub fn revised<R: Revision>(self, how: &R) -> Option<Row>
         ensures { result ≡ changed_row (R.after how.now) self }
     {
@@ -73,8 +73,8 @@ impl Row {
         Some(Row::from_slots(slots))
     }
 
-    /// Adds the faces with an in-record under the keys with CanBePrefix or, if the name is a Data's
-    /// own, under all.
+    /// Adds the faces that have an in-record under the keys of the name: under all keys if the name
+    /// is a Data's own, and otherwise under those with CanBePrefix.
     pub fn add_answered(&self, is_own: bool, faces: &mut Faces)
         ensures { faces.new ≡ with_answered is_own faces.old self.now }
     {
@@ -83,8 +83,8 @@ impl Row {
         }
     }
 
-    /// The later of a face's Interests and this one: those under the keys with CanBePrefix or, if
-    /// the name is a Data's own, under all.
+    /// Returns the later of `last` and of the face's Interests under the keys of the name: under
+    /// all keys if the name is a Data's own, and otherwise under those with CanBePrefix.
     pub fn last_of<'a>(
         &'a self,
         is_own: bool,
@@ -125,7 +125,7 @@ impl Timed for Row {
     }
 }
 
-/// A revision of the keys of a name, as a change of the name's row.
+/// A change of a name's row that applies a revision to each key of the name.
 #[derive(Drop)]
 pub struct RowRevision<R>(pub R);
 

@@ -10,7 +10,7 @@ use crate::face_set::Faces;
 use crate::flags::Flags;
 use std::marker::Model;
 
-/// The entries under the keys of one name, of which there are at most four, by their flags.
+/// The entries under the keys of one name, at most four, by the flags of the keys.
 #[derive(Drop)]
 pub struct Slots {
     exact: Option<Entry>,
@@ -31,7 +31,7 @@ impl Model for Slots {
     ghost view = { λ r. row_of (by_flags r.exact r.exact_fresh r.prefix r.prefix_fresh) };
 }
 
-/// What becomes of the entries under the keys of a name.
+/// A change of the entries under the keys of a name.
 pub trait Revision {
     ghost use Rattle.pit_fib.specs.declared.flags.Flags.{Flags};
     ghost use Rattle.pit_fib.specs.Kept.{Kept};
@@ -42,7 +42,7 @@ pub trait Revision {
         ensures { result ≡ after self.now flags entry };
 }
 
-/// What becomes of one entry, if it is there.
+/// Returns what one entry is after a revision, if there is an entry.
 fn revised<R: Revision>(how: &R, flags: Flags, entry: Option<Entry>) -> Option<Entry>
     ensures { result ≡ option_and_then (R.after how.now flags) entry }
 {
@@ -50,7 +50,7 @@ fn revised<R: Revision>(how: &R, flags: Flags, entry: Option<Entry>) -> Option<E
 }
 
 impl Slots {
-    /// Nothing.
+    /// Returns slots without entries.
     pub fn new() -> Slots
         ensures { result ≡ map.empty }
     {
@@ -62,7 +62,7 @@ impl Slots {
         }
     }
 
-    /// The entry under the key of these flags.
+    /// Returns the entry under the key with these flags.
     pub fn get(&self, flags: Flags) -> Option<&Entry>
         ensures { option_map (λ e. e.now) result ≡ map.get self.now flags }
     {
@@ -74,7 +74,7 @@ impl Slots {
         }
     }
 
-    /// Takes the entry under the key of these flags.
+    /// Removes the entry under the key with these flags, and returns it.
     pub fn take(&mut self, flags: Flags) -> Option<Entry>
         ensures value { result ≡ map.get self.old flags }
         ensures left { self.new ≡ map.remove self.old flags }
@@ -87,7 +87,7 @@ impl Slots {
         }
     }
 
-    /// Stores an entry under the key of these flags.
+    /// Stores an entry under the key with these flags.
     pub fn set(&mut self, flags: Flags, entry: Entry)
         ensures { self.new ≡ map.insert self.old flags entry }
     {
@@ -99,7 +99,7 @@ impl Slots {
         }
     }
 
-    /// How many keys there are.
+    /// Returns how many keys have an entry.
     pub fn count(&self) -> usize
         ensures { result ≡ map.len self.now }
     {
@@ -109,7 +109,7 @@ impl Slots {
             + usize::from(self.prefix_fresh.is_some())
     }
 
-    /// Revises each entry.
+    /// Applies a revision to each entry.
     pub fn revise<R: Revision>(&mut self, how: &R)
         ensures { self.new
             ≡ row_of (λ f. option_and_then (R.after how.now f) (map.get self.old f)) }
@@ -120,7 +120,7 @@ impl Slots {
         self.prefix_fresh = revised(how, Flags::new(true, true), self.prefix_fresh.take());
     }
 
-    /// The least deadline, or 0 where there is no entry.
+    /// Returns the least deadline of the entries, or 0 if there are none.
     pub fn deadline(&self) -> u64
         ensures { result ≡ least deadline (map.entries self.now) }
     {
@@ -132,8 +132,8 @@ impl Slots {
         all.unwrap_or(0)
     }
 
-    /// Adds the faces with an in-record under the keys with CanBePrefix or, if the name is a Data's
-    /// own, under all.
+    /// Adds the faces that have an in-record under the keys of the name: under all keys if the name
+    /// is a Data's own, and otherwise under those with CanBePrefix.
     pub fn add_answered(&self, is_own: bool, faces: &mut Faces)
         ensures { faces.new ≡ with_answered is_own faces.old self.now }
     {
@@ -145,7 +145,7 @@ impl Slots {
         add_faces(&self.prefix_fresh, faces);
     }
 
-    /// The later of a face's Interests under the keys without CanBePrefix and this one.
+    /// Returns the later of `last` and of the face's Interests under the keys without CanBePrefix.
     fn last_exact<'a>(&'a self, face: u64, last: Option<&'a InRecord>) -> Option<&'a InRecord>
         ensures { option_map (λ r. r.now) result
             ≡ last_exact face (option_map (λ r. r.now) last.entry) self.now }
@@ -154,7 +154,7 @@ impl Slots {
         later(last, in_record_of(&self.exact_fresh, face))
     }
 
-    /// The later of a face's Interests under the keys with CanBePrefix and this one.
+    /// Returns the later of `last` and of the face's Interests under the keys with CanBePrefix.
     fn last_prefix<'a>(&'a self, face: u64, last: Option<&'a InRecord>) -> Option<&'a InRecord>
         ensures { option_map (λ r. r.now) result
             ≡ last_prefix face (option_map (λ r. r.now) last.entry) self.now }
@@ -163,8 +163,8 @@ impl Slots {
         later(last, in_record_of(&self.prefix_fresh, face))
     }
 
-    /// The later of a face's Interests and this one: those under the keys with CanBePrefix or, if
-    /// the name is a Data's own, under all.
+    /// Returns the later of `last` and of the face's Interests under the keys of the name: under
+    /// all keys if the name is a Data's own, and otherwise under those with CanBePrefix.
     pub fn last_of<'a>(
         &'a self,
         is_own: bool,
@@ -182,7 +182,7 @@ impl Slots {
     }
 }
 
-/// The least deadline of an entry, if it is there.
+/// Returns the least deadline of an entry, if there is an entry.
 fn deadline_of(entry: &Option<Entry>) -> Option<u64>
     ensures { result ≡ option_map deadline entry.now }
 {

@@ -26,7 +26,7 @@ pub enum StrategyId {
     Multicast,
 }
 
-// What is known at a name that has a strategy is the strategy.
+// On a walk over all names, what is known at a name with a strategy is only that strategy.
 impl Carry<StrategyId> for StrategyId {
     ghost past = { λ before strategy. strategy };
 
@@ -35,11 +35,11 @@ impl Carry<StrategyId> for StrategyId {
     }
 }
 
-/// Which strategy chooses next hops: one by name (NFD Developer's Guide, "Strategy Choice Table").
-/// It has at most 4,096 names of at most 32 components. One of them is always `/`.
+/// Which strategy chooses next hops for a name (NFD Developer's Guide, "Strategy Choice Table").
+/// The table has at most 4,096 names of at most 32 components. One of them is always `/`.
 #[derive(Drop)]
 pub struct StrategyTable {
-    // The strategy of `/`, apart, since it needs no memory.
+    // The strategy of `/`, stored separately, since it needs no memory.
     root: StrategyId,
     others: NameMap<StrategyId>,
 }
@@ -66,7 +66,7 @@ impl Model for StrategyTable {
 }
 
 impl StrategyTable {
-    /// Best-route for all names.
+    /// Returns a table with best-route for all names.
     pub fn new(alloc: Global) -> StrategyTable
         ensures table { result.table ≡ only_best_route }
         ensures prepared { result.prepared ≡ None }
@@ -77,7 +77,8 @@ impl StrategyTable {
         }
     }
 
-    /// The number of names, `/` included. The clauses beside `exact` are true of every table.
+    /// Returns the number of names, including `/`. The clauses other than `exact` are true of every
+    /// table.
     pub fn len(&self) -> usize
         ensures exact { result ≡ map.len self.now.table }
         ensures bounded { map.len self.now.table ≤ MAX_ENTRIES }
@@ -88,8 +89,9 @@ impl StrategyTable {
 
     /// Sets the strategy of a name.
     ///
-    /// Returns the first fault in the order of `TableFault`; then nothing changes, but no call is
-    /// prepared any more. `Memory` never comes for a name that has a strategy, as `/` does.
+    /// If it fails, it returns the first fault in the order of `TableFault`, and the table is
+    /// unchanged, but no call is prepared any more. `Memory` is never returned for a name that has
+    /// a strategy, such as `/`.
     pub fn set(&mut self, name: Name<'_>, strategy: StrategyId) -> Result<(), TableFault>
         ensures ok { OnOk result
             (self.new.table ≡ map.insert self.old.table (components name.entry) strategy) }
@@ -115,7 +117,7 @@ impl StrategyTable {
         Ok(())
     }
 
-    /// Why the table takes no strategy of the name, if it does not.
+    /// Returns why the table refuses a strategy for the name, or `None` if it does not refuse one.
     pub fn refusal_of(&self, name: Name<'_>) -> Option<TableFault>
         ensures { result ≡ refusal self.now.table (components name.entry) }
     {
@@ -134,7 +136,7 @@ impl StrategyTable {
         Some(TableFault::TableFull)
     }
 
-    /// Prepares one `set` of this name, which then cannot run out of memory.
+    /// Prepares one `set` of this name. The prepared call cannot run out of memory.
     pub fn prepare(&mut self, name: Name<'_>) -> Result<(), Memory>
         ensures table { self.new.table ≡ self.old.table }
         ensures ok { OnOk result (self.new.prepared ≡ Some (components name.entry)) }
@@ -143,7 +145,7 @@ impl StrategyTable {
         self.others.prepare(name)
     }
 
-    /// Ends what is prepared.
+    /// Discards the preparation of a call.
     pub fn forget_prepared(&mut self)
         ensures table { self.new.table ≡ self.old.table }
         ensures prepared { self.new.prepared ≡ None }
@@ -151,7 +153,7 @@ impl StrategyTable {
         self.others.forget_prepared();
     }
 
-    /// Removes the strategy of a name, if it has one. That of `/` stays.
+    /// Removes the strategy of a name, if it has one. The strategy of `/` stays.
     pub fn unset(&mut self, name: Name<'_>)
         ensures table { self.new.table ≡ without_choice self.old.table (components name.entry) }
         ensures prepared { self.new.prepared ≡ self.old.prepared }
@@ -159,7 +161,7 @@ impl StrategyTable {
         self.others.remove(name);
     }
 
-    /// The strategy of the longest prefix of a name that has one.
+    /// Returns the strategy of the longest prefix of a name that has a strategy.
     pub fn longest(&self, name: Name<'_>) -> StrategyId
         ensures { Some result ≡ longest_in self.now.table (components name.entry) }
     {
@@ -169,7 +171,7 @@ impl StrategyTable {
         }
     }
 
-    /// All names in canonical order, each with its strategy.
+    /// Returns all names in canonical order, each with its strategy.
     pub fn list(&self, alloc: Global) -> Result<Vec<(NameBuf, StrategyId)>, Memory>
         ensures { IfOk result (λ list. list.items ≡ map.entries self.now.table) }
     {
@@ -181,8 +183,8 @@ impl StrategyTable {
         Ok(list)
     }
 
-    /// Shows all names in canonical order, each with its strategy. On `Err` some of them have been
-    /// shown.
+    /// Shows all names in canonical order, each with its strategy. If it fails, some names may have
+    /// been shown already.
     pub fn show_all<S: Show<StrategyId>>(&self, show: &mut S) -> Result<(), Memory>
         ensures { OnOk result
             (show.new ≡ shown_each S.shown show.old (map.entries self.now.table)) }

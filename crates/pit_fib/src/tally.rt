@@ -5,11 +5,12 @@ use crate::fib_entry::Entry;
 use crate::route::{Route, RouteKey};
 use name_trie::See;
 
-/// How many routes are registered, and the first moment at which one of them expires.
+/// The number of registered routes, and the first moment at which one of them expires.
 #[derive(Drop)]
 pub struct Tally {
     pub count: usize,
-    /// The greatest moment, where none ends before it.
+    /// The first moment at which a route expires, or the greatest moment if there is no earlier
+    /// deadline.
     pub next_due: u64,
 }
 
@@ -25,7 +26,7 @@ impl See<Entry> for Tally {
     }
 }
 
-/// How many routes do not end by a moment.
+/// How many routes do not expire by a moment.
 #[derive(Drop)]
 pub struct Left {
     pub now: u64,
@@ -43,7 +44,7 @@ impl See<Entry> for Left {
     }
 }
 
-/// The least of this moment and those at which the routes end.
+/// Returns the earliest of `moment` and of the deadlines of the routes.
 fn earliest(rows: &[(RouteKey, Route)], moment: u64) -> u64
     ensures { result ≡ earliest moment rows.now }
 {
@@ -54,7 +55,7 @@ fn earliest(rows: &[(RouteKey, Route)], moment: u64) -> u64
     least
 }
 
-/// The lesser of a moment and a deadline, if there is one.
+/// Returns the earlier of a moment and a deadline, or the moment if there is no deadline.
 pub fn sooner(moment: u64, deadline: Option<u64>) -> u64
     ensures { result ≡ sooner moment deadline }
 {
@@ -64,7 +65,7 @@ pub fn sooner(moment: u64, deadline: Option<u64>) -> u64
     }
 }
 
-/// How many of the routes do not end by this moment.
+/// Returns how many of the routes do not expire by `now`.
 pub fn left_of(rows: &[(RouteKey, Route)], now: u64) -> usize
     ensures { result ≡ left_of now rows.now }
 {

@@ -1,4 +1,4 @@
--- The faces of hops, gathered from the last hop to the first.
+-- The faces of hops, collected from the last hop to the first.
 use Rattle.std.proofs.Common.{◌≡◌, ℕ, ◌+◌, ◌-◌, ◌<◌, ◌≤◌, Bool, true, false, cond, List, [], ◌∷◌, length, refl, sym, ap, ◌∙◌, arith, ltb}
 use Rattle.std.specs.Prelude.{not}
 use Rattle.std.proofs.lemmas.Bool.{lt-leb}
@@ -17,7 +17,7 @@ length-with_face face (f ∷ faces) =
       | false ↦ omega (arith, length-with_face face faces)
     ]
 
--- with fewer than 64 faces, one more
+-- if there are fewer than 64 faces, one more face is added
 added : (face : ℕ) (faces : List ℕ) → length faces < 64 → (adding face faces).1 ≡ cond (has_face face faces) faces (with_face face faces)
 added face faces lt =
     let more = with_face face faces in
@@ -31,7 +31,7 @@ added_few face faces =
       | false ↦ omega (arith, length-with_face face faces)
     ]
 
--- multicast takes one hop more
+-- multicast takes one more hop
 pub taken_more : (used : ByFace) (now : ℕ) (hop : Hop) (rest hops : List Hop) (faces new : List ℕ) (n : ℕ) → 0 < n
     → (length faces + n ≤ 64) × (faces ≡ faces_of (multicast rest used now)) → hops ≡ hop ∷ rest → was_recent now (map.get used hop.face) ≡ false
     → new ≡ (adding hop.face faces).1 → (length new + (n - 1) ≤ 64) × (new ≡ faces_of (multicast hops used now))

@@ -1,4 +1,4 @@
--- Which faces are gathered from hops.
+-- Which faces are collected from hops.
 use Rattle.std.proofs.Common.{◌≡◌, ℕ, Bool, true, false, cond, List, [], ◌∷◌, refl, sym, ap, ◌∙◌, ltb, eqb}
 use Rattle.std.specs.Prelude.{◌||◌, All, filter}
 use Rattle.std.specs.List.{list_any}
@@ -51,7 +51,7 @@ one_of f g l =
       | false ↦ λ e. ⊎_elim (λ s. inl (eqb-true g f s)) (λ r. inr r) (or_cases (eqb g f) (has_face f l) (sym (has_with f g l) ∙ e))
     ]
 
--- each hop's face is there
+-- the face of each hop is among the collected faces
 pub all_there : (hops : List Hop) → All (λ hop. has_face hop.face (faces_of hops) ≡ true) hops
 all_there [] = All-nil (λ hop. has_face hop.face [] ≡ true)
 all_there (h ∷ hops) =
@@ -59,7 +59,7 @@ all_there (h ∷ hops) =
     All-cons P h hops (added h.face (faces_of hops))
     (All-weaker (λ hop. has_face hop.face (faces_of hops) ≡ true) P (λ hop e. kept hop.face h.face (faces_of hops) e) hops (all_there hops))
 
--- each face that is there is that of a hop with what all hops have
+-- a property that all hops have is a property of the hop of each collected face
 pub from_hop : (P : Hop → Type 0) (face : ℕ) (hops : List Hop) → All P hops → has_face face (faces_of hops) ≡ true → (hop : Hop) × P hop × (hop.face ≡ face)
 from_hop P face [] all e = (let absurd = e in cc)
 from_hop P face (h ∷ hops) all e =

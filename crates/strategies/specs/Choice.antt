@@ -1,4 +1,4 @@
--- What a strategy answers.
+-- The choice that a strategy returns.
 use Rattle.std.specs.Prelude.{ℕ, List, [], ◌∷◌, if◌then◌else◌}
 use Rattle.std.specs.List.{list_any}
 use Rattle.pit_fib.specs.declared.hops.Hop.{Hop}
@@ -10,14 +10,14 @@ use Rattle.strategies.specs.declared.strategy.Choice.TheVariants.{NoRoute, Send}
 use Rattle.strategies.specs.Eligible.{is_eligible, eligible}
 use Rattle.strategies.specs.Selection.{Selection}
 
--- the faces of hops in rising order, each once
+-- the faces of the hops in rising order, each face once
 abbrev pub faces_of : List Hop → List ℕ
 faces_of [] = []
 faces_of (hop ∷ hops) =
     let rest = faces_of hops in
     if has_face hop.face rest then rest else with_face hop.face rest
 
--- NoRoute where no hop is eligible, else the faces of those that are taken of the eligible ones
+-- NoRoute if no hop is eligible; otherwise the faces of those eligible hops that the strategy takes
 abbrev pub chosen : Selection → List Hop → ByFace → Ask → Choice
 chosen selection hops asked ask =
     if list_any (is_eligible ask) hops

@@ -10,8 +10,9 @@ use crate::eligible::{any_eligible, eligible_at, is_recent};
 use crate::strategy::{Ask, Choice, Strategy};
 use pit_fib::{Faces, Hop, Hops, Used};
 
-/// Sends to one hop: the least one that was not used, by cost and then by face, else the one used
-/// longest ago. Sends to none while some face was used less than 10 milliseconds ago.
+/// Sends to one hop: the least hop, by cost and then by face, that was not used, or if all were
+/// used, the hop that was used longest ago. Sends to no hop while some face was used less than 10
+/// milliseconds ago.
 #[derive(Clone, Copy, Debug)]
 pub struct BestRoute;
 
@@ -36,7 +37,7 @@ impl Strategy for BestRoute {
     }
 }
 
-/// Whether some face was used less than 10 milliseconds ago.
+/// Returns whether some face was used less than 10 milliseconds ago.
 fn any_recent(used: &Used, now: u64) -> bool
     ensures { result ≡ list_any (λ e. came_recently now e.1) (map.entries used.now) }
 {
@@ -50,7 +51,7 @@ fn any_recent(used: &Used, now: u64) -> bool
     false
 }
 
-/// The least eligible hop, by cost and then by face, that was not used.
+/// Returns the least eligible hop, by cost and then by face, that was not used.
 fn least_new(hops: &Hops, used: &Used, ask: Ask) -> Option<Hop>
     ensures { result ≡ least is_hop_before (filter (is_hop_new used.now) (eligible ask hops.now)) }
 {
@@ -65,7 +66,8 @@ fn least_new(hops: &Hops, used: &Used, ask: Ask) -> Option<Hop>
     first
 }
 
-/// The eligible hop that was used longest ago: of several, the least by cost and then by face.
+/// Returns the eligible hop that was used longest ago and, among hops that were used at the same
+/// moment, the least by cost and then by face.
 fn stalest(hops: &Hops, used: &Used, ask: Ask) -> Option<Hop>
     ensures { result ≡ least (is_hop_staler used.now) (eligible ask hops.now) }
 {
@@ -78,7 +80,7 @@ fn stalest(hops: &Hops, used: &Used, ask: Ask) -> Option<Hop>
     first
 }
 
-/// Whether a hop was never used.
+/// Returns whether a hop was never used.
 fn is_new(used: &Used, hop: Hop) -> bool
     ensures { result ≡ is_hop_new used.now hop }
 {
@@ -103,7 +105,8 @@ fn staler(used: &Used, hop: Hop, first: Option<Hop>) -> Hop
     }
 }
 
-/// Whether a hop was used longer ago than another, or at the same moment and is before it.
+/// Returns whether hop `a` was used longer ago than hop `b`, or was used at the same moment and
+/// comes before it.
 fn is_staler(used: &Used, a: Hop, b: Hop) -> bool
     ensures { result ≡ is_hop_staler used.now a b }
 {

@@ -7,11 +7,11 @@ ghost use Rattle.strategies.specs.Selection.{is_recent as came_recently};
 use crate::strategy::Ask;
 use pit_fib::{Hop, Hops};
 
-/// How long a face is not used again, in milliseconds.
+/// How long after a use a face is not used again, in milliseconds.
 const RETRY_AFTER: u64 = 10;
 
-/// Whether a hop may get the Interest: never the asker; only a Local one where the Interest stays
-/// on this machine.
+/// Returns whether the Interest may be sent to a hop. The Interest may never be sent back to the
+/// face that it came from and, if it stays on this machine, only to Local faces.
 pub fn is_eligible(hop: Hop, ask: Ask) -> bool
     ensures { result ≡ may_get ask hop }
 {
@@ -22,7 +22,7 @@ pub fn is_eligible(hop: Hop, ask: Ask) -> bool
     !is_asker && (hop.local || !(ask.localhost || ask.hop_zero))
 }
 
-/// Whether some hop is eligible.
+/// Returns whether some hop is eligible.
 pub fn any_eligible(hops: &Hops, ask: Ask) -> bool
     ensures { result ≡ list_any (may_get ask) hops.now }
 {
@@ -36,7 +36,7 @@ pub fn any_eligible(hops: &Hops, ask: Ask) -> bool
     false
 }
 
-/// The hop at a place, counted from 0, if it is eligible.
+/// Returns the hop at index `i`, counted from 0, if it is eligible.
 pub fn eligible_at(hops: &Hops, i: usize, ask: Ask) -> Option<Hop>
     ensures { eligible ask (drop i hops.now)
         ≡ option_to_list result ++ eligible ask (drop (i + 1) hops.now) }
@@ -47,7 +47,7 @@ pub fn eligible_at(hops: &Hops, i: usize, ask: Ask) -> Option<Hop>
     }
 }
 
-/// Whether a moment is less than 10 milliseconds ago, or still to come.
+/// Returns whether a moment is less than 10 milliseconds ago, or in the future.
 pub fn is_recent(now: u64, time: u64) -> bool
     ensures { result ≡ came_recently now time }
 {

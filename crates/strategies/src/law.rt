@@ -9,8 +9,8 @@ ghost use Rattle.strategies.specs.Eligible.{is_eligible, eligible};
 
 use crate::strategy::Strategy;
 
-/// Law: what a strategy chooses are exactly the faces that it takes, each of an eligible hop, and
-/// it has no route exactly where no hop is eligible.
+/// Law: a strategy chooses exactly the faces of the hops that it takes, and each of these hops is
+/// eligible. It chooses `NoRoute` exactly if no hop is eligible.
 pub fn each_chosen_face_is_eligible<S: Strategy>()
     ensures eligible { (hops : List Hop) (used : ByFace) (ask : Ask) (faces : List ℕ) (face : ℕ)
         → chosen S.selection hops used ask ≡ Send faces → has_face face faces ≡ true

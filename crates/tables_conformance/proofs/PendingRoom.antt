@@ -1,4 +1,4 @@
--- Room for one more record in a table of faces below 64.
+-- There is room for one more record in a table whose faces are all below 64.
 use Rattle.std.proofs.Common.{◌≡◌, ◌⊎◌, inl, inr, ℕ, suc, ◌+◌, ◌<◌, ◌≤◌, zero, Bool, true, false, List, [], ◌∷◌, length, refl, sym, ap, subst, ◌∙◌, arith, ltb, Bor}
 use Rattle.std.specs.Prelude.{Option, Some, None, Result, Ok, Err, unwrap_or, IsSome, is_some, OnOk, OnErr}
 use Rattle.std.specs.Option.{option_map}
@@ -14,7 +14,7 @@ use Rattle.pit_fib.specs.Cause.{Cause, Follows}
 use Rattle.pit_fib.specs.Pit.{HasRecord, HasRoomFor}
 use Rattle.pit_fib.proofs.PendingFaces.{Adds, had_record}
 
--- all records are of faces below 64
+-- all records in the table are of faces below 64
 abbrev pub AreBelow : Pending → Type 0
 AreBelow pending = (face : ℕ) → HasRecord pending face → face < 64
 
@@ -62,11 +62,11 @@ in_none face (inr e) = differ (is_some (get no_records.out_records face)) e (ap 
 empty_has_none : (face : ℕ) → HasRecord map.empty face → ⊥
 empty_has_none face has = in_none face (subst (λ (r : Records). IsSome (get r.in_records face) ⊎ IsSome (get r.out_records face)) (ap (λ (o : Option Records). unwrap_or o no_records) (get-empty key_cmp has.0)) has.1)
 
--- a table that has no records
+-- an empty table has no records
 pub none_below : (pending : Pending) → pending ≡ map.empty → AreBelow pending
 none_below pending e face has = absurd (empty_has_none face (subst (λ p. HasRecord p face) e has))
 
--- some face asks
+-- if some face asks, the records are alive
 pub asks_is_alive : (r : Records) (face : ℕ) → IsSome (get r.in_records face) → is_alive r ≡ true
 asks_is_alive r face some = by_len (len r.in_records) (λ e. empty_of_len r.in_records e)
   where

@@ -1,4 +1,4 @@
--- Room for one more face in a table whose faces are below 63 or the greatest number.
+-- There is room for one more face in a table whose faces are below 63 or the greatest face number.
 use Rattle.std.proofs.Common.{◌≡◌, ◌⊎◌, inl, inr, ℕ, suc, ◌+◌, ◌-◌, ◌^◌, ◌<◌, ◌≤◌, Bool, true, false, not, cond, List, [], ◌∷◌, length, refl, sym, ap, subst, ◌∙◌, arith, eqb}
 use Rattle.std.proofs.lemmas.Bool.Decides.{nat_tests}
 use Rattle.std.proofs.lemmas.Cmp.{nat_cmp_total}
@@ -18,17 +18,17 @@ use Rattle.pit_fib.specs.FaceSet.{IsRising}
 use Rattle.pit_fib.specs.Fib.{Entry, Routes, HasRoomFor, LeadsTo, entry_at, entry_left_at, entry_with_hop, entry_with_route, entry_without_face, is_vacant, left_at, no_entry, unless_vacant, with_next_hop, with_route, without_face, without_next_hop, without_route}
 use Rattle.pit_fib.specs.Route.{route_cmp, route_cmp-antisymmetric, route_cmp-total, until_due}
 
--- a face below 63, or the greatest
+-- the face is below 63, or is the greatest face number
 abbrev pub IsOurs : ℕ → Type 0
 IsOurs face = (face < 63) ⊎ (face ≡ 2 ^ 64 - 1)
 
--- all next hops and routes are of such faces
+-- all next hops and routes are on faces that are below 63 or are the greatest face number
 abbrev pub AreOurs : Routes → Type 0
 AreOurs routes = (face : ℕ) → LeadsTo routes face → IsOurs face
 
--- ---- room
+-- ---- room for one more face
 
--- no such face is above the greatest
+-- no face of the list is greater than the greatest face number
 none_above : (f : ℕ) (l : List ℕ) → f ≡ 2 ^ 64 - 1 → AllByRecursion (λ g. f < g) l → AllByRecursion IsOurs l → length l ≤ 0
 none_above f [] last above ours = omega arith
 none_above f (g ∷ l) last above ours =
@@ -69,7 +69,7 @@ room_ours routes face all here faces rising each = omega (arith, spread 0 faces 
 
 -- ---- one entry
 
--- an entry has a next hop or a route on this face
+-- the entry has a next hop or a route on this face
 abbrev Leads : Entry → ℕ → Type 0
 Leads e face =
     IsSome (map.get e.hops face)
@@ -87,7 +87,7 @@ same f face e = grind (arith, nat_tests, e)
 same_key : (k key : RouteKey) → eq_by_cmp route_cmp k key ≡ true → k ≡ key
 same_key k key e = route_cmp-antisymmetric k key (equal (route_cmp k key) e)
 
--- a value that is there, after one is put or taken
+-- a value in a map after a value was inserted or removed
 module _ {X A : Type 0} where
   none_there : (o : Option X) → o ≡ None → IsSome o → A
   none_there o e some = absurd cc

@@ -10,7 +10,7 @@ use ndn_packets::*;
 use std::alloc::Global;
 use test_support::{content_shown, data_of};
 
-/// Puts a Data: its name, Content, FreshnessPeriod and arrival.
+/// Puts a Data into the store. The words are its name, Content, FreshnessPeriod and arrival.
 fn put(alloc: Global, store: &mut Store, words: &str) -> Option<()> {
     let (name, rest) = words.split_once(' ')?;
     let (content, rest) = rest.split_once(' ')?;
@@ -20,7 +20,7 @@ fn put(alloc: Global, store: &mut Store, words: &str) -> Option<()> {
     put_packet(store, &packet, arrival)?.then_some(())
 }
 
-/// Whether the store keeps a Data.
+/// Puts a packet into the store, and returns whether the store keeps it.
 fn put_packet(store: &mut Store, packet: &[u8], arrival: u64) -> Option<bool> {
     match read_frame(packet).ok()? {
         Frame::Data(data) => Some(store.put(&data, arrival)),
@@ -28,8 +28,8 @@ fn put_packet(store: &mut Store, packet: &[u8], arrival: u64) -> Option<bool> {
     }
 }
 
-/// The Content of what an Interest gets: its name, its flags (`p` CanBePrefix, `f` MustBeFresh) and
-/// the moment.
+/// Returns the Content of the Data that an Interest gets. The words are the Interest's name, its
+/// flags (`p` for CanBePrefix, `f` for MustBeFresh) and the moment.
 fn find(alloc: Global, store: &mut Store, words: &str) -> Option<String> {
     let (name, rest) = words.split_once(' ')?;
     let (flags, now) = rest.split_once(' ')?;
@@ -43,7 +43,8 @@ fn find(alloc: Global, store: &mut Store, words: &str) -> Option<String> {
     content_shown(alloc, store.find(key, now))
 }
 
-/// How many Data go: those under a name, at most a count, or `all`.
+/// Erases Data, and returns how many. The words are a name, and the greatest number of Data to
+/// erase or `all`.
 fn erase(alloc: Global, store: &mut Store, words: &str) -> Option<String> {
     let (name, count) = words.split_once(' ')?;
     let count = match count {
@@ -55,7 +56,7 @@ fn erase(alloc: Global, store: &mut Store, words: &str) -> Option<String> {
     format!(in alloc; "{erased}").ok()
 }
 
-/// What a call answers, if that is shown.
+/// Returns the result of a call, if the result is to be shown.
 fn answer(alloc: Global, store: &mut Store, call: &str) -> Option<Option<String>> {
     let (verb, words) = call.split_once(' ')?;
     match verb {
@@ -66,7 +67,8 @@ fn answer(alloc: Global, store: &mut Store, call: &str) -> Option<Option<String>
     }
 }
 
-/// The answers of the calls after a capacity, and the number of Data cached then.
+/// Runs the calls of a row on a store with the row's capacity, and returns their results and the
+/// number of Data that are then cached.
 fn answers(alloc: Global, row: &str) -> Option<String> {
     let (capacity, calls) = row.split_once(": ")?;
     match Store::new(alloc, capacity.parse().ok()?) {
@@ -110,7 +112,7 @@ fn store_erase(rt: HostRuntime) {
     check_rows(&rt, rt.alloc(), rows, answers);
 }
 
-/// A store holds from 1 to 65,536 Data.
+/// A store has a capacity from 1 to 65,536 Data.
 #[test]
 fn store_capacities(rt: HostRuntime) {
     let rows = "
@@ -123,7 +125,8 @@ fn store_capacities(rt: HostRuntime) {
     check_rows(&rt, rt.alloc(), rows, answers);
 }
 
-/// A full store loses the least recently used, and nothing where a Data replaces its like.
+/// A full store evicts the least recently used Data, but evicts nothing if a Data replaces one with
+/// the same full name.
 #[test]
 fn eviction_order(rt: HostRuntime) {
     let rows = "
@@ -136,7 +139,7 @@ fn eviction_order(rt: HostRuntime) {
     check_rows(&rt, rt.alloc(), rows, answers);
 }
 
-/// Two Data of one name are two.
+/// Two different Data with the same name are both cached.
 #[test]
 fn two_data_of_one_name(rt: HostRuntime) {
     let rows = "
@@ -145,7 +148,7 @@ fn two_data_of_one_name(rt: HostRuntime) {
     check_rows(&rt, rt.alloc(), rows, answers);
 }
 
-/// Data are fresh until their FreshnessPeriod is over.
+/// A cached Data is fresh until its FreshnessPeriod is over.
 #[test]
 fn cache_freshness(rt: HostRuntime) {
     let rows = "
@@ -161,7 +164,7 @@ fn cache_freshness(rt: HostRuntime) {
     check_rows(&rt, rt.alloc(), rows, answers);
 }
 
-/// MustBeFresh passes over the names that are not fresh.
+/// A lookup with MustBeFresh skips the names whose Data are not fresh.
 #[test]
 fn the_least_name_that_is_fresh(rt: HostRuntime) {
     let rows = "
@@ -170,7 +173,8 @@ fn the_least_name_that_is_fresh(rt: HostRuntime) {
     check_rows(&rt, rt.alloc(), rows, answers);
 }
 
-/// With ample memory each Data put is cached, and the least full name that answers is found.
+/// With ample memory, each Data that is put is cached, and a lookup finds the least full name that
+/// answers.
 #[test]
 fn cache_kept(rt: HostRuntime) {
     let rows = "
@@ -181,7 +185,8 @@ fn cache_kept(rt: HostRuntime) {
     check_rows(&rt, rt.alloc(), rows, answers);
 }
 
-/// The least digest comes first, and a full name has one Data.
+/// Among Data with the same name the least digest comes first, and each full name has only one
+/// Data.
 #[test]
 fn cached_data_by_full_name(rt: HostRuntime) {
     let rows = "
@@ -196,7 +201,7 @@ fn cached_data_by_full_name(rt: HostRuntime) {
     check_rows(&rt, rt.alloc(), rows, answers);
 }
 
-/// Puts Data of other names: whether each is cached.
+/// Puts Data with other names, and returns whether each of them is cached.
 fn put_others(alloc: Global, store: &mut Store, count: u32) -> Option<bool> {
     for number in 0..count {
         let name = format!(in alloc; "/other/{number}").ok()?;
@@ -208,7 +213,7 @@ fn put_others(alloc: Global, store: &mut Store, count: u32) -> Option<bool> {
     Some(true)
 }
 
-/// Whether a Data of 8,800 octets is cached and found among 1,000 others.
+/// Returns whether a Data of 8,800 octets is cached, and is found among 1,000 other Data.
 fn is_greatest_kept(alloc: Global) -> Option<bool> {
     let packet = data_of(alloc, "/big", "00x8746", None)?;
     let mut store = Store::new(alloc, 1001).ok()?;
@@ -228,14 +233,15 @@ fn greatest_data_among_others(rt: HostRuntime) {
     assert!(rt; is_greatest_kept(rt.alloc()) == Some(true));
 }
 
-/// A Data of which the last four octets of the name are a number.
+/// Overwrites the last four octets of a Data's name with a number.
 fn put_number(packet: &mut [u8], number: u32) {
     for (octet, digit) in packet.iter_mut().skip(9).zip(number.to_be_bytes()) {
         *octet = digit;
     }
 }
 
-/// Whether a Data is cached, if its look-up takes from one to this many comparisons.
+/// Returns whether a Data is cached, and its lookup takes at least one and at most `most`
+/// comparisons.
 fn is_held(store: &mut Store, packet: &[u8], most: u64) -> Option<bool> {
     let Frame::Data(data) = read_frame(packet).ok()? else {
         return None;
@@ -251,7 +257,8 @@ fn is_held(store: &mut Store, packet: &[u8], most: u64) -> Option<bool> {
     (counted >= 1 && counted <= most).then_some(is_found)
 }
 
-/// Whether the first of this many Data and one more is evicted, and the second and the last stay.
+/// Puts one Data more than the capacity, and returns whether the first is evicted while the second
+/// and the last stay.
 fn is_first_gone(alloc: Global, capacity: u32, most: u64) -> Option<bool> {
     let mut packet = data_of(alloc, "/n/0000", "01", Some(0))?;
     let mut store = Store::new(alloc, capacity as usize).ok()?;
@@ -281,7 +288,7 @@ fn greatest_cache(rt: HostRuntime) {
     assert!(rt; is_first_gone(rt.alloc(), 65_536, 17) == Some(true));
 }
 
-/// Whether a Data is found exactly if it was cached, which a refusal of memory prevents.
+/// Returns whether a Data is found exactly if it was cached; it is not cached if memory is refused.
 fn is_found_where_kept(alloc: Global) -> Option<bool> {
     let packet = data_of(alloc, "/A", "01", Some(0))?;
     let mut store = Store::new(alloc, 2).ok()?;

@@ -1,4 +1,4 @@
-//! Tests of tables: next hops, registered routes and strategies by name, pending Interests, the
+//! Tests of the tables: next hops, registered routes and strategies by name, pending Interests, the
 //! choices of strategies, and the cache.
 #![tactic(auto)]
 

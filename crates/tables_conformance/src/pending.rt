@@ -1,4 +1,4 @@
-//! Pending Interests: tables of faces below 64, of which each call so has room.
+//! Pending Interests: tables whose faces are all below 64, so that each call has room.
 
 mod askers;
 mod pending_records;
@@ -13,7 +13,7 @@ use pit_fib::*;
 use std::alloc::Global;
 use std::marker::Model;
 
-/// A table whose records are of faces below 64.
+/// A table whose records are all of faces below 64.
 #[derive(Drop)]
 struct Table {
     pit: Pit,
@@ -41,7 +41,8 @@ struct OwnedKey {
 }
 
 impl OwnedKey {
-    /// A URI, with `+p` after it for CanBePrefix, `+f` for MustBeFresh, or `+pf` for both.
+    /// Reads a key from a URI, which may be followed by `+p` for CanBePrefix, `+f` for MustBeFresh,
+    /// or `+pf` for both.
     fn read(alloc: Global, text: &str) -> Option<OwnedKey> {
         let (name, flags) = text.split_once('+').unwrap_or((text, ""));
         Some(OwnedKey {
@@ -67,14 +68,14 @@ impl Table {
         }
     }
 
-    /// Keeps an Interest whose octets are its Nonce.
+    /// Records an Interest whose octets are its Nonce.
     fn ask(&mut self, key: Key<'_>, face: u64, nonce: [u8; 4], deadline: u64) -> Option<PitFault> {
         self.pit
             .arrive(key, face % 64, nonce, &nonce, deadline, None)
             .err()
     }
 
-    /// Keeps an Interest whose octets are its Nonce, with a PIT token.
+    /// Records an Interest whose octets are its Nonce, with a PIT token.
     fn ask_with(
         &mut self,
         key: Key<'_>,
@@ -90,7 +91,7 @@ impl Table {
             .err()
     }
 
-    /// Keeps a sending, where this face asks.
+    /// Records that an Interest was sent, if the face `asker` asks for it.
     fn sent(&mut self, key: Key<'_>, asker: u64, face: u64, nonce: [u8; 4], now: u64) -> bool {
         if self.pit.interest_of(key, asker).is_none() {
             return false;
@@ -150,14 +151,14 @@ fn used_shown(alloc: Global, used: &Used) -> Option<String> {
     Some(text)
 }
 
-/// Data of this name, with empty Content.
+/// Returns a Data with this name and an empty Content.
 fn empty_data(alloc: Global, name: Name<'_>) -> Option<Vec<u8>> {
     let mut packet = Vec::new(alloc);
     put_reply(&mut packet, name, &[]).ok()?;
     Some(packet)
 }
 
-/// The faces to which a Data goes.
+/// Returns the faces that a Data is sent to.
 fn faces_answered(table: &mut Table, packet: &[u8]) -> Option<Faces> {
     match read_frame(packet).ok()? {
         Frame::Data(data) => Some(table.satisfy(&data)),
@@ -171,7 +172,7 @@ fn satisfied(alloc: Global, table: &mut Table, uri: &str) -> Option<String> {
     faces_shown(alloc, &faces_answered(table, &packet)?)
 }
 
-/// The token that a face gets with an empty Data of a name.
+/// Returns the token that a face gets with an empty Data of a name.
 fn token_shown(alloc: Global, table: &Table, text: &str) -> Option<String> {
     let (uri, face) = text.split_once(' ')?;
     let name = NameBuf::from_uri(alloc, uri).ok()?;
@@ -184,7 +185,7 @@ fn token_shown(alloc: Global, table: &Table, text: &str) -> Option<String> {
     }
 }
 
-/// The faces that wait for empty Data of a name.
+/// Returns the faces that wait for an empty Data of a name.
 fn askers_shown(alloc: Global, table: &Table, uri: &str) -> Option<String> {
     let name = NameBuf::from_uri(alloc, uri).ok()?;
     let packet = empty_data(alloc, name.view())?;
@@ -209,10 +210,9 @@ fn interest_shown(alloc: Global, interest: Option<&[u8]>) -> Option<String> {
     }
 }
 
-/// A call that names a key and has one word for an answer: `ask KEY FACE NONCE DEADLINE`,
-/// `token KEY FACE TOKEN DEADLINE` for an Interest with a PIT token of one octet,
-/// `sent KEY ASKER FACE NONCE NOW`, `loops KEY FACE NONCE`, `prepare KEY OCTETS`,
-/// `withdraw KEY FACE`, `remove KEY`.
+/// Runs a call that names a key and has a one-word answer: `ask KEY FACE NONCE DEADLINE`, `token
+/// KEY FACE TOKEN DEADLINE` for an Interest with a PIT token of one octet, `sent KEY ASKER FACE
+/// NONCE NOW`, `loops KEY FACE NONCE`, `prepare KEY OCTETS`, `withdraw KEY FACE`, or `remove KEY`.
 fn word_of(
     table: &mut Table,
     call: &str,
@@ -251,8 +251,8 @@ fn word_of(
     Some(if is_so { "yes" } else { "no" })
 }
 
-/// A call that names a key: those above, `nack KEY FACE NONCE REASON`, `of KEY FACE`,
-/// `token_of KEY FACE`, `used KEY`.
+/// Runs a call that names a key: a call of `word_of`, `nack KEY FACE NONCE REASON`, `of KEY FACE`,
+/// `token_of KEY FACE`, or `used KEY`.
 fn keyed(alloc: Global, table: &mut Table, call: &str, key: Key<'_>, rest: &str) -> Option<String> {
     let (face, rest) = rest.split_once(' ').unwrap_or((rest, "0"));
     let (first, last) = rest.split_once(' ').unwrap_or((rest, "0"));
@@ -269,8 +269,8 @@ fn keyed(alloc: Global, table: &mut Table, call: &str, key: Key<'_>, rest: &str)
     }
 }
 
-/// The answer to a call: those above, `data NAME`, `askers NAME`, `token_for NAME FACE`,
-/// `has_tokens`, `expire NOW`, `close FACE` or `len`.
+/// Returns the answer to a call: a call of `keyed`, `data NAME`, `askers NAME`, `token_for NAME
+/// FACE`, `has_tokens`, `expire NOW`, `close FACE`, or `len`.
 fn answer(alloc: Global, table: &mut Table, text: &str) -> Option<String> {
     let (call, rest) = text.split_once(' ').unwrap_or((text, ""));
     match call {
@@ -298,7 +298,7 @@ fn answer(alloc: Global, table: &mut Table, text: &str) -> Option<String> {
     }
 }
 
-/// The answers to calls that `, ` parts.
+/// Returns the answers to calls that are separated by `, `.
 fn answers(alloc: Global, row: &str) -> Option<String> {
     let mut table = Table::new(alloc);
     let mut text = String::new(alloc);
@@ -311,7 +311,7 @@ fn answers(alloc: Global, row: &str) -> Option<String> {
     Some(text)
 }
 
-/// The name `/` and a number in two octets.
+/// Returns the name `/` followed by one component, a number in two octets.
 fn numbered(alloc: Global, number: u16) -> Option<NameBuf> {
     let mut name = NameBuf::new(alloc);
     name.append(8, &number.to_be_bytes()).ok()?;
@@ -326,8 +326,8 @@ fn exact_key(name: &NameBuf) -> Key<'_> {
     }
 }
 
-/// Keeps an Interest under the key of a number: of keys with names of their own, or of those with
-/// each setting of the flags under one name.
+/// Records an Interest under the key with this number. Either each key has its own name, or four
+/// keys, one for each setting of the flags, share a name.
 fn ask_numbered(
     alloc: Global,
     table: &mut Table,
@@ -345,7 +345,8 @@ fn ask_numbered(
     Some(table.ask(key, face, [0; 4], 9).is_none())
 }
 
-/// Interests under 4,096 keys, one more, and one under a key that is pending.
+/// Records Interests under 4,096 keys, then one under a further key, and one under a key that is
+/// pending.
 fn fills(alloc: Global, table: &mut Table, share_names: bool) -> Option<bool> {
     for number in 0..4096 {
         if !ask_numbered(alloc, table, number, 1, share_names)? {
@@ -364,8 +365,8 @@ fn is_filled(alloc: Global, share_names: bool) -> Option<bool> {
 
 const ROUNDS: u32 = 100_000;
 
-/// Whether a table is empty after many rounds. Each asks under one of 4,096 keys, and removes the
-/// key of 64 rounds before.
+/// Returns whether a table is empty after many rounds. Each round records an Interest under one of
+/// 4,096 keys, and removes the key of 64 rounds before.
 fn ends_empty(alloc: Global, table: &mut Table, _key: Key<'_>, _other: Key<'_>) -> Option<bool> {
     for round in 0..ROUNDS {
         let number = u16::try_from(round % 4096).ok()?;
@@ -380,7 +381,7 @@ fn ends_empty(alloc: Global, table: &mut Table, _key: Key<'_>, _other: Key<'_>) 
     Some(stood == 64 && table.pit.is_empty())
 }
 
-/// Whether Interests of 64 faces are all sent to 64 faces.
+/// Returns whether Interests of 64 faces can all be sent to 64 faces.
 fn sends_to_64_faces(table: &mut Table, key: Key<'_>) -> bool {
     for face in 0..64 {
         table.ask(key, face, [0; 4], 9);
@@ -393,14 +394,14 @@ fn sends_to_64_faces(table: &mut Table, key: Key<'_>) -> bool {
     table.pit.used(key).len() == 64
 }
 
-/// Whether Interests of 64 faces are recorded, sent to all of them, and answered.
+/// Returns whether Interests of 64 faces are recorded, are sent to all 64 faces, and are answered.
 fn holds_64_faces(alloc: Global, table: &mut Table, key: Key<'_>, _other: Key<'_>) -> Option<bool> {
     let holds = sends_to_64_faces(table, key);
     let packet = empty_data(alloc, key.name)?;
     Some(holds && faces_answered(table, &packet)?.len() == 64)
 }
 
-/// Plays calls on an empty table, with the keys of `/A` and `/B`.
+/// Runs `play` on an empty table, with the keys of `/A` and `/B`.
 fn played<F: Fn(Global, &mut Table, Key<'_>, Key<'_>) -> Option<bool>>(
     alloc: Global,
     play: &F,
@@ -439,8 +440,8 @@ fn records_of_64_faces(rt: HostRuntime) {
     assert!(rt; played(rt.alloc(), &holds_64_faces) == Some(true));
 }
 
-/// Whether a prepared Interest is recorded, with removals between, and is sent on; and whether a
-/// preparation that is refused leaves the records.
+/// Returns whether a prepared Interest is recorded after removals in between, and is sent on, and
+/// whether a preparation that is refused leaves the records unchanged.
 fn keeps_what_is_prepared(
     _alloc: Global,
     table: &mut Table,
@@ -458,7 +459,7 @@ fn keeps_what_is_prepared(
     Some(is_kept && table.sent(key, 1, 2, [2; 4], 6) && table.pit.len() == 1)
 }
 
-/// Whether an Interest that is refused memory leaves the older one.
+/// Returns whether an Interest that is refused memory leaves the older Interest unchanged.
 fn leaves_the_older_one(
     _alloc: Global,
     table: &mut Table,
@@ -477,7 +478,7 @@ fn leaves_the_older_one(
     Some(sent && kept && table.pit.len() == 1 && table.pit.used(key).get(2) == Some(3))
 }
 
-/// Whether a prepared Interest is recorded with a PIT token of 32 octets.
+/// Returns whether a prepared Interest is recorded with a PIT token of 32 octets.
 fn keeps_a_prepared_token(
     _alloc: Global,
     table: &mut Table,

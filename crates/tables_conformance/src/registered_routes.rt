@@ -1,4 +1,4 @@
-//! Registered routes: what names inherit, when routes end, and how many there may be.
+//! Registered routes: what names inherit, when routes expire, and how many routes there may be.
 
 mod effective_hops;
 mod random_sequences;
@@ -11,8 +11,8 @@ use ndn_names::{Name, NameBuf};
 use pit_fib::*;
 use std::alloc::Global;
 
-/// A face and settings, as `2 cost=5 origin=1 flags=2 until=1000`. Without them the cost and the
-/// origin are 0, the flags 1, and the route never ends.
+/// Reads a face and its settings, such as `2 cost=5 origin=1 flags=2 until=1000`. By default the
+/// cost and the origin are 0, the flags are 1, and the route never expires.
 fn route_in(words: &str) -> Option<Route> {
     let (face, settings) = words.split_once(' ').unwrap_or((words, ""));
     let mut route = Route::new(face.parse().ok()?, 0);
@@ -30,7 +30,7 @@ fn route_in(words: &str) -> Option<Route> {
     Some(route)
 }
 
-/// `add`, `register`, `remove` or `unregister` of a name, with a face and its settings.
+/// Runs `add`, `register`, `remove` or `unregister` for a name, with a face and its settings.
 fn change(routes: &mut RouteTable, call: &str, name: Name<'_>, route: Route) -> Option<()> {
     match call {
         "add" => routes.add(name, route.face, route.cost).ok()?,
@@ -42,13 +42,13 @@ fn change(routes: &mut RouteTable, call: &str, name: Name<'_>, route: Route) -> 
     Some(())
 }
 
-/// Next hops as `3@0 2@5`, or `none`.
+/// Shows next hops as `3@0 2@5`, or as `none` if there are none.
 fn hops_or_none(alloc: Global, hops: &Hops) -> Option<String> {
     let text = hops_shown(alloc, hops)?;
     String::from_str(alloc, text.strip_prefix(' ').unwrap_or("none")).ok()
 }
 
-/// Each name with its hops, as `/A 3@0 2@5 | /B 2@5`, or `none`.
+/// Shows each name with its next hops, as `/A 3@0 2@5 | /B 2@5`, or `none` if there are no names.
 fn list_or_none(alloc: Global, fib: &Fib, now: u64) -> Option<String> {
     let mut text = String::new(alloc);
     for row in &fib.list(alloc, now).ok()? {
@@ -60,7 +60,7 @@ fn list_or_none(alloc: Global, fib: &Fib, now: u64) -> Option<String> {
     String::from_str(alloc, text.strip_prefix(" | ").unwrap_or("none")).ok()
 }
 
-/// The answer to `due`, `expire` or `list` of a moment, if it is such a call.
+/// Returns the answer to `due`, `expire` or `list` at a moment, if the call is one of these.
 fn told(alloc: Global, routes: &mut RouteTable, call: &str, now: u64) -> Option<String> {
     let number = match call {
         "due" => routes.read().due(now),
@@ -71,7 +71,7 @@ fn told(alloc: Global, routes: &mut RouteTable, call: &str, now: u64) -> Option<
     format!(in alloc; "{number}").ok()
 }
 
-/// The hops of a name, or nothing for a change that is made.
+/// Returns the next hops of a name, or nothing for a call that changes the table.
 fn named(
     alloc: Global,
     routes: &mut RouteTable,
@@ -88,7 +88,7 @@ fn named(
     Some(None)
 }
 
-/// What a call answers, if that is shown.
+/// Returns the answer to a call, if the answer is to be shown.
 fn answer(alloc: Global, routes: &mut RouteTable, call: &str) -> Option<Option<String>> {
     let (call, words) = call.split_once(' ')?;
     match call {
@@ -101,7 +101,7 @@ fn answer(alloc: Global, routes: &mut RouteTable, call: &str) -> Option<Option<S
     }
 }
 
-/// The answers to calls that `, ` parts.
+/// Returns the answers to calls that are separated by `, `.
 fn answers(alloc: Global, row: &str) -> Option<String> {
     let mut routes = RouteTable::new(alloc);
     let mut text = String::new(alloc);
@@ -131,7 +131,7 @@ register /A 2 until=9, register /B 2 until=5, expire 5, expire 8, expire 9 -> 1;
 due 18446744073709551615, expire 18446744073709551615, list 18446744073709551615 -> 0; 0; none
 ";
 
-/// A route is there before its deadline, and not at it.
+/// A route exists before its deadline, but no longer at its deadline.
 #[test]
 fn routes_end_at_their_deadlines(rt: HostRuntime) {
     check_rows(&rt, rt.alloc(), ROUTES_END_AT_THEIR_DEADLINES, answers);
@@ -153,7 +153,7 @@ register / 2 cost=1, register /A 2 cost=9 until=5, register /A/B 3, of /A/B, lis
 register /A 2 cost=1 until=5, register /A 2 cost=9 origin=1, of /A, list 5, expire 5, of /A -> 2@1; /A 2@9; 1; 2@9
 ";
 
-/// What a route that ends leaves.
+/// What is left when a route expires.
 #[test]
 fn what_ends_with_a_route(rt: HostRuntime) {
     check_rows(&rt, rt.alloc(), WHAT_ENDS_WITH_A_ROUTE, answers);
@@ -175,7 +175,7 @@ register /A 2, register /A/B 3 flags=2, register /A/B 3, of /A/B -> 2@0 3@0
 register /A 2 cost=4, register /A 2 cost=9 origin=1, of /A, due 9 -> 2@4; 0
 ";
 
-/// A route that is registered again replaces all of the old one.
+/// A route that is registered again replaces every part of the old route.
 #[test]
 fn the_last_registration_counts(rt: HostRuntime) {
     check_rows(&rt, rt.alloc(), THE_LAST_REGISTRATION_COUNTS, answers);
@@ -198,8 +198,8 @@ register /A 2, remove /A 2, of /A -> 2@0
 add /A 2, unregister /A 2, of /A -> 2@0
 ";
 
-/// A removal removes the next hop or the route that it names, and an entry that is left without
-/// any.
+/// A removal removes the next hop or the route that it names, and removes an entry that then has
+/// neither.
 #[test]
 fn what_removals_leave(rt: HostRuntime) {
     check_rows(&rt, rt.alloc(), WHAT_REMOVALS_LEAVE, answers);
@@ -216,7 +216,7 @@ register /A 18446744073709551615, register /A 2, close 18446744073709551615, lis
 register /A 2, close 3, list 0 -> /A 2@0
 ";
 
-/// The next hops and the routes of a face that closes go.
+/// When a face closes, its next hops and routes are removed.
 #[test]
 fn a_face_closes_with_its_routes(rt: HostRuntime) {
     check_rows(&rt, rt.alloc(), A_FACE_CLOSES_WITH_ITS_ROUTES, answers);
@@ -227,7 +227,7 @@ register /A 18446744073709551615 cost=18446744073709551615 origin=18446744073709
 register /A 0 cost=18446744073709551615, register /A 0 cost=18446744073709551614 origin=18446744073709551615, of /A, unregister /A 0 origin=18446744073709551615, of /A -> 0@18446744073709551614; 0@18446744073709551615
 ";
 
-/// The ends of faces, costs, origins, flags and deadlines.
+/// The least and the greatest faces, costs, origins, flags and deadlines.
 #[test]
 fn ends_of_routes(rt: HostRuntime) {
     check_rows(&rt, rt.alloc(), ENDS_OF_ROUTES, answers);

@@ -1,4 +1,5 @@
-//! Tables of routes whose faces are below 63 or the greatest number, so that each call has room.
+//! Tables of routes whose faces are below 63 or the greatest face number, so that each call has
+//! room.
 
 ghost use Rattle.std.specs.Prelude.{◌≡◌, ◌<◌, ◌-◌, ◌^◌, ◌⊎◌};
 
@@ -8,7 +9,7 @@ use pit_fib::*;
 use std::alloc::Global;
 use std::marker::Model;
 
-/// A table of next hops and registered routes, of faces below 63 and the greatest one.
+/// A table of next hops and registered routes, on faces below 63 and the greatest face.
 #[derive(Drop)]
 pub struct RouteTable {
     fib: Fib,
@@ -40,7 +41,7 @@ pub struct Route {
 }
 
 impl Route {
-    /// The least route of a face and an origin: it is inherited, and never ends.
+    /// Returns the route with cost 0 on a face, of an origin; it is inherited, and never expires.
     pub fn new(face: u64, origin: u64) -> Route {
         Route {
             face,
@@ -52,7 +53,7 @@ impl Route {
     }
 }
 
-/// A face below 63, or the greatest one for any other.
+/// Returns `face` if it is below 63, and the greatest face number otherwise.
 fn face_in(face: u64) -> u64
     ensures { (result < 63) ⊎ (result ≡ 2 ^ 64 - 1) }
 {

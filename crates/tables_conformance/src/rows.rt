@@ -1,10 +1,10 @@
-//! Tests of rows: a row that is wrong ends the test.
+//! Tests that consist of rows: a wrong row ends the test.
 
 use std::alloc::Global;
 use std::process::Abort;
 use test_support::first_misshown;
 
-/// Fails at the first row whose input is shown as another text, and where there is no row.
+/// Fails at the first row whose input is not shown as the row says, and also if there is no row.
 pub fn check_rows(
     rt: &impl Abort,
     alloc: Global,

@@ -10,7 +10,7 @@ use pit_fib::{Faces, Hops, Used};
 use std::alloc::Global;
 use strategies::*;
 
-/// A third strategy: the first eligible hop alone, whenever it was asked.
+/// A third strategy: it sends to the first eligible hop only, however recently that hop was used.
 struct First;
 
 impl Strategy for First {
@@ -34,13 +34,13 @@ impl Strategy for First {
     }
 }
 
-/// A face and its number, as `2@5`.
+/// Reads a face and its number, such as `2@5`.
 fn number_at(text: &str) -> Option<(u64, u64)> {
     let (face, number) = text.split_once('@')?;
     Some((face.parse().ok()?, number.parse().ok()?))
 }
 
-/// The hops of routes of the name `/`. Face 2 is Local.
+/// Returns the next hops of the routes of the name `/`. Face 2 is Local.
 fn hops_in(alloc: Global, routes: &str) -> Option<Hops> {
     let root = NameBuf::new(alloc);
     let routes = routes_in(alloc, routes)?;
@@ -51,7 +51,7 @@ fn hops_in(alloc: Global, routes: &str) -> Option<Hops> {
     Some(hops)
 }
 
-/// Faces and when they were asked.
+/// Reads faces, each with the moment at which it was last used.
 fn used_in(text: &str) -> Option<Used> {
     let mut used = Used::new();
     for word in text.split_ascii_whitespace() {
@@ -61,7 +61,8 @@ fn used_in(text: &str) -> Option<Used> {
     Some(used)
 }
 
-/// The asker, or `-`; `localhost`, `zero` or `-`; and the moment.
+/// Reads the face that the Interest came from or `-`, then `localhost`, `zero` or `-`, and then the
+/// moment.
 fn ask_in(text: &str) -> Option<Ask> {
     let (asker, rest) = text.split_once(' ')?;
     let (bound, now) = rest.split_once(' ')?;
@@ -85,7 +86,8 @@ fn shown(alloc: Global, choice: &Choice) -> Option<String> {
     Some(text)
 }
 
-/// The choice of a strategy, for a row of its name, the hops, the Interest, and the faces asked.
+/// Returns the choice of a strategy. The row has the strategy's name, the hops, the Interest, and
+/// the faces that were used.
 fn choice(alloc: Global, row: &str) -> Option<String> {
     let (strategy, rest) = row.split_once(": ")?;
     let (hops, rest) = rest.split_once("; ")?;
@@ -101,7 +103,8 @@ fn choice(alloc: Global, row: &str) -> Option<String> {
     shown(alloc, &choice)
 }
 
-/// A new entry; only Local faces; not the asker.
+/// Interests that were not sent before, Interests that only Local faces may get, and Interests that
+/// came from the face of a next hop.
 #[test]
 fn only_eligible_hops_are_chosen(rt: HostRuntime) {
     let rows = "
@@ -117,7 +120,7 @@ all: / 2 5, / 3 0; 3 - 1000; -> send 2
     check_rows(&rt, rt.alloc(), rows, choice);
 }
 
-/// No hop, and none that is eligible.
+/// There is no hop, or no hop is eligible.
 #[test]
 fn no_route_without_an_eligible_hop(rt: HostRuntime) {
     let rows = "
@@ -128,7 +131,7 @@ all: / 2 5, / 3 0; 2 localhost 1000; -> no route
     check_rows(&rt, rt.alloc(), rows, choice);
 }
 
-/// Best-route waits for any face that was asked, but not where it has no route.
+/// Best-route waits after any face was used, but not if it has no route.
 #[test]
 fn best_route_waits_10_milliseconds(rt: HostRuntime) {
     let rows = "
@@ -143,7 +146,7 @@ best: / 2 5, / 3 0; 2 zero 1009; 7@1000 -> no route
     check_rows(&rt, rt.alloc(), rows, choice);
 }
 
-/// Multicast asks no face again within 10 milliseconds.
+/// Multicast does not use a face again within 10 milliseconds.
 #[test]
 fn multicast_leaves_out_who_was_just_asked(rt: HostRuntime) {
     let rows = "
@@ -158,7 +161,8 @@ all: / 2 5, / 3 0; - - 1009; 7@1000 -> send 2 3
     check_rows(&rt, rt.alloc(), rows, choice);
 }
 
-/// Of equal costs the lesser face; of equal moments the lesser cost, then the lesser face.
+/// With equal costs the lesser face is chosen; with equal moments the lesser cost, then the lesser
+/// face.
 #[test]
 fn best_route_takes_the_least_hop(rt: HostRuntime) {
     let rows = "

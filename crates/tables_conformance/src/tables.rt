@@ -6,7 +6,7 @@ use ndn_names::NameBuf;
 use pit_fib::*;
 use std::alloc::Global;
 
-/// A table of next hops, each a name, a face and a cost, as `/A 3 5`.
+/// Reads a table of next hops, each given by a name, a face and a cost, such as `/A 3 5`.
 pub fn routes_in(alloc: Global, text: &str) -> Option<RouteTable> {
     let mut routes = RouteTable::new(alloc);
     for route in text.split_terminator(", ") {
@@ -20,7 +20,7 @@ pub fn routes_in(alloc: Global, text: &str) -> Option<RouteTable> {
     Some(routes)
 }
 
-/// Removes what `close` and a face, or `remove`, a name and a face tell.
+/// Runs `close` with a face, or `remove` with a name and a face.
 fn remove(alloc: Global, routes: &mut RouteTable, text: &str) -> Option<()> {
     let (call, rest) = text.split_once(' ')?;
     if call == "close" {
@@ -33,7 +33,7 @@ fn remove(alloc: Global, routes: &mut RouteTable, text: &str) -> Option<()> {
     Some(())
 }
 
-/// Each hop as ` 3@5`.
+/// Shows each next hop as ` 3@5`.
 pub fn hops_shown(alloc: Global, hops: &Hops) -> Option<String> {
     let mut text = String::new(alloc);
     for i in 0..hops.len() {
@@ -55,7 +55,7 @@ fn list_shown(alloc: Global, fib: &Fib) -> Option<String> {
     Some(text)
 }
 
-/// The routes, `; ` and what is removed, `; ` and a name or `list`.
+/// Returns the answer to a row: routes, `; `, a removal, `; `, and a name or `list`.
 fn next_hops(alloc: Global, row: &str) -> Option<String> {
     let (routes, rest) = row.split_once("; ")?;
     let (removal, question) = rest.split_once("; ")?;
@@ -70,7 +70,7 @@ fn next_hops(alloc: Global, row: &str) -> Option<String> {
     hops_shown(alloc, &routes.read().longest(name.view()))
 }
 
-/// The longest prefix that has hops.
+/// An Interest follows the longest prefix that has next hops.
 #[test]
 fn longest_prefix(rt: HostRuntime) {
     let rows = "
@@ -87,7 +87,8 @@ fn longest_prefix(rt: HostRuntime) {
     check_rows(&rt, rt.alloc(), rows, next_hops);
 }
 
-/// By cost, and by face at one cost; a second cost of a face replaces the first.
+/// Next hops are ordered by cost, and next hops of the same cost by face. A second cost of a face
+/// replaces the first.
 #[test]
 fn hops_by_cost_and_then_by_face(rt: HostRuntime) {
     let rows = "
@@ -98,7 +99,7 @@ fn hops_by_cost_and_then_by_face(rt: HostRuntime) {
     check_rows(&rt, rt.alloc(), rows, next_hops);
 }
 
-/// Removing a hop leaves the others; an entry without hops is removed.
+/// Removing a next hop leaves the others; an entry without next hops is removed.
 #[test]
 fn an_entry_without_hops_goes(rt: HostRuntime) {
     let rows = "
@@ -122,7 +123,7 @@ fn routes_in_canonical_order(rt: HostRuntime) {
     check_rows(&rt, rt.alloc(), rows, next_hops);
 }
 
-/// The ends of faces and costs.
+/// The least and the greatest faces and costs.
 #[test]
 fn ends_of_faces_and_costs(rt: HostRuntime) {
     let rows = "
@@ -146,7 +147,8 @@ fn strategy_shown(strategy: StrategyId) -> &'static str {
     }
 }
 
-/// A table of strategies: names with a strategy, as `/A multicast`, or to be unset, as `/A -`.
+/// Reads a table of strategies. Each call sets the strategy of a name, such as `/A multicast`, or
+/// removes it, such as `/A -`.
 fn strategies_in(alloc: Global, text: &str) -> Option<StrategyTable> {
     let mut table = StrategyTable::new(alloc);
     for call in text.split_terminator(", ") {
@@ -171,7 +173,7 @@ fn strategy_list_shown(alloc: Global, table: &StrategyTable) -> Option<String> {
     Some(text)
 }
 
-/// Calls, `; ` and a name or `list`.
+/// Returns the answer to a row: calls, `; `, and a name or `list`.
 fn strategy(alloc: Global, row: &str) -> Option<String> {
     let (calls, question) = row.split_once("; ")?;
     let table = strategies_in(alloc, calls)?;
@@ -182,7 +184,7 @@ fn strategy(alloc: Global, row: &str) -> Option<String> {
     String::from_str(alloc, strategy_shown(table.longest(name.view()))).ok()
 }
 
-/// Best-route at `/`, until another is set there.
+/// The strategy of `/` is best-route until another one is set there.
 #[test]
 fn best_route_at_the_empty_name(rt: HostRuntime) {
     let rows = "
@@ -196,7 +198,7 @@ fn best_route_at_the_empty_name(rt: HostRuntime) {
     check_rows(&rt, rt.alloc(), rows, strategy);
 }
 
-/// The longest prefix that has one.
+/// A name has the strategy of its longest prefix that has one.
 #[test]
 fn longest_prefix_with_a_strategy(rt: HostRuntime) {
     let rows = "
@@ -210,7 +212,7 @@ fn longest_prefix_with_a_strategy(rt: HostRuntime) {
     check_rows(&rt, rt.alloc(), rows, strategy);
 }
 
-/// The last one set counts.
+/// The strategy that was set last counts.
 #[test]
 fn the_last_strategy_set_counts(rt: HostRuntime) {
     let rows = "
@@ -220,7 +222,7 @@ fn the_last_strategy_set_counts(rt: HostRuntime) {
     check_rows(&rt, rt.alloc(), rows, strategy);
 }
 
-/// Unset, where the one of `/` stays.
+/// A strategy can be removed, but the strategy of `/` stays.
 #[test]
 fn the_empty_name_keeps_its_strategy(rt: HostRuntime) {
     let rows = "
@@ -242,7 +244,7 @@ fn strategies_in_canonical_order(rt: HostRuntime) {
     check_rows(&rt, rt.alloc(), rows, strategy);
 }
 
-/// A name of this many components `A`.
+/// Returns a name of `depth` components `A`.
 pub fn deep_name(alloc: Global, depth: usize) -> Option<NameBuf> {
     let mut name = NameBuf::new(alloc);
     for _ in 0..depth {
@@ -251,7 +253,7 @@ pub fn deep_name(alloc: Global, depth: usize) -> Option<NameBuf> {
     Some(name)
 }
 
-/// Whether both tables give this answer to a name of this many components.
+/// Returns whether both tables give this answer to a name of `depth` components.
 fn both_answer(alloc: Global, depth: usize, answer: Result<(), TableFault>) -> Option<bool> {
     let name = deep_name(alloc, depth)?;
     let mut routes = RouteTable::new(alloc);
@@ -270,8 +272,8 @@ fn deep_names(rt: HostRuntime) {
     assert!(rt; both_answer(alloc, 64, Err(TableFault::TooDeep)) == Some(true));
 }
 
-/// The first hop for 64 components `B` where `/` leads to 2 and `/A` to 3, and the searches that it
-/// takes.
+/// Returns the first next hop of a name of 64 components `B`, when `/` leads to face 2 and `/A` to
+/// face 3, and the number of searches that the lookup takes.
 fn deep_hop(alloc: Global) -> Option<(u64, u64, u64)> {
     let routes = routes_in(alloc, "/ 2 0, /A 3 0")?;
     let mut name = NameBuf::new(alloc);
@@ -284,22 +286,22 @@ fn deep_hop(alloc: Global) -> Option<(u64, u64, u64)> {
     Some((hop.face, hop.cost, steps))
 }
 
-/// A look-up ends where no longer entry is left, and searches at most once for each component.
+/// A lookup ends when no longer entry can match, and makes at most one search for each component.
 #[test]
 fn deep_lookup(rt: HostRuntime) {
     let found = deep_hop(rt.alloc());
     assert!(rt; found.is_some_and(|(face, cost, steps)| face == 2 && cost == 0 && steps <= 64));
 }
 
-/// A name of one component, of two octets.
+/// Returns a name of one component, a number in two octets.
 pub fn numbered(alloc: Global, number: u16) -> Option<NameBuf> {
     let mut name = NameBuf::new(alloc);
     name.append(8, &number.to_be_bytes()).ok()?;
     Some(name)
 }
 
-/// Whether 4,096 names with next hops find room, the greatest name first, and no further name, but
-/// a further hop.
+/// Returns whether 4,096 names with next hops fit, inserted with the greatest name first, and then
+/// no further name fits, but a further next hop of a known name does.
 fn holds_4096_routes(alloc: Global) -> Option<bool> {
     let mut routes = RouteTable::new(alloc);
     for number in (0..4096).rev() {
@@ -311,7 +313,8 @@ fn holds_4096_routes(alloc: Global) -> Option<bool> {
     Some(further == Err(TableFault::TableFull) && deep == Err(TableFault::TooDeep) && known.is_ok())
 }
 
-/// The same of strategies, where one name is `/`.
+/// Returns whether 4,096 names with strategies fit, one of which is `/`, and then no further name
+/// fits.
 fn holds_4096_strategies(alloc: Global) -> Option<bool> {
     let mut table = StrategyTable::new(alloc);
     for number in (1..4096).rev() {
@@ -344,7 +347,8 @@ fn full_table_of_strategies(rt: HostRuntime) {
     assert!(rt; holds_4096_strategies(rt.alloc()) == Some(true));
 }
 
-/// Whether lists of faces take 64 and no further one, but one of these again.
+/// Returns whether lists of faces accept 64 faces, then refuse a further face, but accept a known
+/// face again.
 fn take_64_faces() -> bool {
     let mut faces = Faces::new();
     let mut used = Used::new();
@@ -366,7 +370,8 @@ fn sixty_four_faces(rt: HostRuntime) {
     assert!(rt; take_64_faces());
 }
 
-/// Whether a prepared `add` is not refused memory, and a refused preparation leaves the routes.
+/// Returns whether a prepared `add` is not refused memory, and a preparation that is refused leaves
+/// the routes unchanged.
 fn adds_what_is_prepared(alloc: Global) -> Option<bool> {
     let name = numbered(alloc, 1)?;
     let mut routes = routes_in(alloc, "/A 3 5")?;
@@ -377,7 +382,8 @@ fn adds_what_is_prepared(alloc: Global) -> Option<bool> {
     Some(added && list_shown(alloc, routes.read())?.as_str() == "/A 3@5, /%00%01 1@0, ")
 }
 
-/// The same of `set`.
+/// Returns whether a prepared `set` is not refused memory, and a preparation that is refused leaves
+/// the strategies unchanged.
 fn sets_what_is_prepared(alloc: Global) -> Option<bool> {
     let (name, other) = (numbered(alloc, 1)?, numbered(alloc, 2)?);
     let mut table = strategies_in(alloc, "/A multicast")?;
@@ -389,7 +395,7 @@ fn sets_what_is_prepared(alloc: Global) -> Option<bool> {
     Some(is_set && table.longest(name.view()) == StrategyId::Multicast)
 }
 
-/// Whether a call of each table is prepared.
+/// Returns whether a call can be prepared in each table.
 fn are_prepared(alloc: Global) -> Option<bool> {
     let name = numbered(alloc, 1)?;
     let (mut fib, mut strategies) = (Fib::new(alloc), StrategyTable::new(alloc));

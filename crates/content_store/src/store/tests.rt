@@ -1,9 +1,9 @@
-//! What a store does at its last serial number.
+//! The behavior of a store at its last serial number.
 
 use super::*;
 use ndn_packets::{Frame, read_frame};
 
-/// Data of the names `/A` and `/B`, with the Content `x` and an empty SignatureValue.
+/// Data with the names `/A` and `/B`, with the Content `x` and an empty SignatureValue.
 const A: [u8; 17] = [
     6, 15, 7, 3, 8, 1, 0x41, 0x15, 1, 0x78, 0x16, 3, 0x1b, 1, 0, 0x17, 0,
 ];
@@ -12,7 +12,7 @@ const B: [u8; 17] = [
     6, 15, 7, 3, 8, 1, 0x42, 0x15, 1, 0x78, 0x16, 3, 0x1b, 1, 0, 0x17, 0,
 ];
 
-/// An empty store of which this is the next serial number.
+/// Returns an empty store whose next serial number is `next`.
 fn store_from(alloc: Global, next: u64) -> Option<Store> {
     let Ok(used) = LruCache::sparse(alloc, NonZeroUsize::new(4)?) else {
         return None;
@@ -26,7 +26,7 @@ fn store_from(alloc: Global, next: u64) -> Option<Store> {
     })
 }
 
-/// Whether a put of a Data is answered so, and leaves so many.
+/// Returns whether a put of a Data returns `answer` and leaves `left` Data in the store.
 fn puts(store: &mut Store, packet: &[u8], answer: bool, left: usize) -> bool {
     match read_frame(packet) {
         Ok(Frame::Data(data)) => store.put(&data, 0) == answer && store.len() == left,
@@ -34,7 +34,8 @@ fn puts(store: &mut Store, packet: &[u8], answer: bool, left: usize) -> bool {
     }
 }
 
-/// Whether a store forgets all at the new full name after its last serial number, and no sooner.
+/// Returns whether a store forgets everything at the first new full name after its last serial
+/// number, and not before.
 fn begins_again(store: &mut Store) -> bool {
     puts(store, &A, true, 1)
         && puts(store, &A, true, 1)

@@ -1,4 +1,4 @@
-//! One fresh Data under a name, among many that are not.
+//! One fresh Data under a name, among many stale ones.
 
 use super::{put_number, put_packet};
 use content_store::*;
@@ -7,14 +7,15 @@ use ndn_packets::*;
 use std::alloc::Global;
 use test_support::data_of;
 
-/// How many Data there are.
+/// The number of Data.
 const COUNT: u32 = 2000;
 
-/// Keeps a Data of each number: the fresh one at one, and stale ones at the rest.
+/// Puts a Data for each number: the fresh Data for the number `at`, and stale Data for all other
+/// numbers.
 fn put_all(alloc: Global, store: &mut Store, fresh: &[u8], at: u32) -> Option<bool> {
     let mut stale = data_of(alloc, "/n/0000", "01", Some(0))?;
     for step in 0..COUNT {
-        // In another order than that of the numbers.
+        // The numbers are not in rising order.
         let number = step * 7 % COUNT;
         put_number(&mut stale, number);
         let packet = if number == at { fresh } else { &stale };
@@ -25,7 +26,7 @@ fn put_all(alloc: Global, store: &mut Store, fresh: &[u8], at: u32) -> Option<bo
     Some(true)
 }
 
-/// What MustBeFresh gives under a name at this moment.
+/// Returns the Data that a lookup with MustBeFresh finds under a name at this moment.
 fn fresh_under<'a>(store: &'a mut Store, name: &NameBuf, now: u64) -> Option<&'a [u8]> {
     let key = Key {
         name: name.view(),
@@ -35,8 +36,8 @@ fn fresh_under<'a>(store: &'a mut Store, name: &NameBuf, now: u64) -> Option<&'a
     store.find(key, now)
 }
 
-/// Whether the fresh one is found until its period is over, while others are removed, and until it
-/// is removed.
+/// Returns whether the fresh Data is found until its FreshnessPeriod is over, even while other Data
+/// are removed, and is not found after it was removed itself.
 fn is_given_while_fresh(store: &mut Store, name: &NameBuf, fresh: &[u8]) -> Option<bool> {
     let Frame::Data(data) = read_frame(fresh).ok()? else {
         return None;
@@ -49,7 +50,8 @@ fn is_given_while_fresh(store: &mut Store, name: &NameBuf, fresh: &[u8]) -> Opti
     Some(is_given && is_over && is_left && is_gone)
 }
 
-/// Whether the one that is fresh for 10 ms is found among others that never are.
+/// Returns whether the only Data that is fresh, for 10 ms, is found among Data that are never
+/// fresh.
 fn is_fresh_found(alloc: Global, at: u32) -> Option<bool> {
     let mut fresh = data_of(alloc, "/n/0000", "02", Some(10))?;
     put_number(&mut fresh, at);

@@ -1,4 +1,4 @@
-//! Random calls of a store, beside a plain list that is searched from end to end.
+//! Random calls of a store, compared with a plain list that is searched from end to end.
 
 use content_store::*;
 use ndn_names::NameBuf;
@@ -7,7 +7,7 @@ use std::alloc::Global;
 use std::cmp::Ordering;
 use test_support::{data_of, digest_of, random};
 
-/// Names in canonical order. The third is behind all full names of the second.
+/// Names in canonical order. The third name comes after all full names of the second.
 const NAMES: [&str; 7] = [
     "/",
     "/A",
@@ -18,7 +18,8 @@ const NAMES: [&str; 7] = [
     "/AA",
 ];
 
-/// Two Data of each name, with the place of the name, the FreshnessPeriod and the digest.
+/// A Data, with the index of its name in `NAMES`, its FreshnessPeriod and its digest. There are two
+/// of each name.
 #[derive(Drop)]
 struct Made {
     packet: Vec<u8>,
@@ -27,7 +28,7 @@ struct Made {
     digest: [u8; 32],
 }
 
-/// A cached Data: its place among those made, and its arrival.
+/// A cached Data: its index among the Data that were made, and its arrival.
 #[derive(Clone, Copy)]
 struct Held {
     made: usize,
@@ -71,7 +72,7 @@ fn all_names(alloc: Global) -> Option<Vec<NameBuf>> {
     Some(names)
 }
 
-/// Whether a name begins with another.
+/// Returns whether a name begins with another name.
 fn is_under(name: usize, prefix: usize) -> bool {
     let (Some(name), Some(prefix)) = (NAMES.get(name), NAMES.get(prefix)) else {
         return false;
@@ -94,7 +95,7 @@ fn compare(made: &Made, other: &Made) -> Ordering {
         .then(made.digest.as_slice().cmp(other.digest.as_slice()))
 }
 
-/// The cached Data of the least full name, among those that can serve.
+/// Returns the cached Data with the least full name, among those that can answer.
 fn least<'a>(all: &'a [Made], held: &[Held], asked: Asked) -> Option<(Held, &'a Made)> {
     let mut least: Option<(Held, &Made)> = None;
     for one in held {
@@ -114,7 +115,7 @@ fn forget(held: &mut Vec<Held>, made: usize) {
     held.retain(|other| other.made != made);
 }
 
-/// Whether a `put` is true, which it has to be with ample memory.
+/// Returns whether a `put` returns true, as it must with ample memory.
 fn put_agrees(
     all: &[Made],
     store: &mut Store,
@@ -134,7 +135,7 @@ fn put_agrees(
     Some(store.put(&data, one.arrival))
 }
 
-/// The result of one of the four look-ups, if it agrees with `place_for`.
+/// Returns the result of one of the four lookups, if it agrees with `place_for`.
 fn look_up<'a>(
     store: &'a mut Store,
     key: Key<'_>,
@@ -152,7 +153,7 @@ fn look_up<'a>(
     (place.is_some() == found.is_some() && steps <= 17).then_some(found)
 }
 
-/// Whether a look-up gives what the list has.
+/// Returns whether a lookup gives the result that the list gives.
 fn find_agrees(
     all: &[Made],
     names: &[NameBuf],
@@ -180,7 +181,7 @@ fn find_agrees(
     Some(found == Some(made.packet.as_slice()))
 }
 
-/// Whether an `erase` removes as many as the list loses.
+/// Returns whether an `erase` removes as many Data from the store as from the list.
 fn erase_agrees(
     all: &[Made],
     names: &[NameBuf],
@@ -209,7 +210,8 @@ fn erase_agrees(
     Some(before.checked_sub(held.len())? as u64 == erased)
 }
 
-/// Whether eight random calls answer as the list does, and leave as many Data.
+/// Returns whether eight random calls give the same answers as the list, and leave as many Data as
+/// the list has.
 fn sequence_agrees(
     alloc: Global,
     all: &[Made],
@@ -232,7 +234,7 @@ fn sequence_agrees(
     Some(true)
 }
 
-/// Whether ten thousand sequences do.
+/// Returns whether ten thousand sequences of random calls agree with the list.
 fn all_agree(alloc: Global) -> Option<bool> {
     let (all, names) = (all_made(alloc)?, all_names(alloc)?);
     let mut state = 0x2545_f491_4f6c_dd1d;

@@ -1,4 +1,4 @@
-//! What becomes of the records of pending Interests.
+//! How the records of pending Interests change.
 
 use super::answers;
 use crate::rows::check_rows;
@@ -13,7 +13,7 @@ ask /A 1 7 18446744073709551615, expire 18446744073709551614, len, expire 184467
 ask /A 1 7 18446744073709551615, sent /A 1 2 7 18446744073709551615, used /A -> yes; yes; used 2@18446744073709551615
 ";
 
-/// An Interest waits until its deadline, and not at it.
+/// An Interest is pending before its deadline, but no longer at its deadline.
 #[test]
 fn pending_deadline(rt: HostRuntime) {
     check_rows(&rt, rt.alloc(), PENDING_DEADLINE, answers);
@@ -29,7 +29,7 @@ ask /A/sha256digest=2d92a383706a615fe67c9a585b00f29c5c06d2abdaec456e9cdc026679eb
 ask /A/sha256digest=6b50b2f9e1b4b6cb6b9a7a4a4c4a2b52f2e4a1f1d8a3a7bd1a2a3b4c5d6e7f80 1 7 9, ask /A 2 8 9, data /A, len -> yes; yes; faces 2; 1 false
 ";
 
-/// Data goes to all faces that ask for it, and their Interests are pending no more.
+/// A Data goes to all faces that ask for it, and their Interests are then no longer pending.
 #[test]
 fn data_goes_to_all_who_ask_for_it(rt: HostRuntime) {
     check_rows(&rt, rt.alloc(), DATA_GOES_TO_ALL_WHO_ASK_FOR_IT, answers);
@@ -39,7 +39,8 @@ const EACH_FLAG_MAKES_ANOTHER_KEY: &str = "\
 ask /A 1 7 9, ask /A+f 2 8 9, len, data /A, len -> yes; yes; 2 false; faces 1 2; 0 true
 ";
 
-/// Interests of one name and flags wait together. Data does not look at MustBeFresh.
+/// Interests with the same name and flags share a key. A Data answers a key regardless of
+/// MustBeFresh.
 #[test]
 fn each_flag_makes_another_key(rt: HostRuntime) {
     check_rows(&rt, rt.alloc(), EACH_FLAG_MAKES_ANOTHER_KEY, answers);
@@ -51,7 +52,7 @@ ask /A 1 7 5, ask /A 2 8 4, withdraw /A 1, of /A 1, of /A 2, withdraw /A 2, len 
 ask /A 1 7 5, withdraw /A 2, withdraw /B 1, remove /A+p, len -> yes; -; -; -; 1 false
 ";
 
-/// Of each face its last Interest under a key counts.
+/// For each face, only its last Interest under a key counts.
 #[test]
 fn of_each_face_the_last_interest(rt: HostRuntime) {
     check_rows(&rt, rt.alloc(), OF_EACH_FACE_THE_LAST_INTEREST, answers);
@@ -65,7 +66,8 @@ ask /A 1 7 5000, sent /A 1 2 7 1000, sent /A 1 2 8 1010, sent /A 1 1 8 1010, use
 ask /A 1 7 5000, sent /A 1 2 7 1000, loops /A 1 7, ask /A 1 7 5009, used /A, sent /A 1 2 7 1010, used /A, nack /A 2 7 150, of /A 1 -> yes; yes; no; yes; used 2@1000; yes; used 2@1010; all 150; 00000007
 ";
 
-/// A Nonce of another asker or of a face asked is a loop, unless the face itself asked with it.
+/// An Interest loops if another face asked with its Nonce, or its Nonce was sent to a face, unless
+/// its own face asked with that Nonce.
 #[test]
 fn loops_and_retries(rt: HostRuntime) {
     check_rows(&rt, rt.alloc(), LOOPS_AND_RETRIES, answers);
@@ -79,7 +81,8 @@ ask /A 1 7 5000, sent /A 1 2 7 0, sent /A 1 3 7 0, nack /A 3 7 50, sent /A 1 3 8
 ask /A 1 7 5000, nack /A 1 7 50, nack /A+f 1 7 50 -> yes; no pending; no pending
 ";
 
-/// If all faces asked have answered by a Nack, the least reason goes back.
+/// Once all faces that an Interest was sent to have answered with a Nack, the least reason is sent
+/// back.
 #[test]
 fn the_least_nack_of_all_faces_asked(rt: HostRuntime) {
     check_rows(&rt, rt.alloc(), THE_LEAST_NACK_OF_ALL_FACES_ASKED, answers);
@@ -90,7 +93,7 @@ ask /A 1 7 5, sent /A 1 2 7 1, withdraw /A 1, ask /A 3 9 5, used /A, loops /A 4 
 ask /A 1 7 5, ask /A 3 9 6, sent /A 1 2 7 1, expire 5, used /A, expire 6, ask /A 1 7 9, used /A -> yes; yes; yes; -; used 2@1; -; yes; used
 ";
 
-/// Without an asker the faces asked are forgotten.
+/// When no face asks any more, the faces that the Interest was sent to are forgotten.
 #[test]
 fn without_an_asker_no_face_asked(rt: HostRuntime) {
     check_rows(&rt, rt.alloc(), WITHOUT_AN_ASKER_NO_FACE_ASKED, answers);
@@ -102,7 +105,7 @@ ask /A 1 7 5, ask /B 1 8 5, ask /B 2 9 5, sent /B 2 1 9 1, close 1, len, used /B
 ask /A 1 7 5, sent /A 1 2 7 1, sent /A 1 3 7 1, nack /A 3 7 50, close 2, len, used /A, nack /A 3 7 50 -> yes; yes; yes; waiting; -; 1 false; used 3@1; all 50
 ";
 
-/// A face that closes neither asks nor is asked any more.
+/// After a face has closed, it has no records any more.
 #[test]
 fn a_face_that_closes(rt: HostRuntime) {
     check_rows(&rt, rt.alloc(), A_FACE_THAT_CLOSES, answers);
@@ -113,7 +116,7 @@ ask /A/B 1 1 9, prepare /A/B/C 4, remove /A/B, ask /A/B/C 2 2 9, of /A/B 1, of /
 ask /A/B 1 1 9, ask /A/D 3 2 9, prepare /A/B/C 4, data /A/B, ask /A/B/C 2 3 9, of /A/B/C 2, data /A/D, data /A/B/C, len -> yes; yes; yes; faces 1; yes; 00000003; faces 3; faces 2; 0 true
 ";
 
-/// What is prepared stays prepared while the Interests along its name are removed.
+/// A prepared call stays prepared while the Interests along its name are removed.
 #[test]
 fn a_preparation_on_a_path_that_empties(rt: HostRuntime) {
     check_rows(

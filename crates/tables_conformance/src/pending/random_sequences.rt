@@ -1,4 +1,4 @@
-//! Random calls of a table, beside plain lists of records that are filtered for each answer.
+//! Random calls of a table, compared with plain lists of records that are filtered for each answer.
 
 use super::{OwnedKey, Table, faces_answered};
 use ndn_names::NameBuf;
@@ -7,7 +7,7 @@ use pit_fib::*;
 use std::alloc::Global;
 use test_support::random;
 
-/// Keys, of which the last asks for a Data by its digest.
+/// Keys, the last of which asks for a Data by its digest.
 const KEYS: [&str; 6] = [
     "/A",
     "/A+p",
@@ -17,7 +17,7 @@ const KEYS: [&str; 6] = [
     "/A/sha256digest=2d92a383706a615fe67c9a585b00f29c5c06d2abdaec456e9cdc026679eb2479",
 ];
 
-/// Names of Data, each with the places of the keys that it answers.
+/// Names of Data, each with a flag for each key in `KEYS` that tells whether the Data answers it.
 const ANSWERED: [(&str, [bool; 6]); 3] = [
     ("/A", [true, true, true, false, true, true]),
     ("/A/B", [false, true, false, true, true, false]),
@@ -41,7 +41,7 @@ struct Asked {
     reason: Option<u64>,
 }
 
-/// The records, in no order.
+/// The records, in no particular order.
 #[derive(Drop)]
 struct Records {
     asks: Vec<Asks>,
@@ -57,7 +57,7 @@ impl Records {
         self.asks.iter().any(|ask| ask.key == key)
     }
 
-    /// Without the faces asked of keys under which nobody asks.
+    /// Removes the out-records of keys under which no face asks.
     fn settle(&mut self) {
         let asks = &self.asks;
         self.asked
@@ -113,7 +113,7 @@ impl Records {
         Nacked::All(least)
     }
 
-    /// The number of keys.
+    /// Returns the number of keys under which a face asks.
     fn len(&self) -> usize {
         let mut len: usize = 0;
         for key in 0..6 {
@@ -125,7 +125,7 @@ impl Records {
     }
 }
 
-/// Whether what the table shows of a key and a face is what the records have.
+/// Returns whether the table shows the same records for a key and a face as these records do.
 fn shows(table: &Table, records: &Records, at: usize, key: Key<'_>, face: u64) -> bool {
     let ask = records
         .asks
@@ -144,7 +144,7 @@ fn shows(table: &Table, records: &Records, at: usize, key: Key<'_>, face: u64) -
     interest && table.pit.used(key).get(face) == moment
 }
 
-/// Whether the table shows what the records have, of all keys and faces.
+/// Returns whether the table shows the same records for all keys and faces as these records do.
 fn shows_all(table: &Table, records: &Records, keys: &[OwnedKey]) -> bool {
     for (at, key) in keys.iter().enumerate() {
         for face in 0..3 {
@@ -156,12 +156,13 @@ fn shows_all(table: &Table, records: &Records, keys: &[OwnedKey]) -> bool {
     table.pit.len() == records.len()
 }
 
-/// Whether a face has a pending Interest that is answered.
+/// Returns whether a face has a pending Interest that is answered.
 fn is_asking(records: &Records, answered: &[bool], face: u64) -> bool {
     records.asks.iter().any(|ask| ask.face == face && answered.get(ask.key) == Some(&true))
 }
 
-/// Whether these of three faces have a pending Interest that is answered.
+/// Returns whether `faces` are exactly those of the three faces that have a pending Interest that
+/// is answered.
 fn are_asking(records: &Records, answered: &[bool], faces: &Faces) -> bool {
     let mut asking: usize = 0;
     for face in 0..3 {
@@ -174,7 +175,7 @@ fn are_asking(records: &Records, answered: &[bool], faces: &Faces) -> bool {
     faces.len() == asking
 }
 
-/// Whether a Data goes to the faces that the records have.
+/// Returns whether a Data goes to the faces that the records give.
 fn satisfy_agrees(
     table: &mut Table,
     records: &mut Records,
@@ -190,7 +191,7 @@ fn satisfy_agrees(
     Some(agrees)
 }
 
-/// How often a Nack came to each answer but the first, and an Interest looped.
+/// How often a Nack had each result other than the first, and how often an Interest looped.
 #[derive(Clone, Copy)]
 struct Seen {
     waiting: u64,
@@ -198,7 +199,7 @@ struct Seen {
     loops: u64,
 }
 
-/// Whether a Nack has the result that the records give.
+/// Returns whether a Nack has the result that the records give.
 fn nack_agrees(
     table: &mut Table,
     records: &mut Records,
@@ -217,7 +218,8 @@ fn nack_agrees(
     Some(table.nacked(key, one.face, octets_of(one.nonce), reason) == answer)
 }
 
-/// Whether an Interest loops exactly if the records say so, and is recorded.
+/// Returns whether the table and the records agree on whether an Interest loops, and the Interest
+/// is then recorded.
 fn ask_agrees(
     table: &mut Table,
     records: &mut Records,
@@ -236,7 +238,7 @@ fn ask_agrees(
     Some(agrees && refused.is_none())
 }
 
-/// Whether a send is recorded exactly if the records have the asking face.
+/// Returns whether a `sent` call is recorded exactly if the records have the face that asks.
 fn sent_agrees(
     table: &mut Table,
     records: &mut Records,
@@ -255,7 +257,7 @@ fn sent_agrees(
     Some(table.sent(key, asker, one.face, octets_of(one.nonce), one.moment) == asks)
 }
 
-/// Takes out of both what a random removal takes.
+/// Makes the same random removal in the table and in the records.
 fn remove(
     table: &mut Table,
     records: &mut Records,
@@ -288,7 +290,8 @@ fn remove(
     Some(())
 }
 
-/// Whether a random call answers as the records do. Most calls are of one of two keys.
+/// Returns whether a random call gives the same answer as the records. Most calls are for one of
+/// two keys.
 fn call_agrees(
     table: &mut Table,
     records: &mut Records,
@@ -328,7 +331,8 @@ fn call_agrees(
     Some(agrees && shows(table, records, key, asked, face))
 }
 
-/// Whether 24 random calls do, and leave all records as they are.
+/// Returns whether 24 random calls agree with the records, and the table then shows the same
+/// records.
 fn sequence_agrees(
     alloc: Global,
     keys: &[OwnedKey],
@@ -350,7 +354,8 @@ fn sequence_agrees(
     Some(shows_all(&table, &records, keys))
 }
 
-/// Whether ten thousand sequences do, in which Nacks waited and went back, and Interests looped.
+/// Returns whether ten thousand sequences agree with the records, where some Nacks waited, some
+/// were sent back, and some Interests looped.
 fn all_agree(alloc: Global) -> Option<bool> {
     let (mut keys, mut packets) = (Vec::new(alloc), Vec::new(alloc));
     for key in KEYS {

@@ -15,7 +15,7 @@ token /A 1 5 200, token /A/sha256digest=2d92a383706a615fe67c9a585b00f29c5c06d2ab
 token /A/sha256digest=2d92a383706a615fe67c9a585b00f29c5c06d2abdaec456e9cdc026679eb2479 1 6 100, token /A 1 5 200, token_for /A 1 -> yes; yes; 05
 ";
 
-/// A face gets the token of its Interest that waits longest.
+/// A face gets the token of its Interest with the latest deadline.
 #[test]
 fn token_of_the_last_deadline(rt: HostRuntime) {
     check_rows(&rt, rt.alloc(), TOKEN_OF_THE_LAST_DEADLINE, answers);
@@ -39,7 +39,8 @@ token /A+p 1 5 100, token /A+pf 1 6 100, token_for /A 1 -> yes; yes; 06
 token /A+pf 1 6 100, token /A+p 1 5 100, token_for /A 1 -> yes; yes; 06
 ";
 
-/// Of Interests of one deadline a face gets the token of the greatest key.
+/// Among Interests with the same deadline, the face gets the token of the Interest with the
+/// greatest key.
 #[test]
 fn token_of_the_greatest_key(rt: HostRuntime) {
     check_rows(&rt, rt.alloc(), TOKEN_OF_THE_GREATEST_KEY, answers);
@@ -57,7 +58,7 @@ token /A 1 5 100, ask /A 2 7 200, token_of /A 2, token_for /A 2, token_for /A 1 
 token /A 1 5 100, token /A 2 6 200, token_for /A 1, token_for /A 2, token_for /A 3 -> yes; yes; 05; 06; none
 ";
 
-/// A face gets no token of an Interest that is not answered, nor of another face.
+/// A face gets no token of an Interest that is not answered, and no token of another face.
 #[test]
 fn no_other_token(rt: HostRuntime) {
     check_rows(&rt, rt.alloc(), NO_OTHER_TOKEN, answers);
@@ -75,7 +76,7 @@ token /A 1 5 100, expire 99, token_of /A 1, expire 100, token_of /A 1, token_for
 token /A 1 5 100, data /A, token_of /A 1, token_for /A 1 -> yes; faces 1; none; none
 ";
 
-/// A face has the token of its last Interest under a key while that waits.
+/// A face has the token of its last Interest under a key as long as that Interest is pending.
 #[test]
 fn token_of_the_last_interest(rt: HostRuntime) {
     check_rows(&rt, rt.alloc(), TOKEN_OF_THE_LAST_INTEREST, answers);
@@ -85,7 +86,7 @@ const KNOWS_OF_TOKENS: &str = "\
 has_tokens, ask /A 1 7 100, has_tokens, token /B 1 5 100, has_tokens -> false; yes; false; yes; true
 ";
 
-/// A table knows of no token before an Interest came with one.
+/// A table reports no tokens until an Interest with a token has come.
 #[test]
 fn knows_of_tokens(rt: HostRuntime) {
     check_rows(&rt, rt.alloc(), KNOWS_OF_TOKENS, answers);

@@ -18,7 +18,7 @@ register /A/B 2, register /A/C 3, register /AA 4, of /A/C, of /A -> 3@0; none
 register /A/B 2, register /A 3, of /A -> 3@0
 ";
 
-/// A name with routes inherits child-inherit routes of shorter names.
+/// A name with routes inherits the child-inherit routes of shorter names.
 #[test]
 fn names_inherit_routes(rt: HostRuntime) {
     check_rows(&rt, rt.alloc(), NAMES_INHERIT_ROUTES, answers);
@@ -34,7 +34,7 @@ register /A 2 cost=7, register /A 2 cost=5 origin=1, register /A/B 3, of /A/B ->
 register /A 2 cost=1 flags=0, register /A 2 cost=9 origin=1, register /A/B 3, of /A, of /A/B -> 2@1; 3@0 2@9
 ";
 
-/// Of the routes of several origins on one face the least cost counts.
+/// Among the routes of several origins on one face, the least cost counts.
 #[test]
 fn the_least_cost_counts(rt: HostRuntime) {
     check_rows(&rt, rt.alloc(), THE_LEAST_COST_COUNTS, answers);
@@ -57,7 +57,7 @@ register /A 2 cost=1, register /A/B 2 cost=9, of /A/B -> 2@9
 register /A 2 cost=1, register /A/B 2 cost=9 flags=0, of /A/B -> 2@9
 ";
 
-/// Next hops come before routes, and routes before what is inherited, for each face.
+/// For each face, next hops take precedence over routes, and routes over what is inherited.
 #[test]
 fn next_hops_come_first(rt: HostRuntime) {
     check_rows(&rt, rt.alloc(), NEXT_HOPS_COME_FIRST, answers);
@@ -85,7 +85,7 @@ register / 2, register /A 3 flags=2, register /B 4, of /B, of / -> 2@0 4@0; 2@0
 register /A 2, register /A/B 3, register /A/B/C 4 flags=2, of /A/B -> 2@0 3@0
 ";
 
-/// A capture route ends what its name, and the names below it, inherit of shorter names.
+/// A capture route stops its name, and the names below it, from inheriting from shorter names.
 #[test]
 fn capture_ends_inheritance(rt: HostRuntime) {
     check_rows(&rt, rt.alloc(), CAPTURE_ENDS_INHERITANCE, answers);
@@ -99,7 +99,7 @@ register / 2 cost=1, register /A 2 cost=9, register /A/B 2 cost=5, register /A/B
 register / 2 cost=1, register /A/B 2 cost=9, register /A/B/C/D 4, of /A/B/C/D -> 4@0 2@9
 ";
 
-/// Each face has the cost of the nearest shorter name with a child-inherit route on it.
+/// Each face has the cost of the nearest shorter name with a child-inherit route on that face.
 #[test]
 fn the_nearest_for_each_face(rt: HostRuntime) {
     check_rows(&rt, rt.alloc(), THE_NEAREST_FOR_EACH_FACE, answers);
@@ -115,7 +115,7 @@ register /A 2 flags=18446744073709551613, register /A/B 3, of /A/B -> 2@0 3@0
 register /A 2 flags=18446744073709551614, register /A/B 3, of /A/B -> 3@0
 ";
 
-/// The bits beside child-inherit and capture have no effect.
+/// Flag bits other than child-inherit and capture have no effect.
 #[test]
 fn other_flags_have_no_effect(rt: HostRuntime) {
     check_rows(&rt, rt.alloc(), OTHER_FLAGS_HAVE_NO_EFFECT, answers);

@@ -1,5 +1,5 @@
-//! Random calls of a table, beside plain lists of next hops and routes, in which the effective next
-//! hops of a name are looked for face by face.
+//! Random calls of a table, compared with plain lists of next hops and routes, in which the
+//! effective next hops of a name are searched for face by face.
 
 use crate::route_table::{Route, RouteTable};
 use ndn_names::NameBuf;
@@ -7,7 +7,7 @@ use pit_fib::*;
 use std::alloc::Global;
 use test_support::random;
 
-/// Names in canonical order: of two that begin one name the later one is longer.
+/// Names in canonical order: if two of them are prefixes of the same name, the later one is longer.
 const NAMES: [&str; 8] = ["/", "/A", "/A/B", "/A/B/C", "/A/B/C/D", "/A/C", "/B", "/AA"];
 
 /// The faces are 0, 1 and 2.
@@ -26,14 +26,14 @@ struct Registered {
     route: Route,
 }
 
-/// Next hops and routes, in no order.
+/// Next hops and routes, in no particular order.
 #[derive(Drop)]
 struct Plain {
     hops: Vec<NextHop>,
     routes: Vec<Registered>,
 }
 
-/// Whether a name begins another that is longer.
+/// Returns whether a name is a proper prefix of another.
 fn is_above(prefix: usize, name: usize) -> bool {
     let (Some(prefix), Some(name)) = (NAMES.get(prefix), NAMES.get(name)) else {
         return false;
@@ -56,7 +56,7 @@ fn ends_by(route: Route, now: u64) -> bool {
     route.deadline.is_some_and(|deadline| deadline <= now)
 }
 
-/// The lesser of a cost and another, if there is one.
+/// Returns the lesser of a cost and another cost, if there is another.
 fn lesser(cost: u64, other: Option<u64>) -> Option<u64> {
     Some(other.map_or(cost, |other| cost.min(other)))
 }
@@ -86,7 +86,7 @@ impl Plain {
         self.routes.push(one).ok()
     }
 
-    /// Without the routes that end by a moment.
+    /// Returns the lists without the routes that expire by a moment.
     fn left_at(&self, alloc: Global, now: u64) -> Option<Plain> {
         let mut left = Plain::new(alloc);
         for hop in &self.hops {
@@ -104,7 +104,7 @@ impl Plain {
         self.routes.iter().any(|one| one.name == name)
     }
 
-    /// Whether a name has a next hop or a route.
+    /// Returns whether a name has a next hop or a route.
     fn has_entry(&self, name: usize) -> bool {
         self.has_routes(name) || self.hops.iter().any(|hop| hop.name == name)
     }
@@ -115,7 +115,7 @@ impl Plain {
             .any(|one| one.name == name && captures(one.route))
     }
 
-    /// The cost of the next hop of a name on a face.
+    /// Returns the cost of the next hop of a name on a face.
     fn hop_cost(&self, name: usize, face: u64) -> Option<u64> {
         let hop = self
             .hops
@@ -124,7 +124,8 @@ impl Plain {
         Some(hop.cost)
     }
 
-    /// The least cost of the routes of a name on a face, of all or of the inherited ones.
+    /// Returns the least cost of a name's routes on a face: of all its routes, or only of those
+    /// that are inherited.
     fn least_cost(&self, name: usize, face: u64, inherited_alone: bool) -> Option<u64> {
         let mut least = None;
         for one in &self.routes {
@@ -136,7 +137,7 @@ impl Plain {
         least
     }
 
-    /// The nearest shorter name that has a child-inherit route on a face.
+    /// Returns the nearest shorter name that has a child-inherit route on a face.
     fn nearest(&self, name: usize, face: u64) -> Option<usize> {
         let mut nearest = None;
         for above in 0..8 {
@@ -147,7 +148,7 @@ impl Plain {
         nearest
     }
 
-    /// Whether a name between these two has a capture route.
+    /// Returns whether a name between these two names has a capture route.
     fn is_captured(&self, name: usize, above: usize) -> bool {
         for between in 0..8 {
             if is_above(above, between) && is_above(between, name) && self.has_capture(between) {
@@ -157,7 +158,7 @@ impl Plain {
         false
     }
 
-    /// The number of names that have a next hop or a route.
+    /// Returns the number of names that have a next hop or a route.
     fn len(&self) -> usize {
         let mut len: usize = 0;
         for name in 0..8 {
@@ -166,7 +167,8 @@ impl Plain {
         len
     }
 
-    /// What a name inherits for a face, where it has routes, and none of them captures.
+    /// Returns the cost that a name inherits for a face, if the name has routes and none of them is
+    /// a capture route.
     fn inherited_cost(&self, seen: &mut Seen, name: usize, face: u64) -> Option<u64> {
         if !self.has_routes(name) || self.has_capture(name) {
             return None;
@@ -180,7 +182,7 @@ impl Plain {
         self.least_cost(above, face, true)
     }
 
-    /// The cost of a face among the effective next hops of a name.
+    /// Returns the cost of a face among the effective next hops of a name.
     fn cost(&self, seen: &mut Seen, name: usize, face: u64) -> Option<u64> {
         if let Some(cost) = self.hop_cost(name, face) {
             return Some(cost);
@@ -191,7 +193,7 @@ impl Plain {
         self.inherited_cost(seen, name, face)
     }
 
-    /// The longest prefix of a name that has a next hop or a route.
+    /// Returns the longest prefix of a name that has a next hop or a route.
     fn longest(&self, name: usize) -> Option<usize> {
         let mut longest = None;
         for prefix in 0..8 {
@@ -203,7 +205,7 @@ impl Plain {
     }
 }
 
-/// How often a name inherited a cost, a capture route prevented that, and routes expired.
+/// How often a name inherited a cost, a capture route prevented this, and routes expired.
 #[derive(Clone, Copy)]
 struct Seen {
     inherited: u64,
@@ -211,7 +213,7 @@ struct Seen {
     ended: u64,
 }
 
-/// The cost of a face among hops.
+/// Returns the cost of a face among the next hops.
 fn cost_in(hops: &Hops, face: u64) -> Option<u64> {
     let mut cost = None;
     for i in 0..hops.len() {
@@ -223,7 +225,7 @@ fn cost_in(hops: &Hops, face: u64) -> Option<u64> {
     cost
 }
 
-/// Whether hops are in order: by cost, and by face at one cost.
+/// Returns whether next hops are ordered by cost, and next hops of the same cost by face.
 fn are_in_order(hops: &Hops) -> Option<bool> {
     for i in 1..hops.len() {
         let (hop, next) = (hops.get(i.checked_sub(1)?)?, hops.get(i)?);
@@ -234,7 +236,8 @@ fn are_in_order(hops: &Hops) -> Option<bool> {
     Some(true)
 }
 
-/// Whether hops are the effective next hops of a name, or none where there is no name.
+/// Returns whether these are the effective next hops of a name, or there are none if there is no
+/// name.
 fn hops_agree(plain: &Plain, seen: &mut Seen, name: Option<usize>, hops: &Hops) -> Option<bool> {
     let mut len: usize = 0;
     for face in 0..FACES {
@@ -250,7 +253,7 @@ fn hops_agree(plain: &Plain, seen: &mut Seen, name: Option<usize>, hops: &Hops) 
     Some(hops.len() == len && are_in_order(hops)?)
 }
 
-/// Whether the next hops of a name are those of the lists.
+/// Returns whether a name has the next hops that the lists give.
 fn longest_agrees(
     routes: &RouteTable,
     plain: &Plain,
@@ -264,7 +267,7 @@ fn longest_agrees(
     Some(hops_agree(plain, seen, plain.longest(name), &hops)? && steps <= 4)
 }
 
-/// Whether rows are all names that have an entry, in order, with their next hops.
+/// Returns whether the rows are all names that have an entry, in order, with their next hops.
 fn rows_agree(
     rows: &[(NameBuf, Hops)],
     plain: &Plain,
@@ -284,7 +287,8 @@ fn rows_agree(
     Some(rows.len() == at)
 }
 
-/// Whether the list at a moment, and the number of routes that end by then, are those of the lists.
+/// Returns whether the table's list at a moment, and the number of routes that expire by then,
+/// agree with the plain lists.
 fn list_agrees(
     alloc: Global,
     routes: &RouteTable,
@@ -299,7 +303,7 @@ fn list_agrees(
     Some(rows_agree(&rows, &left, names, seen)? && routes.read().due(now) == due as u64)
 }
 
-/// Whether as many routes end by a moment as in the lists.
+/// Returns whether as many routes expire by a moment as in the lists.
 fn expire_agrees(
     routes: &mut RouteTable,
     plain: &mut Plain,
@@ -313,7 +317,7 @@ fn expire_agrees(
     Some(routes.expire(now) == gone)
 }
 
-/// Sets a next hop or a route in both, which is not refused with ample memory.
+/// Sets a next hop or a route in the table and in the lists; with ample memory it is not refused.
 fn set(
     routes: &mut RouteTable,
     plain: &mut Plain,
@@ -335,7 +339,7 @@ fn set(
     }
 }
 
-/// Takes out of both what a random removal takes.
+/// Makes the same random removal in the table and in the lists.
 fn remove(
     routes: &mut RouteTable,
     plain: &mut Plain,
@@ -364,7 +368,7 @@ fn remove(
     Some(())
 }
 
-/// A random route of a random name. One in three ends, at a moment below 24.
+/// Returns a random route of a random name. One route in three expires, at a moment below 24.
 fn random_route(state: &mut u64) -> Registered {
     let name = random(state, 8) as usize;
     let (face, origin) = (random(state, FACES), random(state, 2));
@@ -383,7 +387,8 @@ fn random_route(state: &mut u64) -> Registered {
     }
 }
 
-/// Whether a random call agrees with the lists, and the next hops of a random name after it.
+/// Returns whether a random call, and the next hops of a random name after it, agree with the
+/// lists.
 fn call_agrees(
     alloc: Global,
     routes: &mut RouteTable,
@@ -410,7 +415,8 @@ fn call_agrees(
     Some(agrees && longest_agrees(routes, plain, names, seen, asked)?)
 }
 
-/// Whether 40 random calls do, and leave what the lists have.
+/// Returns whether 40 random calls agree with the lists, and the table then has what the lists
+/// have.
 fn sequence_agrees(
     alloc: Global,
     names: &[NameBuf],
@@ -435,7 +441,8 @@ fn all_names(alloc: Global) -> Option<Vec<NameBuf>> {
     Some(names)
 }
 
-/// Whether 400 sequences do, in which costs were inherited and captured, and routes ended.
+/// Returns whether 400 sequences agree with the lists, where some costs were inherited, some were
+/// captured, and some routes expired.
 fn all_agree(alloc: Global) -> Option<bool> {
     let names = all_names(alloc)?;
     let mut state = 0x2545_f491_4f6c_dd1d;

@@ -1,4 +1,4 @@
-//! The limits of routes and names, the depth of a look-up, and preparations.
+//! The limits of routes and names, the depth of a lookup, and preparations.
 
 use super::list_or_none;
 use crate::route_table::{Route, RouteTable};
@@ -10,13 +10,14 @@ const FULL: Result<(), TableFault> = Err(TableFault::TableFull);
 
 const DEEP: Result<(), TableFault> = Err(TableFault::TooDeep);
 
-/// Registers a route of the name of a number.
+/// Registers a route for the name with this number.
 fn register(alloc: Global, routes: &mut RouteTable, number: u16, route: Route) -> Option<bool> {
     let name = numbered(alloc, number)?;
     Some(routes.register(name.view(), route).is_ok())
 }
 
-/// Whether a table takes routes of 256 names, 64 of each: of two faces and 32 origins.
+/// Returns whether a table accepts routes of 256 names, 64 for each name: on two faces, with 32
+/// origins each.
 fn takes_16384(alloc: Global, routes: &mut RouteTable) -> Option<bool> {
     for number in 0..256 {
         for one in 0..64 {
@@ -28,8 +29,8 @@ fn takes_16384(alloc: Global, routes: &mut RouteTable) -> Option<bool> {
     Some(true)
 }
 
-/// Whether a table with 16,384 routes refuses a new one, of a known name and of a new one, but no
-/// next hop and no route in force.
+/// Returns whether a table with 16,384 routes refuses a new route, both for a known name and for a
+/// new one, but accepts a next hop and a route that it already has.
 fn refuses_new_routes(alloc: Global, routes: &mut RouteTable) -> Option<bool> {
     let (known, new, deep) = (
         numbered(alloc, 7)?,
@@ -45,7 +46,8 @@ fn refuses_new_routes(alloc: Global, routes: &mut RouteTable) -> Option<bool> {
     Some(further && named && too_deep && again && hop)
 }
 
-/// Whether it takes one again where one was unregistered, and no second.
+/// Returns whether a full table accepts one route after one was unregistered, and then no second
+/// one.
 fn takes_one_for_one(alloc: Global, routes: &mut RouteTable) -> Option<bool> {
     let known = numbered(alloc, 7)?;
     routes.unregister(known.view(), 0, 0);
@@ -54,7 +56,8 @@ fn takes_one_for_one(alloc: Global, routes: &mut RouteTable) -> Option<bool> {
     Some(is_taken && is_full)
 }
 
-/// Whether it takes routes again where a face closed, and where others ended.
+/// Returns whether a full table accepts routes again after a face closed, and after other routes
+/// expired.
 fn takes_many_for_many(alloc: Global, routes: &mut RouteTable) -> Option<bool> {
     routes.close_face(0);
     let mut route = Route::new(2, 0);
@@ -64,13 +67,13 @@ fn takes_many_for_many(alloc: Global, routes: &mut RouteTable) -> Option<bool> {
     Some(is_taken && gone == 1 && routes.read().due(u64::MAX) == 0)
 }
 
-/// Whether a table holds 16,384 routes, and no more.
+/// Returns whether a table holds 16,384 routes, and no more.
 fn holds_16384_routes(alloc: Global, routes: &mut RouteTable) -> Option<bool> {
     let holds = takes_16384(alloc, routes)? && refuses_new_routes(alloc, routes)?;
     Some(holds && takes_one_for_one(alloc, routes)? && takes_many_for_many(alloc, routes)?)
 }
 
-/// Whether a table takes 4,096 names, by next hops and by routes in turn.
+/// Returns whether a table accepts 4,096 names, with next hops and with routes in turn.
 fn takes_4096_names(alloc: Global, routes: &mut RouteTable) -> Option<bool> {
     for number in (0..4096).rev() {
         let name = numbered(alloc, number)?;
@@ -86,7 +89,7 @@ fn takes_4096_names(alloc: Global, routes: &mut RouteTable) -> Option<bool> {
     Some(routes.read().len() == 4096)
 }
 
-/// Whether a table with 4,096 names refuses another, but none that it has.
+/// Returns whether a table with 4,096 names refuses a further name, but not a name that it has.
 fn refuses_new_names(alloc: Global, routes: &mut RouteTable) -> Option<bool> {
     let (new, deep) = (numbered(alloc, 4096)?, deep_name(alloc, 33)?);
     let route = Route::new(1, 0);
@@ -97,7 +100,8 @@ fn refuses_new_names(alloc: Global, routes: &mut RouteTable) -> Option<bool> {
     Some(is_full && is_deep && takes_known_names(alloc, routes)?)
 }
 
-/// Whether it takes a route of a name with a next hop, and a next hop of a name with a route.
+/// Returns whether the table accepts a route for a name with a next hop, and a next hop for a name
+/// with a route.
 fn takes_known_names(alloc: Global, routes: &mut RouteTable) -> Option<bool> {
     let (hop, route) = (numbered(alloc, 6)?, numbered(alloc, 7)?);
     let is_routed = routes.register(hop.view(), Route::new(1, 0)).is_ok();
@@ -105,7 +109,7 @@ fn takes_known_names(alloc: Global, routes: &mut RouteTable) -> Option<bool> {
     Some(is_routed && is_added)
 }
 
-/// Whether a name makes room for another when it loses its last route, and not before.
+/// Returns whether a name makes room for another when it loses its last route, and not before.
 fn frees_names(alloc: Global, routes: &mut RouteTable) -> Option<bool> {
     let (new, both, routed) = (
         numbered(alloc, 4096)?,
@@ -121,13 +125,14 @@ fn frees_names(alloc: Global, routes: &mut RouteTable) -> Option<bool> {
     Some(is_full && is_taken && is_full_again && routes.add(routed.view(), 1, 0).is_ok())
 }
 
-/// Whether a table holds 4,096 names, and no more.
+/// Returns whether a table holds 4,096 names, and no more.
 fn holds_4096_names(alloc: Global, routes: &mut RouteTable) -> Option<bool> {
     let holds = takes_4096_names(alloc, routes)? && refuses_new_names(alloc, routes)?;
     Some(holds && frees_names(alloc, routes)?)
 }
 
-/// Whether a call's refusals can be told before, as they come: of 33 components, and of none.
+/// Returns whether the refusals of a call can be told in advance: for a name of 33 components, and
+/// for one of none.
 fn tells_refusals(alloc: Global, routes: &mut RouteTable) -> Option<bool> {
     let (deep, root) = (deep_name(alloc, 33)?, deep_name(alloc, 0)?);
     let route = Route::new(1, 0);
@@ -137,8 +142,9 @@ fn tells_refusals(alloc: Global, routes: &mut RouteTable) -> Option<bool> {
     Some(is_told && refused && routes.register(root.view(), route).is_ok())
 }
 
-/// Whether a name of 64 components goes by the routes of 33 names on the way, each of a face of its
-/// own and of a lesser cost than the one before, with one search for each component at most.
+/// Returns whether the lookup of a name of 64 components passes the routes of 33 names along the
+/// way, with at most one search for each component. Each of these names has a route on its own
+/// face, with a lesser cost than the name before it.
 fn looks_up_64_components(alloc: Global, routes: &mut RouteTable) -> Option<bool> {
     for depth in 0..33 {
         let name = deep_name(alloc, depth)?;
@@ -153,8 +159,8 @@ fn looks_up_64_components(alloc: Global, routes: &mut RouteTable) -> Option<bool
     Some(steps <= 64 && hops.len() == 33 && first.face == 32 && last.face == 0)
 }
 
-/// Whether what is prepared is not refused memory: a route of a new name, after others ended. Where
-/// the preparation is refused, the routes stand.
+/// Returns whether a prepared call is not refused memory: it registers a route for a new name,
+/// after other routes have expired. If the preparation is refused, the routes stay unchanged.
 fn registers_what_is_prepared(alloc: Global, routes: &mut RouteTable) -> Option<bool> {
     let (name, other) = (numbered(alloc, 1)?, numbered(alloc, 2)?);
     let mut route = Route::new(2, 0);
@@ -169,7 +175,8 @@ fn registers_what_is_prepared(alloc: Global, routes: &mut RouteTable) -> Option<
     Some(gone == 1 && is_taken && listed.as_str() == "/%00%01 3@0")
 }
 
-/// The same of one route more of a name with eight.
+/// Returns whether a prepared call that adds a ninth route to a name with eight is not refused
+/// memory.
 fn registers_a_ninth_route(alloc: Global, routes: &mut RouteTable) -> Option<bool> {
     let name = numbered(alloc, 1)?;
     for face in 1..9 {
@@ -182,7 +189,8 @@ fn registers_a_ninth_route(alloc: Global, routes: &mut RouteTable) -> Option<boo
     Some(is_taken && routes.read().longest(name.view()).len() == 9)
 }
 
-/// The same of a next hop, of a name that had a route when it was prepared.
+/// Returns whether a prepared call that adds a next hop to a name, which had a route when it was
+/// prepared, is not refused memory.
 fn adds_what_is_prepared(alloc: Global, routes: &mut RouteTable) -> Option<bool> {
     let name = numbered(alloc, 1)?;
     routes.register(name.view(), Route::new(2, 0)).ok()?;
@@ -194,7 +202,8 @@ fn adds_what_is_prepared(alloc: Global, routes: &mut RouteTable) -> Option<bool>
     Some(is_gone && routes.add(name.view(), 3, 0).is_ok() && routes.read().len() == 1)
 }
 
-/// Whether a route that is refused memory leaves the older one of its name, face and origin.
+/// Returns whether a route that is refused memory leaves the older route with its name, face and
+/// origin unchanged.
 fn leaves_the_older_route(alloc: Global, routes: &mut RouteTable) -> Option<bool> {
     let name = numbered(alloc, 1)?;
     let mut route = Route::new(2, 0);
@@ -208,7 +217,7 @@ fn leaves_the_older_route(alloc: Global, routes: &mut RouteTable) -> Option<bool
     Some(hop.cost == cost && routes.read().len() == 1)
 }
 
-/// Plays calls on an empty table.
+/// Runs `play` on an empty table.
 fn played(alloc: Global, play: fn(Global, &mut RouteTable) -> Option<bool>) -> Option<bool>
     requires { IsAlwaysCallable play }
 {

@@ -9,7 +9,7 @@ use Rattle.content_store.proofs.places.lay.Goals.{After-len-start}
 pub loop-index-init : goal.loop-index-init
 loop-index-init c = record { len = refl; same = refl; laid = laid_none; start = ap length (sym flat_none) }
 
--- the block, once it tells where it begins
+-- the block with its start updated
 abbrev told : After-len-start → Block
 told c = record { start = c.loop-index.start; items = c.index_mut.result.now.items }
 

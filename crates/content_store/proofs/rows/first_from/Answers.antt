@@ -23,7 +23,7 @@ loop-at-init c = (
 order_of : (m n : ℕ) → (m < n) ⊎ ((m ≡ n) ⊎ (n < m))
 order_of m n = grind arith
 
--- what was passed over cannot serve
+-- the rows that were skipped cannot serve the Interest
 passed : (c : After-next_place-at) → (CanServe (plain_key c.args.key) c.args.now c.index.result.now.entry → ⊥)
     → (k : ℕ) (d : Placed) → k < c.next_place-at.result → k < length (shown (get c.args.entries.now) c.args.order.now)
     → CanServe (plain_key c.args.key) c.args.now (held_at (get_or (shown (get c.args.entries.now) c.args.order.now) k d)) → ⊥

@@ -33,7 +33,7 @@ loop-next-preserved g c =
       small = c.loop-next.invariant.small;
     }
 
--- below the end of the walk there is nothing to see
+-- there are no values below the end of the walk
 pub returns-clause-seen : goal.returns-clause-seen
 returns-clause-seen g c =
     let seen = g.S.See.seen in

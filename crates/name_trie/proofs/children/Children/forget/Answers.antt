@@ -13,7 +13,7 @@ use Rattle.name_trie.proofs.Revised.{sorted_revised, from_revised}
 use Rattle.name_trie.proofs.children.Children.forget.Goals as goal
 use Rattle.name_trie.proofs.children.Children.forget.Goals.{After-remove}
 
--- what is found in the rows is what the map has
+-- lookups in the rows and in the map return the same child
 found_in : (rows : List (Field × ℕ)) (m : Links) → T (map.is_sorted component_cmp rows) → from_sorted {R = component_cmp} rows ≡ m → (k : Field) → find component_cmp k rows ≡ get m k
 found_in rows m sorted is k = sym (get-from_sorted component_cmp rows k sorted) ∙ ap (λ (m : Links). get m k) is
 

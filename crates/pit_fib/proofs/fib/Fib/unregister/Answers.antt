@@ -37,7 +37,7 @@ left c =
 pub returns-clause-table : goal.returns-clause-table
 returns-clause-table c = left c ∙ ap (λ s. without_route s.table (components c.args.name) (record { face = c.args.face; origin = c.args.origin })) c.self.view_is
 
--- the count afterwards
+-- the number of routes afterwards
 counted : (c : goal.After-change) → c.if-has_route.self-inside.count ≡ route_count c.change.new.self.table
 counted c =
     let t = c.self.inside.entries.table in
@@ -63,7 +63,7 @@ counted c =
           omega (arith, n, count, now, was, is)
     ]
 
--- all but the count is as it was
+-- everything but the number of routes is unchanged
 rest : (c : goal.After-change) → (c.if-has_route.self-inside.next_due ≡ c.self.inside.next_due) × (vec_capacity c.if-has_route.self-inside.room ≡ vec_capacity c.self.inside.room) × (c.if-has_route.self-inside.entries.prepared ≡ c.self.inside.entries.prepared)
 rest c =
     elim c.if-has_route.branch [

@@ -13,7 +13,7 @@ use Rattle.pit_fib.proofs.LastAsks.{token_is_for}
 use Rattle.pit_fib.proofs.Tokenless.{none_for}
 use Rattle.pit_fib.proofs.pit.Pit.token_for.Goals as goal
 
--- the token is that of the last in-record that the search found
+-- the token is the token of the last in-record that the search found
 is_for : (rows : Rows) (pending : Pending) (name : List Field) (digest : List ℕ) (face : ℕ) (last : Option InRecord) (token : Option (List ℕ))
     → pending_of rows ≡ pending → last ≡ last_of rows face name digest → option_and_then (λ r. r.token) last ≡ token
     → IsTokenFor (records_at pending) name digest face token

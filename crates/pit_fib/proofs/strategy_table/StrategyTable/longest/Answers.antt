@@ -8,7 +8,7 @@ use Rattle.pit_fib.proofs.RootChoice.{longest_with_root}
 use Rattle.pit_fib.proofs.strategy_table.StrategyTable.longest.Goals as goal
 use Rattle.pit_fib.proofs.strategy_table.StrategyTable.longest.Goals.{After-longest}
 
--- what the other names have, or else the strategy of `/`
+-- the strategy of the longest prefix among the other names, or the strategy of `/` if none has one
 found : (c : After-longest) (o : Option StrategyId) → o ≡ longest c.self.inside.others.table (components c.args.name)
     → option_or o (Some c.self.inside.root) ≡ longest c.args.self.now.table (components c.args.name)
 found c o is =
