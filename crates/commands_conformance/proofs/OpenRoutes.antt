@@ -1,4 +1,4 @@
--- After a command each face that has a next hop or a route is up, where it was so before.
+-- If each face that has a next hop or a route is up before a command, this also holds after it.
 use Rattle.std.proofs.Common.{◌≡◌, ℕ, List, ap, subst, sym, ◌∙◌}
 use Rattle.std.specs.Prelude.{Result, Ok, Err, IfOk, OnErr}
 use Rattle.pit_fib.specs.Fib.{Routes}

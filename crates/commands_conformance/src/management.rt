@@ -1,4 +1,4 @@
-//! Management commands, their effects, replies and lists.
+//! Tests of management commands, their effects, replies and datasets.
 
 mod effects;
 mod registered_routes;
@@ -23,8 +23,8 @@ fn action_shown(action: Action) -> &'static str {
     }
 }
 
-/// A name: a URI, and the octets of components after it, in hexadecimal. The word `digest` stands
-/// for a digest of 32 zeros.
+/// Reads a name, given as a URI and the values of further components in hexadecimal. The word
+/// `digest` stands for a digest of 32 zero octets.
 pub fn name_in(alloc: Global, text: &str) -> Option<NameBuf> {
     let mut words = text.split(' ');
     let mut name = NameBuf::from_uri(alloc, words.next()?).ok()?;
@@ -41,8 +41,8 @@ fn append(alloc: Global, name: &mut NameBuf, word: &str) -> Option<()> {
     name.append(8, &octets(alloc, word)?).ok()
 }
 
-/// What a command asks for: its action, name, face, cost, count and strategy, or the status that
-/// refuses it.
+/// Shows a command: its action, name, face, cost, count and strategy, or the status that refuses
+/// it.
 fn command_shown(alloc: Global, row: &str) -> Option<String> {
     let name = name_in(alloc, row)?;
     match Command::read(name.view()) {
@@ -65,7 +65,7 @@ fn fields_shown(alloc: Global, command: &Command<'_>) -> Option<String> {
     Some(text)
 }
 
-/// Absent fields: face 0 and cost 0.
+/// If fields are absent, the face is 0 and the cost is 0.
 #[test]
 fn absent_fields(rt: HostRuntime) {
     let rows = "
@@ -82,7 +82,8 @@ fn absent_fields(rt: HostRuntime) {
     check_rows(&rt, rt.alloc(), rows, command_shown);
 }
 
-/// Any order, the first of each counts, unknown elements are ignored.
+/// Fields may come in any order. The first field of each type counts, and unknown elements are
+/// ignored.
 #[test]
 fn the_first_of_each_field_counts(rt: HostRuntime) {
     let rows = "
@@ -95,7 +96,7 @@ fn the_first_of_each_field_counts(rt: HostRuntime) {
     check_rows(&rt, rt.alloc(), rows, command_shown);
 }
 
-/// Numbers of each length, up to the greatest.
+/// Numbers of every length, up to the greatest.
 #[test]
 fn numbers_of_each_length(rt: HostRuntime) {
     let rows = "
@@ -107,7 +108,8 @@ fn numbers_of_each_length(rt: HostRuntime) {
     check_rows(&rt, rt.alloc(), rows, command_shown);
 }
 
-/// A field of wrong form, one that is needed, one that the command does not take.
+/// A field with a wrong form, a missing field that is required, and a field that the command does
+/// not take.
 #[test]
 fn fields_that_commands_need_and_take(rt: HostRuntime) {
     let rows = "
@@ -130,8 +132,9 @@ fn fields_that_commands_need_and_take(rt: HostRuntime) {
     check_rows(&rt, rt.alloc(), rows, command_shown);
 }
 
-/// What becomes of a command from face 9, while the faces 2 and 9 are up: its status, the body of
-/// its reply, and the list of routes or, of a command that sets a strategy, that of strategies.
+/// Applies a command from face 9, while the faces 2 and 9 are up. Shows its status, the body of its
+/// reply, and the dataset of routes. For a command that sets a strategy, shows the dataset of
+/// strategies instead.
 fn applied_shown(alloc: Global, row: &str) -> Option<String> {
     let name = name_in(alloc, row)?;
     let mut station = Station::new(alloc)?;
@@ -150,7 +153,8 @@ fn reply_and_list(alloc: Global, applied: &Applied, list: &[u8]) -> Option<Strin
     format!(in alloc; "{status} {body} {list}").ok()
 }
 
-/// A route of a face, of the asking face, and of one that is not up; the reply has the face.
+/// Routes to another face, to the face of the command, and to a face that is not up. The reply
+/// contains the face.
 #[test]
 fn a_route_needs_an_open_face(rt: HostRuntime) {
     let rows = "
@@ -162,7 +166,7 @@ fn a_route_needs_an_open_face(rt: HostRuntime) {
     check_rows(&rt, rt.alloc(), rows, applied_shown);
 }
 
-/// A strategy, without its Version component; an unknown one; a name of 33 components.
+/// A strategy without its Version component, an unknown strategy, and a name of 33 components.
 #[test]
 fn a_strategy_is_known_by_its_name(rt: HostRuntime) {
     let rows = "
@@ -179,7 +183,8 @@ fn a_strategy_is_known_by_its_name(rt: HostRuntime) {
     check_rows(&rt, rt.alloc(), rows, applied_shown);
 }
 
-/// A prefix of 32 components, and of 33, which comes before a face that is not up.
+/// Prefixes of 32 and of 33 components. A prefix that is too long is reported before a face that is
+/// not up.
 #[test]
 fn prefixes_of_32_components(rt: HostRuntime) {
     let rows = "
@@ -190,7 +195,7 @@ fn prefixes_of_32_components(rt: HostRuntime) {
     check_rows(&rt, rt.alloc(), rows, applied_shown);
 }
 
-/// A route that is not there, and a face that is not up.
+/// Removal of a route that does not exist, and of a route to a face that is not up.
 #[test]
 fn removals_of_what_is_not_there(rt: HostRuntime) {
     let rows = "
@@ -200,7 +205,7 @@ fn removals_of_what_is_not_there(rt: HostRuntime) {
     check_rows(&rt, rt.alloc(), rows, applied_shown);
 }
 
-/// The Count is repeated, and not the number removed.
+/// The reply to an erase contains the command's Count, not the number of erased Data.
 #[test]
 fn the_count_of_an_erase_is_repeated(rt: HostRuntime) {
     let rows = "
@@ -210,7 +215,7 @@ fn the_count_of_an_erase_is_repeated(rt: HostRuntime) {
     check_rows(&rt, rt.alloc(), rows, applied_shown);
 }
 
-/// Whether a reply is these octets.
+/// Returns whether a reply is encoded as the octets `expected`.
 fn replies(alloc: Global, status: u16, text: &str, body: &str, expected: &str) -> bool {
     let (Some(body), Some(expected)) = (octets(alloc, body), octets(alloc, expected)) else {
         return false;
@@ -219,7 +224,7 @@ fn replies(alloc: Global, status: u16, text: &str, body: &str, expected: &str) -
     put_response(&mut out, status, text, &body).is_ok() && out.as_slice() == expected.as_slice()
 }
 
-/// A reply of this status without a body, with the status's text.
+/// Encodes a reply with this status and its text, and without a body.
 fn reply_written(alloc: Global, row: &str) -> Option<String> {
     let status = row.parse().ok()?;
     let mut out = Vec::new(alloc);

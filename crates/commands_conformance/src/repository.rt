@@ -1,4 +1,4 @@
-//! The repository: its commands, what it stores and serves, and its replies.
+//! Tests of the repository: its commands, the Data that it stores and serves, and its replies.
 
 mod full;
 mod random_sequences;
@@ -12,7 +12,7 @@ use repo_core::*;
 use std::alloc::Global;
 use test_support::{content_shown, data_of, octets};
 
-/// The octets of an Interest's Name and flag, as fields of parameters.
+/// Returns the Name and CanBePrefix of an Interest, encoded as fields of parameters.
 fn fields_of(alloc: Global, name: &str, can_be_prefix: bool) -> Option<Vec<u8>> {
     let name = NameBuf::from_uri(alloc, name).ok()?;
     let mut fields = Vec::new(alloc);
@@ -23,7 +23,7 @@ fn fields_of(alloc: Global, name: &str, can_be_prefix: bool) -> Option<Vec<u8>> 
     Some(fields)
 }
 
-/// A command's name: the verb, and the parameters' fields, with a digest of zeros after them.
+/// Returns a command's name: the verb, the parameters, and a digest of zeros.
 fn command_name(alloc: Global, verb: &str, fields: &[u8]) -> Option<NameBuf> {
     let mut parameters = Vec::new(alloc);
     ndn_tlv::put_element(&mut parameters, 201, fields).ok()?;
@@ -34,7 +34,7 @@ fn command_name(alloc: Global, verb: &str, fields: &[u8]) -> Option<NameBuf> {
     Some(name)
 }
 
-/// The command of a verb on the Data that answer an Interest, with a lifetime if there is one.
+/// Returns the name of a command about the Data that answer an Interest. A lifetime may be given.
 fn command_on(alloc: Global, verb: &str, asked: &str, lifetime: Option<u64>) -> Option<NameBuf> {
     let (uri, can_be_prefix) = match asked.strip_suffix('*') {
         Some(uri) => (uri, true),
@@ -49,7 +49,7 @@ fn command_on(alloc: Global, verb: &str, asked: &str, lifetime: Option<u64>) -> 
     command_name(alloc, verb, &fields)
 }
 
-/// A reply: its status and count, and the Data to fetch.
+/// Shows a reply: its status, its count, and the Interest to send.
 fn reply_shown(alloc: Global, reply: &RepoReply) -> Option<String> {
     let (status, count) = (reply.status, reply.count);
     let Some(want) = &reply.fetch else {
@@ -60,12 +60,13 @@ fn reply_shown(alloc: Global, reply: &RepoReply) -> Option<String> {
     format!(in alloc; "{status}:{count} {name}{flag} {lifetime}").ok()
 }
 
-/// Gives a command of a name.
+/// Applies the command with this name and shows the reply.
 fn answered(alloc: Global, repo: &mut Repo, name: Name<'_>, now: u64) -> Option<String> {
     reply_shown(alloc, &repo.command(name, now).ok()?)
 }
 
-/// Gives a command: its verb, what it asks, the moment and perhaps a lifetime.
+/// Applies a command, given as its verb, the name that it asks for, the time, and perhaps a
+/// lifetime.
 fn command(alloc: Global, repo: &mut Repo, verb: &str, words: &str) -> Option<String> {
     let mut words = words.split(' ');
     let asked = words.next()?;
@@ -78,7 +79,7 @@ fn command(alloc: Global, repo: &mut Repo, verb: &str, words: &str) -> Option<St
     answered(alloc, repo, name.view(), now)
 }
 
-/// Offers a Data: its name and its Content.
+/// Offers a Data, given as its name and its Content.
 fn offer(alloc: Global, repo: &mut Repo, words: &str) -> Option<String> {
     let (name, content) = words.split_once(' ')?;
     let filled = offer_packet(repo, &data_of(alloc, name, content, None)?)?;
@@ -92,7 +93,8 @@ fn offer_packet(repo: &mut Repo, packet: &[u8]) -> Option<bool> {
     }
 }
 
-/// The Content of what an Interest gets; `!` after its name is MustBeFresh.
+/// Returns the Content of the Data that answers an Interest. A `!` after the Interest's name means
+/// MustBeFresh.
 fn serve(alloc: Global, repo: &Repo, asked: &str) -> Option<String> {
     let packet = asking(alloc, asked)?;
     match read_frame(&packet).ok()? {
@@ -128,7 +130,7 @@ fn asking(alloc: Global, asked: &str) -> Option<Vec<u8>> {
     Some(packet)
 }
 
-/// What a call answers, if that is shown.
+/// Makes a call, and returns its answer if the answer is shown.
 fn answer(alloc: Global, repo: &mut Repo, call: &str) -> Option<Option<String>> {
     let (verb, words) = call.split_once(' ')?;
     match verb {
@@ -142,12 +144,12 @@ fn answer(alloc: Global, repo: &mut Repo, call: &str) -> Option<Option<String>> 
     }
 }
 
-/// A repository of the prefix `/repo` that holds nothing.
+/// Returns an empty repository with the prefix `/repo`.
 fn empty_repo(alloc: Global) -> Option<Repo> {
     Repo::new(alloc, NameBuf::from_uri(alloc, "/repo").ok()?).ok()
 }
 
-/// The answers of calls, one after the other.
+/// Returns the answers to consecutive calls.
 fn answers(alloc: Global, calls: &str) -> Option<String> {
     answers_of(alloc, &mut empty_repo(alloc)?, calls)
 }
@@ -170,7 +172,7 @@ fn put_answer(alloc: Global, shown: &mut String, repo: &mut Repo, call: &str) ->
     shown.push_str(&text).ok()
 }
 
-/// A want is pending until its deadline, and not at it.
+/// A want is pending before its deadline, but not at its deadline.
 #[test]
 fn want_deadline(rt: HostRuntime) {
     let rows = "
@@ -182,7 +184,7 @@ insert /A 5 0, check /A 5, expire 5, check /A 5 -> 100:0 /A 0, 100:0, 404:0
     check_rows(&rt, rt.alloc(), rows, answers);
 }
 
-/// An equal want is renewed, sooner or later.
+/// An equal want gets the new deadline, which may be earlier or later.
 #[test]
 fn an_equal_want_is_renewed(rt: HostRuntime) {
     let rows = "
@@ -192,7 +194,7 @@ insert /A 0 100, insert /A 0 10, expire 10, check /A 0 -> 100:0 /A 100, 100:0 /A
     check_rows(&rt, rt.alloc(), rows, answers);
 }
 
-/// Without a lifetime it is pending for 4,000 ms.
+/// A want without a lifetime is pending for 4,000 ms.
 #[test]
 fn a_want_without_a_lifetime(rt: HostRuntime) {
     let rows = "
@@ -201,8 +203,9 @@ insert /A 0, expire 3999, check /A 0, expire 4000, check /A 0 -> 100:0 /A 4000, 
     check_rows(&rt, rt.alloc(), rows, answers);
 }
 
-/// What a command answers on an empty repository of the prefix `/repo`: a URI, and components after
-/// it in hexadecimal; the word `digest` stands for a digest of zeros.
+/// Shows the reply to a command on an empty repository with the prefix `/repo`. The name is given
+/// as a URI and the values of further components in hexadecimal. The word `digest` stands for a
+/// digest of zeros.
 fn first_answer(alloc: Global, text: &str) -> Option<String> {
     let name = name_in(alloc, text)?;
     answered(alloc, &mut empty_repo(alloc)?, name.view(), 1000000)
@@ -223,7 +226,7 @@ fn repository_commands(rt: HostRuntime) {
     check_rows(&rt, rt.alloc(), rows, first_answer);
 }
 
-/// The first of each field counts, and unknown elements are ignored.
+/// The first field of each type counts, and unknown elements are ignored.
 #[test]
 fn the_first_of_each_field_counts(rt: HostRuntime) {
     let rows = "
@@ -233,7 +236,7 @@ fn the_first_of_each_field_counts(rt: HostRuntime) {
     check_rows(&rt, rt.alloc(), rows, first_answer);
 }
 
-/// Fields of a wrong form in every verb, and parameters that are cut short.
+/// Fields with a wrong form in commands of every verb, and truncated parameters.
 #[test]
 fn fields_of_a_wrong_form(rt: HostRuntime) {
     let rows = "
@@ -253,7 +256,7 @@ fn fields_of_a_wrong_form(rt: HostRuntime) {
     check_rows(&rt, rt.alloc(), rows, first_answer);
 }
 
-/// A command has a verb, parameters of the type 201, and the digest last.
+/// A command has a verb, a parameters element of type 201, and a digest as its last component.
 #[test]
 fn names_of_another_shape(rt: HostRuntime) {
     let rows = "
@@ -271,7 +274,7 @@ fn names_of_another_shape(rt: HostRuntime) {
     check_rows(&rt, rt.alloc(), rows, first_answer);
 }
 
-/// A reply: a status, its text and a count.
+/// Encodes a reply, given as its status, its text and a count.
 fn reply_written(alloc: Global, row: &str) -> Option<String> {
     let (status, count) = row.split_once(' ')?;
     let status = status.parse().ok()?;
@@ -308,7 +311,7 @@ fn verb_in(repo: &Repo, name: Name<'_>) -> &'static str {
     }
 }
 
-/// The verb of a name, in a repository of the prefix `/repo`.
+/// Returns the verb of a name, for a repository with the prefix `/repo`.
 fn verb_shown(alloc: Global, uri: &str) -> Option<String> {
     let name = NameBuf::from_uri(alloc, uri).ok()?;
     String::from_str(alloc, verb_in(&empty_repo(alloc)?, name.view())).ok()
@@ -330,14 +333,14 @@ fn repository_verbs(rt: HostRuntime) {
     check_rows(&rt, rt.alloc(), rows, verb_shown);
 }
 
-/// Gives a command on `/N` and answers its status.
+/// Applies a command about `/N`, where N is `number`, and returns its status.
 fn status_of(alloc: Global, repo: &mut Repo, verb: &str, number: usize) -> Option<u16> {
     let uri = format!(in alloc; "/{number}").ok()?;
     let name = command_on(alloc, verb, &uri, None)?;
     Some(repo.command(name.view(), 0).ok()?.status)
 }
 
-/// Whether 64 wants fit, no other does, and an equal one does.
+/// Returns whether 64 wants fit, a new want is then refused, and an equal want is accepted.
 fn limits_wants(alloc: Global, repo: &mut Repo) -> Option<bool> {
     for number in 0..64 {
         if status_of(alloc, repo, "insert", number)? != 100 {
@@ -361,7 +364,8 @@ fn sixty_four_wants(rt: HostRuntime) {
     assert!(rt; wants_are_limited(rt.alloc()) == Some(true));
 }
 
-/// Calls on an empty repository, with an insert and a check of `/A` and a Data of that name.
+/// Makes calls on an empty repository, with the names of an insert and of a check for `/A`, and a
+/// Data with that name.
 fn played<F: Fn(&mut Repo, Name<'_>, Name<'_>, &Data<'_>) -> Option<bool>>(
     alloc: Global,
     play: &F,
@@ -388,8 +392,8 @@ fn played_on<F: Fn(&mut Repo, Name<'_>, Name<'_>, &Data<'_>) -> Option<bool>>(
     }
 }
 
-/// Whether a command and an offer answer as prepared, or say that memory was refused, and a refusal
-/// changes nothing.
+/// Returns whether a prepared command and a prepared offer do not run out of memory, and running
+/// out of memory changes nothing.
 fn keeps_its_promises(
     repo: &mut Repo,
     insert: Name<'_>,
@@ -411,8 +415,8 @@ fn keeps_its_promises(
     }
 }
 
-/// Whether an insert and an offer that nothing prepares have their effects, or none where memory is
-/// refused.
+/// Returns whether an insert and an offer that were not prepared have their effects, or have no
+/// effect if memory runs out.
 fn has_effects_or_none(
     repo: &mut Repo,
     insert: Name<'_>,
@@ -431,7 +435,7 @@ fn has_effects_or_none(
     })
 }
 
-/// Whether a reply for which there is no memory leaves what stood before it.
+/// Returns whether a reply for which memory runs out leaves the buffer unchanged.
 fn replies_or_leaves(alloc: Global) -> Option<bool> {
     let mut out = Vec::new(alloc);
     out.push(7).ok()?;

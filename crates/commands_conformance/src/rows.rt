@@ -1,10 +1,11 @@
-//! Tests of rows: a row that is wrong ends the test.
+//! Helpers for tests that are written as rows. A wrong row ends the test.
 
 use std::alloc::Global;
 use std::process::Abort;
 use test_support::first_misshown;
 
-/// Fails at the first row whose input is shown as another text, and where there is no row.
+/// Fails at the first row whose input is shown differently than the row says. Also fails if there
+/// are no rows.
 pub fn check_rows(
     rt: &impl Abort,
     alloc: Global,

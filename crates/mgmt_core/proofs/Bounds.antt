@@ -1,4 +1,4 @@
--- How long replies are at most.
+-- Bounds on the length of replies.
 use Rattle.std.proofs.Common.{◌≡◌, ℕ, ◌+◌, ◌<◌, ◌≤◌, Bool, true, false, cond, List, [], ◌∷◌, ◌++◌, length, subst, arith, eqb}
 use Rattle.std.specs.Prelude.{Option, Some, None, find}
 use Rattle.std.specs.List.{AllByRecursion}
@@ -21,11 +21,11 @@ use Rattle.ndn_tlv.specs.Writing.{number, octets, optional}
 use Rattle.mgmt_core.specs.Writing.{body_after, reply_body, response, strategy_value}
 use Rattle.ndn_tlv.proofs.Lengths.{length-element, element_fits, number_fits}
 
--- a number that is there, before other fields
+-- a number field in front of other fields adds at most 10 octets
 and_one : (kind n : ℕ) (rest : List Field) → kind < 253 → length (octets ((kind, shortest_nni n) ∷ rest)) ≤ 10 + length (octets rest)
 and_one kind n rest lt = omega (arith, number_fits kind n lt, length-append (element (kind, shortest_nni n)) (octets rest))
 
--- a last number that may be there
+-- an optional number field at the end has at most 10 octets
 last_one : (kind : ℕ) (o : Option ℕ) → kind < 253 → length (octets (number kind o ++ [])) ≤ 10
 last_one kind None lt = omega arith
 last_one kind (Some n) lt = let le = and_one kind n [] lt in omega (arith, le)
@@ -35,7 +35,7 @@ unfolding spelling
 strategy_len BestRoute = omega arith
 strategy_len Multicast = omega arith
 
--- the fields after the name, of a command that has this action
+-- the fields after the name, for a command with this action
 abbrev other_fields : Action → PlainCommand → ℕ → List Field
 other_fields a c face =
     number FACE_ID (cond (takes FACE_ID (row_of a)) (Some (face_of c face)) None)

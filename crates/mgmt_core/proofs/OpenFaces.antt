@@ -1,4 +1,4 @@
--- A rising list of faces within another is no longer.
+-- A rising list of faces that is contained in another list is not longer.
 use Rattle.std.proofs.Common.{◌≡◌, ℕ, ◌<◌, ◌≤◌, true, List, [], ◌∷◌, length, sym, subst, inl, inr, arith}
 use Rattle.std.specs.Prelude.{◌⊎◌}
 use Rattle.std.specs.List.{AllByRecursion}
@@ -11,7 +11,7 @@ use Rattle.mgmt_core.specs.Tables.{AllAreUp}
 abbrev pub AreIn : List ℕ → List ℕ → Type 0
 AreIn xs ys = AllByRecursion (λ f. has_face f ys ≡ true) xs
 
--- a face above the first one of a list is in the rest
+-- a face greater than the first face of a list is among the other faces
 in_rest : (x y : ℕ) (ys : List ℕ) → y < x → has_face x (y ∷ ys) ≡ true → has_face x ys ≡ true
 in_rest x y ys lt h = grind (arith, h)
 
@@ -21,7 +21,7 @@ all_in_rest x y (z ∷ xs) ys lt above h =
     let first = above.0 in
     (in_rest z y ys (omega (arith, first)) h.0, all_in_rest x y xs ys lt above.1 h.1)
 
--- the rest of both, where they begin alike
+-- two lists with the same first face: the other faces of the first are among those of the second
 same_first : (x : ℕ) (xs ys : List ℕ) → AllByRecursion (λ m. x < m) xs → AreIn xs (x ∷ ys) → AreIn xs ys
 same_first x [] ys above h = tt
 same_first x (z ∷ xs) ys above h = (in_rest z x ys above.0 h.0, same_first x xs ys above.1 h.1)
@@ -62,7 +62,7 @@ no_longer (x ∷ xs) (y ∷ ys) rx ry h =
           omega (arith, le)
     ]
 
--- where each face that has a next hop or a route is up, there is room for one that is up
+-- if each face that has a next hop or a route is up, the table has room for a face that is up
 pub has_room : (routes : Routes) (face : ℕ) (up : List ℕ) → length up ≤ 64 → IsRising up → has_face face up ≡ true → AllAreUp routes up → HasRoomFor routes face
 has_room routes face up small rising there all faces rises each =
     let le = no_longer faces up rises rising (are_in faces each) in

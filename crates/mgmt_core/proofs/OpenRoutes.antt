@@ -1,4 +1,4 @@
--- What commands do to the faces that have next hops and routes.
+-- The effects of commands on the faces that have next hops and routes.
 use Rattle.std.proofs.Common.{◌≡◌, ℕ, Bool, List, [], ◌∷◌, true, false, cond, sym, ap, subst, refl, inl, inr, Option, None, Some, unwrap_or, eqb, arith, ◌∙◌}
 use Rattle.std.proofs.lemmas.Bool.Decides.{nat_tests}
 use Rattle.std.proofs.lemmas.Cmp.{nat_cmp_total}
@@ -22,17 +22,17 @@ use Rattle.mgmt_core.specs.Reading.{PlainCommand}
 use Rattle.mgmt_core.specs.Tables.{AllAreUp, face_of, first_status, if_done, key_of, refuses, route_asked, routes_after, status_of}
 use Rattle.pit_fib.specs.StrategyTable.{Choices}
 
--- an entry has a next hop or a route on this face
+-- the entry has a next hop or a route on this face
 abbrev pub Leads : Entry → ℕ → Type 0
 Leads e face =
     IsSome (map.get e.hops face)
     ⊎ ((origin : ℕ) × IsSome (map.get e.registered (record { face = face; origin = origin })))
 
--- the faces of an entry are up
+-- all faces of the entry are up
 abbrev pub AreUp : Entry → List ℕ → Type 0
 AreUp e up = (face : ℕ) → Leads e face → has_face face up ≡ true
 
--- the same of an entry that may not be there
+-- all faces of the entry are up, if there is an entry
 abbrev AreUpIn : Option Entry → List ℕ → Type 0
 AreUpIn o up = AreUp (unwrap_or o no_entry) up
 
@@ -48,7 +48,7 @@ entry_up routes up all n = λ face leads. all face (n, leads)
 entries_up : (routes : Routes) (up : List ℕ) → ((n : List Field) → AreUp (entry_at routes n) up) → AllAreUp routes up
 entries_up routes up each = λ face w. each w.0 face w.1
 
--- a value that is there, after one is put or taken
+-- whether a value is present after one was put or removed
 module _ {X A : Type 0} where
   none_there : (o : Option X) → o ≡ None → IsSome o → A
   none_there o e some = absurd cc
@@ -143,7 +143,7 @@ module _ (up : List ℕ) where
   not_refused true e = refl
   not_refused false e = absurd cc
 
-  -- a hop or a route is added only where its face is up
+  -- a next hop or a route is added only if its face is up
   if_added : (too_long not_open full : Bool) (after before : Routes) → (not_open ≡ false → AllAreUp after up) → AllAreUp before up
       → AllAreUp (if_done (cond too_long 414 (cond not_open 410 (cond full 503 200))) after before) up
   if_added true not_open full after before done left = left
@@ -180,7 +180,7 @@ module _ (up : List ℕ) where
 
 -- ---- closings and expiry
 
--- a change of each entry
+-- a change that is applied to each entry
 module _ (up rest : List ℕ) (change : Entry → Option Entry) (each : (e : Entry) → AreUp e up → AreUpIn (change e) rest) where
   entry_changed : (o : Option Entry) → AreUpIn o up → AreUpIn (option_and_then change o) rest
   entry_changed None all = no_entry_up rest
@@ -243,7 +243,7 @@ either : (a b c : Bool) → (b ≡ true → c ≡ true) → (a || b) ≡ true �
 either true b c f e = refl
 either false b c f e = f e
 
--- the others stay where one is added
+-- the other faces stay up after a face is added
 still_there : (f face : ℕ) (up : List ℕ) → has_face f up ≡ true → has_face f (with_face face up) ≡ true
 still_there f face [] e = absurd cc
 still_there f face (g ∷ up) e = placed (nat_lt face g) (λ rest. still_there f face up rest)

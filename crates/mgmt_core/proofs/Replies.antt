@@ -1,4 +1,4 @@
--- The reply from the face of the greatest number is the longest.
+-- The reply is longest for the greatest face id.
 use Rattle.std.proofs.Common.{◌≡◌, ℕ, ◌+◌, ◌-◌, ◌<◌, ◌≤◌, ◌^◌, Bool, true, false, List, [], ◌∷◌, ◌++◌, length, refl, sym, ap, ◌∙◌, append_assoc, arith}
 use Rattle.std.specs.Prelude.{Some, None, nat_eq, if◌then◌else◌}
 use Rattle.std.proofs.lemmas.List.{length-append}
@@ -42,11 +42,11 @@ number_fits true asked face = by_face (nat_eq asked 0)
     by_face true = omega (arith, face_fits face, length-append (element (105, shortest_nni face)) [], length-append (element (105, shortest_nni greatest)) [])
     by_face false = omega arith
 
--- what does not depend on the face
+-- the fields that do not depend on the face
 abbrev other_fields : PlainCommand → List Field
 other_fields c = number ORIGIN (given c ORIGIN (Some c.origin)) ++ given_fields c
 
--- the fields in two parts
+-- the fields of a reply are its first fields and its other fields
 pub in_two_parts : (c : PlainCommand) (face : ℕ) → octets (reply_fields c face) ≡ octets (about_fields c face) ++ octets (given_fields c)
 in_two_parts c face =
     let name : List Field = (NAME, octets_of c.name) ∷ [] in

@@ -33,7 +33,7 @@ same_octets octets name s is =
     sym (is_eq-slice_cmp octets (octets_of (strategy_name s)))
     ∙ ap is_eq (values_cmp octets (octets_of (strategy_name s)) name (strategy_name s) is (strategy_is_name s))
 
--- a Name's element begins with its type and its length
+-- a Name element begins with its type and its length
 pub value_begins : (s : StrategyId) → drop 2 (strategy_value s) ≡ octets_of (strategy_name s)
 unfolding spelling
 value_begins BestRoute = refl

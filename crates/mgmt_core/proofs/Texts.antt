@@ -5,7 +5,7 @@ use Rattle.std.proofs.lemmas.List.{take_all}
 use Rattle.std.proofs.lemmas.Bool.{cases_lt}
 use Rattle.mgmt_core.specs.Writing.{segment_at}
 
--- there is an item at each place of a list
+-- a list has an item at each index below its length
 pub never_absent : {X : Type 0} (xs : List X) (at : ℕ) → at < length xs → slice_get xs at ≡ None → Unit {0} → at < at
 never_absent [] at lt is u = omega arith
 never_absent (x ∷ xs) zero lt is u = absurd cc
@@ -24,7 +24,7 @@ segment_is text k last rest at_last le is =
     ap (λ (t : List ℕ). Some (t, last)) (take_min 4096 rest ∙ ap (take 4096) is)
     ∙ grind (arith, at_last, le)
 
--- one more of a list's texts
+-- the texts of the first items, with the text of one more item
 pub texts_and_one : {X : Type 0} (text_of : X → List ℕ) (xs : List X) (at : ℕ) (x : X) → slice_get xs at ≡ Some x
     → flat_map text_of (take at xs) ++ text_of x ≡ flat_map text_of (take (at + 1) xs)
 texts_and_one text_of [] at x is = absurd cc

@@ -1,4 +1,4 @@
--- A segment of a text that is kept while the text is written.
+-- One segment of a text, kept while the text is written.
 use Rattle.std.proofs.Common.{◌≡◌, ℕ, zero, suc, ◌+◌, ◌-◌, ◌≤◌, List, [], ◌∷◌, ◌++◌, length, take, drop, length-append, refl, sym, ap, ◌∙◌, append_assoc, append-nil, arith, inl, inr}
 use Rattle.std.proofs.Math.Seq.{take-append-add}
 use Rattle.std.proofs.lemmas.Bool.{cases_lt}
@@ -26,11 +26,11 @@ take_begun zero xs ys = refl
 take_begun (suc n) [] ys = refl
 take_begun (suc n) (x ∷ xs) ys = ap (λ l. x ∷ l) (take_begun n xs ys)
 
--- nothing is kept of a text without octets
+-- the segment of an empty text is empty
 pub nothing_kept : (from : ℕ) → ◌≡◌ {A = Kept} (record { from = from; len = 0; segment = [] }) (kept_of from [])
 nothing_kept from = λ i. record { from = from; len = 0; segment = ap (take 4096) (sym (drop_past from [] (omega arith))) i }
 
--- ---- what one call appends
+-- ---- the octets that one call appends
 
 drop_min : (n : ℕ) (xs : List ℕ) → drop (min n (length xs)) xs ≡ drop n xs
 drop_min n xs =
@@ -69,11 +69,11 @@ module _ {X : Type 0} (entry : List ℕ → X → List ℕ) (from : ℕ) where
       ∙ written (text ++ one) es
       ∙ ap (kept_of from) (append_assoc text one (flat_map (λ (e : List Field × X). entry (octets_of e.0) e.1) es))
 
-  -- of the entries' text the segment is kept
+  -- the segment of all entries is kept
   pub all_written : (es : List (List Field × X)) → shown_each (λ k name x. with_more k (entry name x)) (kept_of from []) es ≡ kept_of from (flat_map (λ e. entry (octets_of e.0) e.1) es)
   all_written es = written [] es
 
--- the entries' text is written
+-- the text of all entries is written
 pub text_written : {X : Type 0} (entry : List ℕ → X → List ℕ) (text : List ℕ) (es : List (List Field × X))
     → shown_each (λ t name x. t ++ entry name x) text es ≡ text ++ flat_map (λ e. entry (octets_of e.0) e.1) es
 text_written entry text [] = sym (append-nil text)

@@ -1,5 +1,5 @@
 -- The commands, one row for each (NFD Management, "FIB Management", "RIB Management", "Strategy
--- Choice Management", "Content Store Management"). Statuses and texts are this profile's.
+-- Choice Management", "Content Store Management"). The statuses and their texts are defined here.
 use Rattle.std.specs.Prelude.{ℕ, List, [], ◌∷◌, Bool, true, false, ◌==◌, ◌&&◌, ◌||◌, Option, codes, find, bytes_eq}
 use Rattle.std.specs.Option.{option_map}
 use Rattle.std.specs.List.{list_any}
@@ -9,7 +9,7 @@ use Rattle.ndn_packets.specs.declared.command_types.TheConstants.{FACE_ID, COST,
 use Rattle.ndn_packets.specs.declared.types.TheConstants.{NAME}
 use Rattle.mgmt_core.specs.declared.types.TheConstants.{OK, BAD_PARAMETERS, UNKNOWN_STRATEGY, FACE_NOT_OPEN, PREFIX_TOO_LONG, UNKNOWN_COMMAND, TABLE_FULL}
 
--- why a command that is well formed may be refused
+-- the reasons to refuse a well-formed command
 pub data Refusal : Type 0 where
   PrefixTooLong : Refusal
   FaceNotOpen : Refusal
@@ -19,12 +19,12 @@ pub data Refusal : Type 0 where
 pub record Row : Type 0 where
   pub part : List ℕ
   pub verb : List ℕ
-  -- the types of the fields that it has to have, and of those that it may have
+  -- the types of the required fields and of the optional fields
   pub needs : List ℕ
   pub uses : List ℕ
   -- whether the name may be `/`
   pub takes_root : Bool
-  -- the reasons to reject it, in the order in which they are tested
+  -- the reasons to refuse the command, in the order in which they are tested
   pub refusals : List Refusal
 
 abbrev pub row_of : Action → Row
@@ -94,7 +94,7 @@ abbrev pub is_named : List ℕ → List ℕ → Action → Bool
 is_named part verb action =
     bytes_eq part (row_of action).part && bytes_eq verb (row_of action).verb
 
--- the command of this module and verb
+-- the action that the module and the verb name
 abbrev pub action_named : List ℕ → List ℕ → Option Action
 action_named part verb = find (is_named part verb) actions
 
@@ -106,7 +106,7 @@ parameter_fields =
 abbrev pub has : ℕ → List ℕ → Bool
 has kind kinds = list_any (λ k. kind == k) kinds
 
--- whether a command needs or uses the field of this type
+-- the command needs or uses fields of this type
 abbrev pub takes : ℕ → Row → Bool
 takes kind row = has kind row.needs || has kind row.uses
 
@@ -118,6 +118,6 @@ texts =
     ∷ (PREFIX_TOO_LONG, codes "prefix too long") ∷ (UNKNOWN_COMMAND, codes "unknown command")
     ∷ (TABLE_FULL, codes "table full") ∷ []
 
--- the text of a status; None where no command is answered with it
+-- the text of a status, or None if no command is answered with this status
 abbrev pub text_of : ℕ → Option (List ℕ)
 text_of status = option_map (λ row. row.1) (find (λ row. status == row.0) texts)

@@ -1,6 +1,5 @@
--- Reading a command's name (NFD Management, "Control Command"): the components after
--- `/localhost/nfd` are the module, the verb and the parameters, and there may be the digest after
--- them.
+-- Reading a command's name (NFD Management, "Control Command"): `/localhost/nfd`, the module, the
+-- verb, the parameters, and optionally a digest component.
 use Rattle.std.specs.Prelude.{ℕ, ◌-◌, List, [], ◌∷◌, length, take, Bool, true, false, not, is_some, nat_lt, ◌==◌, ◌&&◌, Option, None, Some, Result, Ok, Err, unwrap_or, slice_get, codes, bytes_eq, if◌then◌else◌}
 use Rattle.std.specs.Option.{option_map}
 use Rattle.std.specs.List.{list_all}
@@ -19,7 +18,7 @@ use Rattle.ndn_packets.specs.declared.types.TheConstants.{NAME}
 use Rattle.mgmt_core.specs.declared.types.TheConstants.{BAD_PARAMETERS, UNKNOWN_COMMAND}
 use Rattle.mgmt_core.specs.Commands.{Row, row_of, action_named, has, parameter_fields, takes}
 
--- the parameters of a command; face 0 is the face that it came from
+-- a command with its parameters; face 0 stands for the face that the command came from
 pub record PlainCommand : Type 0 where
   pub action : Action
   pub name : List Field
@@ -27,12 +26,12 @@ pub record PlainCommand : Type 0 where
   pub origin : ℕ
   pub cost : ℕ
   pub flags : ℕ
-  -- for how long a route is registered, in milliseconds
+  -- the lifetime of the route in milliseconds
   pub expires : Option ℕ
   pub strategy : Option (List Field)
   pub count : Option ℕ
 
--- a command without where its names lie in memory
+-- the plain data of a command
 abbrev pub asked : Command → PlainCommand
 asked c = record {
   action = c.action;
@@ -48,7 +47,7 @@ asked c = record {
 
 -- ---- fields
 
--- it can be read, and is no field that the command does not take
+-- the element can be read, and it is not a field that the command does not take
 abbrev pub fits : Row → Result Field TlvFault → Bool
 fits row (Ok e) = not (has e.0 parameter_fields && not (takes e.0 row))
 fits row (Err fault) = false
@@ -56,7 +55,7 @@ fits row (Err fault) = false
 abbrev pub number_of : List ℕ → Option ℕ
 number_of value = on_result (λ n. Some n) (λ _. None) (nni_at value)
 
--- a field that may be absent; None where its form is wrong
+-- an optional field, or None if its form is wrong
 abbrev pub optional_of : {X : Type 0} → (List ℕ → Option X) → Option (List ℕ) → Option (Option X)
 optional_of form None = Some None
 optional_of form (Some value) = option_map (λ x. Some x) (form value)
@@ -67,14 +66,14 @@ number_in kind es = optional_of number_of (first_of kind es)
 abbrev pub name_in : Elements → Option (List Field)
 name_in es = first_of NAME es >>= name_of
 
--- a Strategy has one Name
+-- a Strategy field contains one Name
 abbrev pub strategy_in : Elements → Option (Option (List Field))
 strategy_in es =
     optional_of (λ value. single NAME (elements_of value) >>= name_of) (first_of STRATEGY es)
 
 -- ---- commands
 
--- the flags of a route where none are given
+-- the default flags of a route
 abbrev pub child_inherit : ℕ
 child_inherit = 1
 
@@ -82,7 +81,7 @@ abbrev pub is_root : List Field → Bool
 is_root [] = true
 is_root (c ∷ cs) = false
 
--- the command of these parameters; None where they are not its own
+-- the command with these parameters, or None if they are not valid for the action
 unfoldable pub command_of : Action → Elements → Option PlainCommand
 command_of action es =
     let row = row_of action in
@@ -108,7 +107,7 @@ command_of action es =
         count = count;
       }))
 
--- the name, without its last component where that has this type
+-- the last component has type `kind`
 abbrev pub last_is : ℕ → Option Field → Bool
 last_is kind None = false
 last_is kind (Some c) = c.0 == kind
@@ -118,7 +117,7 @@ without_last kind cs =
     let front = length cs - 1 in
     if last_is kind (slice_get cs front) then take front cs else cs
 
--- the octets of a GenericNameComponent
+-- the value of a GenericNameComponent
 abbrev pub generic_value : Option Field → Option (List ℕ)
 generic_value None = None
 generic_value (Some c) = if c.0 == GENERIC then Some c.1 else None
@@ -136,14 +135,14 @@ action_at cs = do
   if bytes_eq localhost (codes "localhost") && bytes_eq nfd (codes "nfd")
       then action_named part verb else None
 
--- the parameters are one element in the fifth component
+-- the command whose parameters are one element in the fifth component
 unfoldable pub parameters_at : Action → List Field → Option PlainCommand
 parameters_at action cs = do
   value ← generic_at cs 4
   parameters ← single CONTROL_PARAMETERS (elements_of value)
   command_of action (elements_of parameters)
 
--- a command, or the first status that rejects it
+-- a value, or this status if there is no value
 abbrev pub or_status : {X : Type 0} → ℕ → Option X → Result X ℕ
 or_status status None = Err status
 or_status status (Some x) = Ok x

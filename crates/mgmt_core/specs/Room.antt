@@ -1,4 +1,4 @@
--- What is prepared for a command.
+-- The memory that is prepared for a command.
 use Rattle.std.specs.Prelude.{◌≡◌, ℕ, ◌<◌, ◌≤◌, ◌^◌, ◌⊎◌, Option, None, Some, length, vec_capacity}
 use Rattle.mgmt_core.specs.declared.action.Action.TheVariants.{AddNexthop, Register, SetStrategy}
 use Rattle.mgmt_core.specs.declared.reply_body.ReplyRoom.{ReplyRoom}
@@ -7,14 +7,14 @@ use Rattle.mgmt_core.specs.Reading.{PlainCommand}
 use Rattle.ndn_tlv.specs.Writing.{octets}
 use Rattle.mgmt_core.specs.Writing.{reply_body, reply_fields}
 
--- there is room for the reply to a command, whichever face it comes from
+-- there is room for the reply to the command from any face
 abbrev pub HasRoomForReply : ReplyRoom → PlainCommand → Type 0
 HasRoomForReply room c =
     (face : ℕ) → face < 2 ^ 64
     → (length (octets (reply_fields c face)) ≤ vec_capacity room.fields)
     × (length (reply_body c face) ≤ vec_capacity room.body)
 
--- the table that the command may enlarge is prepared for its name
+-- the table that the command may enlarge is prepared for the command's name
 abbrev pub IsCallPrepared : Tables → PlainCommand → Type 0
 IsCallPrepared t c =
     elim c.action [
@@ -24,10 +24,10 @@ IsCallPrepared t c =
       | _ ↦ Unit {0}
     ]
 
--- the command is prepared; what only removes from the tables leaves it so
+-- the command is prepared; removals from the tables keep it prepared
 abbrev pub IsPrepared : Tables → PlainCommand → Type 0
 IsPrepared t c = HasRoomForReply t.room c × IsCallPrepared t c
 
--- what was prepared is so still, or nothing is
+-- the preparation is unchanged or has ended
 abbrev pub IsKeptOrEnded : {X : Type 0} → Option X → Option X → Type 0
 IsKeptOrEnded before after = (after ≡ before) ⊎ (after ≡ None)

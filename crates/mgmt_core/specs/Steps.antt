@@ -1,4 +1,4 @@
--- The statuses of the commands that enlarge a table, and the parts of a reply's fields, for private
+-- The statuses of commands that enlarge a table, and the parts of a reply's fields, for private
 -- contracts.
 use Rattle.std.specs.Prelude.{ℕ, List, ◌∷◌, ◌++◌, length, not, nat_lt, Option, None, Some, if◌then◌else◌}
 use Rattle.std.specs.Option.{option_map}
@@ -40,14 +40,14 @@ set_status name (Some strategy) choices =
     if is_full choices name then TABLE_FULL else
     OK)
 
--- the fields of a reply that name what a command is about
+-- the first fields of a reply: Name, FaceId and Origin
 abbrev pub about_fields : PlainCommand → ℕ → List Field
 about_fields c face =
     (NAME, octets_of c.name)
     ∷ (number FACE_ID (given c FACE_ID (Some (face_of c face)))
     ++ number ORIGIN (given c ORIGIN (Some c.origin)))
 
--- and the others
+-- the other fields of a reply
 abbrev pub given_fields : PlainCommand → List Field
 given_fields c =
     number COST (given c COST (Some c.cost))

@@ -1,4 +1,4 @@
--- What commands do to the tables, and which are refused (NFD Management, "FIB Management", "RIB
+-- The effects of commands on the tables, and their refusals (NFD Management, "FIB Management", "RIB
 -- Management", "Strategy Choice Management", "Content Store Management").
 use Rattle.std.specs.Prelude.{◌≡◌, ℕ, ◌+◌, ◌-◌, ◌^◌, min, List, [], ◌∷◌, length, Bool, true, not, is_none, nat_lt, nat_le, ◌==◌, ◌&&◌, Option, None, Some, find, codes, if◌then◌else◌}
 use Rattle.std.specs.FinMap as map
@@ -40,7 +40,7 @@ strategy_name strategy =
 abbrev pub is_strategy : List Field → StrategyId → Bool
 is_strategy name strategy = eq_by_cmp name_cmp name (strategy_name strategy)
 
--- the strategy of a name, which may have a Version component after it
+-- the strategy with this name; a Version component may follow the strategy's name
 abbrev pub strategy_named : List Field → Option StrategyId
 strategy_named name = find (is_strategy (without_last VERSION name)) (BestRoute ∷ Multicast ∷ [])
 
@@ -49,19 +49,19 @@ strategy_asked c = c.strategy >>= strategy_named
 
 -- ---- routes
 
--- the face that a command from this face applies to
+-- the face that the command applies to, if it came from this face
 abbrev pub face_of : PlainCommand → ℕ → ℕ
 face_of c face = if c.face == 0 then face else c.face
 
--- the face and the origin of the route that it is about
+-- the face and the origin of the command's route
 abbrev pub key_of : PlainCommand → ℕ → RouteKey
 key_of c face = record { face = face_of c face; origin = c.origin }
 
--- when a route of this period ends, if it has one; the greatest number is the last moment
+-- the time when a route with this lifetime expires, at most 2^64 - 1
 abbrev pub deadline_of : ℕ → Option ℕ → Option ℕ
 deadline_of now expires = option_map (λ period. min (now + period) (2 ^ 64 - 1)) expires
 
--- the route that it registers at a moment
+-- the route that the command registers at `now`
 abbrev pub route_asked : PlainCommand → ℕ → Route
 route_asked c now = record {
   cost = c.cost;
@@ -69,13 +69,13 @@ route_asked c now = record {
   deadline = deadline_of now c.expires;
 }
 
--- ---- what refuses a command
+-- ---- refusals
 
--- the name is new, and the table has 4,096
+-- the name is new, and the table has 4,096 names
 abbrev pub is_full : {X : Type 0} → ByName X → List Field → Bool
 is_full table name = not (map.contains_key table name) && nat_le MAX_ENTRIES (map.len table)
 
--- the table that a command enlarges, from this face, has no room for what it adds
+-- the table that the command enlarges has no room for the new name or route
 abbrev pub is_full_for : PlainCommand → ℕ → Routes → Choices → Bool
 is_full_for c face routes choices =
     elim c.action [
@@ -96,12 +96,12 @@ code_of FaceNotOpen = FACE_NOT_OPEN
 code_of UnknownStrategy = UNKNOWN_STRATEGY
 code_of TableFull = TABLE_FULL
 
--- the code of the first of these that refuses
+-- the code of the first refusal in the list that applies, otherwise OK
 abbrev pub first_status : (Refusal → Bool) → List Refusal → ℕ
 first_status refused [] = OK
 first_status refused (r ∷ rs) = if refused r then code_of r else first_status refused rs
 
--- the status of a command from a face, while these faces are up
+-- the status of a command that came from `face`, while the faces `up` are up
 abbrev pub status_of : PlainCommand → ℕ → List ℕ → Routes → Choices → ℕ
 status_of c face up routes choices =
     first_status (refuses c face up routes choices) (row_of c.action).refusals
@@ -110,9 +110,9 @@ status_of c face up routes choices =
 abbrev pub AllAreUp : Routes → List ℕ → Type 0
 AllAreUp routes up = (face : ℕ) → LeadsTo routes face → has_face face up ≡ true
 
--- ---- what a command does
+-- ---- the effects of commands
 
--- what a command from a face does at a moment
+-- the routes after a command that came from `face` at `now`
 abbrev pub routes_after : PlainCommand → ℕ → ℕ → Routes → Routes
 routes_after c face now routes =
     elim c.action [
@@ -142,6 +142,6 @@ CachedAfter c before after =
       | _ ↦ after ≡ before
     ]
 
--- what a command leaves: its effect where the status is 200, and else what was there
+-- `after` if the status is 200, otherwise `before`
 abbrev pub if_done : {X : Type 0} → ℕ → X → X → X
 if_done status after before = if status == OK then after else before

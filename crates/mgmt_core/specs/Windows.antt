@@ -1,4 +1,5 @@
--- A segment of a text that is stored while the text is written, for private contracts.
+-- One segment of a text, for private contracts. Only the segment is stored while the text is
+-- written.
 use Rattle.std.specs.Prelude.{ℕ, ◌+◌, ◌-◌, ◌*◌, ◌^◌, List, [], ◌∷◌, ◌++◌, length, take, drop, flat_map, min}
 use Rattle.ndn_tlv.specs.Element.{element}
 use Rattle.ndn_tlv.specs.Writing.{octets}
@@ -10,14 +11,14 @@ use Rattle.mgmt_core.specs.declared.dataset.TheConstants.{SEGMENT_LEN}
 use Rattle.mgmt_core.specs.Writing.{hop_text, strategy_value}
 
 pub record Kept : Type 0 where
-  -- the octets of the text before the segment
+  -- the number of octets before the segment
   pub from : ℕ
-  -- the octets of the text so far
+  -- the number of octets written, including those outside the segment
   pub len : ℕ
-  -- the segment so far
+  -- the octets of the segment that are written
   pub segment : List ℕ
 
--- of a text the segment that begins after this many octets
+-- the state after the whole text was written, for a segment that begins after `from` octets
 abbrev pub kept_of : ℕ → List ℕ → Kept
 kept_of from text =
     record {
@@ -26,7 +27,7 @@ kept_of from text =
       segment = take SEGMENT_LEN (drop from text);
     }
 
--- with more of the text
+-- the state after more octets of the text
 abbrev pub with_more : Kept → List ℕ → Kept
 with_more k more =
     record {
@@ -35,27 +36,27 @@ with_more k more =
       segment = take SEGMENT_LEN (k.segment ++ drop (k.from - k.len) more);
     }
 
--- the octets before a segment, where a text can be so long
+-- the number of octets before the segment with this number, at most 2^64 - 1
 abbrev pub start_of : ℕ → ℕ
 start_of number = min (number * SEGMENT_LEN) (2 ^ 64 - 1)
 
--- an entry of the list of routes, by the octets of its name
+-- an entry of the dataset of routes, from the encoded name
 abbrev pub route_octets : List ℕ → List Hop → List ℕ
 route_octets name hops = element (ENTRY, element (NAME, name) ++ flat_map hop_text hops)
 
--- an entry of the list of strategies, by the octets of its name
+-- an entry of the dataset of strategies, from the encoded name
 abbrev pub choice_octets : List ℕ → StrategyId → List ℕ
 choice_octets name strategy =
     element (ENTRY, octets ((NAME, name) ∷ (STRATEGY, strategy_value strategy) ∷ []))
 
--- with an entry more
+-- the state after one more entry
 abbrev pub with_route : Kept → List ℕ → List Hop → Kept
 with_route k name hops = with_more k (route_octets name hops)
 
 abbrev pub with_choice : Kept → List ℕ → StrategyId → Kept
 with_choice k name strategy = with_more k (choice_octets name strategy)
 
--- a text with an entry more
+-- a text with one more entry
 abbrev pub text_with_route : List ℕ → List ℕ → List Hop → List ℕ
 text_with_route text name hops = text ++ route_octets name hops
 

@@ -1,4 +1,4 @@
--- The content of replies and lists (NFD Management, "Control Command", "FIB Dataset", "Strategy
+-- The content of replies and datasets (NFD Management, "Control Command", "FIB Dataset", "Strategy
 -- Choice Dataset").
 use Rattle.std.specs.Prelude.{ℕ, ◌+◌, ◌*◌, ◌-◌, ◌/◌, List, [], ◌∷◌, ◌++◌, length, take, drop, flat_map, Option, None, Some, nat_lt, ◌==◌, if◌then◌else◌}
 use Rattle.std.specs.FinMap.{entries}
@@ -21,16 +21,16 @@ use Rattle.mgmt_core.specs.Commands.{row_of, takes}
 use Rattle.mgmt_core.specs.Reading.{PlainCommand}
 use Rattle.mgmt_core.specs.Tables.{face_of, strategy_asked, strategy_name}
 
--- a strategy, as an element that is a Name
+-- the name of a strategy, encoded as a Name element
 abbrev pub strategy_value : StrategyId → List ℕ
 strategy_value strategy = element (NAME, octets_of (strategy_name strategy))
 
--- what a command gives, if it takes the field of this type
+-- the value `x` if the command takes a field of this type, otherwise None
 abbrev pub given : {X : Type 0} → PlainCommand → ℕ → Option X → Option X
 given c kind x = if takes kind (row_of c.action) then x else None
 
--- the fields of a reply to a command from this face: those that the command takes, with the face
--- that it applies to
+-- the fields of a reply to a command from this face: the fields that the command takes, with the
+-- face that the command applies to
 abbrev pub reply_fields : PlainCommand → ℕ → List Field
 reply_fields c face =
     (NAME, octets_of c.name)
@@ -42,15 +42,15 @@ reply_fields c face =
     ++ (number COUNT (given c COUNT c.count)
     ++ optional STRATEGY (option_map strategy_value (given c STRATEGY (strategy_asked c)))))))))
 
--- the body of a reply
+-- the body of a reply with status 200
 abbrev pub reply_body : PlainCommand → ℕ → List ℕ
 reply_body c face = element (CONTROL_PARAMETERS, octets (reply_fields c face))
 
--- what a command is answered with at a status: no body where it is not 200
+-- the body of a reply with this status, which is empty unless the status is 200
 abbrev pub body_after : PlainCommand → ℕ → ℕ → List ℕ
 body_after c face status = if status == OK then reply_body c face else []
 
--- a reply: the status, its text, and the body
+-- a reply with its status, its text and its body
 abbrev pub response : ℕ → List ℕ → List ℕ → List ℕ
 response status text body =
     element (
@@ -59,40 +59,40 @@ response status text body =
           ++ body,
     )
 
--- No body of a reply to a command is longer than this, and no reply to it, whatever its status.
+-- the greatest length in octets of a reply's body, and of a whole reply with any status
 abbrev pub body_limit : PlainCommand → ℕ
 body_limit c = length (octets_of c.name) + BODY_EXTRA
 
 abbrev pub reply_limit : PlainCommand → ℕ
 reply_limit c = length (octets_of c.name) + REPLY_EXTRA
 
--- a next hop in a list
+-- a next hop in the dataset of routes
 abbrev pub hop_text : Hop → List ℕ
 hop_text hop =
     let fields = (FACE_ID, shortest_nni hop.face) ∷ (COST, shortest_nni hop.cost) ∷ [] in
     element (NEXT_HOP, octets fields)
 
--- an entry of the list of routes: its name and its effective next hops
+-- an entry of the dataset of routes: its name and its effective next hops
 abbrev pub route_text : List Field × List Hop → List ℕ
 route_text entry = element (ENTRY, element (NAME, octets_of entry.0) ++ flat_map hop_text entry.1)
 
--- an entry of the list of strategies: its name and its strategy
+-- an entry of the dataset of strategies: its name and its strategy
 abbrev pub choice_text : List Field × StrategyId → List ℕ
 choice_text entry =
     element (ENTRY, octets ((NAME, octets_of entry.0) ∷ (STRATEGY, strategy_value entry.1) ∷ []))
 
--- the list of routes at a moment, and that of strategies
+-- the dataset of routes at `now`, and the dataset of strategies
 abbrev pub fib_text : ℕ → Routes → List ℕ
 fib_text now routes = flat_map route_text (listed (left_at now routes))
 
 abbrev pub strategy_text : Choices → List ℕ
 strategy_text choices = flat_map choice_text (entries choices)
 
--- the number of the last segment; a text without octets is one segment
+-- the number of the last segment; an empty text has one segment
 abbrev pub last_segment : List ℕ → ℕ
 last_segment text = (length text - 1) / SEGMENT_LEN
 
--- a segment and the number of the last one
+-- the segment with number `k`, and the number of the last segment
 abbrev pub segment_at : List ℕ → ℕ → Option (List ℕ × ℕ)
 segment_at text k =
     if nat_lt (last_segment text) k then None else

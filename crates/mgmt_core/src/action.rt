@@ -6,28 +6,28 @@ use ndn_packets::command_types::{
 };
 use ndn_packets::types::NAME;
 
-/// What a command does (NFD Management, "FIB Management", "RIB Management", "Strategy Choice
+/// The action of a command (NFD Management, "FIB Management", "RIB Management", "Strategy Choice
 /// Management", "Content Store Management").
 #[derive(Clone, Copy, Debug, PartialEq, Eq)]
 pub enum Action {
-    /// `fib/add-nexthop`: adds the next hop of a face, or sets its cost.
+    /// `fib/add-nexthop`: adds a next hop on a face, or sets the cost of the next hop.
     AddNexthop,
-    /// `fib/remove-nexthop`: removes the next hop of a face.
+    /// `fib/remove-nexthop`: removes the next hop on a face.
     RemoveNexthop,
-    /// `rib/register`: registers the route of a face and an origin, or replaces it.
+    /// `rib/register`: registers a route with a face and an origin, or replaces that route.
     Register,
-    /// `rib/unregister`: removes the route of a face and an origin.
+    /// `rib/unregister`: removes the route with a face and an origin.
     Unregister,
-    /// `strategy-choice/set`: sets the strategy of a name.
+    /// `strategy-choice/set`: sets the strategy for a name.
     SetStrategy,
-    /// `strategy-choice/unset`: removes the strategy of a name.
+    /// `strategy-choice/unset`: removes the strategy choice for a name.
     UnsetStrategy,
     /// `cs/erase`: erases Data from the cache.
     EraseCache,
 }
 
 impl Action {
-    /// Whether these two words name the action.
+    /// Returns whether the module and the verb name this action.
     fn is_named(self, module: &[u8], verb: &[u8]) -> bool
         ensures { result ≡ is_named «module».now verb.now self }
     {
@@ -50,7 +50,7 @@ impl Action {
         }
     }
 
-    /// The action of this module and verb.
+    /// Returns the action that the module and the verb name.
     pub(crate) fn named(module: &[u8], verb: &[u8]) -> Option<Action>
         ensures { result ≡ action_named «module».now verb.now }
     {
@@ -78,7 +78,7 @@ impl Action {
         None
     }
 
-    /// Whether the action needs or uses the field of this type.
+    /// Returns whether the action needs or uses fields of type `kind`.
     pub(crate) fn takes(self, kind: u32) -> bool
         ensures { result ≡ takes kind (row_of self) }
     {

@@ -14,40 +14,40 @@ use ndn_packets::command_types::{
 };
 use ndn_tlv::single_element;
 
-/// The flags of a route where none are given: longer names inherit it.
+/// The default flags of a route: child-inherit, which lets longer names inherit the route.
 const CHILD_INHERIT: u64 = 1;
 
-/// A command that is well formed (NFD Management, "Control Command").
+/// A well-formed command (NFD Management, "Control Command").
 #[derive(Clone, Copy, Debug)]
 pub struct Command<'a> {
-    /// What it does.
+    /// The action of the command.
     pub action: Action,
-    /// The name whose routes, strategy or Data it is about.
+    /// The name whose routes, strategy or cached Data the command is about.
     pub name: Name<'a>,
-    /// The face of the next hop or route: 0 for the one that the command came from.
+    /// The face of the next hop or route. 0 stands for the face that the command came from.
     pub face: u64,
-    /// The origin of the route, 0 where it is not given.
+    /// The origin of the route, or 0 if it is not given.
     pub origin: u64,
-    /// The cost of the next hop or route, 0 where it is not given.
+    /// The cost of the next hop or route, or 0 if it is not given.
     pub cost: u64,
-    /// The flags of the route: 1 is child-inherit and 2 is capture. 1 where they are not given.
+    /// The flags of the route: 1 is child-inherit and 2 is capture. 1 if no flags are given.
     pub flags: u64,
-    /// For how long the route is registered, in milliseconds; without an end where it is not given.
+    /// The lifetime of the route in milliseconds. Without it, the route does not expire.
     pub expires: Option<u64>,
-    /// The name of the strategy.
+    /// The name of the strategy, if it is given.
     pub strategy: Option<Name<'a>>,
-    /// The greatest number of Data to erase.
+    /// The greatest number of Data to erase, if it is given.
     pub count: Option<u64>,
 }
 
 impl<'a> Command<'a> {
     #[tactic(auto, unfolding(crate::specs::Reading::command_before_digest))]
-    /// Reads the name of a command, `/localhost/nfd/MODULE/VERB/PARAMETERS`, with or without the
-    /// digest component after it.
+    /// Reads the name of a command, `/localhost/nfd/MODULE/VERB/PARAMETERS`. A digest component may
+    /// follow.
     ///
-    /// Refuses it with the first status in this order: 400 for fewer than four components before
-    /// the digest, 501 for a command that does not exist, also where the name does not begin with
-    /// `/localhost/nfd`, 400 for parameters that are not its own.
+    /// Otherwise returns the first status that applies, in this order: 400 if there are fewer than
+    /// four components before the digest; 501 if the command does not exist or the name does not
+    /// begin with `/localhost/nfd`; 400 if the parameters are not valid for the command.
     pub fn read(name: Name<'a>) -> Result<Command<'a>, u16>
         ensures { on_result (λ c. Ok (asked c)) Err result ≡ command_at (components name.entry) }
     {
@@ -65,7 +65,8 @@ impl<'a> Command<'a> {
     }
 }
 
-/// The name, without its last component where that has this type.
+/// Returns the name without its last component, if that component has type `kind`. Otherwise
+/// returns the whole name.
 pub(crate) fn without_last(name: Name<'_>, kind: u16) -> Name<'_>
     ensures { components result ≡ front_of kind (components name.entry) }
 {
@@ -76,7 +77,7 @@ pub(crate) fn without_last(name: Name<'_>, kind: u16) -> Name<'_>
     }
 }
 
-/// The octets of a GenericNameComponent of the name.
+/// Returns the value of the component at index `at`, if it is a GenericNameComponent.
 fn generic_at(name: Name<'_>, at: usize) -> Option<&[u8]>
     ensures { option_map (λ v. v.now) result ≡ generic_at (components name.entry) at }
 {
@@ -87,7 +88,7 @@ fn generic_at(name: Name<'_>, at: usize) -> Option<&[u8]>
 }
 
 #[tactic(auto, unfolding(crate::specs::Reading::action_at))]
-/// The action that the first four components name.
+/// Returns the action that the first four components of the name denote.
 fn action_at(name: Name<'_>) -> Option<Action>
     ensures { result ≡ action_at (components name.entry) }
 {
@@ -102,7 +103,7 @@ fn action_at(name: Name<'_>) -> Option<Action>
 }
 
 #[tactic(auto, unfolding(crate::specs::Reading::parameters_at))]
-/// The command whose parameters are the fifth component.
+/// Returns the command whose parameters are in the fifth component of the name.
 fn command_in<'a>(action: Action, name: Name<'a>) -> Option<Command<'a>>
     ensures { option_map asked result ≡ parameters_at action (components name.entry) }
 {
@@ -112,7 +113,7 @@ fn command_in<'a>(action: Action, name: Name<'a>) -> Option<Command<'a>>
 }
 
 #[tactic(auto, unfolding(crate::specs::Reading::command_of))]
-/// The command of these parameters.
+/// Returns the command with these parameters, or `None` if they are not valid for the action.
 fn command_of(action: Action, fields: &[u8]) -> Option<Command<'_>>
     ensures { option_map asked result ≡ command_of action (elements_of fields.now) }
 {

@@ -7,17 +7,17 @@ use ndn_tlv::Memory;
 use pit_fib::{Fib, StrategyTable};
 use std::alloc::Global;
 
-/// The greatest number of octets in a segment of a list.
+/// The greatest length of a segment of a dataset, in octets.
 pub const SEGMENT_LEN: usize = 4096;
 
-/// Law: this is the number of this profile.
+/// Law: a segment of a dataset has at most 4,096 octets.
 pub fn segment_limit_is_as_promised()
     ensures { SEGMENT_LEN ≡ 4096 }
 {}
 
-/// The list of routes (NFD Management, "FIB Dataset"), as they are once those that expire by this
-/// moment are removed: by name in canonical order, the effective next hops of a name by cost and
-/// then by face.
+/// Returns the dataset of routes (NFD Management, "FIB Dataset") without the routes that expire by
+/// `now`. Entries are ordered by name in canonical order. The effective next hops of an entry are
+/// ordered by cost and then by face.
 pub fn fib_dataset(alloc: Global, fib: &Fib, now: u64) -> Result<Vec<u8>, Memory>
     ensures { IfOk result (λ text. text.items ≡ fib_text now fib.now.table) }
 {
@@ -25,7 +25,8 @@ pub fn fib_dataset(alloc: Global, fib: &Fib, now: u64) -> Result<Vec<u8>, Memory
     Ok(list.into_octets())
 }
 
-/// The list of strategies (NFD Management, "Strategy Choice Dataset"): by name in canonical order.
+/// Returns the dataset of strategies (NFD Management, "Strategy Choice Dataset"), ordered by name
+/// in canonical order.
 pub fn strategy_dataset(alloc: Global, strategies: &StrategyTable) -> Result<Vec<u8>, Memory>
     ensures { IfOk result (λ text. text.items ≡ strategy_text strategies.now.table) }
 {
@@ -34,8 +35,8 @@ pub fn strategy_dataset(alloc: Global, strategies: &StrategyTable) -> Result<Vec
     Ok(list.into_octets())
 }
 
-/// A segment of a list, counted from 0, and the number of the last one. Each segment but the last
-/// has 4,096 octets; a list without octets is one segment without octets.
+/// Returns the segment with this number, counted from 0, and the number of the last segment. Each
+/// segment except the last has 4,096 octets. An empty text has one segment, which is empty.
 pub fn segment_of(text: &[u8], number: u64) -> Option<(&[u8], u64)>
     ensures { option_map (λ s. (s.0.now, s.1)) result ≡ segment_at text.now number }
 {
@@ -47,8 +48,8 @@ pub fn segment_of(text: &[u8], number: u64) -> Option<(&[u8], u64)>
     Some((&rest[..rest.len().min(SEGMENT_LEN)], last))
 }
 
-/// `segment_of` of the list of routes, without the whole list: while the names are read from the
-/// first to the last, memory is used for the segment, an entry and a name alone.
+/// Returns the same as `segment_of` for the dataset of routes, without storing the whole dataset:
+/// it holds only the segment, one entry and one name in memory while it reads all names in order.
 pub fn fib_segment(
     alloc: Global,
     fib: &Fib,
@@ -62,7 +63,8 @@ pub fn fib_segment(
     Ok(written.segment(number))
 }
 
-/// As `fib_segment`, of the list of strategies.
+/// Returns the same as `segment_of` for the dataset of strategies, without storing the whole
+/// dataset: see `fib_segment`.
 pub fn strategy_segment(
     alloc: Global,
     strategies: &StrategyTable,

@@ -19,19 +19,23 @@ use crate::types::{FACE_NOT_OPEN, OK, PREFIX_TOO_LONG, TABLE_FULL, UNKNOWN_STRAT
 use ndn_tlv::Memory;
 use pit_fib::{Faces, Fib, MAX_DEPTH, StrategyTable};
 
-/// Applies a command, from this face and while these faces are up, to the tables at this moment, in
-/// milliseconds since 1970. Each face that has a next hop or a route is up.
+/// Applies a command that came from `face` to the tables. `now` is in milliseconds since 1970. Each
+/// face that has a next hop or a route must be in `up`.
 ///
-/// The status is the first of these that applies. Of `fib/add-nexthop`, `rib/register` and
-/// `strategy-choice/set`: 414 where the name has more than 32 components. Of the first two: 410
-/// where the face is not up. Of the last: 404 where there is no such strategy. Of all three: 503
-/// where the name is new to a table of 4,096 names; of `rib/register` also where the route is new
-/// to a table of 16,384 routes. Otherwise 200, as always of the other commands, `rib/unregister`
-/// among them. Only 200 changes a table. `Memory` is returned only in place of 200, if the command
-/// was not prepared, and then no table changes.
+/// Returns the first status that applies, in this order:
+/// - 414 if the name has more than 32 components (`fib/add-nexthop`, `rib/register`,
+/// `strategy-choice/set`);
+/// - 410 if the face is not up (`fib/add-nexthop`, `rib/register`);
+/// - 404 if the strategy does not exist (`strategy-choice/set`);
+/// - 503 if the name is new to a table of 4,096 names (the same three commands), or the route is
+/// new to a table of 16,384 routes (`rib/register`);
+/// - 200 otherwise. All other commands, such as `rib/unregister`, always return 200.
 ///
-/// A registered route expires after the given period, if there is one, but at `u64::MAX` at the
-/// latest. It replaces the name's route of this face and origin.
+/// Only a command with status 200 changes a table. If memory runs out, which can happen only with
+/// status 200 and for a command that was not prepared, `Memory` is returned and no table changes.
+///
+/// A registered route expires after the given period, if there is one, and at `u64::MAX` at the
+/// latest. It replaces the route of the name with the same face and origin.
 pub fn apply(
     tables: &mut Tables,
     command: &Command<'_>,
@@ -84,7 +88,7 @@ pub fn apply(
     Ok(Applied { status, body })
 }
 
-/// The status of a command.
+/// Returns the status of a command.
 fn status_in(tables: &Tables, command: &Command<'_>, face: u64, up: &Faces) -> u16
     requires { AllAreUp tables.now.fib.table up.now }
     ensures exact { result ≡ status_of (asked command.now) face up.now
@@ -103,7 +107,7 @@ fn status_in(tables: &Tables, command: &Command<'_>, face: u64, up: &Faces) -> u
     }
 }
 
-/// The status of a command that adds a hop of this face.
+/// Returns the status of a command that adds a next hop on this face.
 fn add_status(fib: &Fib, command: &Command<'_>, face: u64, up: &Faces) -> u16
     requires { AllAreUp fib.now.table up.now }
     ensures exact { result ≡ add_status (components command.now.name) face up.now fib.now.table }
@@ -121,7 +125,7 @@ fn add_status(fib: &Fib, command: &Command<'_>, face: u64, up: &Faces) -> u16
     OK
 }
 
-/// The status of a command that registers a route of this face.
+/// Returns the status of a command that registers a route on this face.
 fn register_status(fib: &Fib, command: &Command<'_>, face: u64, up: &Faces) -> u16
     requires { AllAreUp fib.now.table up.now }
     ensures exact { result ≡ register_status (components command.now.name)
@@ -143,7 +147,7 @@ fn register_status(fib: &Fib, command: &Command<'_>, face: u64, up: &Faces) -> u
     OK
 }
 
-/// The status of a command that sets a strategy.
+/// Returns the status of a command that sets a strategy.
 fn set_status(choices: &StrategyTable, command: &Command<'_>) -> u16
     ensures { result ≡ set_status (components command.now.name)
         (strategy_asked (asked command.now)) choices.now.table }
@@ -160,7 +164,7 @@ fn set_status(choices: &StrategyTable, command: &Command<'_>) -> u16
     OK
 }
 
-/// Adds a hop of this face, or sets its cost, where nothing rejects it.
+/// Adds a next hop on this face, or sets its cost. Precondition: no status other than 200 applies.
 fn add_nexthop(fib: &mut Fib, command: &Command<'_>, face: u64) -> Result<(), Memory>
     requires room { HasRoomFor fib.old.table face }
     requires taken { refusal fib.old.table (components command.now.name) ≡ None }
@@ -176,7 +180,8 @@ fn add_nexthop(fib: &mut Fib, command: &Command<'_>, face: u64) -> Result<(), Me
     }
 }
 
-/// Registers a route of this face at a moment, where nothing rejects it.
+/// Registers a route on this face at the time `now`. Precondition: no status other than 200
+/// applies.
 fn register(fib: &mut Fib, command: &Command<'_>, face: u64, now: u64) -> Result<(), Memory>
     requires room { HasRoomFor fib.old.table face }
     requires taken { route_refusal fib.old.table (components command.now.name)
@@ -202,7 +207,7 @@ fn register(fib: &mut Fib, command: &Command<'_>, face: u64, now: u64) -> Result
     }
 }
 
-/// Sets a strategy, where nothing rejects it.
+/// Sets a strategy. Precondition: no status other than 200 applies.
 fn set_strategy(choices: &mut StrategyTable, command: &Command<'_>) -> Result<(), Memory>
     requires { refusal choices.old.table (components command.now.name) ≡ None }
     ensures ok { OnOk result (choices.new.table ≡ with_choice choices.old.table
@@ -220,7 +225,7 @@ fn set_strategy(choices: &mut StrategyTable, command: &Command<'_>) -> Result<()
     }
 }
 
-/// Whether a face is up.
+/// Returns whether the face is up.
 fn is_up(face: u64, up: &Faces) -> bool
     ensures exact { result ≡ has_face face up.now }
     ensures small { result ≡ true → length up.now ≤ MAX_FACES }

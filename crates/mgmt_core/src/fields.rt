@@ -17,7 +17,7 @@ use ndn_packets::command_types::{
 use ndn_packets::types::NAME;
 use ndn_tlv::{first_element, first_field, nni_of, single_element};
 
-/// Whether parameters can have a field of this type.
+/// Returns whether command parameters can have a field of type `kind`.
 fn is_field(kind: u32) -> bool
     ensures { result ≡ has kind parameter_fields }
 {
@@ -27,7 +27,7 @@ fn is_field(kind: u32) -> bool
     }
 }
 
-/// Whether the octets are elements, none of which is a field that the action does not take.
+/// Returns whether the octets are TLV elements and contain no field that the action does not take.
 pub fn are_fields(octets: &[u8], action: Action) -> bool
     ensures { result ≡ list_all (fits (row_of action)) (elements_of octets.now) }
 {
@@ -44,7 +44,8 @@ pub fn are_fields(octets: &[u8], action: Action) -> bool
     true
 }
 
-/// The number in the first field of this type, if there is one. None where it is no number.
+/// Returns the number in the first field of type `kind`, or `Some(None)` if there is no such field.
+/// Returns `None` if the field is not a number.
 pub fn number_field(octets: &[u8], kind: u32) -> Option<Option<u64>>
     ensures { result ≡ number_in kind (elements_of octets.now) }
 {
@@ -57,7 +58,7 @@ pub fn number_field(octets: &[u8], kind: u32) -> Option<Option<u64>>
     }
 }
 
-/// The Name field. None where it is missing or no name.
+/// Returns the name in the Name field, or `None` if the field is missing or not a name.
 pub fn name_field(octets: &[u8]) -> Option<Name<'_>>
     ensures { option_map components result ≡ name_in (elements_of octets.now) }
 {
@@ -65,7 +66,8 @@ pub fn name_field(octets: &[u8]) -> Option<Name<'_>>
     Name::read(value).ok()
 }
 
-/// The name in the Strategy field, if there is one. None where it is no name.
+/// Returns the name in the Strategy field, or `Some(None)` if there is no such field. Returns
+/// `None` if the field is not a name.
 pub fn strategy_field(octets: &[u8]) -> Option<Option<Name<'_>>>
     ensures { option_map (option_map components) result ≡ strategy_in (elements_of octets.now) }
 {
@@ -79,7 +81,7 @@ pub fn strategy_field(octets: &[u8]) -> Option<Option<Name<'_>>>
     }
 }
 
-/// Whether the fields that the action needs are there.
+/// Returns whether all fields that the action needs are present.
 pub fn has_needed(octets: &[u8], action: Action) -> bool
     ensures { result ≡ list_all (λ kind. is_some (first_of kind (elements_of octets.now)))
         (row_of action).needs }

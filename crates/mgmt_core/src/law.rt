@@ -8,8 +8,8 @@ ghost use Rattle.mgmt_core.specs.Reading.{PlainCommand, command_at};
 ghost use Rattle.mgmt_core.specs.Tables.{AllAreUp, if_done, routes_after, status_of};
 ghost use Rattle.mgmt_core.specs.Writing.{body_after, body_limit, reply_limit, response};
 
-/// Law: where each face that has a next hop or a route is up, so it is after a command, whatever
-/// its status and the moment.
+/// Law: if each face that has a next hop or a route is up before a command, this also holds after
+/// the command, for every status and time.
 pub fn commands_leave_faces_up()
     ensures { (c : PlainCommand) (face now : ℕ) (up : List ℕ) (routes : Routes)
         (choices : Choices) → AllAreUp routes up
@@ -17,29 +17,29 @@ pub fn commands_leave_faces_up()
         (routes_after c face now routes) routes) up }
 {}
 
-/// Law: where each face that has a next hop or a route is up, and a face closes, each face that
-/// then has one is among those that stay up.
+/// Law: if each face that has a next hop or a route is up, and one face closes, each face that has
+/// a next hop or a route afterwards is still up.
 pub fn closings_leave_faces_up()
     ensures { (up rest : List ℕ) (face : ℕ) (routes : Routes)
         → ((f : ℕ) → has_face f up ≡ true → f ≢ face → has_face f rest ≡ true)
         → AllAreUp routes up → AllAreUp (without_face routes face) rest }
 {}
 
-/// Law: where each face that has a next hop or a route is up, so it is after a face opens, or is
-/// refused.
+/// Law: if each face that has a next hop or a route is up, this also holds after another face opens
+/// or is refused.
 pub fn openings_leave_faces_up()
     ensures { (face : ℕ) (up : List ℕ) (routes : Routes)
         → AllAreUp routes up → AllAreUp routes (adding face up).1 }
 {}
 
-/// Law: where each face that has a next hop or a route is up, so it is after the routes that expire
-/// by a moment are removed.
+/// Law: if each face that has a next hop or a route is up, this also holds after expired routes are
+/// removed.
 pub fn expiry_leaves_faces_up()
     ensures { (now : ℕ) (up : List ℕ) (routes : Routes)
         → AllAreUp routes up → AllAreUp (left_at now routes) up }
 {}
 
-/// Law: each status that a command may have has a text.
+/// Law: every status of a command has a text.
 pub fn statuses_have_texts()
     ensures applied { (c : PlainCommand) (face : ℕ) (up : List ℕ) (routes : Routes)
         (choices : Choices) → IsSome (text_of (status_of c face up routes choices)) }
@@ -47,14 +47,16 @@ pub fn statuses_have_texts()
         → IfErr (command_at name) (λ status. IsSome (text_of status)) }
 {}
 
-/// Law: how long replies are at most. So room for one can be made before its status is known.
+/// Law: the length of replies is bounded, so memory for a reply can be reserved before its status
+/// is known.
 pub fn replies_are_bounded()
     ensures body { (c : PlainCommand) (face status : ℕ)
         → length (body_after c face status) ≤ body_limit c }
     ensures whole { (c : PlainCommand) (face status : ℕ) (text : List ℕ)
         → text_of status ≡ Some text
         → length (response status text (body_after c face status)) ≤ reply_limit c }
-    // A reply of any text and body, as the refusal of a command that no rule allows.
+    // The bound on a reply with any text and body, such as the refusal of a command that no rule
+    // allows.
     ensures any { (status : ℕ) (text body : List ℕ)
         → length (response status text body) ≤ length text + length body + 30 }
 {}

@@ -1,5 +1,5 @@
-//! The commands of an operator to the node: on routes, strategies and the cache, and the lists that
-//! show them.
+//! The commands by which an operator manages routes, strategies and the cache of a node, and the
+//! datasets that list routes and strategies.
 #![tactic(auto)]
 
 mod action;

@@ -3,7 +3,7 @@ ghost use Rattle.std.specs.Prelude.{◌≡◌, []};
 use std::alloc::Global;
 use std::marker::Model;
 
-/// Octets that it owns.
+/// A buffer of octets.
 #[derive(Debug, Drop)]
 pub struct Octets {
     octets: Vec<u8>,
@@ -18,7 +18,7 @@ impl Model for Octets {
 }
 
 impl Octets {
-    /// No octets.
+    /// Returns an empty buffer.
     pub(crate) fn new(alloc: Global) -> Octets
         ensures { result ≡ [] }
     {
@@ -27,14 +27,14 @@ impl Octets {
         }
     }
 
-    /// These octets.
+    /// Returns a buffer with these octets.
     pub(crate) fn of(octets: Vec<u8>) -> Octets
         ensures { result ≡ octets.items }
     {
         Octets { octets }
     }
 
-    /// The octets.
+    /// Returns the octets of the buffer.
     pub fn as_slice(&self) -> &[u8]
         ensures { result.now ≡ self.now }
     {
@@ -42,8 +42,8 @@ impl Octets {
     }
 }
 
-/// What became of a command: its status code, and the body of the reply, which is empty for any
-/// status but 200.
+/// The outcome of a command: its status code and the body of the reply. The body is empty unless
+/// the status is 200.
 #[derive(Debug, Drop)]
 pub struct Applied {
     pub status: u16,

@@ -21,47 +21,47 @@ use pit_fib::StrategyId;
 use std::alloc::Global;
 use std::mem;
 
-/// The greatest number of octets of the body of a reply, beyond those of the name that the command
-/// is about: the headers, and the longest fields after the name, which are the numbers of a route.
+/// The greatest number of octets in the body of a reply, not counting the octets of the command's
+/// name: headers and the longest fields after the name, which are the numbers of a route.
 pub const BODY_EXTRA: usize = 70;
 
-/// The greatest number of octets of a whole reply, beyond those of that name.
+/// The greatest number of octets in a whole reply, not counting the octets of the command's name.
 pub const REPLY_EXTRA: usize = 116;
 
-/// The greatest number of octets before an element's value, where its type has one octet.
+/// The greatest length of an element's header in octets, if the type takes one octet.
 const HEADER_LEN: usize = 10;
 
 impl Command<'_> {
-    /// The greatest number of octets of the reply to it, whatever its status and the face that it
-    /// comes from.
+    /// Returns the greatest length of a reply to the command in octets, for every status and face.
     pub fn reply_limit(&self) -> usize
         ensures { result ≡ reply_limit (asked self.now) }
     {
         self.name.as_octets().len() + REPLY_EXTRA
     }
 
-    /// The face that it applies to, if it comes from this face.
+    /// Returns the face that the command applies to, if it came from `face`.
     pub(crate) fn face_from(&self, face: u64) -> u64
         ensures { result ≡ face_of (asked self.now) face }
     {
         if self.face == 0 { face } else { self.face }
     }
 
-    /// When the route that it registers at this moment ends, if it does.
+    /// Returns the time when the route expires, if the command registers it at `now` and it
+    /// expires.
     pub(crate) fn deadline_from(&self, now: u64) -> Option<u64>
         ensures { result ≡ deadline_of now self.now.expires }
     {
         Some(now.saturating_add(self.expires?))
     }
 
-    /// The strategy that it names.
+    /// Returns the strategy that the command names.
     pub(crate) fn strategy(&self) -> Option<StrategyId>
         ensures { result ≡ strategy_asked (asked self.now) }
     {
         strategy_named(self.strategy?)
     }
 
-    /// The number, where the command takes the field of this type.
+    /// Returns `number` if the command takes a field of type `kind`.
     fn given_number(&self, kind: u32, number: Option<u64>) -> Option<u64>
         ensures { result ≡ given (asked self.now) kind number }
     {
@@ -72,7 +72,7 @@ impl Command<'_> {
         }
     }
 
-    /// The strategy, where the command takes one.
+    /// Returns the strategy if the command takes a Strategy field.
     fn given_strategy(&self) -> Option<StrategyId>
         ensures { result ≡ given (asked self.now) STRATEGY (strategy_asked (asked self.now)) }
     {
@@ -83,7 +83,7 @@ impl Command<'_> {
         }
     }
 
-    /// Appends the fields of the reply, or some octets of them.
+    /// Appends the fields of the reply. If memory runs out, some of their octets may be appended.
     fn put_fields(&self, out: &mut Vec<u8>, face: u64) -> Result<(), Memory>
         ensures ok { OnOk result
             (out.new.items ≡ out.old.items ++ octets (reply_fields (asked self.now) face)) }
@@ -94,8 +94,8 @@ impl Command<'_> {
         self.put_given(out)
     }
 
-    /// Appends the fields that name what it is about, the name, the face and the origin, or some
-    /// octets of them.
+    /// Appends the Name, the FaceId and the Origin of the reply. If memory runs out, some of their
+    /// octets may be appended.
     fn put_about(&self, out: &mut Vec<u8>, face: u64) -> Result<(), Memory>
         ensures ok { OnOk result
             (out.new.items ≡ out.old.items ++ octets (about_fields (asked self.now) face)) }
@@ -110,7 +110,8 @@ impl Command<'_> {
         put_number_field(out, ORIGIN, origin)
     }
 
-    /// Appends the other fields, or some octets of them.
+    /// Appends the other fields of the reply. If memory runs out, some of their octets may be
+    /// appended.
     fn put_given(&self, out: &mut Vec<u8>) -> Result<(), Memory>
         ensures ok { OnOk result
             (out.new.items ≡ out.old.items ++ octets (given_fields (asked self.now))) }
@@ -129,7 +130,8 @@ impl Command<'_> {
     }
 }
 
-/// Appends a Strategy field, where there is one, or some octets of it.
+/// Appends a Strategy field if `strategy` is given. If memory runs out, some of its octets may be
+/// appended.
 fn put_strategy(out: &mut Vec<u8>, strategy: Option<StrategyId>) -> Result<(), Memory>
     ensures ok { OnOk result (out.new.items
         ≡ out.old.items ++ octets (optional STRATEGY (option_map strategy_value strategy))) }
@@ -144,7 +146,7 @@ fn put_strategy(out: &mut Vec<u8>, strategy: Option<StrategyId>) -> Result<(), M
     }
 }
 
-/// Memory for one reply.
+/// Memory that is reserved for one reply.
 #[derive(Drop)]
 pub struct ReplyRoom {
     fields: Vec<u8>,
@@ -152,7 +154,7 @@ pub struct ReplyRoom {
 }
 
 impl ReplyRoom {
-    /// No room.
+    /// Returns a `ReplyRoom` without reserved memory.
     pub fn new(alloc: Global) -> ReplyRoom {
         ReplyRoom {
             fields: Vec::new(alloc),
@@ -160,8 +162,8 @@ impl ReplyRoom {
         }
     }
 
-    /// Makes room for the reply to a command, whichever face it comes from: the greatest number of
-    /// a face has the longest text.
+    /// Reserves memory for the reply to a command from any face. The greatest face id gives the
+    /// longest reply.
     pub fn prepare(&mut self, command: &Command<'_>) -> Result<(), Memory>
         ensures { OnOk result (HasRoomForReply self.new (asked command.now)) }
     {
@@ -173,7 +175,7 @@ impl ReplyRoom {
         Ok(())
     }
 
-    /// The body of the reply to a command from this face. It takes the room.
+    /// Returns the body of the reply to a command from this face. Uses up the reserved memory.
     pub fn body_of(
         &mut self,
         alloc: Global,

@@ -8,14 +8,14 @@ use ndn_names::Name;
 use ndn_names::component_type::VERSION;
 use pit_fib::StrategyId;
 
-/// The names of strategies, each a Name element.
+/// The names of strategies, each encoded as a Name element.
 const BEST_ROUTE: &[u8; 40] =
     b"\x07\x26\x08\x09localhost\x08\x03nfd\x08\x08strategy\x08\x0abest-route";
 
 const MULTICAST: &[u8; 39] =
     b"\x07\x25\x08\x09localhost\x08\x03nfd\x08\x08strategy\x08\x09multicast";
 
-/// A strategy's name, as a Name element.
+/// Returns the name of the strategy, encoded as a Name element.
 pub fn strategy_value(strategy: StrategyId) -> &'static [u8]
     ensures { result.now ≡ strategy_value strategy }
 {
@@ -25,7 +25,7 @@ pub fn strategy_value(strategy: StrategyId) -> &'static [u8]
     }
 }
 
-/// The strategy of a name, which may have a Version component after it.
+/// Returns the strategy with this name. A Version component may follow the strategy's name.
 pub fn strategy_named(name: Name<'_>) -> Option<StrategyId>
     ensures { result ≡ strategy_named (components name.entry) }
 {
@@ -39,7 +39,7 @@ pub fn strategy_named(name: Name<'_>) -> Option<StrategyId>
     None
 }
 
-/// Whether this is the strategy's name.
+/// Returns whether `name` is the name of the strategy.
 fn is_name_of(name: Name<'_>, strategy: StrategyId) -> bool
     ensures { result ≡ is_strategy (components name.entry) strategy }
 {

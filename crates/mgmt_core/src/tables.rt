@@ -10,19 +10,19 @@ use ndn_tlv::Memory;
 use pit_fib::{Fib, StrategyTable};
 use std::alloc::Global;
 
-/// What commands change: routes, strategies and the cache.
+/// The tables that commands change: routes, strategies and the cache.
 #[derive(Drop)]
 pub struct Tables {
     pub fib: Fib,
     pub strategies: StrategyTable,
     pub store: Store,
     pub(crate) alloc: Global,
-    // What is reserved for the next reply.
+    // The memory that is reserved for the next reply.
     pub(crate) room: ReplyRoom,
 }
 
 impl Tables {
-    /// These tables.
+    /// Returns these tables without reserved memory.
     pub fn new(alloc: Global, fib: Fib, strategies: StrategyTable, store: Store) -> Tables
         ensures fib { result.fib ≡ fib }
         ensures strategies { result.strategies ≡ strategies }
@@ -37,9 +37,9 @@ impl Tables {
         }
     }
 
-    /// Prepares one `apply` of this command, from any face, which then cannot run out of memory
-    /// while only removals from the tables come in between. The next `prepare`, of any command,
-    /// ends the preparation, even if it fails; the next `apply` of any command may.
+    /// Prepares one `apply` of this command from any face. That `apply` then cannot run out of
+    /// memory, if only removals from the tables happen before it. Each later `prepare`, even one
+    /// that fails, ends the preparation. The next `apply` of any command may end it too.
     pub fn prepare(&mut self, command: &Command<'_>) -> Result<(), Memory>
         ensures ok { OnOk result (IsPrepared self.new (asked command.now)) }
         ensures err_routes { OnErr result (self.new.fib.prepared ≡ None) }

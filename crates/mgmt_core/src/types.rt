@@ -16,8 +16,8 @@ pub const UNKNOWN_COMMAND: u16 = 501;
 
 pub const TABLE_FULL: u16 = 503;
 
-/// Law: these are the numbers of the standard (NFD Management, "Control Command"), and beside them
-/// 414 for a name that is too long for a table and 503 for a table that is full.
+/// Law: the status codes are those of NFD Management, "Control Command", and in addition 414 for a
+/// name that is too long for a table and 503 for a full table.
 pub fn command_statuses_are_as_assigned()
     ensures done { OK ≡ 200 }
     ensures refused { (BAD_PARAMETERS ≡ 400) × (UNKNOWN_STRATEGY ≡ 404) × (FACE_NOT_OPEN ≡ 410)

@@ -11,7 +11,7 @@ use crate::types::{
 use ndn_packets::command_types::{CONTROL_RESPONSE, STATUS_CODE, STATUS_TEXT};
 use ndn_tlv::{Memory, element_len, nni_element_len, put_element, put_nni_element, put_number};
 
-/// The text of a status that a command is answered with. None for any other status.
+/// Returns the text of a status, or `None` if no command is answered with this status.
 pub fn status_text(status: u16) -> Option<&'static str>
     ensures { option_map (λ text. text.now) result ≡ text_of status }
 {
@@ -27,14 +27,14 @@ pub fn status_text(status: u16) -> Option<&'static str>
     }
 }
 
-/// Appends a reply: the status code, its text, and the body, which is the element of the parameters
-/// or empty (NFD Management, "Control Command", ControlResponse). When memory runs out, nothing is
+/// Appends a reply: the status code, its text, and the body, which is a ControlParameters element
+/// or empty (NFD Management, "Control Command", ControlResponse). If memory runs out, nothing is
 /// appended.
 pub fn put_response(out: &mut Vec<u8>, status: u16, text: &str, body: &[u8]) -> Result<(), Memory>
     ensures ok { OnOk result
         (out.new.items ≡ out.old.items ++ response status text.now body.now) }
     ensures err { OnErr result (out.new.items ≡ out.old.items) }
-    // Where there is room, memory does not run out.
+    // If the spare capacity is enough, memory does not run out.
     ensures room { vec_len out.old + length (response status text.now body.now)
         ≤ vec_capacity out.old → IsOk result }
     ensures capacity { vec_capacity out.old ≤ vec_capacity out.new }
@@ -47,7 +47,7 @@ pub fn put_response(out: &mut Vec<u8>, status: u16, text: &str, body: &[u8]) -> 
     done
 }
 
-/// Appends a reply, or some octets of it.
+/// Appends a reply. If memory runs out, some of its octets may be appended.
 fn put_parts(out: &mut Vec<u8>, status: u16, text: &[u8], body: &[u8]) -> Result<(), Memory>
     ensures ok { OnOk result
         (out.new.items ≡ out.old.items ++ response status text.now body.now) }

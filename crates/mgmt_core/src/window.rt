@@ -13,12 +13,12 @@ use pit_fib::{Hop, Hops, StrategyId};
 use std::alloc::Global;
 use std::marker::Model;
 
-/// A segment of a text. Of the text no more is stored while it is written.
+/// One segment of a text. Only this segment is stored while the text is written.
 #[derive(Drop)]
 struct Window {
-    // The octets of the text before the segment.
+    // The number of octets before the segment.
     from: usize,
-    // The octets of the text so far.
+    // The number of octets written, including those outside the segment.
     len: usize,
     segment: Vec<u8>,
 }
@@ -36,7 +36,7 @@ impl Model for Window {
 }
 
 impl Window {
-    /// The segment of this number, counted from 0, of a text of which nothing is written yet.
+    /// Returns an empty window for the segment with this number, counted from 0.
     fn new(alloc: Global, number: u64) -> Window
         ensures { result ≡ kept_of (start_of number) [] }
     {
@@ -47,7 +47,8 @@ impl Window {
         }
     }
 
-    /// Appends to the text. `Memory` also comes where it would have 2^64 octets.
+    /// Appends octets to the text. Returns `Memory` if memory runs out or the text would have 2^64
+    /// octets.
     fn put(&mut self, more: &[u8]) -> Result<(), Memory>
         ensures { OnOk result (self.new ≡ with_more self.old more.now) }
     {
@@ -61,7 +62,8 @@ impl Window {
         Ok(())
     }
 
-    /// The segment, and the number of the last one. There is none where its number is above that.
+    /// Returns the segment and the number of the last segment, or `None` if the text has no segment
+    /// with this number.
     fn segment(self, number: u64) -> Option<(Vec<u8>, u64)>
         ensures { (text : List ℕ) → self ≡ kept_of (start_of number) text
             → option_map (λ s. (s.0.items, s.1)) result ≡ segment_at text number }
@@ -74,7 +76,7 @@ impl Window {
     }
 }
 
-/// Appends octets to a segment, as many as it has room for.
+/// Appends as many octets to the segment as fit into `SEGMENT_LEN`.
 fn put_up_to(segment: &mut Vec<u8>, more: &[u8]) -> Result<(), Memory>
     requires { length segment.old.items ≤ SEGMENT_LEN }
     ensures ok { OnOk result
@@ -86,11 +88,11 @@ fn put_up_to(segment: &mut Vec<u8>, more: &[u8]) -> Result<(), Memory>
     Ok(())
 }
 
-/// A list that is written, of which one segment is stored.
+/// A dataset of which only one segment is stored while the dataset is written.
 #[derive(Drop)]
 pub struct ListWriter {
     window: Window,
-    // Memory for an entry, and for its fields.
+    // Buffers for an entry and for the fields of an entry.
     entry: Vec<u8>,
     fields: Vec<u8>,
 }
@@ -104,7 +106,7 @@ impl Model for ListWriter {
 }
 
 impl ListWriter {
-    /// The segment of this number, counted from 0, of a list of which nothing is written yet.
+    /// Returns a writer for the segment with this number, counted from 0.
     pub fn new(alloc: Global, number: u64) -> ListWriter
         ensures { result ≡ kept_of (start_of number) [] }
     {
@@ -115,7 +117,8 @@ impl ListWriter {
         }
     }
 
-    /// The segment, and the number of the last one. There is none where its number is above that.
+    /// Returns the segment and the number of the last segment, or `None` if the dataset has no
+    /// segment with this number.
     pub fn segment(self, number: u64) -> Option<(Vec<u8>, u64)>
         ensures { (text : List ℕ) → self ≡ kept_of (start_of number) text
             → option_map (λ s. (s.0.items, s.1)) result ≡ segment_at text number }
@@ -124,11 +127,11 @@ impl ListWriter {
     }
 }
 
-/// A list that is written, all of which is stored.
+/// A dataset that is stored whole.
 #[derive(Drop)]
 pub struct ListText {
     text: Vec<u8>,
-    // Memory for the fields of an entry.
+    // A buffer for the fields of an entry.
     fields: Vec<u8>,
 }
 
@@ -141,7 +144,7 @@ impl Model for ListText {
 }
 
 impl ListText {
-    /// A list of which nothing is written yet.
+    /// Returns an empty dataset.
     pub fn new(alloc: Global) -> ListText
         ensures { result ≡ [] }
     {
@@ -151,7 +154,7 @@ impl ListText {
         }
     }
 
-    /// Its octets.
+    /// Returns the octets of the dataset.
     pub fn into_octets(self) -> Vec<u8>
         ensures { result.items ≡ self }
     {
@@ -203,8 +206,8 @@ impl Show<StrategyId> for ListWriter {
     }
 }
 
-/// Appends an entry of the list of routes, or some octets of it. The content of the entry is
-/// written to `fields` first.
+/// Appends an entry to the dataset of routes, using `fields` as a buffer for the entry's content.
+/// If memory runs out, some octets of the entry may be appended.
 fn put_route(
     fields: &mut Vec<u8>,
     text: &mut Vec<u8>,
@@ -220,7 +223,7 @@ fn put_route(
     put_element(text, ENTRY, fields)
 }
 
-/// Appends next hops, or some octets of them.
+/// Appends next hops. If memory runs out, some of their octets may be appended.
 fn put_hops(text: &mut Vec<u8>, hops: &Hops) -> Result<(), Memory>
     ensures { OnOk result (text.new.items ≡ text.old.items ++ flat_map hop_text hops.now) }
 {
@@ -232,7 +235,7 @@ fn put_hops(text: &mut Vec<u8>, hops: &Hops) -> Result<(), Memory>
     Ok(())
 }
 
-/// Appends a next hop, or some octets of it.
+/// Appends a next hop. If memory runs out, some of its octets may be appended.
 fn put_hop(text: &mut Vec<u8>, hop: Hop) -> Result<(), Memory>
     ensures { OnOk result (text.new.items ≡ text.old.items ++ hop_text hop) }
 {
@@ -242,8 +245,8 @@ fn put_hop(text: &mut Vec<u8>, hop: Hop) -> Result<(), Memory>
     put_nni_element(text, COST, hop.cost)
 }
 
-/// Appends an entry of the list of strategies, or some octets of it. The content of the entry is
-/// written to `fields` first.
+/// Appends an entry to the dataset of strategies, using `fields` as a buffer for the entry's
+/// content. If memory runs out, some octets of the entry may be appended.
 fn put_choice(
     fields: &mut Vec<u8>,
     text: &mut Vec<u8>,

@@ -1,4 +1,4 @@
--- Full names that answer stand together, close behind the name that is asked for.
+-- Full names that answer are contiguous, directly after the name of the Interest.
 use Rattle.std.proofs.Common.{◌≡◌, ◌≢◌, ℕ, suc, ◌+◌, ◌<◌, Bool, true, false, cond, List, [], ◌∷◌, ◌++◌, length, get_or, take, drop, filter, refl, sym, ap, subst, ◌∙◌, arith, inl, inr, append-nil}
 use lib.Dec.{T}
 use Rattle.std.specs.Prelude.{◌&&◌, ◌||◌, ◌==◌, nat_lt}
@@ -35,7 +35,7 @@ small_alone false (c ∷ []) e = small c.0 e
     small kind e = grind arith
 small_alone false (c ∷ (d ∷ rest)) e = absurd cc
 
--- only full names that are near answer
+-- only full names that are near the name answer
 pub near_answers : (name : List Field) (flag : Bool) (full : List Field) → full_name_answers name flag full ≡ true → is_near name flag full ≡ true
 near_answers name flag full e =
     let b = both_true _ _ e in
@@ -49,7 +49,7 @@ split_far false name flag full e far = refl
 pub far_answers_not : (name : List Field) (flag : Bool) (full : List Field) → is_near name flag full ≡ false → full_name_answers name flag full ≡ false
 far_answers_not name flag full far = split_far (full_name_answers name flag full) name flag full refl far
 
--- a full name that comes before a name does not begin with it
+-- a full name that is less than a name does not begin with it
 begins_not : (name full : List Field) → name_cmp name full ≡ Greater → begins_with name full ≡ false
 begins_not [] [] e = absurd cc
 begins_not [] (d ∷ full) e = absurd cc
@@ -64,7 +64,7 @@ begins_not (c ∷ name) (d ∷ full) e = by (component_cmp c d) refl (λ g. begi
 pub below_answers_not : (name : List Field) (flag : Bool) (full : List Field) → name_cmp name full ≡ Greater → full_name_answers name flag full ≡ false
 below_answers_not name flag full e = ap (λ b. b && (flag || is_digest_alone (drop (length name) full))) (begins_not name full e)
 
--- ---- the part of the rows where all that answer stand
+-- ---- the range of rows that contains all answering objects
 
 abbrev Rows : Type 0
 Rows = List (List Field × List ℕ)
@@ -95,7 +95,7 @@ all_map : {X : Type 0} (P Q : X → Type 0) → ((x : X) → P x → Q x) → (x
 all_map P Q f [] h = tt
 all_map P Q f (x ∷ xs) h = (f x h.0, all_map P Q f xs h.1)
 
--- what is not near is not followed by what answers
+-- after a row that is not near, no row answers
 pub ended : (name : List Field) (flag : Bool) (rest : Rows) (stop : ℕ) (row : List Field × List ℕ) → IsPartitionedBy (λ o. is_near name flag o.0) rest → stop < length rest → row ≡ get_or rest stop row
     → is_near name flag row.0 ≡ false → answering name flag rest ≡ answering name flag (take stop rest)
 ended name flag rest stop row parted lt is far =
@@ -127,7 +127,7 @@ candidates_are name flag rows rest start place is =
     ∙ ap (filter test) (sym is)
     )
 
--- the first that answers
+-- the first row that answers
 pub first_is : (test : List Field × List ℕ → Bool) (rows : Rows) (at : ℕ) (row : List Field × List ℕ) → at < length rows → row ≡ get_or rows at row → filter test (take at rows) ≡ [] → test row ≡ true
     → filter test rows ≡ row ∷ filter test (drop (suc at) rows)
 first_is test rows at row lt is none passes =

@@ -1,4 +1,4 @@
--- Places of keys among rows in order, as a halving finds them.
+-- Indexes of keys in sorted rows, as binary search finds them.
 use Rattle.std.proofs.Common.{◌≡◌, ◌≢◌, ℕ, zero, suc, ◌<◌, ◌≤◌, Bool, true, false, List, [], ◌∷◌, length, get_or, set, take, drop, refl, sym, ap, subst, ◌∙◌, arith, inl, inr}
 use lib.Dec.{T}
 use Rattle.std.specs.Prelude.{is_some, ◌↔◌, IsTrue, Result, Ok, Err, is_ok, IsOk, if◌then◌else◌}
@@ -14,13 +14,13 @@ use Rattle.std.proofs.lemmas.Bool.{cases_lt}
 use Rattle.repo_core.specs.Room.{IsPlace, HasAt}
 use Rattle.ndn_names.proofs.Rows.{is_less, first_of, second_of, put_found, put_gap, put_end, find_found, find_gap, find_end}
 
--- what stands at a place
+-- the element at an index
 pub stands : {X : Type 0} (xs : List X) (at : ℕ) → at < length xs → (x : X) × (x ≡ get_or xs at x)
 stands [] at lt = absurd (omega arith)
 stands (x ∷ xs) zero lt = (x, refl)
 stands (x ∷ xs) (suc n) lt = stands xs n (omega arith)
 
--- what holds at each place before, and from a place on
+-- a property of all elements before index `at`, or of all elements from index `at` on
 pub all_before : {X : Type 0} (P : X → Type 0) (xs : List X) (at : ℕ) → ((k : ℕ) (d : X) → k < at → k < length xs → P (get_or xs k d)) → AllByRecursion P (take at xs)
 all_before P [] zero h = tt
 all_before P [] (suc n) h = tt
@@ -62,7 +62,7 @@ module _ {K X : Type 0} {R : K → K → Ordering} (total : IsTotalOrder R) wher
   rises (e ∷ es) zero (suc j) d h lt within = below_at e.0 es j d (first_of _ _ h) (omega arith)
   rises (e ∷ es) (suc i) (suc j) d h lt within = rises es i j d (second_of _ _ h) (omega arith) (omega arith)
 
-  -- the rows below a key come first
+  -- the rows less than a key come first
   pub below_parted : (k : K) (es : List (K × X)) → T (is_sorted R es) → IsPartitionedBy (λ row. is_lt (R row.0 k)) es
   below_parted k es h i j d le within below =
       elim (cases_lt i j) [
@@ -92,7 +92,7 @@ module _ {K X : Type 0} {R : K → K → Ordering} (total : IsTotalOrder R) wher
         let s = stands rows at has.0 in
         ap is_some (find_found R k rows at s.0 has.0 s.1 place.before (tied s.0 (has.1 s.0 s.1)))
 
-    -- what the row at a place without the key has
+    -- the row at this index has another key
     other : (o : Ordering) (row : K × X) → R k row.0 ≡ o → o ≢ Greater → (R k row.0 ≡ Equal → ⊥) → R k row.0 ≡ Less
     other Less row e not_gt not_eq = e
     other Equal row e not_gt not_eq = absurd (not_eq e)
@@ -122,7 +122,7 @@ module _ {K X : Type 0} {R : K → K → Ordering} (total : IsTotalOrder R) wher
     find_at true sorted is = sym (find_there (is.0 refl))
     find_at false sorted is = sym (find_new sorted (λ has. let t = is.1 has in cc))
 
--- an insertion that succeeds
+-- the list after a successful insertion
 pub inserted : {X A E : Type 0} (r : Result A E) (new old : List X) → IsOk r → (if is_ok r then new else old) ≡ new
 inserted (Ok u) new old h = refl
 inserted (Err e) new old h = absurd cc

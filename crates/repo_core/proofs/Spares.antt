@@ -1,4 +1,4 @@
--- What is prepared.
+-- Prepared names and objects.
 use Rattle.std.proofs.Common.{◌≡◌, ℕ, zero, suc, ◌<◌, Bool, true, false, cond, filter, List, [], ◌∷◌, length, get_or, refl, sym, ap, ◌∙◌, arith}
 use Rattle.std.specs.Prelude.{Option, Some, None, ◌||◌, ◌&&◌}
 use Rattle.std.specs.List.{list_any}
@@ -10,7 +10,7 @@ use Rattle.ndn_names.specs.Order.{name_cmp}
 use Rattle.ndn_names.specs.Key.{name_cmp-total}
 use Rattle.repo_core.specs.declared.want_names.Names.{Names}
 
--- spare names are of their name alone
+-- spare names hold only their own name
 pub other_spare : (spare : Option Names) (k : Names) (name : List Field) → spare ≡ Some k → option_map (λ n. n.key) spare ≡ Some name → is_eq (name_cmp name k.key) ≡ false → ⊥
 other_spare spare k name h e other =
     (let one : Some k.key ≡ Some name = ap (λ o. option_map (λ n. n.key) o) h' ∙ e in let same : k.key ≡ name = cc in let tied = ap is_eq (ap (λ (n : List Field). name_cmp name n) same ∙ tied_itself name_cmp-total name) in cc)
@@ -22,7 +22,7 @@ pub no_spare : (spare : Option Names) (name : List Field) → spare ≡ None →
 no_spare None name h e = (cc)
 no_spare (Some n) name h e = (cc)
 
--- one that passes is there
+-- some element passes the test if the element at this index does
 pub any_here : {X : Type 0} (test : X → Bool) (xs : List X) (at : ℕ) (x : X) → at < length xs → x ≡ get_or xs at x → test x ≡ true → list_any test xs ≡ true
 any_here test [] at x lt is passes = absurd (omega arith)
 any_here test (y ∷ xs) zero x lt is passes = ap (λ b. b || list_any test xs) (ap test (sym is) ∙ passes)
@@ -32,7 +32,7 @@ any_here test (y ∷ xs) (suc n) x lt is passes = by (test y) (any_here test xs 
     by true rest = refl
     by false rest = rest
 
--- what passes in a part passes in the whole
+-- if `b` implies `c`, then `a || b` implies `a || c`
 either : (a b c : Bool) → (b ≡ true → c ≡ true) → (a || b) ≡ true → (a || c) ≡ true
 either true b c f e = refl
 either false b c f e = f e
@@ -49,7 +49,7 @@ any_of_part test stays (x ∷ xs) some = by (stays x) some (λ rest. any_of_part
     by true some again = either (test x) (list_any test (filter stays xs)) (list_any test xs) again some
     by false some again = later (test x) (list_any test xs) (again some)
 
--- what passes among those that stay passes both tests
+-- some element passes both tests if and only if some element of those that stay passes `test`
 pub any_of_those : {X : Type 0} (test stays : X → Bool) (xs : List X)
     → list_any (λ x. stays x && test x) xs ≡ list_any test (filter stays xs)
 any_of_those test stays [] = refl

@@ -1,24 +1,24 @@
--- The commands of a repository, one row for each: the verb, and what it is answered with. Statuses
--- and texts are this profile's.
+-- The commands of a repository, one row for each: the verb, and the statuses of its replies. The
+-- statuses and their texts are defined here.
 use Rattle.std.specs.Prelude.{ℕ, List, [], ◌∷◌, Option, find, codes, bytes_eq, ◌==◌}
 use Rattle.std.specs.Option.{option_map}
 use Rattle.repo_core.specs.declared.verb.Verb.{Verb}
 use Rattle.repo_core.specs.declared.verb.Verb.TheVariants.{Insert, Delete, Check}
 use Rattle.repo_core.specs.declared.types.TheConstants.{BAD_PARAMETERS, FULL, NOT_FOUND, OK, PENDING}
 
--- what may be the case when a command comes
+-- the cases that decide the status of a reply
 pub data Case : Type 0 where
-  -- objects answer
+  -- at least one stored Data answers
   Stored : Case
-  -- there is an equal want
+  -- there is a want with the command's name and CanBePrefix
   Wanted : Case
-  -- there is no place for one more want
+  -- there is no room for one more want
   NoPlace : Case
   Otherwise : Case
 
 pub record VerbRow : Type 0 where
   pub word : List ℕ
-  -- the status of the first case that applies counts
+  -- cases with their statuses; the first case that applies gives the status
   pub answers : List (Case × ℕ)
 
 abbrev pub verb_row : Verb → VerbRow
@@ -38,7 +38,7 @@ verb_row Check = record {
 abbrev pub verbs : List Verb
 verbs = Insert ∷ Delete ∷ Check ∷ []
 
--- the verb of a word
+-- the verb that is named by a word
 abbrev pub verb_named : List ℕ → Option Verb
 verb_named word = find (λ verb. bytes_eq word (verb_row verb).word) verbs
 
@@ -48,6 +48,6 @@ repo_texts =
     (PENDING, codes "pending") ∷ (OK, codes "OK") ∷ (BAD_PARAMETERS, codes "bad parameters")
     ∷ (NOT_FOUND, codes "not found") ∷ (FULL, codes "repository full") ∷ []
 
--- the text of a status; None where no command is answered with it
+-- the text of a status, or None if no command is answered with this status
 abbrev pub repo_text_of : ℕ → Option (List ℕ)
 repo_text_of status = option_map (λ row. row.1) (find (λ row. status == row.0) repo_texts)

@@ -12,43 +12,43 @@ use Rattle.ndn_packets.specs.Grammar.{IsData}
 use Rattle.ndn_packets.specs.Packet.{PlainData}
 use Rattle.ndn_packets.specs.declared.data.Data.{Data}
 
--- the octets of Data by their full names, in canonical order
+-- the octets of Data by full name, in canonical order
 abbrev pub Objects : Type 0
 Objects = FinMap name_cmp (List ℕ)
 
--- a Data as it is stored: its full name and its octets
+-- a stored Data: its full name and its octets
 abbrev pub object_of : Data → List Field × List ℕ
 object_of d = (full_name (components d.name) (sha256 d.whole.now), d.whole.now)
 
--- the octets are a Data, and this is its full name
+-- the octets are a Data, and `full` is its full name
 pub record IsObject (full : List Field) (octets : List ℕ) : Type 0 where
   pub packet : PlainData
   pub read : IsData octets packet
   pub name : full ≡ full_name packet.name (sha256 octets)
 
--- what is stored is Data, each under its full name
+-- each entry is a Data, stored by its full name
 abbrev pub AreObjects : Objects → Type 0
 AreObjects objects =
     (full : List Field) (octets : List ℕ) → get objects full ≡ Some octets → IsObject full octets
 
--- the map of the entries that pass a test
+-- the map with only the entries that pass the test
 unfoldable pub kept : {K X : Type 0} {R : K → K → Ordering} → (K × X → Bool) → FinMap R X
     → FinMap R X
 kept test m = from_sorted (filter test (entries m))
 
--- what such a map has of a key, where the map had this
+-- what remains of a key's entry when the entries that fail the test are removed
 abbrev pub if_kept : {K X : Type 0} → (K × X → Bool) → K → Option X → Option X
 if_kept test key None = None
 if_kept test key (Some x) = if test (key, x) then Some x else None
 
--- nothing, or a digest
+-- the list is empty, or it is an implicit digest and nothing else
 abbrev pub is_digest_alone : List Field → Bool
 is_digest_alone [] = true
 is_digest_alone (c ∷ []) = c.0 == IMPLICIT_SHA256_DIGEST
 is_digest_alone (c ∷ (d ∷ cs)) = false
 
--- The Data of a full name answers an Interest of this name: the full name begins with it, and after
--- it comes nothing, or the digest alone or, with CanBePrefix, anything.
+-- The Data with this full name answers an Interest with this name: the name is a prefix of the full
+-- name, and it is followed by nothing, by the digest alone or, with CanBePrefix, by anything.
 abbrev pub full_name_answers : List Field → Bool → List Field → Bool
 full_name_answers name can_be_prefix full =
     begins_with name full && (can_be_prefix || is_digest_alone (drop (length name) full))
@@ -59,7 +59,7 @@ abbrev pub answering : List Field → Bool → List (List Field × List ℕ)
 answering name can_be_prefix rows =
     filter (λ o. full_name_answers name can_be_prefix o.0) rows
 
--- how many answer
+-- the number of objects that answer
 abbrev pub number_answering : List Field → Bool → Objects → ℕ
 number_answering name can_be_prefix objects =
     length (answering name can_be_prefix (entries objects))
@@ -68,11 +68,11 @@ abbrev pub first_octets : List (List Field × List ℕ) → Option (List ℕ)
 first_octets [] = None
 first_octets (o ∷ os) = Some o.1
 
--- the octets of the one of the least full name that answers
+-- the octets of the object with the least full name among those that answer
 abbrev pub served : List Field → Bool → Objects → Option (List ℕ)
 served name can_be_prefix objects = first_octets (answering name can_be_prefix (entries objects))
 
--- without those that answer
+-- the objects without those that answer
 abbrev pub without_answering : List Field → Bool → Objects → Objects
 without_answering name can_be_prefix objects =
     kept (λ o. not (full_name_answers name can_be_prefix o.0)) objects

@@ -1,5 +1,5 @@
--- Reading a command's name: after the repository's prefix come the verb, the parameters and the
--- digest of the Interest's parameters.
+-- Reading a command's name: the repository's prefix, the verb, the parameters, and the digest of
+-- the Interest's parameters.
 use Rattle.std.specs.Prelude.{ℕ, ◌+◌, List, [], ◌∷◌, length, Bool, true, false, not, ◌==◌, Option, None, Some, Result, Ok, Err, slice_get, if◌then◌else◌}
 use Rattle.std.specs.List.{list_all}
 use Rattle.ndn_tlv.specs.declared.fault.TlvFault.{TlvFault}
@@ -18,12 +18,13 @@ use Rattle.ndn_packets.specs.declared.types.TheConstants.{CAN_BE_PREFIX, INTERES
 use Rattle.repo_core.specs.declared.types.TheConstants.{DEFAULT_LIFETIME}
 use Rattle.repo_core.specs.Commands.{verb_named}
 
--- the parameters of a command: the Data that answer an Interest of this name and flag
+-- a command with its parameters; it is about the Data that answer an Interest with this name and
+-- CanBePrefix
 pub record RepoCommand : Type 0 where
   pub verb : Verb
   pub name : List Field
   pub can_be_prefix : Bool
-  -- how long they are wanted, in milliseconds
+  -- the lifetime of the want in milliseconds
   pub lifetime : ℕ
 
 abbrev pub plain : Asked → RepoCommand
@@ -40,22 +41,22 @@ abbrev pub can_be_read : Result Field TlvFault → Bool
 can_be_read (Ok e) = true
 can_be_read (Err fault) = false
 
--- the Name field
+-- the name in the Name field
 abbrev pub name_in : Elements → Option (List Field)
 name_in es = first_of NAME es >>= name_of
 
--- whether CanBePrefix is there, which has no octets; None where it has some
+-- CanBePrefix is present; None if the field is not empty
 abbrev pub flag_of : Option (List ℕ) → Option Bool
 flag_of None = Some false
 flag_of (Some []) = Some true
 flag_of (Some (b ∷ value)) = None
 
--- InterestLifetime, or the default where it is absent; None where it is no number
+-- the InterestLifetime, or the default if the field is absent; None if it is not a number
 abbrev pub lifetime_of : Option (List ℕ) → Option ℕ
 lifetime_of None = Some DEFAULT_LIFETIME
 lifetime_of (Some value) = on_result (λ n. Some n) (λ _. None) (nni_at value)
 
--- the command of these parameters; None where they are not well formed
+-- the command with these parameters, or None if they are not well formed
 unfoldable pub command_of : Verb → Elements → Option RepoCommand
 command_of verb es =
     if not (list_all can_be_read es) then None else (do
@@ -71,12 +72,12 @@ command_of verb es =
 
 -- ---- names
 
--- the octets of a component of this type
+-- the value of a component of this type
 abbrev pub value_of : ℕ → Option Field → Option (List ℕ)
 value_of kind None = None
 value_of kind (Some c) = if c.0 == kind then Some c.1 else None
 
--- the octets of a component of this type, counted from the end of the prefix
+-- the value of the component at index `at` after the prefix, if it has this type
 abbrev pub value_after : List Field → List Field → ℕ → ℕ → Option (List ℕ)
 value_after start cs kind at = value_of kind (slice_get cs (length start + at))
 
@@ -85,7 +86,7 @@ unfoldable pub verb_at : List Field → List Field → Option Verb
 verb_at start cs =
     if begins_with start cs then (value_after start cs GENERIC 0 >>= verb_named) else None
 
--- the command that a name is; None where it has another shape
+-- the command that the name encodes, or None if the name has another shape
 unfoldable pub repo_command_at : List Field → List Field → Option RepoCommand
 repo_command_at start cs = do
   verb ← verb_at start cs

@@ -1,4 +1,4 @@
--- The state of a repository, and what commands, Data and time do to it.
+-- The state of a repository, and the effects of commands, Data and time.
 use Rattle.std.specs.Prelude.{◌≡◌, ℕ, ◌+◌, ◌≤◌, List, [], ◌∷◌, Bool, true, false, nat_lt, nat_le, ◌==◌, ◌||◌, Option, None, Some, IfSome, refl, if◌then◌else◌}
 use Rattle.std.specs.Coded.{Coded, code_by, coded×, coded_list, coded_ℕ, coded_option}
 use Rattle.std.specs.FinMap as map
@@ -15,7 +15,7 @@ use Rattle.repo_core.specs.Reading.{RepoCommand, repo_command_at}
 use Rattle.repo_core.specs.Objects.{Objects, number_answering, without_answering}
 use Rattle.repo_core.specs.Wants.{Wants, WantKey, want_code, is_wanted, unfilled, want_deadline, wants_after}
 
--- objects and wants
+-- the objects and the wants
 pub record Held : Type 0 where
   pub objects : Objects
   pub wants : Wants
@@ -23,12 +23,12 @@ pub record Held : Type 0 where
 pub record RepoState : Type 0 where
   pub start : List Field
   pub held : Held
-  -- the name of the insert that is prepared, with either flag, and the full name and the octets of
-  -- the Data whose offer is prepared
+  -- the name of the prepared insert, with either value of CanBePrefix, and the full name and the
+  -- octets of the Data whose offer is prepared
   pub prepared_want : Option (List Field)
   pub prepared_object : Option (List Field × List ℕ)
 
--- at most 64 wants, and 65,536 objects and wants
+-- there are at most 64 wants, and at most 65,536 objects and wants together
 abbrev pub IsWithinLimits : Held → Type 0
 IsWithinLimits s =
     (map.len s.wants ≤ MAX_WANTS) × (map.len s.objects + map.len s.wants ≤ MAX_HELD)
@@ -56,7 +56,7 @@ first_case_status s c (row ∷ rows) = if holds s c row.0 then row.1 else first_
 abbrev pub repo_status_of : Held → RepoCommand → ℕ
 repo_status_of s c = first_case_status s c (verb_row c.verb).answers
 
--- what is to be fetched: of an insert that is pending, an Interest of its name, flag and lifetime
+-- the Interest to send for a pending insert, with the command's name, CanBePrefix and lifetime
 abbrev pub fetch_of : RepoCommand → ℕ → Option Want
 fetch_of c status =
     elim c.verb [
@@ -68,7 +68,7 @@ fetch_of c status =
       | _ ↦ None
     ]
 
--- the number of objects that answer, with status 200
+-- the reply with this status; its count is the number of objects that answer, if the status is 200
 abbrev pub reply_with : Held → RepoCommand → ℕ → RepoReply
 reply_with s c status = record {
   status = status;
@@ -80,7 +80,7 @@ abbrev pub reply_to : Held → Option RepoCommand → RepoReply
 reply_to s None = record { status = BAD_PARAMETERS; count = 0; fetch = None }
 reply_to s (Some c) = reply_with s c (repo_status_of s c)
 
--- an equal want gets the new deadline
+-- the state after an insert; an equal want gets the new deadline
 abbrev pub after_insert : RepoCommand → ℕ → Held → Held
 after_insert c now s =
     if repo_status_of s c == PENDING then record s {
@@ -98,24 +98,23 @@ abbrev pub after_known : RepoCommand → ℕ → Held → Held
 after_known c now s =
     elim c.verb [ Insert ↦ after_insert c now s | Delete ↦ after_delete c s | Check ↦ s ]
 
--- a name that is no command does nothing
+-- the state after a command; a name that is not a command changes nothing
 abbrev pub after_some : Option RepoCommand → ℕ → Held → Held
 after_some None now s = s
 after_some (Some c) now s = after_known c now s
 
--- what a command of this name does at this moment, in a repository of this prefix
+-- the state after the command with this name at the time `now`, in a repository with this prefix
 abbrev pub after_command : List Field → List Field → ℕ → Held → Held
 after_command start name now s = after_some (repo_command_at start name) now s
 
--- the one command that takes memory: an insert that makes a want, or renews one
+-- the command needs memory: it is an insert that creates or renews a want
 abbrev pub MakesWant : Held → Option RepoCommand → Type 0
 MakesWant s None = ⊥
 MakesWant s (Some c) = (c.verb ≡ Insert) × (repo_status_of s c ≡ PENDING)
 
 -- ---- Data
 
--- Data of this name, implicit digest and octets: it is stored where it is wanted, in place of what
--- has its full name
+-- the state after an offer: a wanted Data is stored in place of the object with the same full name
 abbrev pub after_offer : List Field → List ℕ → List ℕ → Held → Held
 after_offer name digest octets s =
     if is_wanted name digest s.wants then record {
@@ -125,13 +124,13 @@ after_offer name digest octets s =
 
 -- ---- time
 
--- without the wants that are due
+-- the state without the wants that have expired
 abbrev pub after_time : ℕ → Held → Held
 after_time now s = record s { wants = wants_after now s.wants }
 
--- ---- what is prepared
+-- ---- preparations
 
--- the command is prepared, if it can make a want
+-- the command is prepared, if it can create a want
 abbrev pub is_insert : Verb → Bool
 is_insert Insert = true
 is_insert Delete = false
@@ -147,13 +146,13 @@ IsCommandPrepared s name =
     IfSome (repo_command_at s.start name)
     (λ c. is_insert c.verb ≡ true → s.prepared_want ≡ Some c.name)
 
--- the offer is prepared, if the Data is wanted
+-- the offer of this Data is prepared, if the Data is wanted
 abbrev pub IsOfferPrepared : RepoState → List Field → List ℕ → List ℕ → Type 0
 IsOfferPrepared s name digest octets =
     is_wanted name digest s.held.wants ≡ true
     → s.prepared_object ≡ Some (full_name name digest, octets)
 
--- ---- as the value of a model
+-- ---- the state as the value of a model
 
 abbrev pub octets_code : Coded (List ℕ)
 octets_code = coded_list coded_ℕ

@@ -1,4 +1,4 @@
--- Rows in order and the room beside them, for private contracts.
+-- Sorted rows and their spare capacity, for private contracts.
 use Rattle.std.specs.Prelude.{◌≡◌, ◌≢◌, ℕ, ◌<◌, ◌≤◌, List, length, take, slice_index_or, refl}
 use Rattle.std.specs.Coded.{Coded, code_by, coded×, coded_list, coded_ℕ}
 use Rattle.std.specs.declared.cmp.Ordering.{Ordering}
@@ -9,7 +9,7 @@ use Rattle.ndn_names.specs.Key.{name_code}
 use Rattle.repo_core.specs.declared.want_names.Names.{Names}
 use Rattle.repo_core.specs.Objects.{Objects}
 
--- objects, and for how many more there is room
+-- objects, and the number of objects that can be added without allocating memory
 pub record Shelf : Type 0 where
   pub table : Objects
   pub room : ℕ
@@ -20,7 +20,7 @@ shelf_code =
     (coded× (map.code name_code (coded_list coded_ℕ)) coded_ℕ)
     (λ s. (s.table, s.room)) (λ p. record { table = p.0; room = p.1 }) (λ _. refl)
 
--- all rows before a place have lesser keys, and those from it on have not
+-- all rows before index `at` have keys less than `key`, and the rows from `at` on do not
 pub record IsPlace {K X : Type 0} (R : K → K → Ordering) (key : K) (rows : List (K × X))
     (at : ℕ) : Type 0 where
   pub within : at ≤ length rows
@@ -28,12 +28,12 @@ pub record IsPlace {K X : Type 0} (R : K → K → Ordering) (key : K) (rows : L
   pub after : (k : ℕ) (row : K × X) → at ≤ k → k < length rows
       → R key (slice_index_or rows k row).0 ≢ Greater
 
--- the row at a place has this key
+-- the row at index `at` has this key
 abbrev pub HasAt : {K X : Type 0} → K → List (K × X) → ℕ → Type 0
 HasAt {K} {X} key rows at =
     (at < length rows)
     × ((row : K × X) → row ≡ slice_index_or rows at row → row.0 ≡ key)
 
--- both copies are of one name
+-- both copies hold the same name
 abbrev pub AreAlike : Names → Type 0
 AreAlike n = n.fetched ≡ n.key

@@ -1,5 +1,5 @@
--- The Data that a repository wants: wants by name and CanBePrefix, each with its deadline. Its
--- lifetime is not stored.
+-- The wants of a repository, by name and CanBePrefix, each with its deadline. The lifetime of a
+-- want is not stored.
 use Rattle.std.specs.Prelude.{◌≡◌, ℕ, ◌+◌, ◌-◌, ◌^◌, min, nat_lt, not, Bool, List}
 use Rattle.std.specs.Coded.{Coded, coded×, coded_bool}
 use Rattle.std.specs.List.{list_any}
@@ -14,11 +14,11 @@ use Rattle.ndn_packets.specs.Answers.{answers}
 use Rattle.ndn_packets.specs.Key.{bool_tie}
 use Rattle.repo_core.specs.Objects.{kept}
 
--- a name, and whether names that begin with it are wanted too
+-- a name and a flag; the flag is CanBePrefix
 abbrev pub WantKey : Type 0
 WantKey = List Field × Bool
 
--- by name in canonical order, then by the flag, one that is not set first
+-- by name in canonical order; for one name, CanBePrefix `false` comes first
 abbrev pub want_cmp : WantKey → WantKey → Ordering
 want_cmp = then_cmp (on (λ k. k.0) name_cmp) (on (λ k. k.1) bool_cmp)
 
@@ -41,18 +41,18 @@ want_code = coded× name_code coded_bool
 abbrev pub Wants : Type 0
 Wants = FinMap want_cmp ℕ
 
--- a Data of this name and implicit digest is wanted
+-- the Data with this name and implicit digest is wanted
 abbrev pub is_wanted : List Field → List ℕ → Wants → Bool
 is_wanted name digest wants = list_any (λ w. answers name digest w.0.0 w.0.1) (entries wants)
 
--- without the wants that this Data fills
+-- the wants that this Data does not answer
 abbrev pub unfilled : List Field → List ℕ → Wants → Wants
 unfilled name digest wants = kept (λ w. not (answers name digest w.0.0 w.0.1)) wants
 
--- without the wants that are due
+-- the wants that have not expired by `now`
 abbrev pub wants_after : ℕ → Wants → Wants
 wants_after now wants = kept (λ w. nat_lt now w.1) wants
 
--- the deadline of a want; the sum stops at the greatest moment
+-- the deadline of a want, at most 2^64 - 1
 abbrev pub want_deadline : ℕ → ℕ → ℕ
 want_deadline now lifetime = min (now + lifetime) (2 ^ 64 - 1)

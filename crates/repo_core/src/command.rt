@@ -1,4 +1,4 @@
-//! Commands as names: the repository's prefix, the verb, the parameters and the digest.
+//! Reads command names: the repository's prefix, the verb, the parameters and the digest.
 
 ghost use Rattle.std.specs.Prelude.{◌≡◌, ◌≤◌, IfSome, length};
 ghost use Rattle.std.specs.Option.{option_map};
@@ -14,8 +14,8 @@ use ndn_names::component_type::{GENERIC, PARAMETERS_SHA256_DIGEST};
 use ndn_packets::command_types::REPO_COMMAND_PARAMETER;
 use ndn_tlv::single_element;
 
-/// A command that is well formed: it is about the Data that answer an Interest of a name and a
-/// flag, and wants them for a lifetime in milliseconds.
+/// A well-formed command. It is about the Data that answer an Interest with this name and this
+/// CanBePrefix. The lifetime of a want is in milliseconds.
 #[derive(Clone, Copy)]
 pub struct Asked<'a> {
     pub verb: Verb,
@@ -24,7 +24,7 @@ pub struct Asked<'a> {
     pub lifetime: u64,
 }
 
-/// The octets of the component of this type, counted from the end of the prefix.
+/// Returns the value of the component at index `at` after the prefix, if it has type `kind`.
 fn value_after<'a>(start: Name<'_>, name: Name<'a>, kind: u16, at: usize) -> Option<&'a [u8]>
     requires { at ≤ 2 }
     ensures exact { option_map (λ v. v.now) result
@@ -38,7 +38,7 @@ fn value_after<'a>(start: Name<'_>, name: Name<'a>, kind: u16, at: usize) -> Opt
 }
 
 #[tactic(auto, unfolding(crate::specs::Reading::verb_at))]
-/// The verb of a name that begins with the prefix and a verb.
+/// Returns the verb of a name that begins with the prefix `start` and a verb.
 pub fn verb_after(start: Name<'_>, name: Name<'_>) -> Option<Verb>
     ensures { result ≡ verb_at (components start.entry) (components name.entry) }
 {
@@ -49,7 +49,7 @@ pub fn verb_after(start: Name<'_>, name: Name<'_>) -> Option<Verb>
 }
 
 #[tactic(auto, unfolding(crate::specs::Reading::repo_command_at))]
-/// The command that a name is.
+/// Returns the command that the name encodes.
 pub fn command_in<'a>(start: Name<'_>, name: Name<'a>) -> Option<Asked<'a>>
     ensures exact { option_map plain result
         ≡ repo_command_at (components start.entry) (components name.entry) }
@@ -67,7 +67,7 @@ pub fn command_in<'a>(start: Name<'_>, name: Name<'a>) -> Option<Asked<'a>>
 }
 
 #[tactic(auto, unfolding(crate::specs::Reading::command_of))]
-/// The command of these parameters.
+/// Returns the command with these parameters.
 fn command_of(verb: Verb, fields: &[u8]) -> Option<Asked<'_>>
     ensures exact { option_map plain result ≡ command_of verb (elements_of fields.now) }
     ensures short { IfSome result (λ a.

@@ -14,7 +14,7 @@ use ndn_names::Name;
 use ndn_packets::types::{CAN_BE_PREFIX, INTEREST_LIFETIME, NAME};
 use ndn_tlv::{first_element, first_field, nni_of};
 
-/// Whether the octets are elements.
+/// Returns whether the octets are TLV elements.
 pub fn are_elements(octets: &[u8]) -> bool
     ensures { result ≡ list_all can_be_read (elements_of octets.now) }
 {
@@ -28,7 +28,7 @@ pub fn are_elements(octets: &[u8]) -> bool
     true
 }
 
-/// The Name field. None where it is missing or no name.
+/// Returns the name in the Name field, or `None` if the field is missing or not a name.
 pub fn name_field(octets: &[u8]) -> Option<Name<'_>>
     ensures exact { option_map components result ≡ name_in (elements_of octets.now) }
     ensures short { IfSome result (λ name.
@@ -38,7 +38,7 @@ pub fn name_field(octets: &[u8]) -> Option<Name<'_>>
     Name::read(value).ok()
 }
 
-/// Whether the CanBePrefix field is there. None where it has octets.
+/// Returns whether the CanBePrefix field is present, or `None` if the field is not empty.
 pub fn flag_field(octets: &[u8]) -> Option<bool>
     ensures { result ≡ flag_of (first_of CAN_BE_PREFIX (elements_of octets.now)) }
 {
@@ -49,7 +49,8 @@ pub fn flag_field(octets: &[u8]) -> Option<bool>
     }
 }
 
-/// The InterestLifetime field, or the default where it is absent. None where it is no number.
+/// Returns the InterestLifetime field, or the default if the field is absent. Returns `None` if it
+/// is not a number.
 pub fn lifetime_field(octets: &[u8]) -> Option<u64>
     ensures { result ≡ lifetime_of (first_of INTEREST_LIFETIME (elements_of octets.now)) }
 {

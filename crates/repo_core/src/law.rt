@@ -1,4 +1,4 @@
-//! Laws on the definitions that contracts cite. They do nothing when the program runs.
+//! Laws on the definitions that contracts use. These functions do nothing at run time.
 
 ghost use Rattle.std.specs.Prelude.{◌≡◌, ◌↔◌, ◌+◌, ◌≤◌, ◌++◌, ◌∷◌, [], ℕ, List, Bool, Option, Some, IsSome, length, true};
 ghost use Rattle.std.specs.FinMap as map;
@@ -18,15 +18,15 @@ ghost use Rattle.repo_core.specs.Writing.{repo_response};
 
 use crate::reply::MAX_REPLY_LEN;
 
-/// Law: an object answers an Interest exactly where its Data does.
+/// Law: an object answers an Interest if and only if its Data does.
 pub fn full_names_answer_as_data()
     ensures { (name asked : List Field) (digest : List ℕ) (can_be_prefix : Bool)
         → full_name_answers asked can_be_prefix (full_name name digest)
         ≡ answers name digest asked can_be_prefix }
 {}
 
-/// Law: a Data that is not wanted is not wanted later, where wants only expire or are deleted. So
-/// what is prepared stays prepared.
+/// Law: a Data that is not wanted remains unwanted while wants only expire or are deleted. So the
+/// preparation of an offer remains valid.
 pub fn removals_keep_preparations()
     ensures expiry { (now : ℕ) (name : List Field) (digest : List ℕ) (wants : Wants)
         → is_wanted name digest (wants_after now wants) ≡ true
@@ -36,29 +36,31 @@ pub fn removals_keep_preparations()
         → is_wanted name digest s.wants ≡ true }
 {}
 
-/// Law: a name has a verb exactly where it begins with the prefix and the verb's word.
+/// Law: a name has a verb if and only if it begins with the prefix and the verb's word.
 pub fn verbs_follow_the_prefix()
     ensures { (start name : List Field) (verb : Verb)
         → (verb_at start name ≡ Some verb)
         ↔ (begins_with (start ++ (GENERIC, (verb_row verb).word) ∷ []) name ≡ true) }
 {}
 
-/// Law: each status that a command is answered with has a text.
+/// Law: every status of a reply has a text.
 pub fn repo_statuses_have_texts()
     ensures { (s : Held) (c : Option RepoCommand)
         → IsSome (repo_text_of (reply_to s c).status) }
 {}
 
-/// Law: how long replies are at most. So room for one can be made before its status is known.
+/// Law: the length of replies is bounded, so memory for a reply can be reserved before its status
+/// is known.
 pub fn repo_replies_are_bounded()
     ensures known { (status count : ℕ) (text : List ℕ) → repo_text_of status ≡ Some text
         → length (repo_response status text count) ≤ MAX_REPLY_LEN }
-    // A reply of any text, as the refusal of a command that no rule allows.
+    // The bound on a reply with any text, such as the refusal of a command that no rule allows.
     ensures any { (status count : ℕ) (text : List ℕ)
         → length (repo_response status text count) ≤ length text + 40 }
 {}
 
-/// Law: at most 64 wants, and at most 65,536 objects and wants, stay so few, whatever comes.
+/// Law: the limits of 64 wants, and of 65,536 objects and wants together, hold after every step if
+/// they held before it.
 pub fn limits_are_kept()
     ensures command { (start name : List Field) (now : ℕ) (s : Held)
         → IsWithinLimits s → IsWithinLimits (after_command start name now s) }
@@ -67,7 +69,7 @@ pub fn limits_are_kept()
     ensures time { (now : ℕ) (s : Held) → IsWithinLimits s → IsWithinLimits (after_time now s) }
 {}
 
-/// Law: where all objects are Data under their full names, they stay so, whatever comes.
+/// Law: if all objects are Data stored by their full names, this also holds after every step.
 pub fn objects_stay_data()
     ensures command { (start name : List Field) (now : ℕ) (s : Held)
         → AreObjects s.objects → AreObjects (after_command start name now s).objects }
@@ -78,7 +80,8 @@ pub fn objects_stay_data()
         → AreObjects s.objects → AreObjects (after_time now s).objects }
 {}
 
-/// Law: what is there of one name, or of one want, after those that fail a test are removed.
+/// Law: after all entries that fail a test are removed, the entry of a name or of a want is
+/// unchanged if it passes the test, and otherwise absent.
 pub fn kept_entries_by_key()
     ensures objects { (test : List Field × List ℕ → Bool) (objects : Objects) (name : List Field)
         → map.get (kept test objects) name ≡ if_kept test name (map.get objects name) }

@@ -1,4 +1,4 @@
-//! A repository: Data that commands insert, delete and check.
+//! A repository of Data. Commands insert, delete and check Data.
 #![tactic(auto)]
 
 mod command;

@@ -13,14 +13,14 @@ use ndn_tlv::Memory;
 use std::alloc::Global;
 use std::marker::Model;
 
-/// A stored Data. Its model is its full name and its octets. It takes one word in a list, so that
-/// many are moved quickly.
+/// A stored Data. Its model is its full name and its octets. An object is one pointer, so a list of
+/// objects can be shifted quickly.
 #[derive(Drop)]
 pub struct Object {
     stored: Box<Stored>,
 }
 
-/// What is known of a Data that is stored.
+/// The contents of a stored Data.
 #[derive(Drop)]
 struct Stored {
     full_name: FullName,
@@ -45,7 +45,7 @@ impl Model for Object {
 }
 
 impl Object {
-    /// A copy of a Data. The digest is computed here, and never again.
+    /// Copies a Data. The implicit digest is computed here, once.
     pub fn new(alloc: Global, packet: &Data<'_>) -> Result<Object, Memory>
         ensures { IfOk result (λ o. o ≡ object_of packet.now) }
     {
@@ -55,21 +55,22 @@ impl Object {
         Ok(Object { stored })
     }
 
-    /// The octets of the Data.
+    /// Returns the octets of the Data.
     pub fn octets(&self) -> &[u8]
         ensures { result.now ≡ self.now.1 }
     {
         &self.stored.octets
     }
 
-    /// The TLV-VALUE of the full name.
+    /// Returns the TLV-VALUE of the full name.
     pub fn full_name(&self) -> &[u8]
         ensures { IsElements result.now self.now.0 }
     {
         self.stored.full_name.as_octets()
     }
 
-    /// Whether the full name comes before the name of these octets in canonical order.
+    /// Returns whether the full name is less than the name with the TLV-VALUE `octets`, in
+    /// canonical order.
     pub fn is_below(&self, octets: &[u8]) -> bool
         ensures { (name : List Field) → IsElements octets.now name
             → result ≡ is_lt (name_cmp self.now.0 name) }
@@ -77,7 +78,7 @@ impl Object {
         self.stored.full_name.is_below(octets)
     }
 
-    /// Whether this is the full name.
+    /// Returns whether the full name has the TLV-VALUE `octets`.
     pub fn is(&self, octets: &[u8]) -> bool
         ensures { (name : List Field) → IsElements octets.now name
             → IsTrue result ↔ (self.now.0 ≡ name) }
@@ -85,7 +86,7 @@ impl Object {
         self.stored.full_name.is(octets)
     }
 
-    /// Whether it is that of this Data.
+    /// Returns whether this object is the Data `packet`.
     pub fn is_of(&self, packet: &Data<'_>) -> bool
         ensures { IsTrue result ↔ (self.now ≡ object_of packet.now) }
     {
@@ -93,21 +94,21 @@ impl Object {
         stored.octets.as_slice() == packet.whole && stored.full_name.is_of(packet.name)
     }
 
-    /// Whether the full name begins with a name.
+    /// Returns whether `name` is a prefix of the full name.
     fn is_under(&self, name: Name<'_>) -> bool
         ensures { result ≡ begins_with (components name.entry) self.now.0 }
     {
         self.stored.full_name.is_under(name)
     }
 
-    /// Whether this is the name or the full name.
+    /// Returns whether `name` is the name of the Data or its full name.
     fn is_named(&self, name: Name<'_>) -> bool
         ensures { result ≡ full_name_answers (components name.entry) false self.now.0 }
     {
         self.stored.full_name.is_named(name)
     }
 
-    /// Whether the Data answers an Interest of this name and flag.
+    /// Returns whether the Data answers an Interest with this name and CanBePrefix.
     pub fn answers(&self, name: Name<'_>, can_be_prefix: bool) -> bool
         ensures { result ≡ full_name_answers (components name.entry) can_be_prefix self.now.0 }
     {
@@ -118,7 +119,8 @@ impl Object {
         }
     }
 
-    /// Whether the full name is near enough behind a name for one like it to answer.
+    /// Returns whether the full name is near the name: an object whose full name is not near cannot
+    /// answer an Interest with this name and CanBePrefix.
     pub fn is_near(&self, name: Name<'_>, can_be_prefix: bool) -> bool
         ensures { result ≡ is_near (components name.entry) can_be_prefix self.now.0 }
     {

@@ -17,10 +17,10 @@ use ndn_tlv::Memory;
 use std::alloc::Global;
 use std::marker::Model;
 
-/// Data that are stored, each full name once.
+/// The stored Data. No two of them have the same full name.
 #[derive(Drop)]
 pub struct Objects {
-    // In canonical order of their full names.
+    // The objects in canonical order of their full names.
     rows: Vec<Object>,
 }
 
@@ -59,7 +59,7 @@ impl Objects {
         self.rows.len()
     }
 
-    /// How many answer an Interest of this name and flag.
+    /// Returns the number of objects that answer an Interest with this name and CanBePrefix.
     pub fn number(&self, name: Name<'_>, can_be_prefix: bool) -> usize
         ensures { result ≡ number_answering (components name.entry) can_be_prefix self.now.table }
     {
@@ -70,7 +70,8 @@ impl Objects {
         )
     }
 
-    /// The octets of the one of the least full name that answers.
+    /// Returns the octets of the object that answers an Interest with this name and CanBePrefix. If
+    /// several answer, the one with the least full name is chosen.
     pub fn served(&self, name: Name<'_>, can_be_prefix: bool) -> Option<&[u8]>
         ensures { option_map (λ o. o.now) result
             ≡ served (components name.entry) can_be_prefix self.now.table }
@@ -82,7 +83,7 @@ impl Objects {
         )
     }
 
-    /// Removes those that answer.
+    /// Removes the objects that answer an Interest with this name and CanBePrefix.
     pub fn remove(&mut self, name: Name<'_>, can_be_prefix: bool)
         ensures table { self.new.table
             ≡ without_answering (components name.entry) can_be_prefix self.old.table }
@@ -92,7 +93,7 @@ impl Objects {
             .retain(|object| !object.answers(name, can_be_prefix));
     }
 
-    /// Makes room for one more.
+    /// Reserves memory for one more object.
     pub fn reserve(&mut self) -> Result<(), Memory>
         ensures ok { OnOk result (0 < self.new.room) }
         ensures table { self.new.table ≡ self.old.table }
@@ -103,7 +104,7 @@ impl Objects {
         Ok(())
     }
 
-    /// Puts one in place of what has its full name.
+    /// Inserts an object, in place of the object with the same full name, if there is one.
     pub fn put(&mut self, object: Object)
         requires { 0 < self.old.room }
         ensures { self.new.table ≡ map.insert self.old.table object.0 object.1 }
@@ -117,7 +118,8 @@ impl Objects {
     }
 }
 
-/// The place of the first full name that does not come before the name of these octets.
+/// Returns the index of the first object whose full name is not less than the name with the
+/// TLV-VALUE `octets`.
 fn place_of(objects: &[Object], octets: &[u8]) -> usize
     requires { T (map.is_sorted name_cmp objects.now) }
     ensures { (name : List Field) → IsElements octets.now name
@@ -126,7 +128,7 @@ fn place_of(objects: &[Object], octets: &[u8]) -> usize
     objects.partition_point(|object| object.is_below(octets))
 }
 
-/// Whether the full name at a place is that of these octets.
+/// Returns whether the object at index `at` has the full name with the TLV-VALUE `octets`.
 fn has_at(objects: &[Object], at: usize, octets: &[u8]) -> bool
     ensures { (name : List Field) → IsElements octets.now name
         → IsTrue result ↔ HasAt name objects.now at }
@@ -137,7 +139,8 @@ fn has_at(objects: &[Object], at: usize, octets: &[u8]) -> bool
     }
 }
 
-/// A part that has all objects that answer an Interest of this name and flag, the near ones first.
+/// Returns a slice with all objects that answer an Interest with this name and CanBePrefix. Objects
+/// with full names near `name` come first.
 fn candidates<'a>(objects: &'a [Object], name: Name<'_>, can_be_prefix: bool) -> &'a [Object]
     requires { T (map.is_sorted name_cmp objects.now) }
     ensures same { answering (components name.entry) can_be_prefix result.now
@@ -150,7 +153,8 @@ fn candidates<'a>(objects: &'a [Object], name: Name<'_>, can_be_prefix: bool) ->
     rest
 }
 
-/// How many of these answer.
+/// Returns the number of objects in the slice that answer an Interest with this name and
+/// CanBePrefix.
 fn count_of(objects: &[Object], name: Name<'_>, can_be_prefix: bool) -> usize
     requires { IsPartitionedBy (λ o. is_near (components name) can_be_prefix o.0) objects.now }
     ensures { result ≡ length (answering (components name.entry) can_be_prefix objects.now) }
@@ -167,7 +171,8 @@ fn count_of(objects: &[Object], name: Name<'_>, can_be_prefix: bool) -> usize
     count
 }
 
-/// The octets of the first of these that answers.
+/// Returns the octets of the first object in the slice that answers an Interest with this name and
+/// CanBePrefix.
 fn first_of<'a>(objects: &'a [Object], name: Name<'_>, can_be_prefix: bool) -> Option<&'a [u8]>
     requires { IsPartitionedBy (λ o. is_near (components name) can_be_prefix o.0) objects.now }
     ensures { option_map (λ o. o.now) result

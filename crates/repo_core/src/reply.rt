@@ -10,31 +10,32 @@ use ndn_names::NameBuf;
 use ndn_packets::command_types::{COUNT, REPO_COMMAND_RESPONSE, REPO_STATUS_CODE, STATUS_TEXT};
 use ndn_tlv::{Memory, element_len, nni_element_len, put_element, put_nni_element, put_number};
 
-/// The greatest number of octets of a reply to a command that is allowed.
+/// The greatest length of a reply to an allowed command, in octets.
 pub const MAX_REPLY_LEN: usize = 55;
 
-/// An Interest that is to be sent, so that wanted Data arrives.
+/// An Interest that is sent to fetch wanted Data.
 #[derive(Debug, Drop)]
 pub struct Want {
     pub name: NameBuf,
     pub can_be_prefix: bool,
-    /// In milliseconds.
+    /// The InterestLifetime in milliseconds.
     pub lifetime: u64,
 }
 
-/// What a command is answered with.
+/// The reply to a command.
 #[derive(Debug, Drop)]
 pub struct RepoReply {
-    /// 100 pending, 200 OK, 400 bad parameters, 404 not found, 503 repository full.
+    /// The status code: 100 pending, 200 OK, 400 bad parameters, 404 not found, or 503 repository
+    /// full.
     pub status: u16,
-    /// The number of objects that answer, with status 200; else 0.
+    /// The number of stored Data that answer, if the status is 200, otherwise 0.
     pub count: u64,
-    /// What is to be fetched, with the status 100 of an insert.
+    /// The Interest to send, if the command is an insert and the status is 100.
     pub fetch: Option<Want>,
 }
 
 impl RepoReply {
-    /// One without anything to be fetched.
+    /// Returns a reply without an Interest to send.
     pub(crate) fn plain(status: u16, count: u64) -> RepoReply
         ensures { result ≡ record { status = status; count = count; fetch = None } }
     {
@@ -46,7 +47,7 @@ impl RepoReply {
     }
 }
 
-/// The text of a status that a command is answered with. None for any other status.
+/// Returns the text of a status, or `None` if no command is answered with this status.
 pub fn repo_status_text(status: u16) -> Option<&'static str>
     ensures { option_map (λ text. text.now) result ≡ repo_text_of status }
 {
@@ -60,12 +61,12 @@ pub fn repo_status_text(status: u16) -> Option<&'static str>
     }
 }
 
-/// Appends a reply: the status, its text and a number. When memory runs out, nothing is appended.
+/// Appends a reply: the status, its text and a number. If memory runs out, nothing is appended.
 pub fn put_repo_reply(out: &mut Vec<u8>, status: u16, text: &str, count: u64) -> Result<(), Memory>
     ensures ok { OnOk result
         (out.new.items ≡ out.old.items ++ repo_response status text.now count) }
     ensures err { OnErr result (out.new.items ≡ out.old.items) }
-    // Where there is room, memory is not refused.
+    // If the spare capacity is enough, memory does not run out.
     ensures room { vec_len out.old + length (repo_response status text.now count)
         ≤ vec_capacity out.old → IsOk result }
     ensures capacity { vec_capacity out.old ≤ vec_capacity out.new }
@@ -78,7 +79,7 @@ pub fn put_repo_reply(out: &mut Vec<u8>, status: u16, text: &str, count: u64) ->
     done
 }
 
-/// Appends a reply, or some octets of it.
+/// Appends a reply. If memory runs out, some of its octets may be appended.
 fn put_parts(out: &mut Vec<u8>, status: u16, text: &[u8], count: u64) -> Result<(), Memory>
     ensures { Puts out.old out.new result (repo_response status text.now count) }
 {

@@ -31,20 +31,20 @@ pub const MAX_WANTS: usize = 64;
 /// The greatest number of objects and wants together.
 pub const MAX_HELD: usize = 65_536;
 
-/// Law: these are the numbers of this profile.
+/// Law: the limits are 64 wants, and 65,536 objects and wants together.
 pub fn repo_limits_are_as_promised()
     ensures { (MAX_WANTS ≡ 64) × (MAX_HELD ≡ 65536) }
 {}
 
-/// A repository: it stores the Data that commands want, and serves them. It has at most 64 wants,
-/// and at most 65,536 objects and wants.
+/// A repository. It stores the Data that commands ask for and serves them. It holds at most 64
+/// wants, and at most 65,536 objects and wants together.
 #[derive(Drop)]
 pub struct Repo {
     alloc: Global,
     start: NameBuf,
     objects: Objects,
     wants: Wants,
-    // What is reserved for one insert, and the object that is reserved for one offer.
+    // The memory that is prepared for one insert, and the object that is prepared for one offer.
     names: Option<Names>,
     object: Option<Object>,
 }
@@ -73,7 +73,7 @@ impl Model for Repo {
 }
 
 impl Repo {
-    /// An empty repository. Its commands' names begin with this prefix.
+    /// Creates an empty repository. The names of its commands begin with `prefix`.
     pub fn new(alloc: Global, prefix: NameBuf) -> Result<Repo, Memory>
         ensures { IfOk result (λ r. r ≡ record {
           start = prefix;
@@ -93,23 +93,27 @@ impl Repo {
         })
     }
 
-    /// The verb of a name that begins with the prefix and a verb, as commands' names do.
+    /// Returns the verb of a name that begins with the repository's prefix and a verb, as the names
+    /// of commands do.
     pub fn verb_of(&self, name: Name<'_>) -> Option<Verb>
         ensures { result ≡ verb_at self.now.start (components name.entry) }
     {
         verb_after(self.start.view(), name)
     }
 
-    /// Applies a command at this moment, in milliseconds since 1970. Its name is the prefix, the
-    /// verb, the parameters and the digest of the Interest's parameters.
+    /// Applies a command. The name of a command is the prefix, the verb, the parameters and the
+    /// digest of the Interest's parameters. `now` is in milliseconds since 1970.
     ///
-    /// An insert is answered 200 where objects answer, with their number, else 503 where there is
-    /// neither an equal want nor a place for one, and else 100, and then there is a want until the
-    /// lifetime is over. A delete is answered 200 with the number of objects if there were any or
-    /// an equal want, which are then removed, and else 404. A check is answered 200 with the number
-    /// of objects that answer, 100 for an equal want, and else 404. Any other name is answered 400.
-    /// `Memory` is returned by an insert alone; then nothing changes, but nothing is prepared any
-    /// more. An insert ends what is prepared, and no other command does.
+    /// An insert is answered 200 with the number of objects that answer, if there are any.
+    /// Otherwise it is answered 503 if there is no equal want and no room for a new want, and 100
+    /// in all other cases. With 100, the repository holds a want until its lifetime is over. A
+    /// delete removes the objects that answer and an equal want. It is answered 200 with the number
+    /// of objects if it removed anything, and 404 otherwise. A check is answered 200 with the
+    /// number of objects that answer, if there are any; otherwise 100 if there is an equal want,
+    /// and 404 if not. Any other name is answered 400.
+    ///
+    /// Only an insert may return `Memory`. Then objects and wants are unchanged, but the
+    /// preparation has ended. An insert ends the preparation; other commands do not.
     pub fn command(&mut self, name: Name<'_>, now: u64) -> Result<RepoReply, Memory>
         ensures reply { IfOk result (λ r.
             r ≡ reply_to self.old.held (repo_command_at self.old.start (components name.entry))) }
@@ -125,7 +129,7 @@ impl Repo {
             → (self.new.prepared_want ≡ self.old.prepared_want)
             × (self.new.prepared_object ≡ self.old.prepared_object) }
         ensures promised { IsCommandPrepared self.old (components name.entry) → IsOk result }
-        // What is fetched has no longer a name than the command.
+        // The name of the Interest to send is not longer than the name of the command.
         ensures fetched { IfOk result (λ r. IfSome r.fetch (λ want.
             length (octets_of want.name) ≤ length (octets_of (components name.entry)))) }
     {
@@ -143,10 +147,11 @@ impl Repo {
         }
     }
 
-    /// Offers a Data: if it is wanted, it is stored in place of one of its full name, all wants
-    /// that it answers are removed, and nothing is prepared any more. Returns whether it was
-    /// wanted. `Memory` is returned only for a Data that is wanted; then nothing changes, but
-    /// nothing is prepared any more. A Data that is not wanted changes nothing.
+    /// Offers a Data to the repository, and returns whether the Data was wanted. A wanted Data
+    /// replaces the object with the same full name or is added. All wants that it answers are
+    /// removed, and the preparation ends. `Memory` is returned only for a wanted Data; then objects
+    /// and wants are unchanged, but the preparation has ended. A Data that is not wanted changes
+    /// nothing.
     pub fn offer(&mut self, packet: &Data<'_>) -> Result<bool, Memory>
         ensures filled { IfOk result (λ filled. filled ≡ is_wanted (components packet.now.name)
             (sha256 packet.now.whole.now) self.old.held.wants) }
@@ -176,18 +181,18 @@ impl Repo {
         Ok(true)
     }
 
-    /// Whether there are wants.
+    /// Returns whether the repository has wants.
     pub fn has_wants(&self) -> bool
         ensures exact { result ≡ nat_lt 0 (map.len self.now.held.wants) }
-        // Else no Data is wanted.
+        // A repository without wants does not want any Data.
         ensures none { result ≡ false → (name : List Field) (digest : List ℕ) (now : ℕ)
             → is_wanted name digest (wants_after now self.now.held.wants) ≡ false }
     {
         self.wants.len() > 0
     }
 
-    /// Whether a Data is wanted at this moment, in milliseconds since 1970, at which some wants may
-    /// be due.
+    /// Returns whether the repository wants the Data at the time `now`, in milliseconds since 1970.
+    /// Wants that have expired by `now` do not count.
     pub fn wants(&self, packet: &Data<'_>, now: u64) -> bool
         ensures { result ≡ is_wanted (components packet.now.name) (sha256 packet.now.whole.now)
             (wants_after now self.now.held.wants) }
@@ -195,8 +200,8 @@ impl Repo {
         self.wants.will_be_filled_by(packet, now)
     }
 
-    /// The octets of the stored Data of the least full name that answers an Interest, whatever its
-    /// MustBeFresh.
+    /// Returns the octets of the stored Data that answers the Interest. If several answer, the one
+    /// with the least full name is chosen. MustBeFresh is ignored.
     pub fn serve(&self, interest: &Interest<'_>) -> Option<&[u8]>
         ensures { option_map (λ o. o.now) result ≡ served (components interest.now.name)
             interest.now.can_be_prefix self.now.held.objects }
@@ -204,8 +209,8 @@ impl Repo {
         self.objects.served(interest.name, interest.can_be_prefix)
     }
 
-    /// Removes the wants whose deadline is at most this moment, in milliseconds since 1970. What is
-    /// prepared stays so.
+    /// Removes the wants whose deadline is at most `now`, in milliseconds since 1970. The
+    /// preparation is unchanged.
     pub fn expire(&mut self, now: u64)
         ensures { self.new ≡ record self.old {
           held = record self.old.held {
@@ -216,7 +221,8 @@ impl Repo {
         self.wants.expire(now);
     }
 
-    /// The number of objects and wants. The clauses beside `exact` are true of every repository.
+    /// Returns the number of objects and wants. The clauses other than `exact` hold for every
+    /// repository.
     pub fn held_len(&self) -> usize
         ensures exact { result ≡ map.len self.now.held.objects + map.len self.now.held.wants }
         ensures limits { IsWithinLimits self.now.held }
@@ -225,9 +231,9 @@ impl Repo {
         self.objects.len() + self.wants.len()
     }
 
-    /// Prepares the command of this name, its reply included: it then cannot run out of memory. An
-    /// insert, a Data that is stored, or a further preparation, even if it fails, ends it. What
-    /// only removes does not: wants that expire, and deletes. An insert alone takes memory.
+    /// Prepares the command with this name, including its reply. The command then cannot run out of
+    /// memory. An insert, a stored Data or another preparation, even one that fails, ends the
+    /// preparation. Expiring wants and deletes do not end it. Only an insert needs memory.
     pub fn prepare_command(&mut self, name: Name<'_>) -> Result<(), Memory>
         ensures held { self.new.held ≡ self.old.held }
         ensures start { self.new.start ≡ self.old.start }
@@ -250,7 +256,7 @@ impl Repo {
         Ok(())
     }
 
-    /// Prepares the offer of this Data, as `prepare_command` does a command.
+    /// Prepares the offer of this Data. The preparation lasts as long as that of `prepare_command`.
     pub fn prepare_offer(&mut self, packet: &Data<'_>) -> Result<(), Memory>
         ensures held { self.new.held ≡ self.old.held }
         ensures start { self.new.start ≡ self.old.start }
@@ -273,7 +279,7 @@ impl Repo {
         Ok(())
     }
 
-    /// The insert, with the names that are prepared.
+    /// Applies an insert, using the names that were prepared.
     fn insert(
         &mut self,
         asked: Asked<'_>,
@@ -312,14 +318,14 @@ impl Repo {
         })
     }
 
-    /// Whether there is no place for one more want.
+    /// Returns whether there is no room for one more want.
     fn is_full(&self) -> bool
         ensures { result ≡ is_repo_full self.now.held }
     {
         self.wants.len() >= MAX_WANTS || self.objects.len() >= MAX_HELD - self.wants.len()
     }
 
-    /// The delete.
+    /// Applies a delete.
     fn delete(&mut self, asked: Asked<'_>) -> RepoReply
         requires verb { asked.verb ≡ Verb.Delete }
         ensures reply { result ≡ reply_to self.old.held (Some (plain asked.entry)) }
@@ -335,7 +341,7 @@ impl Repo {
         RepoReply::plain(OK, count as u64)
     }
 
-    /// The check.
+    /// Applies a check.
     fn check(&self, asked: Asked<'_>) -> RepoReply
         requires { asked.verb ≡ Verb.Check }
         ensures { result ≡ reply_to self.now.held (Some (plain asked.entry)) }
@@ -351,7 +357,7 @@ impl Repo {
     }
 }
 
-/// The object of a Data: what is prepared, if it is that, or a new one.
+/// Returns the object for a Data: `spare` if it is the object of this Data, otherwise a new one.
 fn object_for(alloc: Global, spare: Option<Object>, packet: &Data<'_>) -> Result<Object, Memory>
     ensures ok { IfOk result (λ o. o ≡ object_of packet.now) }
     ensures spared { spare ≡ Some (object_of packet.now) → IsOk result }

@@ -1,9 +1,9 @@
-//! Rows that have room.
+//! Inserting rows without allocating memory.
 
 ghost use Rattle.std.specs.Prelude.{◌≡◌, ◌<◌, ◌≤◌, insert, vec_len};
 ghost use Rattle.std.specs.Vec.{vec_capacity};
 
-/// Inserts a row at a place, where there is room for it.
+/// Inserts a row at index `at`. Precondition: the vector has spare capacity.
 pub fn insert_row<T: Drop>(rows: &mut Vec<T>, at: usize, row: T)
     requires within { at ≤ vec_len rows.old }
     requires room { vec_len rows.old < vec_capacity rows.old }

@@ -1,4 +1,4 @@
-//! The status codes of the repository's replies, and the lifetime of a want.
+//! The status codes of the repository's replies, and the default lifetime of a want.
 
 ghost use Rattle.std.specs.Prelude.{◌≡◌};
 
@@ -12,12 +12,13 @@ pub const NOT_FOUND: u16 = 404;
 
 pub const FULL: u16 = 503;
 
-/// The lifetime of a want in milliseconds, where the command gives none (NDN Packet Format 0.3,
+/// The lifetime of a want in milliseconds if the command gives none (NDN Packet Format 0.3,
 /// "Interest Packet", InterestLifetime).
 pub const DEFAULT_LIFETIME: u64 = 4000;
 
-/// Law: these are the numbers of the repository's replies, and the lifetime of an Interest that
-/// gives none (NDN Packet Format 0.3, "Interest Packet", InterestLifetime).
+/// Law: the status codes of the repository's replies have these values, and the default lifetime is
+/// that of an Interest without InterestLifetime (NDN Packet Format 0.3, "Interest Packet",
+/// InterestLifetime).
 pub fn repo_statuses_are_as_assigned()
     ensures done { (PENDING ≡ 100) × (OK ≡ 200) }
     ensures refused { (BAD_PARAMETERS ≡ 400) × (NOT_FOUND ≡ 404) × (FULL ≡ 503) }

@@ -1,19 +1,19 @@
 ghost use Rattle.std.specs.Prelude.{◌≡◌};
 ghost use Rattle.repo_core.specs.Commands.{verb_named};
 
-/// What a command makes a repository do.
+/// The verb of a command.
 #[derive(Clone, Copy, Debug, PartialEq, Eq)]
 pub enum Verb {
-    /// `insert`: the Data that answer are stored once they arrive.
+    /// `insert`: stores the Data that answer as soon as they arrive.
     Insert,
-    /// `delete`: the Data that answer, and an equal want, are removed.
+    /// `delete`: removes the stored Data that answer, and an equal want.
     Delete,
-    /// `check`: how many stored Data answer, or whether there is an equal want.
+    /// `check`: counts the stored Data that answer, or reports an equal want.
     Check,
 }
 
 impl Verb {
-    /// The verb of this word.
+    /// Returns the verb that is named by the word.
     pub(crate) fn named(word: &[u8]) -> Option<Verb>
         ensures { result ≡ verb_named word.now }
     {

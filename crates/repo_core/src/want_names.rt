@@ -7,7 +7,7 @@ use ndn_names::{Name, NameBuf};
 use ndn_tlv::Memory;
 use std::alloc::Global;
 
-/// Two copies of a name: the key of a want, and the name that is fetched.
+/// Two copies of a name: the key of a want, and the name of the Interest to send.
 #[derive(Drop)]
 pub struct Names {
     pub key: NameBuf,
@@ -25,7 +25,7 @@ impl Names {
     }
 }
 
-/// Copies of a name: what is prepared, if it is for this name, or new ones.
+/// Returns copies of a name: `spare` if it holds this name, otherwise new copies.
 pub fn names_for(alloc: Global, spare: Option<Names>, name: Name<'_>) -> Result<Names, Memory>
     requires { IfSome spare AreAlike }
     ensures key { IfOk result (λ n. n.key ≡ components name.entry) }

@@ -15,13 +15,14 @@ use std::alloc::Global;
 use std::cmp::Ordering;
 use std::marker::Model;
 
-/// A want: its name and CanBePrefix, and its deadline.
+/// A want: its name, its CanBePrefix, and its deadline in milliseconds since 1970.
 type Row = ((NameBuf, bool), u64);
 
-/// The Data that are waited for, by name and CanBePrefix.
+/// The wants of a repository, by name and CanBePrefix.
 #[derive(Drop)]
 pub struct Wants {
-    // By name in canonical order, then by the flag. There is room for all from the start.
+    // The wants in canonical order of their names, and for one name with CanBePrefix `false` first.
+    // The capacity for the greatest number of wants is allocated at the start.
     rows: Vec<Row>,
 }
 
@@ -58,7 +59,7 @@ impl Wants {
         self.rows.len()
     }
 
-    /// Whether there is one of this name and flag.
+    /// Returns whether there is a want with this name and CanBePrefix.
     pub fn contains(&self, name: Name<'_>, can_be_prefix: bool) -> bool
         ensures { result ≡ map.contains_key self.now (components name.entry, can_be_prefix) }
     {
@@ -66,7 +67,7 @@ impl Wants {
         has_at(&self.rows, at, name, can_be_prefix)
     }
 
-    /// Sets the deadline of one, which may be new.
+    /// Sets the deadline of the want with this name and CanBePrefix. Adds the want if it is new.
     pub fn put(&mut self, name: NameBuf, can_be_prefix: bool, deadline: u64)
         requires { (map.contains_key self.old (name, can_be_prefix) ≡ true)
             ⊎ (map.len self.old < MAX_WANTS) }
@@ -80,7 +81,7 @@ impl Wants {
         }
     }
 
-    /// Removes one, if it is there.
+    /// Removes the want with this name and CanBePrefix, if there is one.
     pub fn remove(&mut self, name: Name<'_>, can_be_prefix: bool)
         ensures { self.new ≡ map.remove self.old (components name.entry, can_be_prefix) }
     {
@@ -88,7 +89,7 @@ impl Wants {
             .retain(|row| !order_of(row, name, can_be_prefix).is_eq());
     }
 
-    /// Whether a Data is wanted.
+    /// Returns whether the Data is wanted.
     pub fn are_filled_by(&self, packet: &Data<'_>) -> bool
         ensures { result
             ≡ is_wanted (components packet.now.name) (sha256 packet.now.whole.now) self.now }
@@ -101,7 +102,8 @@ impl Wants {
         false
     }
 
-    /// Whether a Data is wanted once this moment has come, and what is due by then is gone.
+    /// Returns whether the Data is wanted at the time `now`. Wants that have expired by `now` do
+    /// not count.
     pub fn will_be_filled_by(&self, packet: &Data<'_>, now: u64) -> bool
         ensures { result ≡ is_wanted (components packet.now.name) (sha256 packet.now.whole.now)
             (wants_after now self.now) }
@@ -114,7 +116,7 @@ impl Wants {
         false
     }
 
-    /// Removes all that a Data fills.
+    /// Removes all wants that the Data answers.
     pub fn fill(&mut self, packet: &Data<'_>)
         ensures { self.new
             ≡ unfilled (components packet.now.name) (sha256 packet.now.whole.now) self.old }
@@ -123,7 +125,7 @@ impl Wants {
             .retain(|row| !packet.answers(row.0.0.view(), row.0.1));
     }
 
-    /// Removes all that are due at this moment.
+    /// Removes all wants that have expired by `now`.
     pub fn expire(&mut self, now: u64)
         ensures { self.new ≡ wants_after now self.old }
     {
@@ -131,7 +133,7 @@ impl Wants {
     }
 }
 
-/// How a want compares with this name and flag.
+/// Compares a want with this name and CanBePrefix.
 fn order_of(row: &Row, name: Name<'_>, can_be_prefix: bool) -> Ordering
     ensures { result ≡ want_cmp row.now.0 (components name.entry, can_be_prefix) }
 {
@@ -142,7 +144,7 @@ fn order_of(row: &Row, name: Name<'_>, can_be_prefix: bool) -> Ordering
         .then(row.0.1.cmp(&can_be_prefix))
 }
 
-/// The place of the first want that does not come before this name and flag.
+/// Returns the index of the first want that is not less than this name and CanBePrefix.
 fn place_of(rows: &[Row], name: Name<'_>, can_be_prefix: bool) -> usize
     requires { T (map.is_sorted want_cmp rows.now) }
     ensures { IsPlace want_cmp (components name.entry, can_be_prefix) rows.now result }
@@ -150,7 +152,7 @@ fn place_of(rows: &[Row], name: Name<'_>, can_be_prefix: bool) -> usize
     rows.partition_point(|row| order_of(row, name, can_be_prefix).is_lt())
 }
 
-/// Whether the want at a place has this name and flag.
+/// Returns whether the want at index `at` has this name and CanBePrefix.
 fn has_at(rows: &[Row], at: usize, name: Name<'_>, can_be_prefix: bool) -> bool
     ensures { IsTrue result ↔ HasAt (components name.entry, can_be_prefix) rows.now at }
 {

@@ -1,4 +1,4 @@
-//! Commands one after the other on the same tables.
+//! Tests of consecutive commands on the same tables.
 
 ghost use Rattle.std.specs.Prelude.{◌≡◌};
 
@@ -13,8 +13,7 @@ use std::alloc::Global;
 use std::marker::Model;
 use test_support::octets;
 
-/// Tables, the faces that are up, among them each face that has a next hop or a route, and the
-/// moment.
+/// The tables, the faces that are up, and the time. Each face that has a next hop or a route is up.
 #[derive(Drop)]
 pub struct Station {
     tables: Tables,
@@ -37,12 +36,13 @@ impl Model for Station {
 }
 
 impl Station {
-    /// Without routes and Data. The faces 2 and 9 are up, and the moment is 1000000.
+    /// Returns a station without routes and Data, where the faces 2 and 9 are up. The time is
+    /// 1000000.
     pub fn new(alloc: Global) -> Option<Station> {
         Station::of_faces(alloc, 2, 9)
     }
 
-    /// Without routes and Data. These two faces are up.
+    /// Returns a station without routes and Data, where these two faces are up.
     fn of_faces(alloc: Global, first: u64, second: u64) -> Option<Station> {
         let store = Store::new(alloc, 8).ok()?;
         let mut up = Faces::new();
@@ -55,12 +55,12 @@ impl Station {
         })
     }
 
-    /// What becomes of a command from face 9.
+    /// Applies a command from face 9, and returns its outcome.
     fn apply(&mut self, command: &Command<'_>) -> Option<Applied> {
         apply(&mut self.tables, command, 9, &self.up, self.now).ok()
     }
 
-    /// The status of a command from face 9, 0 where it is refused memory.
+    /// Applies a command from face 9. Returns its status, or 0 if memory runs out.
     fn status_of(&mut self, command: &Command<'_>) -> u16 {
         match self.apply(command) {
             Some(applied) => applied.status,
@@ -79,12 +79,13 @@ impl Station {
         self.apply(command)
     }
 
-    /// Lets time pass to a moment. No route is removed.
+    /// Sets the time. No route is removed.
     fn go_to(&mut self, now: u64) {
         self.now = now;
     }
 
-    /// A segment of the list of strategies, or of that of routes, and the number of the last one.
+    /// Returns a segment of the dataset of strategies or of routes, and the number of the last
+    /// segment.
     fn segment(&self, alloc: Global, of_strategies: bool, number: u64) -> Option<(Vec<u8>, u64)> {
         if of_strategies {
             strategy_segment(alloc, &self.tables.strategies, number).ok()?
@@ -93,7 +94,7 @@ impl Station {
         }
     }
 
-    /// The list of strategies, or that of routes: all segments.
+    /// Returns all segments of the dataset of strategies or of routes.
     pub fn list(&self, alloc: Global, of_strategies: bool) -> Option<Vec<u8>> {
         let (mut text, last) = self.segment(alloc, of_strategies, 0)?;
         for number in 0..last {
@@ -110,7 +111,7 @@ impl Station {
         Some(self.tables.store.put(&data, 0))
     }
 
-    /// Whether the cache has Data of this very name.
+    /// Returns whether the cache has Data with exactly this name.
     fn has(&mut self, name: Name<'_>) -> bool {
         let key = Key {
             name,
@@ -120,7 +121,7 @@ impl Station {
         self.tables.store.find(key, 0).is_some()
     }
 
-    /// How many hops Interests of this name have.
+    /// Returns the number of next hops for Interests with this name.
     fn hops(&self, name: Name<'_>) -> usize {
         self.tables.fib.longest(name).len()
     }
@@ -139,7 +140,7 @@ fn verb_of(call: &str) -> Option<&'static str> {
     }
 }
 
-/// Octets in hexadecimal, `-` for none.
+/// Shows octets in hexadecimal, or `-` for no octets.
 fn hex_shown(alloc: Global, octets: &[u8]) -> Option<String> {
     if octets.is_empty() {
         return String::from_str(alloc, "-").ok();
@@ -147,7 +148,8 @@ fn hex_shown(alloc: Global, octets: &[u8]) -> Option<String> {
     hex::encode(alloc, octets).ok()
 }
 
-/// A command by its call and parameters: its status, and the body of its reply.
+/// Applies a command that is given by its call and parameters. Shows its status and the body of its
+/// reply.
 fn command_shown(alloc: Global, station: &mut Station, call: &str, rest: &str) -> Option<String> {
     let verb = verb_of(call)?;
     let name = name_in(alloc, &format!(in alloc; "{verb}{rest}").ok()?)?;
@@ -159,7 +161,7 @@ fn status_and_body(alloc: Global, applied: &Applied) -> Option<String> {
     format!(in alloc; "{status} {body}").ok()
 }
 
-/// Whether a Data of this name is still cached.
+/// Inserts a Data with this name into the cache, and shows whether it is cached.
 fn put_data(alloc: Global, station: &mut Station, uri: &str) -> Option<&'static str> {
     let name = NameBuf::from_uri(alloc, uri).ok()?;
     let mut packet = Vec::new(alloc);
@@ -168,7 +170,8 @@ fn put_data(alloc: Global, station: &mut Station, uri: &str) -> Option<&'static 
     Some(if is_kept { "kept" } else { "lost" })
 }
 
-/// `data` and `find` with a URI, `at` with a moment, `routes`, `strategies`, or a command.
+/// Answers one call: `data` or `find` with a URI, `at` with a time, `routes`, `strategies`, or a
+/// command.
 fn answer(alloc: Global, station: &mut Station, call: &str) -> Option<String> {
     let (call, rest) = call.split_once(' ').unwrap_or((call, "/"));
     match call {
@@ -192,7 +195,7 @@ fn answer(alloc: Global, station: &mut Station, call: &str) -> Option<String> {
     }
 }
 
-/// The answers to calls that `, ` parts.
+/// Returns the answers to calls that are separated by `, `.
 pub fn answers(alloc: Global, row: &str) -> Option<String> {
     let mut station = Station::new(alloc)?;
     answers_of(alloc, &mut station, row)
@@ -213,7 +216,7 @@ fn put_answer(alloc: Global, text: &mut String, station: &mut Station, call: &st
     text.push_str(&answer(alloc, station, call)?).ok()
 }
 
-/// A route is removed; its entry is removed with its last hop.
+/// An entry is removed together with its last next hop.
 #[test]
 fn an_entry_goes_with_its_last_hop(rt: HostRuntime) {
     let rows = "
@@ -222,7 +225,7 @@ add 68080703080141690102, routes, remove 68080703080141690102, routes -> 200 680
     check_rows(&rt, rt.alloc(), rows, answers);
 }
 
-/// One of two hops is removed: the one of the asking face.
+/// A command without a face removes the next hop on the face that it came from.
 #[test]
 fn the_hop_of_the_asking_face_goes(rt: HostRuntime) {
     let rows = "
@@ -231,7 +234,7 @@ add 68080703080141690102, add 680807030801416a0105, remove 68050703080141, route
     check_rows(&rt, rt.alloc(), rows, answers);
 }
 
-/// Hops by cost, and then by face; names in canonical order.
+/// Next hops are ordered by cost and then by face. Names are in canonical order.
 #[test]
 fn lists_are_in_order(rt: HostRuntime) {
     let rows = "
@@ -241,7 +244,7 @@ add 68080703080142690109, add 68080703080142690102, add 68080703080141690102, ro
     check_rows(&rt, rt.alloc(), rows, answers);
 }
 
-/// A second cost takes the place of the first.
+/// A second cost replaces the first.
 #[test]
 fn a_second_cost_replaces_the_first(rt: HostRuntime) {
     let rows = "
@@ -250,7 +253,7 @@ add 680b07030801416901026a0107, add 680b07030801416901026a0103, routes -> 200 68
     check_rows(&rt, rt.alloc(), rows, answers);
 }
 
-/// A route of another name stays, and so do all where a command is refused.
+/// Removing a route keeps the routes of other names. A refused command keeps all routes.
 #[test]
 fn other_routes_stay(rt: HostRuntime) {
     let rows = "
@@ -260,7 +263,7 @@ add 68080703080141690102, add 68080703080141690107, remove 68080703080141690107,
     check_rows(&rt, rt.alloc(), rows, answers);
 }
 
-/// A strategy that is unset, and one that stays.
+/// Unsetting the strategy of one name keeps the strategy of another.
 #[test]
 fn a_strategy_goes_and_another_stays(rt: HostRuntime) {
     let rows = "
@@ -269,7 +272,8 @@ set 682e07030801416b27072508096c6f63616c686f737408036e66640808737472617465677908
     check_rows(&rt, rt.alloc(), rows, answers);
 }
 
-/// Data that go: all under a name, or the first ones. The reply has the Count given, if any.
+/// An erase removes all Data under a name, or the first ones. The reply contains the Count, if it
+/// was given.
 #[test]
 fn erased_data_go(rt: HostRuntime) {
     let rows = "
@@ -295,14 +299,14 @@ fn adds(name: Name<'_>, face: u64) -> Command<'_> {
     }
 }
 
-/// A name of one component, of two octets.
+/// Returns a name with one component of two octets.
 fn numbered(alloc: Global, number: u16) -> Option<NameBuf> {
     let mut name = NameBuf::new(alloc);
     name.append(8, &number.to_be_bytes()).ok()?;
     Some(name)
 }
 
-/// A name of this many components `A`.
+/// Returns a name of `depth` components `A`.
 fn deep(alloc: Global, depth: usize) -> Option<NameBuf> {
     let mut name = NameBuf::new(alloc);
     for _ in 0..depth {
@@ -311,12 +315,12 @@ fn deep(alloc: Global, depth: usize) -> Option<NameBuf> {
     Some(name)
 }
 
-/// The status of a new hop.
+/// Adds a next hop and returns the status.
 fn added(station: &mut Station, name: &NameBuf, face: u64) -> u16 {
     station.status_of(&adds(name.view(), face))
 }
 
-/// Tables with 4,096 routes to face 2.
+/// Returns a station with 4,096 routes to face 2.
 fn filled(alloc: Global) -> Option<Station> {
     let mut station = Station::new(alloc)?;
     add_4096(alloc, &mut station)?;
@@ -332,8 +336,8 @@ fn add_4096(alloc: Global, station: &mut Station) -> Option<()> {
     Some(())
 }
 
-/// Whether a name more is refused, after a name that is too long and a face that is not up, and a
-/// hop more is not.
+/// Returns whether a full table refuses a new name but accepts another next hop for a known name. A
+/// name that is too long and a face that is not up are reported before the full table.
 fn refuses_one_name_more(alloc: Global, station: &mut Station) -> Option<bool> {
     let (more, known) = (numbered(alloc, 4096)?, numbered(alloc, 4095)?);
     Some(is_full(station, &deep(alloc, 33)?, &more, &known))
@@ -352,8 +356,8 @@ fn is_full(station: &mut Station, too_deep: &NameBuf, more: &NameBuf, known: &Na
         && station.hops(known.view()) == 2
 }
 
-/// Whether the list of 4,096 routes has 16 octets for each, the first and the last as expected, and
-/// 16 segments.
+/// Returns whether the dataset of 4,096 routes has 16 octets for each route, the expected first and
+/// last routes, and 16 segments.
 fn lists_4096_routes(alloc: Global) -> Option<bool> {
     let station = filled(alloc)?;
     let text = station.list(alloc, false)?;
@@ -366,7 +370,7 @@ fn are_4096_routes(text: &[u8]) -> bool {
         && text.ends_with(b"\x80\x0e\x07\x04\x08\x02\x0f\xff\x81\x06\x69\x01\x02\x6a\x01\x00")
 }
 
-/// Whether the list of routes has 16 segments of 4,096 octets.
+/// Returns whether the dataset of routes has 16 segments of 4,096 octets.
 fn has_16_segments(alloc: Global, station: &Station) -> bool {
     let Some((segment, 15)) = station.segment(alloc, false, 15) else {
         return false;
@@ -374,8 +378,8 @@ fn has_16_segments(alloc: Global, station: &Station) -> bool {
     segment.len() == 4096 && station.segment(alloc, false, 16).is_none()
 }
 
-/// Whether 4,095 names find a strategy beside `/`, and one more does not, but comes after an
-/// unknown strategy.
+/// Returns whether 4,095 names can have a strategy in addition to `/`, and a further name is
+/// refused. An unknown strategy is reported before the full table.
 fn refuses_one_strategy_more(alloc: Global, station: &mut Station) -> Option<bool> {
     let multicast = NameBuf::from_uri(alloc, "/localhost/nfd/strategy/multicast").ok()?;
     let (more, known) = (numbered(alloc, 4096)?, numbered(alloc, 1)?);
@@ -410,7 +414,7 @@ fn refuses_strategy(
         && set(station, known, multicast) == 200
 }
 
-/// The status of a strategy for a name.
+/// Sets the strategy of a name and returns the status.
 fn set(station: &mut Station, name: &NameBuf, strategy: &NameBuf) -> u16 {
     let command = Command {
         action: Action::SetStrategy,
@@ -441,8 +445,8 @@ fn list_of_4096_routes(rt: HostRuntime) {
     assert!(rt; lists_4096_routes(rt.alloc()) == Some(true));
 }
 
-/// Whether a list of one route, whose name's component makes it so long, has these segments: the
-/// length of the last one, and its number.
+/// Returns whether a dataset of `len` octets, with one route, has the last segment `last` of
+/// `last_len` octets.
 fn is_cut(alloc: Global, len: usize, last_len: usize, last: u64) -> Option<bool> {
     let station = station_of_route(alloc, &long_name(alloc, len)?)?;
     let text = station.list(alloc, false)?;
@@ -450,7 +454,7 @@ fn is_cut(alloc: Global, len: usize, last_len: usize, last: u64) -> Option<bool>
     Some(text.len() == len && segment.len() == last_len && number == last)
 }
 
-/// A name that makes the list of its one route so long.
+/// Returns a name for which the dataset of its one route has `len` octets.
 fn long_name(alloc: Global, len: usize) -> Option<NameBuf> {
     let mut value = Vec::new(alloc);
     // Three headers of four octets each precede the value, and a hop of 8 octets follows it.
@@ -460,12 +464,12 @@ fn long_name(alloc: Global, len: usize) -> Option<NameBuf> {
     Some(name)
 }
 
-/// Tables with one route of this name to face 2.
+/// Returns a station with one route for this name to face 2.
 fn station_of_route(alloc: Global, name: &NameBuf) -> Option<Station> {
     with_hop(Station::new(alloc)?, name, 2)
 }
 
-/// The tables after a hop was added.
+/// Returns the station after a next hop was added.
 fn with_hop(mut station: Station, name: &NameBuf, face: u64) -> Option<Station> {
     if added(&mut station, name, face) != 200 {
         return None;
@@ -479,15 +483,16 @@ fn lists_in_segments(rt: HostRuntime) {
     assert!(rt; is_cut(rt.alloc(), 4097, 1, 1) == Some(true));
 }
 
-/// A signed add-nexthop of `/A` to face 2, at 1000000, by the key `6b6579` named `/ops/KEY/1`.
+/// A signed add-nexthop command for `/A` to face 2, with the time 1000000. The key is `6b6579` with
+/// the name `/ops/KEY/1`.
 const ADD_NEXTHOP: &str =
     "0598075008096c6f63616c686f737408036e66640803666962080b6164642d6e657874686f70080a680807030801416901020220b3efe71974da9dc26e88d0c074c8f0ff34ea85c38b109d9e9c6400b87694f2f20a040102030424002c1a1b01041c0f070d08036f707308034b45590801312804000f42402e20d113cf38056af9bbbec876471f4b51934978ef69345464b05cb762148eaa5dbb";
 
-/// The segment of the list of routes, version 2, with `/A` to face 7.
+/// A segment of the dataset of routes, version 2, with one route for `/A` to face 7.
 const LIST_OF_ONE_ROUTE: &str =
     "0666072108096c6f63616c686f737408036e6664080366696208046c6973743601023201001409190203e81a03320100150f800d070308014181066901076a010016031b010017201b52e55cb80faba7d19cc92444e95d0d6409f1ae0cec3b48ddc33107b7684694";
 
-/// Whether the name of the signed packet is the command.
+/// Returns whether the name of the signed packet is read as the expected command.
 fn reads_the_packet(alloc: Global) -> Option<bool> {
     let packet = octets(alloc, ADD_NEXTHOP)?;
     let Frame::Interest(interest) = read_frame(&packet).ok()? else {
@@ -498,7 +503,7 @@ fn reads_the_packet(alloc: Global) -> Option<bool> {
     Some(is_about && command.action == Action::AddNexthop && command.face == 2 && command.cost == 0)
 }
 
-/// The Data of a list's segment.
+/// Returns the Data for a segment of a dataset.
 fn segment_packet<'a>(
     alloc: Global,
     name: Name<'a>,
@@ -517,20 +522,20 @@ fn segment_packet<'a>(
     Some(packet)
 }
 
-/// The Data of the list's first segment.
+/// Returns the Data for the first segment of the dataset.
 fn first_segment(alloc: Global, station: &Station) -> Option<Vec<u8>> {
     let (segment, last) = station.segment(alloc, false, 0)?;
     let name = NameBuf::from_uri(alloc, "/localhost/nfd/fib/list/v=2/seg=0").ok()?;
     segment_packet(alloc, name.view(), &segment, last)
 }
 
-/// Tables with a route of `/A` to face 7.
+/// Returns a station with a route for `/A` to face 7.
 fn one_route_to_7(alloc: Global) -> Option<Station> {
     let name = NameBuf::from_uri(alloc, "/A").ok()?;
     with_hop(Station::of_faces(alloc, 7, 9)?, &name, 7)
 }
 
-/// Whether these are the octets of the segment.
+/// Returns whether the Data of the segment has exactly the expected octets.
 fn writes_the_segment(alloc: Global) -> Option<bool> {
     let packet = first_segment(alloc, &one_route_to_7(alloc)?)?;
     Some(packet.as_slice() == octets(alloc, LIST_OF_ONE_ROUTE)?.as_slice())
@@ -546,7 +551,8 @@ fn a_segment_in_a_packet(rt: HostRuntime) {
     assert!(rt; writes_the_segment(rt.alloc()) == Some(true));
 }
 
-/// Whether a prepared command is not refused memory, and a refused preparation leaves the routes.
+/// Returns whether a prepared command does not run out of memory, and a failed preparation keeps
+/// the routes.
 fn applies_what_is_prepared(alloc: Global) -> Option<bool> {
     let name = numbered(alloc, 1)?;
     let mut station = Station::new(alloc)?;
@@ -560,7 +566,8 @@ fn keeps_its_promise(station: &mut Station, name: &NameBuf) -> bool {
     added(station, name, 2) == 200 && station.hops(name.view()) == 1
 }
 
-/// Whether a command that nothing prepares has its effect, or none where it is refused memory.
+/// Returns whether a command that was not prepared has its effect, or has no effect if memory runs
+/// out.
 fn applies_or_leaves(alloc: Global) -> Option<bool> {
     let name = numbered(alloc, 1)?;
     let mut station = Station::new(alloc)?;
@@ -575,7 +582,7 @@ fn adds_or_leaves(station: &mut Station, name: &NameBuf) -> bool {
     station.hops(name.view()) == hops
 }
 
-/// Whether a reply for which there is no memory leaves what stood before it.
+/// Returns whether a reply for which memory runs out leaves the buffer unchanged.
 fn replies_or_leaves(alloc: Global) -> Option<bool> {
     let mut out = Vec::new(alloc);
     out.push(7).ok()?;
@@ -586,7 +593,8 @@ fn replies_or_leaves(alloc: Global) -> Option<bool> {
     Some(out.len() == len && out.first() == Some(&7))
 }
 
-/// Whether the lists of a route and of the strategies are complete, or memory was refused.
+/// Returns whether the datasets of one route and of the strategies are complete. Running out of
+/// memory is also accepted.
 fn lists_or_refuses(alloc: Global) -> Option<bool> {
     let name = numbered(alloc, 1)?;
     let mut station = Station::new(alloc)?;
@@ -599,7 +607,7 @@ fn lists_or_refuses(alloc: Global) -> Option<bool> {
     )
 }
 
-/// Whether a list has this many octets, or memory was refused.
+/// Returns whether a dataset has `len` octets. Running out of memory is also accepted.
 fn is_long_or_refused(station: &Station, alloc: Global, of_strategies: bool, len: usize) -> bool {
     match station.list(alloc, of_strategies) {
         Some(text) => text.len() == len,

@@ -1,4 +1,4 @@
-//! Routes that are registered, and that end.
+//! Tests of routes that are registered and that expire.
 
 use super::effects::{Station, answers};
 use super::{action_shown, name_in};
@@ -6,8 +6,8 @@ use crate::rows::check_rows;
 use mgmt_core::*;
 use std::alloc::Global;
 
-/// What a command on a registered route asks for: its action, name, face, origin, cost, flags and
-/// period, or the status that refuses it.
+/// Shows a command for a registered route: its action, name, face, origin, cost, flags and
+/// expiration period, or the status that refuses it.
 fn route_shown(alloc: Global, row: &str) -> Option<String> {
     let name = name_in(alloc, row)?;
     match Command::read(name.view()) {
@@ -28,7 +28,8 @@ fn fields_shown(alloc: Global, command: &Command<'_>) -> Option<String> {
     Some(text)
 }
 
-/// All fields; absent ones are face 0, origin 0, cost 0, flags 1 and no period.
+/// All fields of a route. If they are absent, the face, the origin and the cost are 0, the flags
+/// are 1, and the route does not expire.
 #[test]
 fn fields_of_routes(rt: HostRuntime) {
     let rows = "
@@ -46,7 +47,8 @@ fn fields_of_routes(rt: HostRuntime) {
     check_rows(&rt, rt.alloc(), rows, route_shown);
 }
 
-/// A field of wrong form, one that is needed, one that the command does not take.
+/// A field with a wrong form, a missing field that is required, and a field that the command does
+/// not take.
 #[test]
 fn fields_that_routes_need_and_take(rt: HostRuntime) {
     let rows = "
@@ -68,7 +70,7 @@ fn fields_that_routes_need_and_take(rt: HostRuntime) {
     check_rows(&rt, rt.alloc(), rows, route_shown);
 }
 
-/// The whole reply to a command from face 9, while the faces 2 and 9 are up.
+/// Returns the whole reply to a command from face 9, while the faces 2 and 9 are up.
 fn reply_shown(alloc: Global, row: &str) -> Option<String> {
     let name = name_in(alloc, row)?;
     let mut station = Station::new(alloc)?;
@@ -83,7 +85,7 @@ fn response_shown(alloc: Global, applied: &Applied) -> Option<String> {
     hex::encode(alloc, &out).ok()
 }
 
-/// The fields come in the order Name, FaceId, Origin, Cost, Flags, ExpirationPeriod.
+/// The fields of a reply have the order Name, FaceId, Origin, Cost, Flags, ExpirationPeriod.
 #[test]
 fn replies_of_routes(rt: HostRuntime) {
     let rows = "
@@ -96,7 +98,7 @@ fn replies_of_routes(rt: HostRuntime) {
     check_rows(&rt, rt.alloc(), rows, reply_shown);
 }
 
-/// A name of 33 components is reported before a face that is not up. Neither matters to a removal.
+/// A name of 33 components is reported before a face that is not up. A removal ignores both.
 #[test]
 fn routes_that_are_refused(rt: HostRuntime) {
     let rows = "
@@ -107,7 +109,7 @@ unregister 686807630801410801410801410801410801410801410801410801410801410801410
     check_rows(&rt, rt.alloc(), rows, answers);
 }
 
-/// `/A/B` inherits the route of `/A`, until its own is a capture route.
+/// `/A/B` inherits the route of `/A`, until `/A/B` has a capture route of its own.
 #[test]
 fn longer_names_inherit_routes(rt: HostRuntime) {
     let rows = "
@@ -116,7 +118,7 @@ register 680b07030801416901026a0105, register 680e07060801410801426901096c0100, 
     check_rows(&rt, rt.alloc(), rows, answers);
 }
 
-/// A route of 1000 milliseconds, of none, of the greatest number, and without a period.
+/// Routes with a period of 1000 milliseconds, of 0, of the greatest number, and without a period.
 #[test]
 fn routes_end(rt: HostRuntime) {
     let rows = "
@@ -128,7 +130,7 @@ register 68080703080141690102, at 18446744073709551615, routes -> 200 6811070308
     check_rows(&rt, rt.alloc(), rows, answers);
 }
 
-/// A route that is registered again has the new cost, and the new period or none.
+/// A second registration replaces the cost and the period, or removes the period.
 #[test]
 fn a_second_route_replaces_the_first(rt: HostRuntime) {
     let rows = "
@@ -138,7 +140,8 @@ register 680b07030801416901026a0103, register 680f07030801416901026a01036d0203e8
     check_rows(&rt, rt.alloc(), rows, answers);
 }
 
-/// Routes of one face and two origins: the least cost counts, and each is removed by its origin.
+/// Two routes with the same face and different origins: the least cost counts, and each route is
+/// removed by its origin.
 #[test]
 fn routes_of_two_origins(rt: HostRuntime) {
     let rows = "
@@ -147,7 +150,7 @@ register 680e07030801416901026f01016a0107, register 680e07030801416901026f01026a
     check_rows(&rt, rt.alloc(), rows, answers);
 }
 
-/// A next hop hides the route of its face, and neither is removed with the other.
+/// A next hop hides the route on the same face. Removing one of them keeps the other.
 #[test]
 fn next_hops_beside_routes(rt: HostRuntime) {
     let rows = "

@@ -1,11 +1,11 @@
-//! Names that are no command, and segments of lists.
+//! Tests of names that are not commands, and of segments of datasets.
 
 use super::command_shown;
 use crate::rows::check_rows;
 use mgmt_core::segment_of;
 use std::alloc::Global;
 
-/// Less than a module and a verb, with the digest and without.
+/// Names without a module or a verb, with a digest and without one.
 #[test]
 fn names_without_a_verb(rt: HostRuntime) {
     let rows = "
@@ -17,7 +17,7 @@ fn names_without_a_verb(rt: HostRuntime) {
     check_rows(&rt, rt.alloc(), rows, command_shown);
 }
 
-/// Commands that do not exist come before wrong parameters.
+/// A command that does not exist is reported before wrong parameters.
 #[test]
 fn commands_that_do_not_exist(rt: HostRuntime) {
     let rows = "
@@ -36,7 +36,7 @@ fn commands_that_do_not_exist(rt: HostRuntime) {
     check_rows(&rt, rt.alloc(), rows, command_shown);
 }
 
-/// A command has one element of parameters, and may have a digest after it.
+/// A command has one component of parameters, and a digest may follow it.
 #[test]
 fn names_of_another_shape(rt: HostRuntime) {
     let rows = "
@@ -55,7 +55,8 @@ fn names_of_another_shape(rt: HostRuntime) {
     check_rows(&rt, rt.alloc(), rows, command_shown);
 }
 
-/// Whether a segment of a list of this many octets has this length and this last number.
+/// Returns whether the segment with this number, in a dataset of `len` octets, has the expected
+/// length and the expected number of the last segment.
 fn segment_is(alloc: Global, len: usize, number: u64, expected: Option<(usize, u64)>) -> bool {
     let mut text: Vec<u8> = Vec::new(alloc);
     if text.resize(len, 7).is_err() {
@@ -67,7 +68,7 @@ fn segment_is(alloc: Global, len: usize, number: u64, expected: Option<(usize, u
     }
 }
 
-/// A list is cut every 4,096 octets.
+/// Each segment but the last has 4,096 octets.
 #[test]
 fn segments_of_4096_octets(rt: HostRuntime) {
     assert!(rt; segment_is(rt.alloc(), 4097, 0, Some((4096, 1))));

@@ -1,4 +1,4 @@
-//! A repository that is full.
+//! Tests of a full repository.
 
 use super::empty_repo;
 use ndn_names::Name;
@@ -6,14 +6,15 @@ use ndn_packets::{Frame, read_frame};
 use repo_core::Repo;
 use std::alloc::Global;
 
-/// The name of an insert of `/N` into the repository `/repo`. N has four octets, from 22 on.
+/// The name of an insert of `/N` into the repository `/repo`. N has four octets, which begin at
+/// index 22.
 const INSERT: [u8; 60] =
     *b"\x08\x04repo\x08\x06insert\x08\x0a\xc9\x08\x07\x06\x08\x04NNNN\x02\x20\0\0\0\0\0\0\0\0\0\0\0\0\0\0\0\0\0\0\0\0\0\0\0\0\0\0\0\0\0\0\0\0";
 
-/// The Data of `/N`. N has four octets, from 6 on.
+/// The Data `/N`. N has four octets, which begin at index 6.
 const DATA: [u8; 17] = *b"\x06\x0f\x07\x06\x08\x04NNNN\x16\x03\x1b\x01\x00\x17\x00";
 
-/// Whether an insert of `/N` has this status.
+/// Returns whether an insert of `/N` has this status.
 fn inserts(repo: &mut Repo, number: u32, status: u16) -> bool {
     let mut octets = INSERT;
     octets[22..26].copy_from_slice(&number.to_be_bytes());
@@ -26,7 +27,7 @@ fn inserts(repo: &mut Repo, number: u32, status: u16) -> bool {
     }
 }
 
-/// Whether the Data of `/N` fills a want.
+/// Returns whether the Data `/N` answers a want.
 fn fills(repo: &mut Repo, number: u32) -> bool {
     let mut octets = DATA;
     octets[6..10].copy_from_slice(&number.to_be_bytes());
@@ -36,7 +37,8 @@ fn fills(repo: &mut Repo, number: u32) -> bool {
     }
 }
 
-/// Whether 65,536 objects and wants fit and no other, while an equal want does.
+/// Returns whether 65,536 objects and wants fit, a new want is then refused, and an equal want is
+/// accepted.
 fn holds_so_many(repo: &mut Repo) -> bool {
     for number in 0..65_535 {
         if !inserts(repo, number, 100) || !fills(repo, number) {

@@ -1,4 +1,5 @@
-//! Random calls of a repository, beside plain lists that are searched from end to end.
+//! Tests of random calls on a repository, compared with plain lists that are searched from end to
+//! end.
 
 use super::{asking, command_on, empty_repo};
 use ndn_packets::*;
@@ -6,15 +7,15 @@ use repo_core::*;
 use std::alloc::Global;
 use test_support::{data_of, digest_of, random};
 
-/// Names in canonical order, of which the first begins the next two.
+/// Names in canonical order. The first name is a prefix of the next two.
 const NAMES: [&str; 5] = ["/A", "/A/B", "/A/C", "/B", "/AA"];
 
-/// Whether the second name begins with the first, both by their places.
+/// Returns whether the first name is a prefix of the second. Both are indexes into `NAMES`.
 fn begins(first: usize, second: usize) -> bool {
     first == second || (first == 0 && (second == 1 || second == 2))
 }
 
-/// A Data, with the place of its name and its digest.
+/// A Data, with the index of its name in `NAMES`, and its digest.
 #[derive(Drop)]
 struct Made {
     name: usize,
@@ -29,7 +30,7 @@ struct Wanted {
     deadline: u64,
 }
 
-/// What a repository holds, in plain lists.
+/// The content of a repository, in plain lists.
 #[derive(Drop)]
 struct Plain {
     objects: Vec<usize>,
@@ -55,12 +56,12 @@ fn all_made(alloc: Global) -> Option<Vec<Made>> {
     Some(all)
 }
 
-/// Whether a Data answers an Interest of this name and flag.
+/// Returns whether a Data answers an Interest with this name and CanBePrefix.
 fn answers(made: &Made, name: usize, can_be_prefix: bool) -> bool {
     made.name == name || (can_be_prefix && begins(name, made.name))
 }
 
-/// How many objects answer.
+/// Returns the number of objects that answer.
 fn number(all: &[Made], plain: &Plain, name: usize, can_be_prefix: bool) -> Option<u64> {
     let mut count: u64 = 0;
     for place in &plain.objects {
@@ -70,7 +71,7 @@ fn number(all: &[Made], plain: &Plain, name: usize, can_be_prefix: bool) -> Opti
     Some(count)
 }
 
-/// The least object that answers.
+/// Returns the object with the least full name among those that answer.
 fn least<'a>(
     all: &'a [Made],
     plain: &Plain,
@@ -97,7 +98,7 @@ fn has_want(plain: &Plain, name: usize, can_be_prefix: bool) -> bool {
     plain.wants.iter().any(|want| want.name == name && want.can_be_prefix == can_be_prefix)
 }
 
-/// The status and count of a command, which has its effect on the lists.
+/// Applies a command to the plain lists, and returns its expected status and count.
 fn expected(all: &[Made], plain: &mut Plain, verb: &str, asked: Wanted) -> Option<(u16, u64)> {
     let (name, flag) = (asked.name, asked.can_be_prefix);
     let count = number(all, plain, name, flag)?;
@@ -123,7 +124,7 @@ fn expected(all: &[Made], plain: &mut Plain, verb: &str, asked: Wanted) -> Optio
     Some((100, 0))
 }
 
-/// Whether a command answers as expected.
+/// Returns whether the repository answers a command as expected.
 fn command_agrees(
     alloc: Global,
     all: &[Made],
@@ -151,7 +152,7 @@ fn command_agrees(
     Some((reply.status, reply.count) == expected(all, plain, verb, wanted)?)
 }
 
-/// Whether an offer is answered as expected.
+/// Returns whether the repository answers an offer as expected.
 fn offer_agrees(all: &[Made], repo: &mut Repo, plain: &mut Plain, state: &mut u64) -> Option<bool> {
     let place = random(state, 10) as usize;
     let one = all.get(place)?;
@@ -170,7 +171,7 @@ fn offer_agrees(all: &[Made], repo: &mut Repo, plain: &mut Plain, state: &mut u6
     Some(repo.offer(&data).ok()? == is_filled)
 }
 
-/// Whether an Interest is served these octets.
+/// Returns whether the repository serves these octets for an Interest.
 fn is_served(repo: &Repo, packet: &[u8], expected: Option<&[u8]>) -> Option<bool> {
     match read_frame(packet).ok()? {
         Frame::Interest(interest) => Some(repo.serve(&interest) == expected),
@@ -178,7 +179,7 @@ fn is_served(repo: &Repo, packet: &[u8], expected: Option<&[u8]>) -> Option<bool
     }
 }
 
-/// Whether an Interest is served as expected.
+/// Returns whether the repository serves an Interest as expected.
 fn serve_agrees(
     alloc: Global,
     all: &[Made],
@@ -199,7 +200,7 @@ fn serve_agrees(
     is_served(repo, &packet, expected)
 }
 
-/// Whether a random call answers as the lists do.
+/// Returns whether the repository and the plain lists agree on a random call.
 fn call_agrees(
     alloc: Global,
     all: &[Made],
@@ -220,7 +221,7 @@ fn call_agrees(
     }
 }
 
-/// Whether ten random calls do.
+/// Returns whether the repository and the plain lists agree on ten random calls.
 fn calls_agree(
     alloc: Global,
     all: &[Made],
@@ -236,7 +237,7 @@ fn calls_agree(
     Some(true)
 }
 
-/// Whether they do on an empty repository.
+/// Returns whether an empty repository and empty lists agree on ten random calls.
 fn sequence_agrees(alloc: Global, all: &[Made], state: &mut u64) -> Option<bool> {
     let mut plain = Plain {
         objects: Vec::new(alloc),
@@ -245,7 +246,7 @@ fn sequence_agrees(alloc: Global, all: &[Made], state: &mut u64) -> Option<bool>
     calls_agree(alloc, all, &mut empty_repo(alloc)?, &mut plain, state)
 }
 
-/// Whether ten thousand sequences do.
+/// Returns whether the repository and the plain lists agree on ten thousand sequences of calls.
 fn all_agree(alloc: Global) -> Option<bool> {
     let all = all_made(alloc)?;
     let mut state = 0x2545_f491_4f6c_dd1d;

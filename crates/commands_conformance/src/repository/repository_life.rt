@@ -1,9 +1,9 @@
-//! What commands, Data and Interests do one after the other.
+//! Tests of consecutive commands, Data and Interests.
 
 use super::answers;
 use crate::rows::check_rows;
 
-/// An inserted Data is pending, then stored and served, until it is deleted.
+/// After an insert, a want is pending. Its Data is then stored and served until it is deleted.
 #[test]
 fn from_insert_to_delete(rt: HostRuntime) {
     let rows = "
@@ -12,7 +12,7 @@ insert /A 1000000, offer /A 01, insert /A 1000000, serve /A, delete /A 1000000, 
     check_rows(&rt, rt.alloc(), rows, answers);
 }
 
-/// Data that nobody wants are not stored.
+/// Data that are not wanted are not stored.
 #[test]
 fn unwanted_data_are_not_stored(rt: HostRuntime) {
     let rows = "
@@ -21,7 +21,7 @@ offer /A 01, check /A 0, insert /A 0, offer /B 01, check /B 0, check /A 0 -> fal
     check_rows(&rt, rt.alloc(), rows, answers);
 }
 
-/// A filled want is removed, and so are all that one Data fills.
+/// A Data removes all wants that it answers.
 #[test]
 fn a_data_fills_all_wants_that_it_answers(rt: HostRuntime) {
     let rows = "
@@ -30,7 +30,7 @@ insert /A 0, insert /A* 0, insert /B 0, offer /A 01, offer /A 02, check /A 0, de
     check_rows(&rt, rt.alloc(), rows, answers);
 }
 
-/// Each object that answers is counted, and deleted.
+/// Each object that answers is counted and deleted.
 #[test]
 fn each_object_that_answers_is_counted(rt: HostRuntime) {
     let rows = "
@@ -39,7 +39,7 @@ insert /A/1* 0, offer /A/1/x 01, insert /A/2* 0, offer /A/2/y 02, check /A* 0, c
     check_rows(&rt, rt.alloc(), rows, answers);
 }
 
-/// A delete takes the want of its own flag alone.
+/// A delete removes only the want with the same CanBePrefix.
 #[test]
 fn a_delete_takes_the_want_of_its_own_flag(rt: HostRuntime) {
     let rows = "
@@ -48,7 +48,7 @@ insert /A 0, delete /A* 0, check /A 0, delete /A 0, check /A 0 -> 100:0 /A 4000,
     check_rows(&rt, rt.alloc(), rows, answers);
 }
 
-/// The Data of the least full name that answers is served, fresh or not.
+/// Among the Data that answer, the one with the least full name is served, whether fresh or not.
 #[test]
 fn the_least_full_name_is_served(rt: HostRuntime) {
     let rows = "
@@ -57,8 +57,8 @@ insert /A/2 0, offer /A/2 02, insert /A/1 0, offer /A/1 01, serve /A, serve /A*,
     check_rows(&rt, rt.alloc(), rows, answers);
 }
 
-/// Full names in wants and Interests. By another program the digests of /A are d995.. with the
-/// Content 01, and 39ca.. with 02.
+/// Full names in wants and Interests. An independent program computed the digests of /A: d995..
+/// with the Content 01, and 39ca.. with the Content 02.
 #[test]
 fn full_names_in_wants_and_interests(rt: HostRuntime) {
     let rows = "

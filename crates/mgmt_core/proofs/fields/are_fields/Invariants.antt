@@ -5,7 +5,7 @@ use Rattle.mgmt_core.specs.Commands.{row_of}
 use Rattle.mgmt_core.specs.Reading.{fits}
 use Rattle.mgmt_core.proofs.fields.are_fields.Given as goal
 
--- what is left decides
+-- the result depends only on the remaining input
 abbrev pub invariant-loop-rest : goal.invariant-loop-rest
 invariant-loop-rest l =
     list_all (fits (row_of l.action)) (elements_of l.rest)

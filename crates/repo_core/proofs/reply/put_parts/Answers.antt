@@ -8,7 +8,7 @@ use Rattle.repo_core.specs.Writing.{repo_response}
 use Rattle.ndn_tlv.proofs.Appending.{puts_one, puts_both, puts_same}
 use Rattle.repo_core.proofs.reply.put_parts.Goals as goal
 
--- the three elements of a reply are as long as was reckoned
+-- the computed length of a reply's three elements is their actual length
 fields_len : (code words number : List ℕ) (a b c : ℕ) → a ≡ length code → b ≡ length words → c ≡ length number
     → a + b + c ≡ length (code ++ (words ++ (number ++ [])))
 fields_len code words number a b c p q r =
