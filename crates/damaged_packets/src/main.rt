@@ -1,10 +1,11 @@
-//! Hands damaged packets to `read_frame`, and prints what it reads.
+//! Gives damaged packets to `read_frame`, and prints the results.
 //!
-//! Standard input has a packet in hexadecimal on each line. For each packet these octets are read:
-//! its proper prefixes, the shortest first; the packet; the packet with each octet in turn set to
-//! 0, unless it is 0; then with each set to 255. A line is printed for each run of equal results:
-//! their number, then the name of the fault, or the kind of packet, with the number of components
-//! of its name and the InterestLifetime, the FreshnessPeriod or the NackReason.
+//! Each line of standard input is a packet in hexadecimal. For each packet these octets are read:
+//! the packet's proper prefixes, the shortest first; the packet itself; the packet with each octet
+//! in turn set to 0, unless it is 0 already; then the packet with each octet in turn set to 255,
+//! unless it is 255 already. One line is printed for each run of equal results: the length of the
+//! run, then the name of the fault, or the kind of packet with the number of components of its name
+//! and its InterestLifetime, FreshnessPeriod or NackReason.
 #![tactic(auto)]
 
 use limited_reads::read_line_within;
@@ -13,21 +14,21 @@ use std::alloc::Global;
 use std::io;
 use std::io::{BufReader, Input};
 
-/// The greatest length of a line, in octets: the digits of one octet more than a frame may have,
-/// and the LF.
+/// The greatest length of a line, in octets: the hexadecimal digits of one octet more than a frame
+/// may have, and the LF.
 const MAX_LINE: u32 = 2 * (MAX_FRAME as u32 + 1) + 1;
 
 /// The greatest number of packets.
 const MAX_PACKETS: u32 = 1000;
 
-/// The result of reading octets.
+/// The result of reading some octets.
 #[derive(Clone, Copy, PartialEq, Eq)]
 struct Found {
-    /// The name of the fault, or the kind of what was read.
+    /// The name of the fault, or the kind of packet that was read.
     word: &'static str,
-    /// The number of components of the name.
+    /// The number of components of the packet's name.
     components: usize,
-    /// The InterestLifetime, the FreshnessPeriod or the NackReason.
+    /// The InterestLifetime, the FreshnessPeriod or the NackReason of the packet.
     number: u64,
 }
 
@@ -68,7 +69,7 @@ fn found_of(octets: &[u8]) -> Found {
     }
 }
 
-/// Prints a run.
+/// Prints a run of equal results.
 fn print_run<R: Print>(rt: &R, run: &Run) -> io::Result<()> {
     let Found {
         word,
@@ -78,7 +79,7 @@ fn print_run<R: Print>(rt: &R, run: &Run) -> io::Result<()> {
     println!(rt; "{} {word} {components} {number}", run.count)
 }
 
-/// Reads octets. If the result differs from that of the run, the run is printed and a new one
+/// Reads octets. If the result differs from the result of the run, the run is printed and a new run
 /// begins.
 fn read<R: Print>(rt: &R, octets: &[u8], run: &mut Run) -> io::Result<()> {
     let found = found_of(octets);
@@ -91,7 +92,7 @@ fn read<R: Print>(rt: &R, octets: &[u8], run: &mut Run) -> io::Result<()> {
     Ok(())
 }
 
-/// Reads a packet with each octet in turn set to this value, unless it has it already.
+/// Reads a packet with each octet in turn set to `value`, unless the octet has this value already.
 fn read_with<R: Print>(rt: &R, packet: &mut [u8], value: u8, run: &mut Run) -> io::Result<()> {
     for at in 0..packet.len() {
         let right = packet[at];
@@ -104,7 +105,7 @@ fn read_with<R: Print>(rt: &R, packet: &mut [u8], value: u8, run: &mut Run) -> i
     Ok(())
 }
 
-/// Reads all damaged forms of a packet, and the packet.
+/// Reads a packet and all its damaged forms.
 fn read_all<R: Print>(rt: &R, packet: &mut [u8]) -> io::Result<()> {
     let mut run = Run {
         found: found_of(&[]),
@@ -119,7 +120,7 @@ fn read_all<R: Print>(rt: &R, packet: &mut [u8]) -> io::Result<()> {
     print_run(rt, &run)
 }
 
-/// The packet of a line, which ends with an LF.
+/// Returns the packet in a line that ends with an LF.
 fn packet_of(alloc: Global, line: &[u8]) -> io::Result<Vec<u8>> {
     match hex::decode(alloc, &line[..line.len().saturating_sub(1)]) {
         Ok(packet) => Ok(packet),

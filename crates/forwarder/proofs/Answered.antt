@@ -1,4 +1,4 @@
--- Packets that are answered once their moment has come.
+-- How each kind of packet is answered once time has advanced to its moment.
 use Rattle.std.proofs.Common.{◌≡◌, ℕ, true, false, not, List, [], refl, sym, ap, subst, ◌∙◌}
 use Rattle.std.specs.Prelude.{Result, Ok, Err, IfOk, IsErr, IsOk, nat_lt}
 use Rattle.std.proofs.lemmas.Bool.{false≢true}
@@ -34,15 +34,15 @@ use Rattle.forwarder.specs.Node.{NodeState, ChangesCacheOnly}
 use Rattle.forwarder.specs.State.{IsLater, state_of}
 use Rattle.forwarder.proofs.Handled.{where_true, where_false}
 
--- ---- what stays
+-- ---- what a packet leaves unchanged
 
--- a packet for which memory was refused
+-- a packet whose handling ran out of memory
 pub refused_packet : {old new : State} {before after : List Send} {face : ℕ} {token : Token} {moment : ℕ} {packet : PlainFrame} (r : Result code.Verdict Memory) → IsErr r
     → ChangesCacheOnly (state_of old) (state_of new) × (after ≡ before) → HandlesPacket old new before after face token moment packet r
 refused_packet (Ok verdict) refused kept = absurd (false≢true refused)
 refused_packet (Err memory) refused kept = record { handled = tt; memory = kept }
 
--- a packet for which it was not
+-- a packet whose handling had enough memory
 pub sure_packet : {old new : State} {before after : List Send} {face : ℕ} {token : Token} {moment : ℕ} {packet : PlainFrame} (r : Result code.Verdict Memory) → IsOk r
     → IfOk r (IsHandled old new before after face token moment packet) → HandlesPacket old new before after face token moment packet r
 sure_packet (Ok verdict) done handled = record { handled = handled; memory = tt }
@@ -55,7 +55,7 @@ unharmed old new policy pending cache = record {
   cache = subst (MayForget old.cache) (sym cache) (All-contains_itself old.cache.cached, refl);
 }
 
--- time changes neither what is out of scope nor what is wanted by then
+-- when time passes, it does not change whether a name is out of scope, and no Data becomes wanted
 pub later_scope : (old was : NodeState) (face now : ℕ) (name : List Field) → IsLater old now was
     → is_out_of_scope was.policy face name ≡ is_out_of_scope old.policy face name
 later_scope old was face now name later = ap (λ (p : Policy). is_out_of_scope p face name) later.policy

@@ -1,5 +1,5 @@
--- An Interest for Data is answered: by a Nack where it loops, from the cache or the repository, or by
--- sending it on.
+-- An Interest for Data is answered: by a Nack if it loops, from the cache or the repository, or by
+-- forwarding it.
 use Rattle.std.proofs.Common.{◌≡◌, ℕ, ◌≤◌, Bool, true, false, cond, List, [], ◌∷◌, length, Option, None, Some, Result, Ok, Err, inl, inr, refl, sym, ap, subst, ◌∙◌}
 use Rattle.std.specs.Prelude.{◌⊎◌, IfOk, max, not, ◌&&◌, IfSome}
 use Rattle.std.specs.List.{All}
@@ -49,9 +49,9 @@ use Rattle.forwarder.proofs.Requests.{for_data}
 use Rattle.forwarder.proofs.Soundness.{step_sound}
 use Rattle.forwarder.proofs.Uses.{data_use}
 
--- ---- what is held is Data
+-- ---- what the cache or the repository gives is a Data
 
--- octets that fit a packet, and are no Nack
+-- octets that fit in a packet and that are not a Nack
 abbrev pub CanGoBack : List ℕ → Type 0
 CanGoBack octets = (length octets ≤ 8800) × (is_nack octets ≡ false)
 
@@ -81,7 +81,7 @@ served_goes_back name flag objects octets are is =
 pub interest_is_short : (whole : List ℕ) (i : PlainInterest) → ∥ IsInterest whole i ∥₁ → length whole ≤ 8800
 interest_is_short whole i spelled = ∥∥₁_elim spelled le_prop (λ h. h.fields.short)
 
--- ---- what a strategy chooses is passed, or dropped where the table is full
+-- ---- the strategy's choice leads to the verdict Passed, or to PitFull if the PIT is full
 
 strategy_passes : (seen : Seen) (key : PlainKey) (whole : List ℕ) (i : PlainInterest) (face : ℕ) (token : Token) (choice : Choice)
     → ((by_strategy seen key whole i face token choice).verdict ≡ Passed) ⊎ ((by_strategy seen key whole i face token choice).verdict ≡ Dropped PitFull)
@@ -93,14 +93,14 @@ strategy_passes seen key whole i face token (choices.Send faces) = by_full (not 
     by_full true = inr refl
     by_full false = inl refl
 
--- ---- the moment of an Interest
+-- ---- the node once time has advanced to the moment of an Interest
 
 pub later_sound : (old was : NodeState) (moment : ℕ) → IsSound old → IsLater old moment was → IsSound was
 later_sound old was moment sound later = step_sound old was _ _ sound (tick_step old was moment later)
 
--- ---- what is held for an Interest when its moment comes
+-- ---- the Data that can answer an Interest when time has advanced to its moment
 
--- what may be served is
+-- if the least Data that may be served is `c`, then some Data may be served
 pub nothing_served : (key : PlainKey) (now : ℕ) (cached : List CachedData) (c : CachedData) → IsLeast (CanServe key now) cached c → All (λ d. ¬ CanServe key now d) cached → ⊥
 nothing_served key now cached c least none = All-contains (λ d. ¬ CanServe key now d) cached c none least.is_cached least.has
 
@@ -126,7 +126,7 @@ module _ (old was : NodeState) (moment : ℕ) (later : IsLater old moment was) w
   pub served_then : (name : List Field) (flag : Bool) → served name flag was.policy.held.objects ≡ served name flag old.policy.held.objects
   served_then name flag = ap (λ (p : Policy). served name flag p.held.objects) later.policy
 
--- ---- an Interest that is refused
+-- ---- an Interest that is refused is dropped
 
 pub no_hops_refused : (p : Policy) (face : ℕ) (i : PlainInterest) → has_no_hops i.hop_limit ≡ true → request_of p face i ≡ Refused HopLimit
 no_hops_refused p face i none = ap (λ (b : Bool). cond b (Refused HopLimit) (cond (is_out_of_scope p face i.name) (Refused Scope) (named_request p i (list_asked i)))) none
@@ -180,7 +180,7 @@ module _ (old was : NodeState) (moment face : ℕ) (token : Token) (whole : List
     loop_answered loop = data_answered was _ (where_true _ _ is_loop loop refl) refl (λ key. refl) later.living refl
 
     module _ (once : is_loop ≡ false) (after : StoreState) where
-      -- the cache is asked by an Interest that is passed
+      -- a passed Interest for Data looks up its key in the cache
       looked_up : (given : Option (List ℕ)) → Finds (key_of i) was.policy.now was.cache given after
           → CacheAfter was.policy.now was.pending (packet_use was.policy.now face (AnInterest whole i) Passed) was.cache after
       looked_up given found =
@@ -207,7 +207,8 @@ module _ (old was : NodeState) (moment face : ℕ) (token : Token) (whole : List
             (looked_up None none)
 
         module _ (unheld : served i.name i.can_be_prefix was.policy.held.objects ≡ None) where
-          -- one that is dropped leaves it alone, and nothing was found for it
+          -- an Interest that is dropped leaves the cache unchanged, and the lookup found no Data
+          -- for it
           by_verdict : (new : NodeState) (v : Verdict) → (v ≡ Passed) ⊎ (v ≡ Dropped PitFull) → new.cache ≡ after
               → CacheAfter was.policy.now was.pending (packet_use was.policy.now face (AnInterest whole i) v) was.cache new.cache
           by_verdict new v (inl e) same =
@@ -232,7 +233,7 @@ module _ (old was : NodeState) (moment face : ℕ) (token : Token) (whole : List
               (where_false _ _ is_loop once (None, none.0, h.replied ∙ sym (ap (by_repository (seen_by was) face token whole i) unheld))) h.policy h.pending h.alive
               (missed answer new h)
 
--- what was sent on was handled
+-- an Interest that was sent on was handled
 pub forwards_handled : (old passed new : State) (was : NodeState) (before after : List Send) (moment face : ℕ) (token : Token) (whole : List ℕ) (i : PlainInterest)
     → IfSome token IsToken → IsLater (state_of old) moment was → request_of (state_of old).policy face i ≡ ForData
     → loops (records_at was.pending (key_of i)) face i.nonce ≡ false

@@ -1,4 +1,4 @@
--- Each Data that is sent was asked for.
+-- Each Data that is sent was asked for by the face that it is sent to.
 use Rattle.std.proofs.Common.{◌≡◌, ℕ, Bool, true, false, cond, List, [], ◌∷◌, refl, sym, ap, subst, ◌∙◌, Result, Ok, Err, inl, inr}
 use Rattle.std.specs.Prelude.{◌≢◌, IfSome, Option, Some, None, Contains, IsSome, IsTrue, max}
 use Rattle.std.specs.FinMap as map
@@ -44,7 +44,7 @@ use Rattle.forwarder.proofs.Explained.{all_explained}
 use Rattle.forwarder.proofs.Origins.{AllFit, token_fits, waiting_fits}
 use Rattle.forwarder.proofs.Stored.{stored_is_of_allowed}
 
--- ---- a Data that was allowed is read as it is
+-- ---- a Data that was allowed is read again as the same Data
 
 decided_reads : (p : Policy) (event : PlainEvent) (whole : List ℕ) (d : PlainData) → decided_packet p event ≡ Some (AData whole d) → frame_at whole ≡ Ok (AData whole d)
 decided_reads p (Packet face now octets) whole d e = by_open (is_open face p.faces) e
@@ -72,7 +72,7 @@ allowed_reads first Start whole d h = absurd h
 allowed_reads first (Then before event answer) whole d (inl h) = allowed_reads first before whole d h
 allowed_reads first (Then before event answer) whole d (inr h) = decided_reads (at_moment h.0 (moment event)) event whole d h.2.brings
 
--- ---- an object that is served
+-- ---- an object that the repository serves is one that it stores
 
 kept_here : (test : List Field × List ℕ → Bool) (key : List Field) (octets : List ℕ) (o : Option (List ℕ)) → if_kept test key o ≡ Some octets → (o ≡ Some octets) × (test (key, octets) ≡ true)
 kept_here test key octets None e = cc e
@@ -101,7 +101,7 @@ served_row name flag objects octets is =
         let here = kept_here test o.0 octets (map.get objects o.0) (sym (get-kept name_cmp-antisymmetric test o.0 objects) ∙ found) in
         (o.0, here.0, here.1)
 
--- ---- what is sent
+-- ---- the octets that are sent
 
 one_sent : (face : ℕ) (a b : List ℕ) → passed ((face, a) ∷ []) ≡ passed ((face, b) ∷ []) → a ≡ b
 one_sent face a b e =
@@ -112,7 +112,7 @@ one_sent face a b e =
 never_passed : (sends : List Send) → dropped NoSegment ≡ passed sends → ⊥
 never_passed sends e = (let verdict : Dropped NoSegment ≡ Passed = ap (λ (x : Answer). x.verdict) e in cc verdict)
 
--- the node's own answer begins as a Data
+-- the octets of the node's own answer begin with the type of a Data
 own_begins : (p : Policy) (face : ℕ) (whole : List ℕ) (i : PlainInterest) (packet : List ℕ) → IsOwnAnswer p face whole i packet → begins 6 packet ≡ true
 own_begins p face whole i packet (inl reply) = ap (begins 6) reply.1.2 ∙ begins_data _
 own_begins p face whole i packet (inr list) = by_version (is_present p list.0.version) refl
@@ -146,7 +146,7 @@ module _ (first : Policy) (past : Run) (event : PlainEvent) (answer : Answer) (r
   abbrev seen : Seen
   seen = seen_after past q reply.waiting
 
-  -- the face asked for this packet, if it is a Data
+  -- if this packet is a Data, the face asked for it
   abbrev Asked : PlainFrame → Type 0
   Asked (AData whole d) = WasAskedFor first past reply.was event face whole d
   Asked (AnInterest whole i) = Unit {0}
@@ -159,7 +159,7 @@ module _ (first : Policy) (past : Run) (event : PlainEvent) (answer : Answer) (r
   linked : AllFit seen.records
   linked = waiting_fits past now reply.waiting reply.is_waiting
 
-  -- the token of an Interest of the face is one
+  -- the token of an Interest from the face is a valid token
   given_token : (name : List Field) (digest : List ℕ) (token : Token) → IsTokenFor seen.records name digest face token → IfSome token IsToken
   given_token name digest token (inl none) = subst (λ (t : Token). IfSome t IsToken) (sym none.1) tt
   given_token name digest token (inr some) = subst (λ (t : Token). IfSome t IsToken) (sym some.3) (linked some.0 face some.1 some.2.asks.1).is_token
@@ -187,7 +187,7 @@ module _ (first : Policy) (past : Run) (event : PlainEvent) (answer : Answer) (r
     own_token : IfSome (token_at r.octets) IsToken
     own_token = token_fits r.octets (token_at r.octets) refl
 
-    -- an earlier Data that answers the Interest of the event
+    -- a Data of an earlier event, which answers the Interest of this event
     earlier : (whole : List ℕ) (d : PlainData) → r.packet ≡ whole → AllowedIn first past (AData whole d)
         → IsTrue (answers d.name (sha256 whole) r.interest.name r.interest.can_be_prefix) → (frame_at octets ≡ Ok (AData whole d)) × Asked (AData whole d)
     earlier whole d same allowed answered =

@@ -1,4 +1,4 @@
--- Reading what an Interest asks for off its name.
+-- How the request of an Interest is read off its name.
 use Rattle.std.proofs.Common.{◌≡◌, ℕ, ◌^◌, ◌<◌, Bool, List, [], ◌∷◌, ◌++◌, length, refl, sym, ap, ◌∙◌, arith, inl, inr, Ok}
 use Rattle.std.specs.Prelude.{Some, None, bytes_eq, nat_eq, codes}
 use Rattle.std.specs.List.{starts_with}
@@ -15,7 +15,7 @@ use Rattle.ndn_packets.specs.Answers.{begins_with}
 use Rattle.ndn_packets.proofs.Answering.{prefix_is}
 use Rattle.forwarder.specs.Request.{ListKind, RouteList, StrategyList, generic, localhost, management, list_name, shortest_number}
 
--- ---- names by their octets
+-- ---- names compared by their octets
 
 is_short : (word : List ℕ) → length word < 100 → IsField (generic word) × IsComponent (generic word)
 is_short word lt = ((omega arith, omega arith, omega arith), (omega arith, omega arith, λ le. absurd (omega (arith, le))))
@@ -44,7 +44,8 @@ pub list_is_name : (kind : ListKind) → IsNameValue (octets_of (list_name kind)
 list_is_name RouteList = under_management (codes "fib") (omega arith)
 list_is_name StrategyList = under_management (codes "strategy-choice") (omega arith)
 
--- a name that begins with the octets of another, begins with it
+-- if the octets of one name begin with the octets of another name, the components of the first
+-- begin with the components of the second
 pub begins_is : (octets name : List ℕ) (a b : List Field) (r : Bool) → IsNameValue octets a → IsNameValue name b → r ≡ starts_with nat_eq name octets → r ≡ begins_with a b
 begins_is octets name a b r h g e = same_from_decides r (begins_with a b) (is_prefix-shown octets name a b r h g e) (prefix_is a b)
 

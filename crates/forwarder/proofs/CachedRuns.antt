@@ -1,4 +1,4 @@
--- What a cache may hold came in an event that allowed it.
+-- Each Data that a cache may hold came in an event that allowed it.
 use Rattle.std.proofs.Common.{◌≡◌, ℕ, Bool, true, false, List, refl, sym, ap, subst, ◌∙◌, Result, Ok, inl, inr}
 use Rattle.std.specs.Prelude.{Some, None, max, not, if◌then◌else◌}
 use Rattle.sha2.specs.Sha256.{sha256}
@@ -24,7 +24,7 @@ use Rattle.forwarder.specs.Runs.{Run, Start, Then, IsRun, MayHold, MayReply, now
 use Rattle.forwarder.specs.Allowed.{Allows, AllowedAt, AllowedIn}
 use Rattle.forwarder.proofs.Uses.{closing_inserts, read_inserts}
 
--- the octets are of a Data that was allowed when it arrived
+-- these octets are a Data that was allowed at the moment that is recorded as its arrival
 abbrev pub CameAllowed : Policy → Run → CachedData → Type 0
 CameAllowed first run c = (d : PlainData) × AllowedAt first run (AData c.octets d) c.arrival × (c.name ≡ d.name) × (c.digest ≡ sha256 c.octets) × (c.freshness ≡ d.freshness)
 
@@ -92,7 +92,7 @@ cached_came_allowed first (Then before event answer) c is (inl (used, waits)) = 
 cached_came_allowed first (Then before event answer) c is (inr (h, stays)) =
     let k = cached_came_allowed first before c is.0 h in (k.0, inl k.1, k.2, k.3, k.4)
 
--- what was allowed at some moment was allowed
+-- a packet that was allowed at some moment of the run was allowed in the run
 pub allowed_then : (first : Policy) (run : Run) (packet : PlainFrame) (now : ℕ) → AllowedAt first run packet now → AllowedIn first run packet
 allowed_then first Start packet now h = absurd h
 allowed_then first (Then before event answer) packet now (inl h) = inl (allowed_then first before packet now h)

@@ -1,4 +1,4 @@
--- Allowed commands that were carried out.
+-- How allowed commands are carried out.
 use Rattle.std.proofs.Common.{◌≡◌, ℕ, ◌≤◌, ◌+◌, Bool, true, false, cond, List, [], ◌∷◌, length, arith, Option, None, Some, Result, Ok, refl, sym, ap, subst, ◌∙◌}
 use Rattle.std.specs.Prelude.{IfSome, IsSome, SomeIff, nat_lt, unwrap_or, ◌==◌, ◌||◌, if◌then◌else◌}
 use Rattle.std.proofs.lemmas.Bool.Decides.{nat_tests}
@@ -43,7 +43,7 @@ use Rattle.forwarder.specs.Node.{NodeState}
 use Rattle.forwarder.specs.CommandStep.{IsCommanded}
 
 module _ (was new : NodeState) (face : ℕ) (token : Token) (status : ℕ) (i : PlainInterest) (content : List ℕ) where
-  -- a command on the tables, where this is read off its name
+  -- a command on the tables, where `read` is the command that its name encodes
   pub tables_done : (read : Result PlainCommand ℕ) → command_at i.name ≡ read
       → status ≡ tables_status was.policy face read
       → content ≡ tables_reply was.policy face read
@@ -59,7 +59,7 @@ module _ (was new : NodeState) (face : ℕ) (token : Token) (status : ℕ) (i : 
     cache = subst (λ (c : Result PlainCommand ℕ). CacheAfter was.policy.now was.pending (command_use c status) was.cache new.cache) (sym is) cache;
   }
 
--- the reply to a command on the tables is no longer than its limit
+-- the reply to a command on the tables is at most as long as the limit for that command
 pub response_fits : (c : PlainCommand) (face status : ℕ) (up : List ℕ) (routes : Routes) (choices : Choices)
     → status ≡ status_of c face up routes choices
     → length (response status (unwrap_or (text_of status) []) (body_after c face status)) ≤ reply_limit c
@@ -79,14 +79,14 @@ response_within c face status up routes choices body limit is same most =
     (subst (λ (b : List ℕ). length (response status (unwrap_or (text_of status) []) b) ≤ reply_limit c) (sym same)
     (response_fits c face status up routes choices is))
 
--- octets have room where their number does
+-- `n` octets fit into an empty buffer whose capacity is at least their limit
 pub has_room : (len n limit cap : ℕ) → len ≡ 0 → n ≤ limit → limit ≤ cap → len + n ≤ cap
 has_room len n limit cap none few most = omega arith
 
 pub at_most : (n limit cap : ℕ) → n ≤ limit → limit ≤ cap → n ≤ cap
 at_most n limit cap few most = omega arith
 
--- what is prepared for a command stays so while routes end
+-- what is prepared for a command stays prepared when routes expire
 pub still_ready : (old new : Tables) (c : PlainCommand) → new ≡ record old { fib = new.fib } → new.fib.prepared ≡ old.fib.prepared → IsPrepared old c → IsPrepared new c
 still_ready old new c same prepared ready =
     subst (λ (t : Tables). IsPrepared t c) (sym same) (ready.0, by_action c.action ready.1)
@@ -100,7 +100,7 @@ still_ready old new c same prepared ready =
     by_action UnsetStrategy h = tt
     by_action EraseCache h = tt
 
--- the tables after a command, by its status
+-- the tables after a command, given its status
 pub after_applied : (p : Policy) (c : PlainCommand) (face status : ℕ) (routes : Routes) (choices : Choices)
     → status ≡ tables_status p face (Ok c)
     → routes ≡ if_done status (routes_after c face p.now p.routes) p.routes
@@ -114,7 +114,8 @@ after_applied p c face status routes choices is to_routes to_choices =
 same_store : (old new : StoreState) → new.cached ≡ old.cached → new.capacity ≡ old.capacity → new ≡ old
 same_store old new cached capacity = λ j. record { cached = cached j; capacity = capacity j }
 
--- the cache after a command, by its status; an erase whatever else refuses, so its status is 200
+-- the cache after a command, given its status; an erase is never refused, so its status is always
+-- 200
 pub cache_applied : (now : ℕ) (waiting : Pending) (c : PlainCommand) (face status : ℕ) (up : List ℕ) (routes : Routes) (choices : Choices) (old new : StoreState)
     → status ≡ status_of c face up routes choices
     → CachedAfter c old.cached new.cached → new.capacity ≡ old.capacity
@@ -132,7 +133,7 @@ cache_applied now waiting c face status up routes choices old new is cached capa
     by_action EraseCache s h =
         subst (λ (b : Bool). CacheAfter now waiting (cond b (Erases c.name c.count) Untouched) old new) (sym (ap (λ (n : ℕ). n == OK) s)) (h, capacity)
 
--- a node whose tables are as before is as before
+-- a node stays the same if its routes, strategies and cache are unchanged
 pub with_tables : (n : NodeState) (routes : Routes) (choices : Choices) (cache : StoreState)
     → routes ≡ n.policy.routes → choices ≡ n.policy.choices → cache ≡ n.cache
     → record n { policy = record n.policy { routes = routes; choices = choices }; cache = cache } ≡ n
@@ -141,14 +142,14 @@ with_tables n routes choices cache r k s =
 
 -- ---- commands to the repository
 
--- what is prepared stays so
+-- what is prepared for a command to the repository stays prepared
 pub still_prepared : (old new : RepoState) (name : List Field) → new.start ≡ old.start → new.prepared_want ≡ old.prepared_want
     → IsCommandPrepared old name → IsCommandPrepared new name
 still_prepared old new name start want ready =
     subst (λ (w : Option (List Field)). IfSome (repo_command_at new.start name) (λ c. is_insert c.verb ≡ true → w ≡ Some c.name)) (sym want)
     (subst (λ (s : List Field). IfSome (repo_command_at s name) (λ c. is_insert c.verb ≡ true → old.prepared_want ≡ Some c.name)) (sym start) ready)
 
--- the repository's reply is no longer than its limit
+-- the repository's reply is at most as long as its limit
 pub content_fits : (s : Held) (c : Option RepoCommand) (reply : RepoReply) → reply ≡ reply_to s c → length (repository_content reply) ≤ 55
 content_fits s c reply is =
     by_text (repo_text_of reply.status) refl (subst (λ (r : RepoReply). IsSome (repo_text_of r.status)) (sym is) (reply_has_text s c))
@@ -157,23 +158,23 @@ content_fits s c reply is =
     by_text (Some text) e h = known_is_bounded reply.status reply.count text e
     by_text None e h = cc h
 
--- where an Interest is sent does not depend on the repository
+-- the faces that an Interest of the node is sent to do not depend on the repository
 pub same_fetches : (p : Policy) (start : List Field) (held : Held) (nonce : List ℕ) (want : Option Want)
     → fetch_sends (record p { repo = start; held = held }) nonce want ≡ fetch_sends p nonce want
 same_fetches p start held nonce None = refl
 same_fetches p start held nonce (Some want) = refl
 
--- a node whose repository is as before is as before
+-- a node stays the same if its repository is unchanged
 pub with_repository : (n : NodeState) (start : List Field) (held : Held) → start ≡ n.policy.repo → held ≡ n.policy.held
     → record n { policy = record n.policy { repo = start; held = held } } ≡ n
 with_repository n start held s h = λ j. record n { policy = record n.policy { repo = s j; held = h j } }
 
--- a sum that fits
+-- a sum that does not overflow is the exact sum
 pub sum_is : (o : Option ℕ) (r : Result ℕ Memory) (n sum : ℕ) (P : Type 0) → SomeIff o P sum → o ≡ result_ok r → r ≡ Ok n → n ≡ sum
 sum_is o r n sum P fits same given =
     (subst (λ (o : Option ℕ). SomeIff o P sum) (same ∙ ap (λ (r : Result ℕ Memory). result_ok r) given) fits).1
 
--- the room of a reply, and what is left of the room for a reply and a packet
+-- the space reserved for a reply and a packet is enough for the reply, and then for the packet
 pub has_reply_room : (total room len space : ℕ) → total ≡ room + 8800 → len ≤ room → total ≤ space → len ≤ space
 has_reply_room total room len space is few most = omega arith
 
@@ -183,7 +184,7 @@ has_packet_room total room len space left is few most rest = omega arith
 pub has_places : (places left : ℕ) → 1 + MAX_FACES ≤ places → places ≤ left + 1 → MAX_FACES ≤ left
 has_places places left most rest = omega arith
 
--- an Interest that can be written is no longer than a packet may be
+-- an Interest that can be written fits in a packet of 8,800 octets
 pub written_fits : (w : InterestWriter) (space : ℕ) → interest_refusal w ≡ None → 8800 ≤ space → length (interest_text w) ≤ space
 written_fits w space none most = by (is_bad_name (components w.name)) (nat_lt 64 (length (interest_name w))) (nat_lt 8800 (length (interest_text w))) refl none
   where
@@ -194,7 +195,7 @@ written_fits w space none most = by (is_bad_name (components w.name)) (nat_lt 64
     by false false true is none = absurd cc
     by false false false is none = grind (arith, nat_tests, is, most)
 
--- a command to the repository, where this is its reply
+-- a command to the repository, where `reply` is its reply
 pub repository_done : (was new : NodeState) (face : ℕ) (token : Token) (i : PlainInterest) (reply : RepoReply) → reply ≡ repository_reply was.policy i
     → new.policy ≡ with_record (after_repository was.policy i) (recorded_of i) → new.pending ≡ was.pending → new.cache ≡ was.cache
     → IsCommanded was face token i ForRepository reply.status (replied face token i (repository_content reply) ∷ fetch_sends was.policy i.nonce reply.fetch) new

@@ -1,4 +1,4 @@
--- The faces that a strategy chooses are open, and none is the asker.
+-- Each face that a strategy chooses is open, and is not the face that asks.
 use Rattle.std.proofs.Common.{◌≡◌, ℕ, Bool, true, false, cond, List, [], ◌∷◌, length, subst}
 use Rattle.std.specs.Prelude.{IsSome, All, Contains, fold, ◌||◌}
 use Rattle.std.proofs.lemmas.List.Elements.{All-nil, All-cons, All-head, All-tail, All-contains, All-map}
@@ -21,7 +21,7 @@ use Rattle.forwarder.specs.Policy.{Policy, local_faces}
 use Rattle.forwarder.proofs.EffectiveFaces.{all_entries, longest_leads}
 use Rattle.forwarder.specs.NextHops.{choice_for, hops_for, selection_of, strategy_for}
 
--- ---- the faces of next hops have costs
+-- ---- each face of the next hops has a cost
 
 module _ (costs : ByFace) where
   abbrev HasCost : ℕ × ℕ → Type 0
@@ -55,7 +55,7 @@ module _ (costs : ByFace) where
   pub hops_costed : (locals : List ℕ) → All IsCosted (marked locals (in_order (fin.entries costs)))
   hops_costed locals = marked_costed locals (in_order (fin.entries costs)) (all_costed (fin.entries costs) [] entries_found (All-nil IsCosted))
 
--- ---- what is chosen
+-- ---- the hops that a strategy chooses
 
 selected : (p : Policy) (name : List Field) (hops : List Hop) (asked : ByFace) (now : ℕ) → All (Contains hops) (selection_of (strategy_for p name) hops asked now)
 selected p name hops asked now =

@@ -1,4 +1,4 @@
--- What octets are that begin as an Interest, a Data or a Nack does.
+-- What can be said of octets that begin with the type of an Interest, a Data or a Nack.
 use Rattle.std.proofs.Common.{◌≡◌, ℕ, zero, suc, ◌+◌, ◌-◌, ◌^◌, ◌<◌, ◌≤◌, Bool, true, false, cond, not, ltb, List, [], ◌∷◌, ◌++◌, length, take, drop, refl, sym, ap, ◌∙◌, arith, Result, Ok, Err, lit<}
 use Rattle.std.specs.Prelude.{◌==◌, ◌&&◌, ◌||◌, Option, None, Some, nat_lt, slice_set, is_some, IfSome}
 use Rattle.std.proofs.lemmas.Bool.{eqb-true, ltb-false, le-ltb, le-leb}
@@ -32,7 +32,7 @@ use Rattle.forwarder.specs.Event.{Token, to_each}
 use Rattle.forwarder.specs.NextHops.{sent_on}
 use Rattle.forwarder.specs.DataSends.{carries_data, holds_data, is_data, is_data_frame}
 
--- whether the first octet is this one
+-- whether the first octet is `kind`
 abbrev pub begins : ℕ → List ℕ → Bool
 begins kind [] = false
 begins kind (octet ∷ octets) = octet == kind
@@ -47,7 +47,7 @@ begins_data value = refl
 
 -- ---- an Interest and a Data
 
--- the element of this type, after the octet that is its type
+-- the element of type `kind` whose length and remaining octets are given in `len`
 abbrev sized : ℕ → ℕ × List ℕ → Result (Field × List ℕ) TlvFault
 sized kind len = cond (ltb (length len.1) len.0) (Err Truncated) (Ok ((kind, take len.0 len.1), drop len.0 len.1))
 
@@ -69,7 +69,7 @@ element_six : (octets : List ℕ) → element_at (6 ∷ octets) ≡ (number_at o
 unfolding element_at number_at
 element_six octets = refl
 
--- neither a Nack nor a Data
+-- the result is neither a Nack nor a Data
 abbrev IsNeither : Result PlainFrame PacketFault → Type 0
 IsNeither r = (is_nack_frame r ≡ false) × (is_data_frame r ≡ false)
 
@@ -87,7 +87,7 @@ five text false (Ok len) = by_size (ltb (length len.1) len.0) (take len.0 len.1)
     by_size false value [] = by_read (interest_of text value)
     by_size false value (octet ∷ rest) = (refl, refl)
 
--- an element of an Interest's type holds no Data
+-- an element with the type of an Interest does not hold a Data
 five_holds : (r : Result (ℕ × List ℕ) TlvFault) → holds_data (only (r >>= sized 5)) ≡ false
 five_holds (Err f) = refl
 five_holds (Ok len) = by_size (ltb (length len.1) len.0) (take len.0 len.1) (drop len.0 len.1)
@@ -111,11 +111,11 @@ six text false (Ok len) = by_size (ltb (length len.1) len.0) (take len.0 len.1) 
     by_size false value [] = by_read (data_of text value)
     by_size false value (octet ∷ rest) = refl
 
--- what is neither read as a Data nor one by its type is none
+-- octets that are not read as a Data, and do not have the type of a Data, are not a Data
 no_data : (text : List ℕ) → is_data_frame (frame_at text) ≡ false → holds_data (only_element text) ≡ false → is_data text ≡ false
 no_data text read typed = ap (λ (b : Bool). b || holds_data (only_element text)) read ∙ typed
 
--- what is read as a Data is one
+-- octets that are read as a Data are a Data
 pub read_is_data : (text whole : List ℕ) (d : PlainData) → frame_at text ≡ Ok (AData whole d) → is_data text ≡ true
 read_is_data text whole d read = ap (λ (r : Result PlainFrame PacketFault). is_data_frame r || holds_data (only_element text)) read
 
@@ -132,7 +132,7 @@ interest_is_neither (octet ∷ octets) is =
       no_data text (ap is_data_frame frame ∙ neither.1) (ap (λ (r : Result (Field × List ℕ) TlvFault). holds_data (only r)) read ∙ five_holds (number_at octets)),
     )
 
--- octets that begin as a Data are no Nack
+-- octets that begin as a Data are not a Nack
 pub data_is_no_nack : (text : List ℕ) → begins 6 text ≡ true → is_nack text ≡ false
 data_is_no_nack [] is = cc is
 data_is_no_nack (octet ∷ octets) is =
@@ -156,7 +156,7 @@ six_whole text false (Ok len) whole d e = by_size (ltb (length len.1) len.0) (ta
     by_size false value [] e = by_read (data_of text value) e
     by_size false value (octet ∷ rest) e = cc e
 
--- octets that begin as a Data are the received octets of the Data that they are read as
+-- octets that begin as a Data, and are read as a Data, are exactly the received octets of that Data
 data_is_whole : (text whole : List ℕ) (d : PlainData) → begins 6 text ≡ true → frame_at text ≡ Ok (AData whole d) → text ≡ whole
 data_is_whole [] whole d is read = cc is
 data_is_whole (octet ∷ octets) whole d is read =
@@ -167,7 +167,7 @@ data_is_whole (octet ∷ octets) whole d is read =
 
 -- ---- an Interest that is sent on
 
--- a HopLimit stands behind the first octet
+-- the HopLimit is stored after the first octet
 pub hop_place_is_later : (text : List ℕ) → 0 < length text → 0 < hop_place text
 hop_place_is_later text some = by_frame (frame_at text)
   where
@@ -196,16 +196,16 @@ begins_some : (kind : ℕ) (text : List ℕ) → begins kind text ≡ true → 0
 begins_some kind [] is = cc is
 begins_some kind (x ∷ text) is = omega arith
 
--- an Interest begins as one when it is sent on
+-- a forwarded Interest still begins with the type of an Interest
 pub sent_on_begins : (whole : List ℕ) (limit : Option ℕ) → begins 5 whole ≡ true → begins 5 (sent_on whole limit) ≡ true
 sent_on_begins whole None is = is
 sent_on_begins whole (Some n) is = begins_still 5 whole (hop_place whole) (n - 1) (hop_place_is_later whole (begins_some 5 whole is)) ∙ is
 
--- an Interest that was read begins as one
+-- the octets of an Interest begin with the type of an Interest
 pub spelled_begins : (whole : List ℕ) (i : PlainInterest) → IsInterest whole i → begins 5 whole ≡ true
 spelled_begins whole i is = ap (begins 5) is.fields.outer.1 ∙ begins_interest is.fields.value
 
--- what is read as an Interest begins as one
+-- the received octets of an Interest that was read begin with the type of an Interest
 pub read_begins : (octets whole : List ℕ) (i : PlainInterest) → AreOctets octets → frame_at octets ≡ Ok (AnInterest whole i) → begins 5 whole ≡ true
 read_begins octets whole i fits read = spelled_begins whole i (frame_found octets (AnInterest whole i) fits read).1.0
 
@@ -215,7 +215,7 @@ none_nacked (f ∷ faces) octets other = ap (λ (b : Bool). b || is_nacked (to_e
 
 -- ---- a link packet
 
--- an element is read as the only one
+-- a text that is exactly one element is read as that element
 only_one : (f : Field) → IsField f → only_element (element f) ≡ Ok f
 only_one f is = ap (λ (text : List ℕ). only (element_at text)) (sym (append-nil (element f))) ∙ ap only (element_again f [] is)
 
@@ -223,7 +223,7 @@ link_is : (value : List ℕ) → link_at value ≡ link_from no_headers_yet (ele
 unfolding link_at
 link_is value = refl
 
--- the elements of a value, one by one
+-- the elements of a value are read one after the other
 next_element : (f : Field) (rest : List ℕ) → IsField f → elements_of (element f ++ rest) ≡ Ok f ∷ elements_of rest
 next_element f rest is = elements_of-ok (element f ++ rest) f rest (element_again f rest is)
 
@@ -242,11 +242,11 @@ length-one kind value = omega (arith, length-element kind value, length-spelling
 is_one : (token : List ℕ) → IsToken token → is_token token ≡ true
 is_one token is = rw (le-leb 1 (length token) is.0, le-leb (length token) 32 is.1) refl
 
--- a token may stand first
+-- the first header of a link packet may be a token
 token_taken : (token : List ℕ) → IsToken token → take_header no_headers_yet (98, token) ≡ Ok (record no_headers_yet { token = Some token })
 token_taken token is = ap (λ (b : Bool). cond (not b) (Err LpField) (Ok (record no_headers_yet { token = Some token }))) (is_one token is)
 
--- a Nack of an Interest is none that holds a Data, with a token and without one
+-- a Nack around an Interest does not hold a Data, whether the Nack has a token or not
 module _ (reason : ℕ) (packet : List ℕ) (short : length packet ≤ 8800) where
   abbrev last_part : List ℕ
   last_part = element (80, packet) ++ []
@@ -262,7 +262,7 @@ module _ (reason : ℕ) (packet : List ℕ) (short : length packet ≤ 8800) whe
       let few = length-reason_value reason in
       omega (arith, few, length-append (element (800, reason_value reason)) last_part, length-append (element (80, packet)) [], length-one 800 (reason_value reason), length-one 80 packet)
 
-  -- what a Nack's header begins carries no Data
+  -- a link packet with a Nack header carries no Data
   carries_none : carries_data (elements_of nack_part) ≡ false
   carries_none = ap carries_data (next_element (800, reason_value reason) last_part nack_field_is)
 
@@ -273,7 +273,7 @@ module _ (reason : ℕ) (packet : List ℕ) (short : length packet ≤ 8800) whe
       ∙ ap (λ (l : List (Result Field TlvFault)). Ok (800, reason_value reason) ∷ l)
       (next_element (80, packet) [] fragment ∙ ap (λ (l : List (Result Field TlvFault)). Ok (80, packet) ∷ l) elements_of-nil)
 
-  -- nor is it read as one, after a token or without one
+  -- a link packet with a Nack header is not read as a Data, whether the packet has a token or not
   abbrev NoDataIn : Result PlainFramed PacketFault → Type 0
   NoDataIn r = is_data_frame (r >>= λ f. Ok f.frame) ≡ false
 
@@ -297,7 +297,7 @@ module _ (reason : ℕ) (packet : List ℕ) (short : length packet ≤ 8800) whe
       by_nack (Err f) = refl
       by_nack (Ok n) = by_element n (only_element packet)
 
-  -- a link packet that is short enough is read by its elements
+  -- a link packet that is short enough is read element by element
   read_by : (value : List ℕ) → length value ≤ 8950 → only_element (element (100, value)) ≡ Ok (100, value)
       → frame_at (element (100, value)) ≡ (link_from no_headers_yet (elements_of value) >>= λ f. Ok f.frame)
   read_by value few one =
@@ -334,12 +334,12 @@ module _ (reason : ℕ) (packet : List ℕ) (short : length packet ≤ 8800) whe
       ∙ ap (λ (r : Result LinkSoFar PacketFault). (r >>= λ s. link_from s (Ok (800, reason_value reason) ∷ (Ok (80, packet) ∷ []))) >>= λ f. Ok f.frame) header) ∙ nack_read (Some token))
       (ap holds_data one ∙ ap carries_data elements ∙ carries_none)
 
--- a Nack around octets that fit a packet is no Data
+-- a Nack around octets that fit in a packet is not a Data
 pub nack_is_no_data : (token : Token) (reason : ℕ) (interest : List ℕ) → IfSome token IsToken → length interest ≤ 8800 → is_data (lp_text token (Some reason) interest) ≡ false
 nack_is_no_data None reason interest is short = bare_nack reason interest short
 nack_is_no_data (Some token) reason interest is short = token_nack reason interest short token is
 
--- a Nack around an Interest is one
+-- a Nack around an Interest is read as a Nack
 pub nack_is_nack : (token : Token) (reason : ℕ) (interest : List ℕ) (i : PlainInterest) → IfSome token IsToken → IfSome token AreOctets → IsInterest interest i → reason < 2 ^ 64
     → is_nack (lp_text token (Some reason) interest) ≡ true
 nack_is_nack token reason interest i is fits read small =
@@ -390,7 +390,7 @@ module _ (token packet : List ℕ) (is : IsToken token) (small : length (wrapped
       next_element (98, token) after_token first
       ∙ ap (λ (l : List (Result Field TlvFault)). Ok (98, token) ∷ l) (next_element (80, packet) [] second ∙ ap (λ (l : List (Result Field TlvFault)). Ok (80, packet) ∷ l) elements_of-nil)
 
-  -- it is read as it is alone
+  -- a packet with a token is read as the same packet without a token
   pub wrapped_is : frame_at (wrapped token packet) ≡ (((only_element packet >>= packet_of packet) >>= λ f. Ok (framed_with (Some token) f)) >>= λ f. Ok f.frame)
   wrapped_is =
       let few = value_short in
@@ -401,7 +401,7 @@ module _ (token packet : List ℕ) (is : IsToken token) (small : length (wrapped
       ∙ ap (λ (r : Result PlainFramed PacketFault). r >>= λ f. Ok f.frame)
       (link_is value ∙ ap (link_from no_headers_yet) parts_are ∙ ap (λ (r : Result LinkSoFar PacketFault). r >>= λ s. link_from s (Ok (80, packet) ∷ [])) (token_taken token is))
 
--- what stands without a Nack is none
+-- octets that are not a Nack are not a Nack when they are sent back, with a token or without one
 pub back_is_no_nack : (token : Token) (packet : List ℕ) → IfSome token IsToken → length packet ≤ 8800 → is_nack packet ≡ false → is_nack (lp_text token None packet) ≡ false
 back_is_no_nack None packet is short other = other
 back_is_no_nack (Some token) packet is short other = ap is_nack_frame (wrapped_is token packet is (wrapped_short token packet is short)) ∙ by_element (only_element packet)
@@ -424,14 +424,14 @@ back_is_no_nack (Some token) packet is short other = ap is_nack_frame (wrapped_i
     by_element (Err f) = refl
     by_element (Ok e) = by_kind e (e.0 == 5) (e.0 == 6)
 
--- a Data is read as it is alone
+-- a Data that is sent back is read as the same Data
 pub back_reads : (token : Token) (octets whole : List ℕ) (d : PlainData) → IfSome token IsToken → length whole ≤ 8800 → frame_at octets ≡ Ok (AData whole d)
     → frame_at (lp_text token None whole) ≡ Ok (AData whole d)
 back_reads None octets whole d is short read = data_alone octets whole d read
 back_reads (Some token) octets whole d is short read =
     wrapped_is token whole is (wrapped_short token whole is short) ∙ ap (λ (r : Result PlainFrame PacketFault). (r >>= λ f. Ok (framed_with (Some token) f)) >>= λ f. Ok f.frame) (data_packet octets whole d read)
 
--- whether octets that are too long for a link are read
+-- octets that are read as a Data are not too long for a link
 never_long : (text whole : List ℕ) (d : PlainData) → frame_at text ≡ Ok (AData whole d) → length text ≤ 9000
 never_long text whole d read = by_long (nat_lt 9000 (length text)) refl
   where
@@ -439,7 +439,8 @@ never_long text whole d read = by_long (nat_lt 9000 (length text)) refl
     by_long false e = ltb-false 9000 (length text) e
     by_long true e = (let none = frame_is text ∙ ap (λ (b : Bool). framed text b (element_at text)) e in cc (none, read))
 
--- what goes back with a token and is read as a Data is that Data's octets, where it begins as one
+-- if a packet that begins as a Data is sent back, with a token or without one, and is read as a
+-- Data, then the packet is exactly the received octets of that Data
 pub back_holds : (token : Token) (packet whole : List ℕ) (d : PlainData) → IfSome token IsToken → begins 6 packet ≡ true → frame_at (lp_text token None packet) ≡ Ok (AData whole d)
     → packet ≡ whole
 back_holds None packet whole d is begun read = data_is_whole packet whole d begun read

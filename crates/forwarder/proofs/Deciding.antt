@@ -1,4 +1,4 @@
--- What is said where rules decided.
+-- The decision on an event's packet, if rules decide the packet.
 use Rattle.std.proofs.Common.{◌≡◌, ℕ, refl, List, Result, Ok, Err, sym, subst, inl}
 use Rattle.std.specs.Prelude.{IfOk, MatchResult, OnErr}
 use Rattle.hmac_keys.specs.KeyFile.{NamedKey}

@@ -1,4 +1,4 @@
--- What delivering a Data does.
+-- What the delivery of a Data does.
 use Rattle.std.proofs.Common.{◌≡◌, ◌≢◌, inl, inr, ℕ, ◌<◌, ◌≤◌, Bool, true, false, cond, not, eqb, ltb, List, [], ◌∷◌, length, refl, sym, ap, subst, ◌∙◌, arith}
 use Rattle.std.specs.Prelude.{None, Some, map, IsSome, is_some, IsTrue, All, Contains, filter, ◌||◌, ◌↔◌}
 use Rattle.std.specs.Ordering.{nat_cmp, is_eq}
@@ -37,7 +37,7 @@ pub all_bare : (P : ℕ × Token → Type 0) → ((f : ℕ) → P (f, None)) →
 all_bare P each [] = All-nil P
 all_bare P each (f ∷ faces) = All-cons P (f, None) (bare faces) (each f) (all_bare P each faces)
 
--- ---- who waits
+-- ---- which faces wait
 
 never : {A : Type 0} → false ≡ true → A
 never e = absurd cc
@@ -45,7 +45,7 @@ never e = absurd cc
 none_found : {A : Type 0} (m : InRecords) (face : ℕ) → entries m ≡ [] → IsSome (get m face) → A
 none_found m face none some = never (sym (ap is_some (get-entries m face ∙ ap (find nat_cmp face) none)) ∙ some)
 
--- an asker makes records alive
+-- records in which a face asks are alive
 pub asker_lives : (r : Records) (face : ℕ) → IsSome (get r.in_records face) → is_alive r ≡ true
 asker_lives r face some = by_entries (entries r.in_records) refl
   where
@@ -53,7 +53,7 @@ asker_lives r face some = by_entries (entries r.in_records) refl
     by_entries [] none = none_found r.in_records face none some
     by_entries (e ∷ es) is = lt-ltb 0 (len r.in_records) (omega (arith, len-entries r.in_records, ap (λ (l : List (ℕ × InRecord)). length l) is))
 
--- records that are alive have an asker
+-- in records that are alive, some face asks
 pub living_asker : (r : Records) → is_alive r ≡ true → (face : ℕ) × IsSome (get r.in_records face)
 living_asker r alive = by_entries (entries r.in_records) refl
   where
@@ -82,9 +82,9 @@ module _ (s : NodeState) (now : ℕ) (whole : List ℕ) (d : PlainData) (askers 
       none_has f [] few has = never has
       none_has f (g ∷ faces) few has = absurd (omega (arith, few))
 
-  -- ---- what goes out
+  -- ---- what is sent
 
-  -- the sends are to the faces that wait but for one, each with its token
+  -- the Data is sent to each waiting face except `face`, each time with that face's token
   pub sent_to_askers : (face : ℕ) → IsRising askers → (some : Askers) → faces_of some ≡ filter (λ f. not (eqb f face)) askers
       → All (λ a. IsTokenFor (records_at s.pending) d.name (sha256 whole) a.0 a.1) some → IsSentToAskers (seen_by s) face whole d (sent_to some whole)
   sent_to_askers face rising some are tokens = (

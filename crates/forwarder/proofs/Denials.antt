@@ -1,4 +1,4 @@
--- A denied event leaves no more than its moment.
+-- A denied event changes nothing but the time.
 use Rattle.std.proofs.Common.{◌≡◌, ℕ, Bool, true, false, List, [], ◌∷◌, refl, sym, ap, subst, ◌∙◌, Result, Ok, Err}
 use Rattle.std.specs.Prelude.{Option, Some, None, nat_le, length, not, ◌==◌, ◌&&◌, if◌then◌else◌}
 use Rattle.hmac_keys.specs.KeyFile.{AreApart}
@@ -34,7 +34,7 @@ use Rattle.forwarder.specs.Runs.{is_denied}
 use Rattle.forwarder.proofs.OneEffect.{one_said}
 use Rattle.forwarder.proofs.RunSteps.{seen_with}
 
--- ---- which answers deny
+-- ---- which answers are denials
 
 abbrev pub Mild : Answer → Type 0
 Mild answer = is_denied answer.verdict ≡ false
@@ -96,9 +96,9 @@ pub mild_closing : (b : Bool) → Mild (if b then passed [] else dropped NoFace)
 mild_closing true = refl
 mild_closing false = refl
 
--- ---- what is denied has no effect
+-- ---- a denied packet has no effect
 
--- where this is said, nothing changes
+-- this decision on the packet leaves the policy unchanged
 abbrev IsIdle : Policy → ℕ → PlainFrame → Decision → Type 0
 IsIdle p face packet said = after_decision p face packet said ≡ p
 
@@ -124,7 +124,7 @@ module _ (p : Policy) (records : PlainKey → Records) (full : Bool) (G : PlainK
   data_idle face whole d (decided.Denied rule reason) h = refl
   data_idle face whole d decided.NoRule h = refl
 
-  -- a packet that is decided is idle, whatever is said of it
+  -- each decision on the packet leaves the policy unchanged
   abbrev Idles : ℕ → Option PlainFrame → Type 0
   Idles face packet = (found : PlainFrame) (said : Decision) → packet ≡ Some found → IsDecidedAs p found said → IsIdle p face found said
 

@@ -1,4 +1,4 @@
--- The faces of effective next hops: each is the face of a next hop or a route.
+-- The faces of effective next hops: each is the face of a next hop or of a route.
 use Rattle.std.proofs.Common.{◌≡◌, ◌⊎◌, inl, inr, ℕ, zero, suc, ◌<◌, Bool, true, false, cond, List, [], ◌∷◌, ◌++◌, length, take, Option, None, Some, unwrap_or, refl, sym, ap, subst, arith, get_or}
 use Rattle.std.specs.Prelude.{IsSome, All, fold}
 use Rattle.std.proofs.lemmas.List.Elements.{All-head, All-tail, All-from_get_or}
@@ -15,7 +15,7 @@ use Rattle.pit_fib.specs.Fib.{Entry, LeadsTo, Routes, entry_at, no_entry}
 use Rattle.pit_fib.specs.Route.{is_child_inherit, route_cmp-total}
 use Rattle.pit_fib.specs.Tables.{ByFace}
 
--- ---- what stands in a map is found in it
+-- ---- an entry in the list of a map is found in the map
 
 module _ {K X : Type 0} {R : K → K → Ordering} (order : IsTotalOrder R) where
   here_or_later : (b : Bool) (x : X) (o : Option X) → IsSome o → IsSome (cond b (Some x) o)
@@ -28,7 +28,7 @@ module _ {K X : Type 0} {R : K → K → Ordering} (order : IsTotalOrder R) wher
   found_at (e ∷ es) (suc i) d lt =
       here_or_later (eq_by_cmp R (get_or es i d).0 e.0) e.1 (map.find R (get_or es i d).0 es) (found_at es i d (omega (arith, lt)))
 
-  -- what holds of each key that has a value holds of each entry
+  -- a property of each key that has a value is true of each entry
   pub all_entries : (P : K → Type 0) (m : FinMap R X) (d : K × X) → ((k : K) → IsSome (map.get m k) → P k) → All (λ e. P e.0) (map.entries m)
   all_entries P m d holds =
       All-from_get_or (λ (e : K × X). P e.0) (map.entries m) d
@@ -37,7 +37,7 @@ module _ {K X : Type 0} {R : K → K → Ordering} (order : IsTotalOrder R) wher
 -- ---- the faces of effective next hops
 
 module _ (routes : Routes) where
-  -- each face of these costs has a next hop or a route
+  -- each face in `costs` has a next hop or a route
   abbrev pub AllLead : ByFace → Type 0
   AllLead costs = (face : ℕ) → IsSome (map.get costs face) → LeadsTo routes face
 
@@ -91,7 +91,7 @@ module _ (routes : Routes) where
           | false ↦ all
         ])
 
-  -- the hops and the routes of an entry
+  -- each face in the next hops and the routes of one entry has a next hop or a route
   module _ (name : List Field) (e : Entry) (there : entry_at routes name ≡ e) where
     hops_lead : AllLead e.hops
     hops_lead face some = (name, inl (subst (λ (x : Entry). IsSome (map.get x.hops face)) (sym there) some))
@@ -140,6 +140,6 @@ module _ (routes : Routes) where
         | false ↦ rest
       ]
 
-  -- a face of these costs is that of a next hop or a route
+  -- each face in these costs is the face of a next hop or of a route
   pub longest_leads : (name : List Field) → AllLead (longest_costs routes name (length name))
   longest_leads name = longest_lead name (length name)

@@ -1,4 +1,4 @@
--- Each send of an answer is explained.
+-- Each send of an answer has an explanation.
 use Rattle.std.proofs.Common.{ap, ◌∙◌, ◌≡◌, ℕ, Bool, true, false, List, [], ◌∷◌, map, refl, sym, subst, Result, Ok, Err, inl, inr, ◌≤◌}
 use Rattle.std.specs.Prelude.{Option, Some, None, IsTrue, nat_le, length, not, ◌==◌, ◌&&◌, ◌||◌, if◌then◌else◌, IfSome}
 use Rattle.std.specs.List.{All}
@@ -45,7 +45,7 @@ use Rattle.forwarder.proofs.Origins.{AllFit, FitsLink, token_fits}
 use Rattle.forwarder.proofs.NackSteps.{all_entries}
 use Rattle.forwarder.proofs.Requests.{for_list}
 
--- the same octets to each of some faces
+-- the same octets, sent to each face of a list
 all_to_each : (P : Send → Type 0) (octets : List ℕ) (faces : List ℕ) → ((face : ℕ) → P (face, octets)) → All P (to_each faces octets)
 all_to_each P octets [] each = All-nil P
 all_to_each P octets (face ∷ faces) each = All-cons P (face, octets) (to_each faces octets) (each face) (all_to_each P octets faces each)
@@ -63,7 +63,7 @@ nack_explained : (seen : Seen) (event : PlainEvent) (face : ℕ) (token : Token)
     → IsExplained seen event (nacked_back face token reason interest)
 nack_explained seen event face token reason interest is short = inr (inr (nack_is_no_data token reason interest is short))
 
--- the Interest of an insert begins as one
+-- the Interest that an insert command sends begins with the type of an Interest
 fetch_begins : (want : Want) (nonce : List ℕ) → begins 5 (fetch_text want nonce) ≡ true
 fetch_begins want nonce = begins_interest _
 
@@ -117,7 +117,8 @@ module _ (seen : Seen) (face now : ℕ) (octets whole : List ℕ) (i : PlainInte
   command_explained is (decided.Denied rule reason) says = one_send (IsExplained seen event) _ (reply_explained is (decided.Denied rule reason) says)
   command_explained is decided.NoRule says = one_send (IsExplained seen event) _ (reply_explained is decided.NoRule says)
 
-  -- the answer to an Interest for a list, by whether its version is the present one
+  -- the answer to an Interest for a list, depending on whether the requested version is the current
+  -- one
   abbrev by_present : Token → ListAsked → Bool → Answer
   by_present t asked b =
       if b then segment_answer face t (segment_name asked.kind seen.policy.table_number asked.segment) (segment_at (dataset_text seen.policy asked.kind) asked.segment) else dropped NoSegment
@@ -175,7 +176,7 @@ module _ (seen : Seen) (face now : ℕ) (octets whole : List ℕ) (i : PlainInte
 
 -- ---- a Data, a Nack, and all events
 
--- each send to one of these, which stand in the list that is asked for
+-- a property of the send to each face in `askers` is a property of all these sends
 all_sent : (P : Send → Type 0) (T : ℕ × Token → Type 0) (whole : List ℕ) (askers : Askers) → All T askers
     → ((a : ℕ × Token) → IsTrue (has_face a.0 (faces_of askers)) → T a → P (sent_back a.0 a.1 whole)) → All P (sent_to askers whole)
 all_sent P T whole [] all each = All-nil P

@@ -1,5 +1,6 @@
--- An Interest is sent on: there is room for its asker and for the faces that it is sent to, what is
--- kept of it are the causes of its answer, and a Nack back has room in what is reserved.
+-- How an Interest is sent on: there is room for the records of the face that asks and of the faces
+-- that the Interest is sent to, the records change as the causes of the answer say, and a Nack that
+-- is sent back fits in the reserved room.
 use Rattle.std.proofs.Common.{◌^◌, ◌≡◌, ◌⊎◌, inl, inr, ℕ, zero, suc, ◌+◌, ◌<◌, ◌≤◌, Bool, true, false, cond, eqb, List, [], ◌∷◌, ◌++◌, length, map, take, leb, Some, refl, sym, ap, subst, ◌∙◌, arith, add-one}
 use Rattle.std.specs.Prelude.{slice_get, not, ◌&&◌, ◌||◌, ◌==◌, IfSome}
 use Rattle.std.specs.List.{AllByRecursion, list_any}
@@ -42,7 +43,7 @@ use Rattle.forwarder.proofs.Soundness.{has_numbers}
 
 -- ---- room for an open face
 
--- one that stands in a list above a number is above it
+-- a face is greater than `y` if it is in a list whose numbers are all greater than `y`
 pub member_above : (y x : ℕ) (faces : List ℕ) → AllByRecursion (λ m. y < m) faces → has_face x faces ≡ true → y < x
 member_above y x [] all has = absurd cc
 member_above y x (z ∷ faces) all has =
@@ -55,7 +56,7 @@ all_above : (y x : ℕ) (faces : List ℕ) → y < x → AllByRecursion (λ m. x
 all_above y x [] lt all = tt
 all_above y x (z ∷ faces) lt all = (omega (arith, lt, all.0), all_above y x faces lt all.1)
 
--- those above a list's first are among the later ones
+-- if each face of `some` is greater than `y` and is in `y ∷ faces`, then it is in `faces`
 in_rest : (y : ℕ) (some faces : List ℕ) → AllByRecursion (λ m. y < m) some → AllByRecursion (λ f. has_face f (y ∷ faces) ≡ true) some
     → AllByRecursion (λ f. has_face f faces ≡ true) some
 in_rest y [] faces above all = tt
@@ -64,7 +65,7 @@ in_rest y (x ∷ some) faces above all = (
   in_rest y some faces above.1 all.1,
 )
 
--- of two rising lists, one that has all of the other is no shorter
+-- of two rising lists, a list that contains each face of the other is at least as long as the other
 rising_within : (some faces : List ℕ) → IsRising some → IsRising faces → AllByRecursion (λ f. has_face f faces ≡ true) some → length some ≤ length faces
 rising_within [] faces rises rising all = omega arith
 rising_within (x ∷ some) [] rises rising all = absurd (never all.0)
@@ -94,7 +95,7 @@ module _ (faces : List FaceEntry) (few : length faces ≤ MAX_FACES) (rising : I
       one (inl has) = records f has
       one (inr is) = subst (λ (g : ℕ). is_open g faces ≡ true) (sym is) here
 
-  -- where whoever has a record is open
+  -- if each face with a record is open, there is room for a record of one more open face
   pub room_within : (face : ℕ) → is_open face faces ≡ true → HasRoomFor pending face
   room_within face here some rises all =
       let most = rising_within some (numbers faces) rises rising (each_open face some here all) in
@@ -103,12 +104,12 @@ module _ (faces : List FaceEntry) (few : length faces ≤ MAX_FACES) (rising : I
 pub room_for_open : (s : NodeState) (face : ℕ) → IsSound s → is_open face s.policy.faces ≡ true → HasRoomFor s.pending face
 room_for_open s face sound here = room_within s.policy.faces sound.few sound.rising s.pending sound.records face here
 
--- ---- one more sending
+-- ---- the Interest is sent to one more face
 
 settled_alive : (r : Records) → is_alive r ≡ true → is_alive (settled r) ≡ true
 settled_alive r alive = subst (λ (b : Bool). is_alive (cond b r no_records) ≡ true) (sym alive) alive
 
--- who asks still does
+-- records that are alive stay alive when the Interest is sent
 pub sent_alive : (key : PlainKey) (face : ℕ) (nonce : List ℕ) (now : ℕ) (k : PlainKey) (r : Records) → is_alive r ≡ true
     → is_alive (records_after (SentTo key face nonce now) k r) ≡ true
 sent_alive key face nonce now k r alive =
@@ -144,22 +145,22 @@ or_true : (b : Bool) → (b || true) ≡ true
 or_true true = refl
 or_true false = refl
 
--- a face at a place stands in the list
+-- a face at an index of a list is in the list
 pub has_at : (faces : List ℕ) (i face : ℕ) → slice_get faces i ≡ Some face → has_face face faces ≡ true
 has_at [] i face at = absurd cc
 has_at (f ∷ faces) zero face at = let is : f ≡ face = cc at in ap (λ (b : Bool). b || has_face face faces) (eq-eqb f face is)
 has_at (f ∷ faces) (suc i) face at = ap (λ (b : Bool). (f == face) || b) (has_at faces i face at) ∙ or_true (f == face)
 
--- ---- the asker
+-- ---- the face that asks
 
--- who arrives asks
+-- records are alive after an Interest arrives
 pub arrived_alive : (key : PlainKey) (face : ℕ) (ask : InRecord) (r : Records) → is_alive (records_after (Arrives key face ask) key r) ≡ true
 arrived_alive key face ask r =
     let asking : Records = record { in_records = fin.insert r.in_records face ask; out_records = r.out_records } in
     settled_alive (changed (Arrives key face ask) key r)
     (subst (λ (b : Bool). is_alive (cond b asking r) ≡ true) (sym (same_self key)) (alive_insert r.in_records r.out_records face ask))
 
--- a node stays sound where an open face arrives
+-- a node stays sound when an Interest arrives on an open face
 pub arrived_sound : (old new : NodeState) (key : PlainKey) (face : ℕ) (ask : InRecord) → IsSound old → is_open face old.policy.faces ≡ true
     → new.policy ≡ old.policy → Follows (Arrives key face ask) old.pending new.pending → IsSound new
 arrived_sound old new key face ask sound here same arrives = record {
@@ -216,7 +217,7 @@ module _ (s : NodeState) (sound : IsSound s) (face : ℕ) (i : PlainInterest) (f
         all_open some (λ g has. are g (ap (λ (b : Bool). (f == g) || b) has ∙ or_true (f == g))),
       )
 
-  -- none is the asker
+  -- the face that asks is not among the chosen faces
   pub asker_not_chosen : has_face face faces ≡ false
   asker_not_chosen =
       elim (has_face face faces) as (λ b. has_face face faces ≡ b → b ≡ false) [
@@ -245,7 +246,7 @@ sent_to_each : (key : PlainKey) (nonce : List ℕ) (now : ℕ) (faces octets : L
 sent_to_each key nonce now [] octets = refl
 sent_to_each key nonce now (f ∷ faces) octets = ap (λ (causes : List Cause). SentTo key f nonce now ∷ causes) (sent_to_each key nonce now faces octets)
 
--- an Interest in hand begins as one
+-- an Interest that was read begins with the type of an Interest
 begins_spelled : (whole : List ℕ) (i : PlainInterest) → ∥ IsInterest whole i ∥₁ → begins 5 whole ≡ true
 begins_spelled whole i spelled = by_octet (begins 5 whole) refl
   where
@@ -256,9 +257,9 @@ begins_spelled whole i spelled = by_octet (begins 5 whole) refl
     by_octet true is = refl
     by_octet false is = absurd (never is)
 
--- ---- the causes of what is sent on
+-- ---- the causes of an Interest that is sent on
 
--- an arrival, by values that are the same
+-- an arrival with an equal key and an equal deadline is the same cause
 pub arrives_as : {k key : PlainKey} (face : ℕ) (token : Token) (whole nonce : List ℕ) {d deadline : ℕ} (old new : Pending) → k ≡ key → d ≡ deadline
     → Follows (Arrives k face (record { interest = whole; nonce = nonce; deadline = d; token = token })) old new
     → Follows (Arrives key face (record { interest = whole; nonce = nonce; deadline = deadline; token = token })) old new
@@ -266,7 +267,7 @@ arrives_as {k} {key} face token whole nonce {d} {deadline} old new same until ar
     subst (λ (n : ℕ). Follows (Arrives key face (record { interest = whole; nonce = nonce; deadline = n; token = token })) old new) until
     (subst (λ (q : PlainKey). Follows (Arrives q face (record { interest = whole; nonce = nonce; deadline = d; token = token })) old new) same arrives)
 
--- an asker that nothing goes back to
+-- the causes of an Interest, if nothing is sent back to its face
 kept_causes : (now face : ℕ) (token : Token) (whole : List ℕ) (i : PlainInterest) (sends : List Send) → is_nacked sends ≡ false → is_answered face sends ≡ false
     → interest_causes now face token whole i sends
     ≡ Arrives (key_of i) face (in_record_for now token whole i) ∷ map (λ (sent : Send). SentTo (key_of i) sent.0 i.nonce now) sends
@@ -288,7 +289,7 @@ sent_on_causes now face token whole i faces old mid new spelled apart arrives se
     ∙ ap (λ (causes : List Cause). after_causes causes key (records_after arrived key (records_at old key))) (sym (sent_to_each (key_of i) i.nonce now faces octets))
     ∙ ap (λ (causes : List Cause). after_causes causes key (records_at old key)) (sym is)
 
--- a table that takes an Interest is not full for it
+-- the PIT is not full for a key that has records, or if fewer than 4,096 keys have records
 pub takes_key : (alive : Bool) (n : ℕ) → ((alive ≡ false) × (4096 ≤ n) → ⊥) → (not alive && leb 4096 n) ≡ false
 takes_key true n never = refl
 takes_key false n never =
@@ -297,9 +298,9 @@ takes_key false n never =
       | false ↦ λ e. refl
     ] refl
 
--- ---- a Nack back
+-- ---- a Nack that is sent back
 
--- a Nack around an Interest in hand is one
+-- a Nack around an Interest that was read is read as a Nack
 nack_spelled : (token : Token) (reason : ℕ) (whole : List ℕ) (i : PlainInterest) → IfSome token IsToken → IfSome token AreOctets → ∥ IsInterest whole i ∥₁ → reason < 2 ^ 64
     → is_nack (lp_text token (Some reason) whole) ≡ true
 nack_spelled token reason whole i is octets spelled fits = by_nack (is_nack (lp_text token (Some reason) whole)) refl
@@ -311,7 +312,7 @@ nack_spelled token reason whole i is octets spelled fits = by_nack (is_nack (lp_
     by_nack true e = refl
     by_nack false e = absurd (never e)
 
--- a Nack back ends that its face waits
+-- when a Nack is sent back, the face no longer waits under that key
 pub nack_causes_are : (now face : ℕ) (token : Token) (reason : ℕ) (whole : List ℕ) (i : PlainInterest) (old new : Pending) → IfSome token IsToken → IfSome token AreOctets
     → ∥ IsInterest whole i ∥₁ → reason < 2 ^ 64 → Follows (Withdrawn (key_of i) face) old new
     → FollowAll (interest_causes now face token whole i (nacked_back face token reason whole ∷ [])) old new

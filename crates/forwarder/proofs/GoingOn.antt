@@ -1,4 +1,4 @@
--- What a step of a node leaves, and how runs go on by it.
+-- What a step leaves unchanged, and how a run is extended by a step.
 use Rattle.std.proofs.Common.{◌≡◌, ℕ, List, [], length, drop, Result, Ok, Err, refl, sym, ap, subst, ◌∙◌}
 use Rattle.std.specs.Prelude.{IfOk, OnErr}
 use Rattle.std.proofs.lemmas.List.{append-nil, drop_at}
@@ -17,7 +17,7 @@ use Rattle.forwarder.proofs.Handled.{StepsBy}
 use Rattle.forwarder.proofs.Soundness.{step_sound}
 use Rattle.forwarder.proofs.Standing.{step_goes_on}
 
--- what was refused memory is as sound as before
+-- a node is sound after a step that ran out of memory, if it was sound before
 unharmed_sound : (old new : NodeState) → IsSound old → ChangesCacheOnly old new → IsSound new
 unharmed_sound old new sound unharmed =
     subst (λ (p : Policy). IsSound (record { policy = p; pending = new.pending; cache = new.cache })) (sym unharmed.policy)
@@ -51,7 +51,7 @@ pub stays_quiet : (old new : NodeState) (before : List Send) (event : PlainEvent
     → IsStep old event (record { verdict = verdict_of verdict; sends = [] }) new → StepsBy old new before before event verdict
 stays_quiet old new before event verdict step = ([], sym (append-nil before), step)
 
--- time passes, and nothing else happens
+-- only time passes
 pub tick_step : (old new : NodeState) (now : ℕ) → IsLater old now new → IsStep old (Tick now) (passed []) new
 tick_step old new now later = record {
   waiting = new.pending;
@@ -64,7 +64,7 @@ tick_step old new now later = record {
   cache = later.cache;
 }
 
--- rules and keys come, and nothing else happens
+-- only rules and keys are replaced
 pub rules_step : (old later new : NodeState) (rules : List PlainRule) (keys : List NamedKey) (now : ℕ) → IsLater old now later
     → new.policy ≡ with_rules later.policy rules keys → new.pending ≡ later.pending → new.cache ≡ later.cache
     → IsStep old (NewRules rules keys now) (passed []) new

@@ -1,4 +1,4 @@
--- A packet that is answered once its moment has come is one step.
+-- The answer to a packet, once time has advanced to the packet's moment, is one step of the node.
 use Rattle.std.proofs.Common.{◌≡◌, ℕ, Bool, true, false, cond, List, [], ◌++◌, Option, None, Some, Result, Ok, Err, inl, inr, refl, sym, ap, subst, ◌∙◌}
 use Rattle.std.specs.Prelude.{◌⊎◌, IfOk}
 use Rattle.std.proofs.lemmas.List.{append-nil}
@@ -41,7 +41,7 @@ module _ (old was new : NodeState) (face now : ℕ) (octets : List ℕ) (answer 
   abbrev p : Policy
   p = at_moment old.policy now
 
-  -- the packet, on an open face
+  -- a packet that was read from octets that came on an open face
   module _ (is_here : is_open face old.policy.faces ≡ true) (packet : PlainFrame) (read : frame_at octets ≡ Ok packet)
       (answered : IsAnswered was face (token_at octets) packet answer new) where
     replies_read : RepliesToPacket (seen_in p was.pending old.cache) face (token_at octets) (frame_at octets) answer
@@ -84,7 +84,7 @@ module _ (old was new : NodeState) (face now : ℕ) (octets : List ℕ) (answer 
       cache = cache_read;
     }
 
--- what needs no memory, where it is a packet on an open face
+-- what `NeedsNoMemory` says if the octets are a packet that came on an open face
 pub needs_read : (p : Policy) (face : ℕ) (read : Result PlainFrame PacketFault) (packet : PlainFrame) → is_open face p.faces ≡ true → read ≡ Ok packet
     → (is_open face p.faces ≡ false) ⊎ NeedsNoMemory p face read → NeedsNoMemory p face (Ok packet)
 needs_read p face read packet here is (inl closed) = cc (here, closed)
@@ -151,9 +151,9 @@ module _ (old new : NodeState) (face now : ℕ) (octets : List ℕ) (later : IsL
       cache = same_cache Idle;
     }
 
--- ---- what a handler does, as one step
+-- ---- the work of a handler is one step
 
--- a step whose sends stand after the earlier ones
+-- a step whose sends are appended to the earlier sends
 abbrev pub StepsBy : NodeState → NodeState → List Send → List Send → PlainEvent → code.Verdict → Type 0
 StepsBy old new before after event verdict =
     (sends : List Send) × (after ≡ before ++ sends) × IsStep old event (record { verdict = verdict_of verdict; sends = sends }) new

@@ -1,4 +1,4 @@
--- What equal histories decide.
+-- What two runs with the same events have in common.
 use Rattle.std.proofs.Common.{◌≡◌, ℕ, Bool, true, false, List, refl, sym, ap, subst, ◌∙◌, Result, Ok, Err}
 use Rattle.std.specs.Prelude.{Option, nat_le}
 use Rattle.std.specs.FinMap as map
@@ -110,7 +110,7 @@ module _ (p : Policy) (r s : PlainKey → Records) (f g : Bool) (G H : PlainKey 
   one_verdict (Tick now) is h k = absurd is
   one_verdict (NewRules rules keys now) is h k = absurd is
 
--- what the second run shows, at the policy of the first
+-- what the policy of the second run shows, stated for the policy of the first run
 module _ (first : Policy) (past other : Run) (event : PlainEvent) (a b : Answer) (apart : KeysAreApart first past) (same : HaveOneHistory past other)
     (h : MayReply first past event a) (k : MayReply first other event b) where
   was_one : k.was ≡ h.was

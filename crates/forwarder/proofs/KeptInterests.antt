@@ -43,11 +43,11 @@ use Rattle.forwarder.proofs.Requests.{for_list}
 
 -- ---- causes
 
--- the causes by which an Interest is sent to faces
+-- one cause for each send, which says that the Interest was sent to that face
 abbrev sendings : PlainKey → List ℕ → ℕ → List Send → List Cause
 sendings key nonce now sends = map (λ (sent : Send). SentTo key sent.0 nonce now) sends
 
--- what is kept arrives, and is sent on
+-- the causes of an Interest that is kept: it arrives, and is sent to each face
 kept_causes : (now : ℕ) (event : PlainEvent) (answer : Answer) (key : PlainKey) (face : ℕ) (ask : InRecord) (kept : IsKept now event answer key face ask)
     → causes_of now event answer ≡ Arrives key face ask ∷ sendings (key_of kept.interest) kept.interest.nonce now answer.sends
 kept_causes now event answer key face ask kept =
@@ -64,7 +64,7 @@ kept_causes now event answer key face ask kept =
     ∙ ap (λ (a : InRecord). Arrives key face a ∷ rest) (sym kept.is_record)
 
 module _ (now : ℕ) (event : PlainEvent) (answer : Answer) (key : PlainKey) (face : ℕ) (ask : InRecord) where
-  -- where this cause is that of the record, the Interest is kept
+  -- if `cause` is the arrival of this in-record, the Interest is kept
   abbrev IsKeptBy : Cause → Type 0
   IsKeptBy cause = cause ≡ Arrives key face ask → IsKept now event answer key face ask
 
@@ -174,7 +174,7 @@ kept_waits past event answer key face ask kept =
     ∙ after_sendings (key_of i) i.nonce now answer.sends (Arrives key face ask ∷ earlier) key face
     ∙ both (same_key key key) (eqb face face) (Some ask) (in_record_of_causes earlier key face) (same_self key) (eq-eqb face face refl)
 
--- a cause leaves a record that was there, or it is that of the record
+-- after one cause, an in-record was either there before, or comes from that cause
 one_cause : (cause : Cause) (key : PlainKey) (face : ℕ) (ask : InRecord) (was : Option InRecord) → in_record_after cause key face was ≡ Some ask → (cause ≡ Arrives key face ask) ⊎ (was ≡ Some ask)
 one_cause (Expires now) key face ask None e = inr e
 one_cause (Expires now) key face ask (Some a) e = by_time (ltb now a.deadline) e
@@ -231,7 +231,7 @@ module _ (key : PlainKey) (face : ℕ) (ask : InRecord) (Q : Type 0) where
       by_rest (inl q) = inl q
       by_rest (inr e) = by_cause (one_cause cause key face ask (in_record_of_causes earlier key face) e)
 
--- who waits when a moment has come waited before
+-- an in-record that is left when time has advanced to a moment was there before
 pub waited_before : (past : Run) (now : ℕ) (key : PlainKey) (face : ℕ) (ask : InRecord) → fin.get (records_after (Expires now) key (records_of past key)).in_records face ≡ Some ask
     → fin.get (records_of past key).in_records face ≡ Some ask
 waited_before past now key face ask e =
@@ -258,7 +258,7 @@ kept_or_waited past event answer key face ask e =
     by_causes (inl kept) = inl kept
     by_causes (inr e) = by_expiry (one_cause (Expires (max (now_of past) (moment event))) key face ask (in_record_of_causes (past_causes past) key face) e)
 
--- ---- what a passed Interest is answered with
+-- ---- how a passed Interest is answered
 
 module _ (seen : Seen) (event : PlainEvent) (answer : Answer) (face : ℕ) (whole : List ℕ) (i : PlainInterest) (is : IsPassed event answer face whole i) where
   abbrev token : Token
@@ -273,7 +273,8 @@ module _ (seen : Seen) (event : PlainEvent) (answer : Answer) (face : ℕ) (whol
   hand : (packet : List ℕ) → answer ≡ passed (sent_back face token packet ∷ []) → IsAtHand seen face whole i packet → IsSentOnOrBack answer.sends
   hand packet e h = inr (inr (packet, ap (λ (a : Answer). a.sends) e, h))
 
-  -- the answer to an Interest for a list, by whether its version is the present one
+  -- the answer to an Interest for a list, depending on whether the requested version is the current
+  -- one
   abbrev by_present : Token → ListAsked → Bool → Answer
   by_present t asked b =
       cond b (segment_answer face t (segment_name asked.kind seen.policy.table_number asked.segment) (segment_at (dataset_text seen.policy asked.kind) asked.segment)) (dropped NoSegment)
@@ -295,7 +296,7 @@ module _ (seen : Seen) (event : PlainEvent) (answer : Answer) (face : ℕ) (whol
   on_command (decided.Denied rule reason) e = never _ (ap (λ (a : Answer). a.verdict) e) (λ f. cc f)
   on_command decided.NoRule e = never _ (ap (λ (a : Answer). a.verdict) e) (λ f. cc f)
 
-  -- the asker is not chosen
+  -- the face that asks is not chosen
   not_asker : (faces : List ℕ) → choice_for seen.policy i.name (moments (seen.records (key_of i)).out_records) (ask_from seen.policy face i) ≡ choices.Send faces → has_face face faces ≡ false
   not_asker faces chosen = by_face (has_face face faces) refl
     where

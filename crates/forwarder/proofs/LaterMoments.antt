@@ -1,5 +1,6 @@
--- The moment of a policy is the greatest one so far, its rules and keys are the last that came, and
--- its prefix stays. Two moments in a row are as the later one.
+-- The time of a policy is the greatest moment of the run, its rules and keys are those of the last
+-- event that brought new ones, and its prefix never changes. Two moments in a row have the effect
+-- of the later one.
 use Rattle.std.proofs.Common.{◌≡◌, ◌⊎◌, inl, inr, ℕ, ◌+◌, ◌-◌, ◌^◌, ◌≤◌, Bool, true, false, cond, arith, List, [], ◌∷◌, ◌++◌, refl, sym, ap, subst, ◌∙◌, Result, Ok, Err}
 use Rattle.std.proofs.lemmas.Bool.Decides.{nat_tests}
 use Rattle.std.specs.Prelude.{Option, Some, None, max, min, nat_lt, if◌then◌else◌}
@@ -33,7 +34,7 @@ use Rattle.forwarder.specs.Effects.{IsEffect, IsAfter, after_packet, after_decis
 use Rattle.forwarder.specs.Runs.{Run, Start, Then, AreLastRules, BringsKeysApart, BringsNoRules, HasNoNewRules, IsPolicyOf, KeysAreApart, events_back, now_of}
 use Rattle.forwarder.proofs.LeftRoutes.{due_twice, left_twice}
 
--- what an event's effect leaves as it was once its moment has come
+-- the parts of a policy that only a moment, or new rules and keys, can change
 abbrev Lasting : Type 0
 Lasting = ℕ × (List PlainRule × (List NamedKey × List Field))
 
@@ -87,7 +88,8 @@ keys_after (FaceDown face now) keys = keys
 keys_after (Tick now) keys = keys
 keys_after (NewRules rules new now) keys = new
 
--- the same once an event has had its effect: it may have brought rules and keys
+-- these parts once an event has had its effect, with the rules and keys that the event may have
+-- brought
 abbrev lasting_after : PlainEvent → Policy → Lasting
 lasting_after event p = (p.now, (rules_after event p.rules, (keys_after event p.keys, p.repo)))
 
@@ -119,7 +121,7 @@ policy_now first Start p zero h = ap (λ (q : Policy). q.now) h ∙ zero
 policy_now first (Then before event answer) p zero h =
     after_now h.0 p event h.2 ∙ ap (λ (n : ℕ). max n (moment event)) (policy_now first before h.0 zero h.1)
 
--- ---- the keys in force are apart
+-- ---- the keys in force have different names
 
 apart_after : (event : PlainEvent) (keys : List NamedKey) → AreApart keys → BringsKeysApart event → AreApart (keys_after event keys)
 apart_after (Packet face now octets) keys apart brings = apart
@@ -138,7 +140,7 @@ books_apart first Start apart brings = apart
 books_apart first (Then before event answer) apart brings =
     (books_apart first before apart (All-tail BringsKeysApart event (events_back before) brings), All-head BringsKeysApart event (events_back before) brings)
 
--- ---- the rules and keys in force are the last that came
+-- ---- the rules and keys in force are those of the last event that brought new ones
 
 brings_none : (event : PlainEvent) (rules : List PlainRule) (keys : List NamedKey) → BringsNoRules event
     → (rules_after event rules ≡ rules) × (keys_after event keys ≡ keys)
@@ -148,7 +150,7 @@ brings_none (FaceDown face now) rules keys none = (refl, refl)
 brings_none (Tick now) rules keys none = (refl, refl)
 brings_none (NewRules new others now) rules keys none = absurd none
 
--- an event that brings none leaves those in force
+-- an event that brings no rules and keys leaves those in force unchanged
 none_come : (was p : Policy) (event : PlainEvent) → BringsNoRules event → IsAfter was event p → (p.rules ≡ was.rules) × (p.keys ≡ was.keys)
 none_come was p event none h =
     let same = brings_none event was.rules was.keys none in (after_rules was p event h ∙ same.0, after_keys was p event h ∙ same.1)
@@ -238,7 +240,8 @@ counted_on : (number first second both : ℕ) → first + second ≡ both
     → min (min (number + first) (2 ^ 64 - 1) + second) (2 ^ 64 - 1) ≡ min (number + both) (2 ^ 64 - 1)
 counted_on number first second both sum = omega arith
 
--- what is due at two moments goes and is counted as at the later one
+-- what is due at the first or the second of two moments expires, and is counted, as at the later
+-- moment
 pub moments_in_a_row : (p : Policy) (m n : ℕ) → at_moment (at_moment p m) n ≡ at_moment p (max m n)
 moments_in_a_row p m n =
     let first = max p.now m in

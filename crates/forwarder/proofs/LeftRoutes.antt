@@ -1,4 +1,4 @@
--- What is left of routes at a moment, and how many of them end by it.
+-- The routes that remain at a moment, and how many routes expire by that moment.
 use Rattle.std.proofs.Common.{◌≡◌, ℕ, suc, ◌+◌, ◌≤◌, true, false, cond, List, [], ◌∷◌, length, refl, sym, ap, subst, ◌∙◌, Option, None, Some, arith}
 use Rattle.std.proofs.lemmas.Bool.{le-leb, leb-true}
 use Rattle.std.specs.Prelude.{option_and_then}
@@ -41,7 +41,8 @@ registered_twice m n le g =
     ∙ still_due m n le (map.get g k)
     ∙ sym (get-revise route_cmp-antisymmetric (until_due n) g k))
 
--- what is vacant goes at the second moment where it did not at the first
+-- an entry that is vacant, and removed at the first moment, would be removed at the second moment
+-- as well
 vacant_goes : (n : ℕ) (e : Entry) → option_and_then (entry_left_at n) (unless_vacant e) ≡ entry_left_at n e
 vacant_goes n e =
     elim (is_vacant e) as (λ b. is_vacant e ≡ b → option_and_then (entry_left_at n) (cond b None (Some e)) ≡ entry_left_at n e) [
@@ -60,7 +61,7 @@ entry_twice m n le (Some e) =
     vacant_goes n (record e { registered = revise (until_due m) e.registered })
     ∙ ap (λ (g : Registered). unless_vacant (record e { registered = g })) (registered_twice m n le e.registered)
 
--- what is left at the later of two moments does not depend on the earlier
+-- the routes that remain at the later of two moments do not depend on the earlier moment
 pub left_twice : (m n : ℕ) (routes : Routes) → m ≤ n → left_at n (left_at m routes) ≡ left_at n routes
 left_twice m n routes le =
     same_map name_cmp-total name_cmp-antisymmetric _ _ (λ (k : List Field).
@@ -69,7 +70,7 @@ left_twice m n routes le =
     ∙ entry_twice m n le (map.get routes k)
     ∙ sym (get-revise name_cmp-antisymmetric (entry_left_at n) routes k))
 
--- ---- how many are left
+-- ---- how many routes remain
 
 module _ {K X : Type 0} (change : X → Option X) where
   fewer_revised : (es : List (K × X)) → length (revised change es) ≤ length es
@@ -98,13 +99,14 @@ entry_falls now e =
     let few = len-revise (until_due now) e.registered in
     elim (is_vacant left) as (λ b. size_of (λ (x : Entry). map.len x.registered) (cond b None (Some left)) ≤ map.len e.registered) [ true ↦ omega arith | false ↦ few ]
 
--- no routes come by a moment
+-- passing time adds no routes
 pub count-left : (now : ℕ) (routes : Routes) → route_count (left_at now routes) ≤ route_count routes
 count-left now routes =
     subst (λ es. total (λ (e : Entry). map.len e.registered) es ≤ route_count routes) (sym (entries-revise name_cmp (entry_left_at now) routes))
     (total_revised (entry_left_at now) (λ e. map.len e.registered) (entry_falls now) (map.entries routes))
 
--- each route ends once: those that end by the earlier of two moments, and then by the later
+-- each route expires once: the routes due by the moment `m` and the other routes due by the later
+-- moment `n` are together all that are due by `n`
 pub due_twice : (m n : ℕ) (routes : Routes) → m ≤ n → due_count m routes + due_count n (left_at m routes) ≡ due_count n routes
 due_twice m n routes le =
     let twice = ap route_count (left_twice m n routes le) in

@@ -1,4 +1,4 @@
--- How long a link packet is at most.
+-- The greatest length of a link packet.
 use Rattle.std.proofs.Common.{◌≡◌, ℕ, ◌+◌, ◌≤◌, List, [], ◌∷◌, length, Option, None, Some, arith}
 use Rattle.std.specs.Prelude.{IfSome}
 use Rattle.std.proofs.lemmas.List.{length-append}
@@ -26,7 +26,7 @@ nack_fits reason =
     let short : length inner ≤ 12 = omega (arith, more (801, shortest_nni reason) [], eight, length-element 801 (shortest_nni reason), length-spelling_three 801 (omega arith), length-spelling_one (length (shortest_nni reason)) (omega (arith, eight))) in
     omega (arith, short, length-element 800 inner, length-spelling_three 800 (omega arith), length-spelling_one (length inner) (omega (arith, short)))
 
--- a packet with a token, a Nack or both is longer by its headers at most
+-- a link packet is at most `LINK_EXTRA` octets longer than the packet in it
 pub link_is_short : (token : Option (List ℕ)) (nack : Option ℕ) (packet : List ℕ) → IfSome token IsToken → length (lp_text token nack packet) ≤ length packet + LINK_EXTRA
 link_is_short None None packet is = omega arith
 link_is_short None (Some reason) packet is =

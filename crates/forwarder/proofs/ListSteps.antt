@@ -26,7 +26,8 @@ use Rattle.forwarder.proofs.ReplyLengths.{segment_at_len, segment_is_short, segm
 use Rattle.forwarder.proofs.Requests.{for_list}
 use Rattle.forwarder.proofs.Uses.{list_use}
 
--- what goes back to the asker and is no Nack leaves the records as they are
+-- a packet that is sent back to the face that asked, and is not a Nack, leaves the records
+-- unchanged
 pub back_causes : (now face : ℕ) (token : Token) (whole : List ℕ) (i : PlainInterest) (packet : List ℕ) → IfSome token IsToken → length packet ≤ 8800 → is_nack packet ≡ false
     → interest_causes now face token whole i (sent_back face token packet ∷ []) ≡ []
 back_causes now face token whole i packet is short plain =
@@ -86,7 +87,8 @@ list_answered old was moment face token whole i asked tok later is =
       cache = list_cached was face token whole i asked (for_list was.policy face i asked request);
     }
 
--- what a list is made of before its moment comes is what the policy then has
+-- A list is made before time advances to its moment, from the time, routes, strategies and version
+-- that the policy has afterwards.
 pub then_listed : (old p : Policy) (moment now due number : ℕ) → p ≡ at_moment old moment → now ≡ max old.now moment → due ≡ due_count now old.routes
     → number ≡ min (old.table_number + due) (2 ^ 64 - 1)
     → (p.now ≡ now) × (p.routes ≡ left_at now old.routes) × (p.choices ≡ old.choices) × (p.table_number ≡ number)
@@ -98,7 +100,7 @@ then_listed old p moment now due number is at ends counted = (
       ∙ sym (counted ∙ ap (λ (n : ℕ). min (old.table_number + n) (2 ^ 64 - 1)) ends),
 )
 
--- what was given for a list is the answer
+-- the answer that was made for a list is the answer to the Interest
 pub list_handled : (old was : NodeState) (moment face : ℕ) (token : Token) (whole : List ℕ) (i : PlainInterest) (asked : ListAsked) (answer : Answer) → IfSome token IsToken → IsLater old moment was
     → request_of old.policy face i ≡ ForList asked → list_answer was.policy face token asked ≡ answer → IsAnswered was face token (AnInterest whole i) answer was
 list_handled old was moment face token whole i asked answer tok later is given =

@@ -1,4 +1,4 @@
--- Lists with a filter, and the list of open faces.
+-- Lists under a filter, and the list of open faces.
 use Rattle.std.proofs.Common.{◌≡◌, ℕ, suc, ◌+◌, ◌<◌, ◌≤◌, ◌⊎◌, Bool, true, false, cond, not, eqb, ltb, List, [], ◌∷◌, ◌++◌, length, Option, Some, None, refl, sym, ap, subst, ◌∙◌, arith, inl, inr}
 use Rattle.std.specs.Prelude.{filter, ◌||◌}
 use Rattle.std.specs.List.{list_any, AllByRecursion}
@@ -8,12 +8,12 @@ use Rattle.pit_fib.specs.FaceSet.{IsRising}
 use Rattle.forwarder.specs.OpenFaces.{FaceEntry, is_open, find_scope, numbers}
 use Rattle.forwarder.specs.OpenFaces.{with_face, without_entry}
 
--- is one of the list
+-- `x` is an element of the list
 abbrev pub IsIn : {A : Type 0} → A → List A → Type 0
 IsIn x [] = ⊥
 IsIn x (y ∷ ys) = (y ≡ x) ⊎ IsIn x ys
 
--- what passes a test, with the list it came from
+-- an element of a filtered list is in the list, and passes the test
 pub IsIn-filter_from : {A : Type 0} (p : A → Bool) (x : A) (xs : List A) → IsIn x (filter p xs) → IsIn x xs × (p x ≡ true)
 IsIn-filter_from p x [] h = absurd h
 IsIn-filter_from p x (y ∷ ys) h =
@@ -98,7 +98,8 @@ any_to p x (y ∷ ys) h e =
 none_is_not_some : {A : Type 0} (x : A) → None ≡ Some x → ⊥
 none_is_not_some x e = cc
 
--- a number that is not found is not the first one's
+-- if a face is not found, the first entry is not the face's entry, and the face is not found in the
+-- other entries
 not_first : (f : ℕ) (entry : FaceEntry) (faces : List FaceEntry) → find_scope f (entry ∷ faces) ≡ None → (entry.0 ≡ f → ⊥) × (find_scope f faces ≡ None)
 not_first f entry faces e =
     elim (eqb entry.0 f) as (λ b. eqb entry.0 f ≡ b → cond b (Some entry.1) (find_scope f faces) ≡ None → (entry.0 ≡ f → ⊥) × (find_scope f faces ≡ None)) [
@@ -242,7 +243,7 @@ not_open_none f faces closed =
       | Some s ↦ λ e. absurd (false_is_not_true (sym closed ∙ is_open_some f faces s e))
     ] refl
 
--- a face that was not open, at its place
+-- the faces rise after a face that was not open is added
 pub rising_with : (f : ℕ) (s : Scope) (old new : List FaceEntry) → is_open f old ≡ false → new ≡ with_face f s old → IsRising (numbers old) → IsRising (numbers new)
 rising_with f s old new closed is rising = rw is (IsRising-with_face f s old (not_open_none f old closed) rising)
 

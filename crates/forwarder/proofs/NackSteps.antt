@@ -1,5 +1,5 @@
--- A Nack is answered: the room for the Nacks to all askers, those Nacks in rising order of their
--- faces, and what is kept of the Nack that came.
+-- How a Nack is answered: there is room for the Nacks to all faces that ask, these Nacks go out in
+-- rising order of the faces, and the reason of the received Nack is recorded.
 use Rattle.std.proofs.Common.{◌≡◌, ◌⊎◌, inl, inr, ℕ, ◌+◌, ◌<◌, ◌≤◌, Bool, true, false, cond, eqb, ltb, List, [], ◌∷◌, ◌++◌, length, drop, Option, None, Some, refl, sym, ap, subst, ◌∙◌, arith}
 use lib.Dec.{T}
 use Rattle.std.specs.Prelude.{is_some, option_and_then, map, slice_get, unwrap_or, ◌||◌}
@@ -48,17 +48,17 @@ no e = absurd cc
 
 -- ---- one face after the other
 
--- the Nack to a face, if it asks
+-- the Nack to a face, if the face asks
 abbrev pub nack_for : ℕ → ℕ → Option InRecord → List Send
 nack_for reason face None = []
 nack_for reason face (Some ask) = nacked_back face ask.token reason ask.interest ∷ []
 
--- the Nacks to those of the faces that ask
+-- the Nacks to those faces of the list that ask
 abbrev pub nacks_by : ℕ → (ℕ → Option InRecord) → List ℕ → List Send
 nacks_by reason ask_of [] = []
 nacks_by reason ask_of (face ∷ faces) = nack_for reason face (ask_of face) ++ nacks_by reason ask_of faces
 
--- what an Interest that was found says of its asker
+-- the room for the Nack to a face that asks with an Interest of these octets
 pub asker_room : (o : Option InRecord) (octets : List ℕ) → Some octets ≡ option_map (λ (ask : InRecord). ask.interest) o → room_for o ≡ length octets + LINK_EXTRA
 asker_room None octets e = absurd cc
 asker_room (Some ask) octets e = let same : octets ≡ ask.interest = cc e in ap (λ (l : List ℕ). length l + LINK_EXTRA) (sym same)
@@ -74,12 +74,12 @@ pub no_asker : (o : Option InRecord) → None ≡ option_map (λ (ask : InRecord
 no_asker None e = refl
 no_asker (Some ask) e = absurd cc
 
--- the room for the faces from a place on
+-- the room for the Nacks to the faces from index `i` on
 pub room_here : (asks : InRecords) (faces : List ℕ) (i face : ℕ) → slice_get faces i ≡ Some face
     → nack_room asks (drop i faces) ≡ room_for (get asks face) + nack_room asks (drop (i + 1) faces)
 room_here asks faces i face at = ap (nack_room asks) (drop_here faces i face at) ∙ sum_by-cons (λ f. room_for (get asks f)) face (drop (i + 1) faces)
 
--- ---- the Nacks, and the list of all who ask
+-- ---- the Nacks to the faces, compared with the list of all faces that ask
 
 above : (k : ℕ) (es : List (ℕ × InRecord)) → T (below_all nat_cmp k es) → AllByRecursion (λ e. k < e.0) es
 above k [] h = tt
@@ -114,7 +114,8 @@ module _ (reason : ℕ) where
   same_nacks g h (f ∷ faces) all =
       ap (λ o. nack_for reason f o ++ nacks_by reason g faces) all.0 ∙ ap (λ l. nack_for reason f (h f) ++ l) (same_nacks g h faces all.1)
 
-  -- faces above the first entry find the same in the later ones
+  -- the lookup of a face greater than the first key `k` gives the same result without the first
+  -- entry
   found_later : (k : ℕ) (ask : InRecord) (es : List (ℕ × InRecord)) (faces : List ℕ) → AllByRecursion (λ f. k < f) faces
       → AllByRecursion (λ f. find nat_cmp f ((k, ask) ∷ es) ≡ find nat_cmp f es) faces
   found_later k ask es [] all = tt
@@ -163,7 +164,8 @@ module _ (reason : ℕ) where
         kept true o some = refl
         kept false o some = some
 
-    -- where each asker is one of the faces, which rise, these are the Nacks to all askers
+    -- if each face that asks is in `faces`, and these rise, then these Nacks are the Nacks to all
+    -- faces that ask
     pub nacks_to_all : IsRising faces → nacks_by reason (get asks) faces ≡ nacks_to asks reason
     nacks_to_all rising =
         same_nacks (get asks) (λ f. find nat_cmp f (entries asks)) faces (each faces)
@@ -174,7 +176,7 @@ module _ (reason : ℕ) where
         each [] = tt
         each (f ∷ some) = (get-entries asks f, each some)
 
--- ---- what is true of each who asks
+-- ---- a property that each in-record has
 
 module _ (P : InRecord → Type 0) where
   abbrev OfEntry : ℕ × InRecord → Type 0
@@ -196,9 +198,9 @@ module _ (P : InRecord → Type 0) where
   pub all_entries : (asks : InRecords) → ((f : ℕ) (r : InRecord) → get asks f ≡ Some r → P r) → EachOf OfEntry (entries asks)
   all_entries asks are = all_found (entries asks) (entries_sorted asks) (λ f r found. are f r (get-entries asks f ∙ found))
 
--- ---- who asks still, where time has passed
+-- ---- the faces that still ask after time has passed
 
--- those who ask did, by the same Interests
+-- each in-record of `some` is in `all`, unchanged
 abbrev IsPart : InRecords → InRecords → Type 0
 IsPart some all = (f : ℕ) → (get some f ≡ None) ⊎ (get some f ≡ get all f)
 
@@ -239,7 +241,7 @@ module _ (now : ℕ) (old new : Pending) (expires : Follows (Expires now) old ne
   pub expired_room : (faces : List ℕ) → nack_room (in_records_at new key) faces ≤ nack_room (in_records_at old key) faces
   expired_room = part_room (in_records_at new key) (in_records_at old key) expired_part
 
--- where no Interest has a token, none of those left has one
+-- if no in-record has a token before records expire, none has a token afterwards
 pub expired_bare : (now : ℕ) (old new : Pending) → Follows (Expires now) old new → HaveNoTokens old → HaveNoTokens new
 expired_bare now old new expires bare key face r found =
     elim (expired_part now old new expires key face) [
@@ -267,7 +269,7 @@ module _ (pending : Pending) (living : HoldsTheLiving pending) (key : PlainKey) 
         | false ↦ λ dead. sym (none_where_dead dead)
       ] refl
 
-  -- where a Nack is answered, some face asks
+  -- if a Nack is sent back to some face, the key has a face that asks
   pub awaited_alive : (face : ℕ) (nonce : List ℕ) (reason least : ℕ) → nacked_answer (records_at pending key) face nonce reason ≡ All least → is_alive (records_at pending key) ≡ true
   awaited_alive face nonce reason least answer =
       elim (is_alive (records_at pending key)) as (λ b. is_alive (records_at pending key) ≡ b → b ≡ true) [
@@ -281,20 +283,20 @@ module _ (pending : Pending) (living : HoldsTheLiving pending) (key : PlainKey) 
       never : NoPending ≡ All least → ⊥
       never e = cc e
 
--- ---- a Nack that came
+-- ---- a Nack that was received
 
 module _ (key : PlainKey) (face : ℕ) (nonce : List ℕ) (reason : ℕ) where
   abbrev came : Cause
   came = NackCame key face nonce reason
 
-  -- who asks still does
+  -- a received Nack leaves the in-records unchanged
   pub nacked_asks : (r : Records) → is_alive r ≡ true → (records_after came key r).in_records ≡ r.in_records
   nacked_asks r alive =
       let same : (changed came key r).in_records ≡ r.in_records =
       elim (same_key key key) as (λ b. (cond b (record { in_records = r.in_records; out_records = with_reason face nonce reason r.out_records (get r.out_records face) }) r).in_records ≡ r.in_records) [ true ↦ refl | false ↦ refl ] in
       ap (λ b. (cond b (changed came key r) no_records).in_records) (ap (λ (m : InRecords). ltb 0 (fin.len m)) same ∙ alive) ∙ same
 
-  -- a Nonce that was not sent changes nothing
+  -- a Nack with a Nonce that was not sent to this face changes nothing
   not_kept : (asked : OutRecords) → was_sent (get asked face) nonce ≡ false → with_reason face nonce reason asked (get asked face) ≡ asked
   not_kept asked other = go (get asked face) refl other
     where
@@ -328,7 +330,7 @@ some_nacks asks reason alive = go (entries asks) (sym (ap (ltb 0) (len-entries a
     go [] some = no some
     go (e ∷ es) some = refl
 
--- where the Nack was sent on, the records of its key are removed
+-- if Nacks are sent back to the faces that ask, the records of the key are removed
 pub removed_causes : (face reason least : ℕ) (i : PlainInterest) (old mid new : Pending) → is_alive (records_at old (key_of i)) ≡ true
     → Follows (NackCame (key_of i) face i.nonce reason) old mid → Follows (Removed (key_of i)) mid new
     → FollowAll (nack_causes face reason i (nacks_to (in_records_at old (key_of i)) least)) old new

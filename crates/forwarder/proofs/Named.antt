@@ -1,4 +1,4 @@
--- A denial names its rule.
+-- A denial names the rule that denies.
 use Rattle.std.proofs.Common.{◌≡◌, ℕ, Bool, true, false, List, [], refl, ap, subst, Result, Ok, Err, inl, inr}
 use Rattle.std.specs.Prelude.{◌⊎◌, Option, Some, None, not, if◌then◌else◌}
 use Rattle.ndn_packets.specs.FrameReading.{frame_at, token_at}
@@ -27,7 +27,7 @@ use Rattle.forwarder.specs.Runs.{is_denied}
 use Rattle.forwarder.proofs.RunSteps.{seen_with}
 use Rattle.forwarder.proofs.Denials.{Mild, mild_closing, mild_data, mild_is, mild_list, mild_nack, mild_opening}
 
--- what a verdict tells of what was said
+-- the verdict states this decision
 abbrev Tells : Decision → Verdict → Type 0
 Tells (decided.Allowed n) v = is_denied v ≡ false
 Tells (decided.Denied n reason) v = (kind : Kind) × (v ≡ Denied kind n.0 reason)
@@ -37,7 +37,7 @@ module _ (p : Policy) (records : PlainKey → Records) (full : Bool) (G : PlainK
   abbrev seen : Seen
   seen = seen_with p records full G
 
-  -- no denial, or it tells what was said of this packet
+  -- the answer is not a denial, or it states the decision on this packet
   abbrev ToldOf : ℕ → Token → Option PlainFrame → Type 0
   ToldOf face token asked = Mild answer ⊎ ((packet : PlainFrame) × (said : Decision) × (asked ≡ Some packet) × IsDecidedAs p packet said × Tells said answer.verdict × (Mild answer ⊎ IsDenial p face token packet said answer))
 

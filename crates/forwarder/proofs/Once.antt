@@ -1,4 +1,4 @@
--- What a guard holds, and that a command is allowed once.
+-- What a replay guard holds, and that a command is allowed only once.
 use Rattle.std.proofs.Common.{◌≡◌, ℕ, ◌<◌, Bool, true, false, List, [], ◌∷◌, refl, sym, ap, subst, ◌∙◌, Result, Ok, Err, inl, inr, arith}
 use Rattle.std.specs.Prelude.{◌⊎◌, Option, Some, None, IsSome, IfSome, if◌then◌else◌}
 use Rattle.std.specs.FinMap as map
@@ -32,7 +32,7 @@ use Rattle.forwarder.proofs.Histories.{one_history, one_policy}
 use Rattle.forwarder.proofs.LaterMoments.{policy_apart}
 use Rattle.forwarder.proofs.OneEffect.{one_said}
 
--- ---- what an event does to the guard: nothing, or it records an allowed command
+-- ---- an event leaves the guard unchanged, or records an allowed command
 
 guard_if : (b : Bool) (new p : Policy) → new.guard ≡ p.guard → (if b then new else p).guard ≡ p.guard
 guard_if true new p e = e
@@ -56,7 +56,7 @@ request_guard p face i ForTables = tables_guard p face (command_at i.name)
 request_guard p face i ForRepository = refl
 request_guard p face i ForData = refl
 
--- the packet is an allowed command, which is recorded
+-- the packet is an allowed command, and the new guard has it recorded
 pub record Records (p : Policy) (packet : PlainFrame) (new : Table) : Type 0 where
   pub whole : List ℕ
   pub interest : PlainInterest
@@ -83,7 +83,7 @@ packet_guard p face (AData whole d) = inl refl
 packet_guard p face (ANack reason whole i) = inl refl
 packet_guard p face Idle = inl refl
 
--- the packet was decided, and this is its effect
+-- what a decision on the packet does to the guard
 said_guard : (p : Policy) (face : ℕ) (packet : PlainFrame) (said : Decision) → ((after_decision p face packet said).guard ≡ p.guard)
     ⊎ (Records p packet (after_decision p face packet said).guard × ((rule : RuleNo) × (said ≡ decided.Allowed rule)))
 said_guard p face packet (decided.Allowed rule) = by_packet (packet_guard p face packet)
@@ -95,31 +95,32 @@ said_guard p face packet (decided.Allowed rule) = by_packet (packet_guard p face
 said_guard p face packet (decided.Denied rule reason) = inl refl
 said_guard p face packet decided.NoRule = inl refl
 
--- ---- the table of a guard
+-- ---- the table of a replay guard
 
--- what is fresh by the table is newer than this command of its signer
+-- in this table, each later command of the signer of `r` is newer than `r`
 abbrev HasSeen : Table → Recorded → Type 0
 HasSeen table r =
     (time : ℕ) (number : Option ℕ) → IsLater (map.get table r.signer) time number → (r.time < time) × NumberRises r.number number
 
--- what one more recorded command adds
+-- a command that is later in a table with one more recorded command is later in the old table, and
+-- newer than the added command
 added : (table : Table) (r : Recorded) (signer : Signer) (time : ℕ) (number : Option ℕ) → IsLater (map.get (with_recorded table r) signer) time number
     → IsLater (map.get table signer) time number × IsNewer signer time number r
 added table r signer time number h =
     let got = get-insert signer_cmp-total table r.signer (raised (map.get table r.signer) r.time r.number) signer in
     (one_more (map.get table) r signer time number (eq_by_cmp signer_cmp signer r.signer) refl).0 (subst (λ (o : Option Latest). IsLater o time number) got h)
 
--- what was seen stays seen
+-- a command that the table has seen stays seen when another is recorded
 seen_stays : (table : Table) (r s : Recorded) → HasSeen table r → HasSeen (with_recorded table s) r
 seen_stays table r s h time number k = h time number (added table s r.signer time number k).0
 
--- what is recorded is seen
+-- a command that is recorded in the table is seen there
 seen_now : (table : Table) (r : Recorded) → HasSeen (with_recorded table r) r
 seen_now table r time number k = (added table r r.signer time number k).1 refl
 
 -- ---- runs
 
--- the guard after an event is that before it, or an allowed command was recorded
+-- the guard is unchanged by an event, or an allowed command was recorded
 abbrev GuardAfter : Policy → PlainEvent → Policy → Type 0
 GuardAfter was event new =
     (new.guard ≡ was.guard)
@@ -157,7 +158,7 @@ seen_after_event : (was new : Policy) (event : PlainEvent) (r : Recorded) → Gu
 seen_after_event was new event r (inl e) h = subst (λ (t : Table). HasSeen t r) (sym e) h
 seen_after_event was new event r (inr (whole, i, s, allows, is, e)) h = subst (λ (t : Table). HasSeen t r) (sym e) (seen_stays was.guard r s h)
 
--- an allowed command is seen after its event
+-- after its event, an allowed command is seen by the guard
 seen_when_allowed : (was new : Policy) (event : PlainEvent) (whole : List ℕ) (i : PlainInterest) (r : Recorded) → AreApart was.keys → Allows was event (AnInterest whole i) → recorded_of i ≡ Some r
     → IsAfter was event new → HasSeen new.guard r
 seen_when_allowed was new event whole i r apart allows is h =
@@ -181,7 +182,7 @@ seen_in_run first (Then before event answer) p whole i r apart h is (inr (was, w
     let keys = policy_apart first before h.0 apart.0 h.1 in
     seen_when_allowed h.0 p event whole i r keys (subst (λ (q : Policy). Allows q event (AnInterest whole i)) one allows) is h.2
 
--- a command that says when it was signed can be recorded
+-- an allowed command with a SignatureTime can be recorded
 recorded_there : (i : PlainInterest) (s : PlainSignature) (time : Option ℕ) → i.signature ≡ Some s → s.info.time ≡ time → IsSome time → (r : Recorded) × (recorded_of i ≡ Some r)
 recorded_there i s None e t some = cc some
 recorded_there i s (Some time) e t some = (
@@ -190,7 +191,7 @@ recorded_there i s (Some time) e t some = (
       ∙ ap (λ (o : Option ℕ). recorded_with s.info o) t,
 )
 
--- where a later command of the signer is allowed, it is newer
+-- of two allowed commands of a signer, the later command is newer than the earlier one
 pub newer : (first was : Policy) (run : Run) (event : PlainEvent) (whole other : List ℕ) (i j : PlainInterest) (r s : Recorded) → KeysAreApart first run → AllowedIn first run (AnInterest whole i)
     → IsPolicyOf first run was → Allows was event (AnInterest other j) → recorded_of i ≡ Some r → recorded_of j ≡ Some s → r.signer ≡ s.signer → (r.time < s.time) × NumberRises r.number s.number
 newer first was run event whole other i j r s apart allowed h allows is also same =
@@ -209,14 +210,14 @@ never_again first was run event whole other i j apart allowed h allows same =
     let time : r.0.time ≡ s.0.time = ap (λ (x : Recorded). x.time) one in
     let low = rises.0 in omega (arith, low, time)
 
--- a command of the run that was allowed, as it is recorded
+-- an allowed command of the run, as the guard records it
 abbrev pub IsRecordIn : Policy → Run → Recorded → Type 0
 IsRecordIn first run r = (whole : List ℕ) × (i : PlainInterest) × AllowedIn first run (AnInterest whole i) × (recorded_of i ≡ Some r)
 
 longer_record : (first : Policy) (before : Run) (event : PlainEvent) (answer : Answer) (r : Recorded) → IsRecordIn first before r → IsRecordIn first (Then before event answer) r
 longer_record first before event answer r (whole, i, a, is) = (whole, i, inl a, is)
 
--- a guard is the table of allowed commands of the run
+-- a guard that was empty at first is the table of allowed commands of the run
 pub guard_is_of_allowed : (first p : Policy) (run : Run) → first.guard ≡ map.empty → IsPolicyOf first run p
     → (records : List Recorded) × (p.guard ≡ table_of records) × All (IsRecordIn first run) records
 guard_is_of_allowed first p Start none h = ([], ap (λ (q : Policy). q.guard) h ∙ none, All-nil (IsRecordIn first Start))
@@ -234,7 +235,7 @@ guard_is_of_allowed first p (Then before event answer) none (was, w, after) =
           (All-weaker (IsRecordIn first before) (IsRecordIn first (Then before event answer)) (longer_record first before event answer) records all),
     )
 
--- newer than each allowed command of the signer
+-- `r` is newer than each allowed command of its signer
 abbrev IsNewest : Policy → Run → Recorded → Type 0
 IsNewest first run r = (whole : List ℕ) (i : PlainInterest) (s : Recorded) → AllowedIn first run (AnInterest whole i) → recorded_of i ≡ Some s → s.signer ≡ r.signer
     → (s.time < r.time) × NumberRises s.number r.number
@@ -247,7 +248,8 @@ newer_than_all first run r newest (s ∷ records) all =
       newer_than_all first run r newest records (All-tail (IsRecordIn first run) s records all),
     )
 
--- what is near to now and newer than each allowed command of its signer is fresh
+-- a command whose time is near the time of the event, and that is newer than each allowed command
+-- of its signer, is fresh
 pub newest_is_fresh : (first was : Policy) (run : Run) (now : ℕ) (i : PlainInterest) (r : Recorded) → first.guard ≡ map.empty → IsPolicyOf first run was → recorded_of i ≡ Some r
     → AreNear r.time (at_moment was now).now → IsNewest first run r → IsFreshCommand (at_moment was now) i
 newest_is_fresh first was run now i r none h is near newest =

@@ -1,4 +1,4 @@
--- What follows from events alone is a function of them.
+-- The policy after an event is a function of the policy before it and of the event.
 use Rattle.std.proofs.Common.{◌≡◌, sym, ap, ◌∙◌, inl, inr}
 use Rattle.std.specs.Prelude.{Option, Some, None}
 use Rattle.hmac_keys.specs.KeyFile.{AreApart}

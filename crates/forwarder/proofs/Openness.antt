@@ -37,12 +37,12 @@ length_filter p (x ∷ xs) =
       | false ↦ omega (arith, length_filter p xs)
     ]
 
--- ---- one face gone
+-- ---- the faces without one face
 
 abbrev pub but_for : ℕ → List ℕ → List ℕ
 but_for f xs = filter (λ g. not (eqb g f)) xs
 
--- every number is below
+-- every face of the list is less than `f`
 abbrev AllBelow : ℕ → List ℕ → Type 0
 AllBelow f xs = AllByRecursion (λ g. g < f) xs
 
@@ -105,7 +105,7 @@ more_here f (y ∷ ys) (suc i) x e =
 one_more : (i : ℕ) → suc i ≡ i + 1
 one_more i = omega arith
 
--- a loop over the faces keeps this one
+-- the loop over the faces keeps a face other than `f`
 pub kept_here : (f : ℕ) (xs : List ℕ) (i x : ℕ) (rest new : List ℕ) → IsRising xs → slice_get xs i ≡ Some x → i < MAX_FACES → rest ≡ but_for f (take i xs) → eqb x f ≡ false → new ≡ (adding x rest).1 → new ≡ but_for f (take (i + 1) xs)
 kept_here f xs i x rest new rising at lt was apart is =
     let few : length (but_for f (take i xs)) < MAX_FACES = omega (arith, length_filter (λ g. not (eqb g f)) (take i xs), length_here xs i, lt) in
@@ -113,13 +113,13 @@ kept_here f xs i x rest new rising at lt was apart is =
     ∙ ap (λ b. but_for f (take i xs) ++ cond (not b) (x ∷ []) []) (sym apart) ∙ sym (more_here f xs i x at)
     ∙ ap (λ m. but_for f (take m xs)) (one_more i)
 
--- or leaves it out
+-- the loop over the faces leaves out the face `f`
 pub left_out : (f : ℕ) (xs : List ℕ) (i x : ℕ) (rest : List ℕ) → slice_get xs i ≡ Some x → rest ≡ but_for f (take i xs) → eqb x f ≡ true → rest ≡ but_for f (take (i + 1) xs)
 left_out f xs i x rest at was same =
     was ∙ sym (append-nil (but_for f (take i xs))) ∙ ap (λ b. but_for f (take i xs) ++ cond (not b) (x ∷ []) []) (sym same) ∙ sym (more_here f xs i x at)
     ∙ ap (λ m. but_for f (take m xs)) (one_more i)
 
--- ---- what the entries show
+-- ---- the entries that the two lists of numbers show
 
 pub numbers_of_entries : (all local : List ℕ) → numbers (entries_of all local) ≡ all
 numbers_of_entries [] local = refl
@@ -172,7 +172,7 @@ has-with_face g f (x ∷ xs) =
     swapped false true c = refl
     swapped false false c = refl
 
--- the first is not the face, and the others do not have it
+-- if `f` is not in the list, it is not the first face, and is not among the others
 absent_parts : (f x : ℕ) (xs : List ℕ) → has_face f (x ∷ xs) ≡ false → (eqb x f ≡ false) × (has_face f xs ≡ false)
 absent_parts f x xs e = both (eqb x f) (has_face f xs) e
   where
@@ -180,7 +180,7 @@ absent_parts f x xs e = both (eqb x f) (has_face f xs) e
     both true b e = absurd cc
     both false b e = (refl, e)
 
--- the scopes of other faces stay
+-- each face other than `f` is in both lists or in neither
 abbrev SameElsewhere : ℕ → List ℕ → List ℕ → Type 0
 SameElsewhere f old new = (g : ℕ) → eqb g f ≡ false → has_face g new ≡ has_face g old
 
@@ -200,7 +200,7 @@ entries_with f scope (x ∷ xs) old new out same is =
       | false ↦ ap (λ b. (x, cond b Local Far) ∷ entries_of (numbers_of.with_face f xs) new) (same x h.0) ∙ ap (λ l. (x, scope_in old x) ∷ l) (entries_with f scope xs old new h.1 same is)
     ]
 
--- faces that pass a test, with one more that does not, or does
+-- a face that is added to a list appears in the filtered list only if it passes the test
 filter-with_out : (p : ℕ → Bool) (f : ℕ) (xs : List ℕ) → p f ≡ false → filter p (numbers_of.with_face f xs) ≡ filter p xs
 filter-with_out p f [] e = ap (λ b. cond b (f ∷ []) []) e
 filter-with_out p f (x ∷ xs) e =
@@ -262,14 +262,14 @@ module _ (f : ℕ) (all local : List ℕ) (are : AreOpen all local) (out : has_f
   pub few_local : length all < MAX_FACES → length local < MAX_FACES
   few_local lt = omega (arith, ap length are, length_filter (λ g. has_face g local) all, lt)
 
-  -- a Far one
+  -- opening a face with the scope Far
   pub far_opens : AreOpen (numbers_of.with_face f all) local
   far_opens = are ∙ sym (filter-with_out (λ g. has_face g local) f all not_local)
 
   pub far_entries : entries_of (numbers_of.with_face f all) local ≡ with_face f Far (entries_of all local)
   far_entries = entries_with f Far all local local out (λ g e. refl) (ap (λ b. cond b Local Far) not_local)
 
-  -- a Local one
+  -- opening a face with the scope Local
   same_elsewhere : SameElsewhere f local (numbers_of.with_face f local)
   same_elsewhere g e = has-with_face g f local ∙ ap (λ b. b || has_face g local) (apart g e)
     where
@@ -289,7 +289,7 @@ module _ (f : ℕ) (all local : List ℕ) (are : AreOpen all local) (out : has_f
   pub local_entries : entries_of (numbers_of.with_face f all) (numbers_of.with_face f local) ≡ with_face f Local (entries_of all local)
   local_entries = entries_with f Local all local (numbers_of.with_face f local) out same_elsewhere (ap (λ b. cond b Local Far) is_local_now)
 
--- a face that is absent can be added while there are fewer than 64
+-- a face that is not in the list can be added if the list has fewer than 64 faces
 pub added_new : (f : ℕ) (xs : List ℕ) → has_face f xs ≡ false → length xs < MAX_FACES → (adding f xs).1 ≡ numbers_of.with_face f xs
 added_new f xs out lt = rw (out, lt-leb MAX_FACES (length xs) lt) refl
 
@@ -344,7 +344,7 @@ closed_entries f (x ∷ xs) local =
           ∙ ap (λ l. (x, scope_in local x) ∷ l) (closed_entries f xs local)
     ] refl
 
--- ---- what the calls do
+-- ---- what opening and closing do to the entries
 
 module _ (f : ℕ) (entries : List FaceEntry) (all local new : List ℕ) (shown : entries_of all local ≡ entries) (are : AreOpen all local) where
   pub closed_shown : (new_local : List ℕ) → new ≡ but_for f all → new_local ≡ but_for f local → entries_of new new_local ≡ without_entry f entries

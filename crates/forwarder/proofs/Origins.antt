@@ -1,4 +1,5 @@
--- Each in-record of a run is an Interest that came in it, with the token of its link packet.
+-- Each in-record of a run is from an Interest that came in the run, with the token of its link
+-- packet.
 use Rattle.std.proofs.Common.{◌≡◌, ℕ, ◌≤◌, List, length, sym, ap, subst, ◌∙◌, inl, inr}
 use Rattle.std.specs.Prelude.{IfSome, None, Some, max}
 use Rattle.std.specs.FinMap as map
@@ -16,7 +17,7 @@ use Rattle.forwarder.specs.Runs.{Run, Start, Then, IsWaiting, now_of, records_of
 use Rattle.forwarder.specs.Verdict.{Answer}
 use Rattle.forwarder.proofs.KeptInterests.{kept_or_waited, waited_before}
 
--- its octets fit a packet, and its token is one
+-- the Interest fits in a packet, and the token is valid
 pub record FitsLink (r : InRecord) : Type 0 where
   pub short : length r.interest ≤ 8800
   pub is_token : IfSome r.token IsToken
@@ -38,7 +39,7 @@ kept_fits now event answer key face r kept =
           (token_fits passed.octets (token_in event) (sym (ap token_in passed.brings)));
     }
 
--- those of a run
+-- the in-records of a run
 pub run_fits : (past : Run) → AllFit (records_of past)
 run_fits Start key face r is = (let none : map.get (records_of Start key).in_records face ≡ None = get-empty nat_cmp face in cc (none, is))
 run_fits (Then past event answer) key face r is =
@@ -47,7 +48,7 @@ run_fits (Then past event answer) key face r is =
       | inr was ↦ run_fits past key face r was
     ]
 
--- and those that wait when a moment has come
+-- the in-records that are still pending when time has advanced to a moment
 pub waiting_fits : (past : Run) (now : ℕ) (waiting : Pending) → IsWaiting past now waiting → AllFit (records_at waiting)
 waiting_fits past now waiting is key face r has =
     run_fits past key face r (waited_before past now key face r (sym (ap (λ (rs : Records). map.get rs.in_records face) (is.records key)) ∙ has))

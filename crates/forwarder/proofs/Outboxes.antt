@@ -1,4 +1,4 @@
--- Sends in an outbox, and as text.
+-- The sends of an outbox, and the octets that they refer to.
 use Rattle.std.proofs.Common.{◌≡◌, ℕ, zero, suc, ◌+◌, add-one, ◌-◌, ◌<◌, ◌≤◌, List, [], ◌∷◌, ◌++◌, length, map, take, drop, refl, sym, ap, ◌∙◌, arith, append_assoc, length-append, Result, Ok, Err}
 use Rattle.std.specs.Prelude.{Option, MatchOption, true, Some, None, slice_get, slice_range, OnOk, sum_by}
 use Rattle.std.proofs.lemmas.List.Sums.{sum_by-append, sum_by-cons}
@@ -14,13 +14,13 @@ slice_get-there [] i lt h = omega arith
 slice_get-there (y ∷ ys) zero lt h = cc h
 slice_get-there (y ∷ ys) (suc i) lt h = slice_get-there ys i (omega arith) h
 
--- a range of octets stays where more octets come after them
+-- a range of octets is unchanged when more octets are appended
 slice_range-more : (octets more : List ℕ) (i j : ℕ) → i ≤ j → j ≤ length octets → slice_range (octets ++ more) i j ≡ slice_range octets i j
 slice_range-more octets more i j low high =
     let within : j - i ≤ length (drop i octets) = simp length-drop (omega arith) in
     ap (take (j - i)) (drop-append-le i octets more (omega arith)) ∙ take-append-le (j - i) (drop i octets) more within
 
--- the range of the last octets
+-- the range of the octets that were appended last
 slice_range-last : (octets more : List ℕ) → slice_range (octets ++ more) (length octets) (length (octets ++ more)) ≡ more
 slice_range-last octets more =
     let all : length more ≤ length (octets ++ more) - length octets = omega (arith, length-append octets more) in
@@ -40,7 +40,7 @@ sends_of-placed octets more (f ∷ faces) =
     let one : send_of (octets ++ more) (placed (length octets) (length (octets ++ more)) f) ≡ (f, more) = ap (λ (t : List ℕ). let pair : Send = (f, t) in pair) (slice_range-last octets more) in
     let rest = sends_of-placed octets more faces in cc (one, rest)
 
--- what an outbox holds after octets were added for some faces
+-- what an outbox holds after octets were appended and sent to some faces
 sends_of-added : (octets more : List ℕ) (sends : List Sent) (faces : List ℕ) → AreWithin octets sends
     → sends_of (octets ++ more) (sends ++ map (placed (length octets) (length (octets ++ more))) faces) ≡ sends_of octets sends ++ map {A = ℕ} {B = Send} (λ f. (f, more)) faces
 sends_of-added octets more sends faces h =
@@ -67,7 +67,7 @@ AreWithin-added octets more sends faces h =
     AreWithin-append (octets ++ more) sends _ (AreWithin-more octets more sends h)
     (AreWithin-placed (octets ++ more) (length octets) (length (octets ++ more)) faces (omega (arith, length-append octets more)) (omega arith))
 
--- for some face, the sends of octets are as long as the octets
+-- if there is a face, the sends of these octets are together at least as long as the octets
 sum_by-placed : (start end : ℕ) (faces : List ℕ) → 0 < length faces → end - start ≤ sum_by size_of (map (placed start end) faces)
 sum_by-placed start end [] some = absurd (omega arith)
 sum_by-placed start end (f ∷ faces) some =
@@ -80,7 +80,7 @@ no_more-added octets more sends faces h some =
     let sum = sum_by-append size_of sends (map (placed (length octets) (length (octets ++ more))) faces) in
     omega (arith, h, added, sum, length-append octets more)
 
--- the same, for what code computed
+-- the octets of an outbox after a send, stated for the values that the code computed
 octets_after : (octets more all : List ℕ) (sends after : List Sent) (faces : List ℕ) (start end : ℕ)
     → start ≡ length octets → end ≡ length all → all ≡ octets ++ more → after ≡ sends ++ map (placed start end) faces
     → AreOctetsOf octets sends → 0 < length faces → AreOctetsOf all after
@@ -94,7 +94,7 @@ sends_after : (octets more all : List ℕ) (sends after : List Sent) (faces : Li
     → AreWithin octets sends → sends_of all after ≡ sends_of octets sends ++ map {A = ℕ} {B = Send} (λ f. (f, more)) faces
 sends_after octets more all sends after faces start end s e a n h = rw (n, s, e, a) (sends_of-added octets more sends faces h)
 
--- where the places were kept, and the places of one send or more came after them
+-- the octets of an outbox, where the earlier sends were kept and the sends to `faces` follow them
 pub octets_placed : {octets all : List ℕ} (more : List ℕ) (faces : List ℕ) {sends kept after : List Sent} {start end : ℕ}
     → start ≡ length octets → end ≡ length all → all ≡ octets ++ more → kept ≡ sends → after ≡ kept ++ map (placed start end) faces
     → AreOctetsOf octets sends → 0 < length faces → AreOctetsOf all after
@@ -108,7 +108,7 @@ sends_placed {octets} {all} more faces {sends} {kept} {after} {start} {end} s e 
     sends_after octets more all sends after faces start end s e a (n ∙ ap (λ (old : List Sent). old ++ map (placed start end) faces) k) h.within
     ∙ ap (λ (old : List Send). old ++ to_each faces more) view
 
--- the places of one more send
+-- the sends to one more face
 pub map-take_next : {X : Type 0} (f : ℕ → X) (xs : List ℕ) (i : ℕ) (x : ℕ) → slice_get xs i ≡ Some x → map f (take (suc i) xs) ≡ map f (take i xs) ++ f x ∷ []
 map-take_next f [] i x h = cc h
 map-take_next f (y ∷ ys) zero x h = let same : y ≡ x = cc h in ap (λ (z : ℕ). f z ∷ []) same
@@ -126,7 +126,7 @@ pub ok_done : {E P : Type 0} (r : Result (Unit {0}) E) → is_ok r ≡ true → 
 ok_done (Ok u) e p = p
 ok_done (Err e) h p = cc h
 
--- what was written had no fault
+-- if the packet was written, nothing refused it
 pub no_refusal : (P : Type 0) {E : Type 0} (refusal : Option E) (r : Result (Unit {0}) E) → is_ok r ≡ true → MatchOption refusal P (λ fault. r ≡ Err fault) → refusal ≡ None
 no_refusal P None r done h = refl
 no_refusal P (Some fault) (Ok u) done h = cc h

@@ -1,4 +1,5 @@
--- Commands are answered once their moment has come: they are carried out, or refused.
+-- How commands are answered once time has advanced to their moment: by carrying them out, or by a
+-- refusal.
 use Rattle.std.proofs.Common.{◌≡◌, ℕ, Bool, true, List, [], ◌∷◌, ◌++◌, refl, sym, ap, subst, ◌∙◌}
 use Rattle.std.specs.Prelude.{codes, max}
 use Rattle.ndn_packets.specs.Packet.{PlainInterest, AnInterest}
@@ -31,7 +32,7 @@ use Rattle.forwarder.specs.State.{IsLater, policy_of, state_of}
 use Rattle.forwarder.proofs.Answered.{unharmed}
 use Rattle.forwarder.proofs.Uses.{commanded_use}
 
--- what is said of a command at this moment
+-- the decision on a command at this moment is `said`
 abbrev pub SaysAt : Policy → ℕ → List ℕ → PlainInterest → Decision → Type 0
 SaysAt old now whole i said =
     (p : Policy) → p.rules ≡ old.rules → p.keys ≡ old.keys → p.guard ≡ old.guard → p.now ≡ max old.now now → IsDecidedAs p (AnInterest whole i) said
@@ -42,30 +43,30 @@ pub said_as : (old : Policy) (now moment : ℕ) (whole : List ℕ) (i : PlainInt
 said_as old now moment whole i given said at is says =
     λ p rules keys guard then. subst (λ (d : Decision). IsDecidedAs p (AnInterest whole i) d) is (says p rules keys guard (then ∙ sym at))
 
--- it is so once the moment has come
+-- the decision on a command is the same once time has advanced to its moment
 said_then : (old was : NodeState) (now : ℕ) (whole : List ℕ) (i : PlainInterest) (said : Decision) → IsLater old now was
     → SaysAt old.policy now whole i said → IsDecidedAs was.policy (AnInterest whole i) said
 said_then old was now whole i said later says =
     says was.policy (ap (λ (p : Policy). p.rules) later.policy) (ap (λ (p : Policy). p.keys) later.policy)
     (ap (λ (p : Policy). p.guard) later.policy) (ap (λ (p : Policy). p.now) later.policy)
 
--- a command that is not on the tables is one to the repository
+-- a command that is not on the tables is a command to the repository
 pub other_command : (r : NamedRequest) → (r ≡ named.ForTables → ⊥) → is_command (request_named r) ≡ true → request_named r ≡ ForRepository
 other_command (named.ForList asked) other e = absurd cc
 other_command named.ForTables other e = absurd (other refl)
 other_command named.ForRepository other e = refl
 other_command named.ForData other e = absurd cc
 
--- a node whose guard is as before is as before
+-- a node stays the same if its guard is unchanged
 pub with_guard : (n : NodeState) (guard : Table) → guard ≡ n.policy.guard → record n { policy = record n.policy { guard = guard } } ≡ n
 with_guard n guard g = λ j. record n { policy = record n.policy { guard = g j } }
 
--- a node that is as before is unharmed
+-- if the node and the sends are unchanged, at most the cache changed
 pub kept_unharmed : (old new : NodeState) (before after : List Send) → (new ≡ old) × (after ≡ before) → ChangesCacheOnly old new × (after ≡ before)
 kept_unharmed old new before after (same, sent) =
     (unharmed old new (ap (λ (n : NodeState). n.policy) same) (ap (λ (n : NodeState). n.pending) same) (ap (λ (n : NodeState). n.cache) same), sent)
 
--- the request is the same by then
+-- the request of an Interest is the same once time has advanced to its moment
 request_then : (old was : NodeState) (now face : ℕ) (i : PlainInterest) (request : Request) → IsLater old now was
     → request_of old.policy face i ≡ request → request_of was.policy face i ≡ request
 request_then old was now face i request later is = ap (λ (p : Policy). request_of p face i) later.policy ∙ is
@@ -85,7 +86,7 @@ module _ (was new : NodeState) (face : ℕ) (token : Token) (whole : List ℕ) (
   no_causes (decided.Denied rule reason) now = refl
   no_causes decided.NoRule now = refl
 
-  -- a command of which this is said
+  -- the answer to a command on which the decision is `said`
   command_answered : (said : Decision) (answer : Answer) → command_answer was.policy face token i said ≡ answer → IsDecidedAs was.policy (AnInterest whole i) said
       → new.policy ≡ after_decision was.policy face (AnInterest whole i) said → new.pending ≡ was.pending
       → CacheAfter was.policy.now was.pending (packet_use was.policy.now face (AnInterest whole i) answer.verdict) was.cache new.cache → IsAnswered was face token (AnInterest whole i) answer new
@@ -131,11 +132,11 @@ module _ (was : NodeState) (face : ℕ) (token : Token) (whole : List ℕ) (i : 
       command_answered was was face token whole i request is command living decided.NoRule _
       (λ j. record { verdict = NoRule kinds.Interest; sends = replied face token i (same j) ∷ [] }) says refl refl refl
 
--- ---- what a handler does
+-- ---- what a handler of commands does
 
 module _ (old : State) (before after : List Send) (face : ℕ) (token : Token) (now : ℕ) (whole : List ℕ) (i : PlainInterest) (request : Request)
     (is : request_of (policy_of old) face i ≡ request) (command : is_command request ≡ true) where
-  -- a command that is carried out, where what was prepared for it changed nothing
+  -- a command that is carried out, where preparing for it changed nothing
   pub carried_handled : (prepared new : State) (rule : RuleNo) (status : ℕ) → state_of prepared ≡ state_of old → SaysAt (policy_of old) now whole i (decided.Allowed rule)
       → IsCarriedOut prepared new before after face token now i request status → IsHandled old new before after face token now (AnInterest whole i) (code.Allowed rule status)
   carried_handled prepared new rule status same says (was, sends, sent, then, done) =

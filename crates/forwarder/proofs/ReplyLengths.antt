@@ -1,4 +1,4 @@
--- How long a Data is whose name and Content are known.
+-- The greatest length of a Data whose name and Content are known.
 use Rattle.std.proofs.Common.{◌≡◌, ℕ, ◌+◌, ◌*◌, ◌<◌, ◌≤◌, List, [], ◌∷◌, ◌++◌, length, take, drop, ap, arith, append-nil, append_assoc}
 use Rattle.std.specs.Prelude.{Option, Some, None, Bool, true, false, nat_lt, unwrap_or, if◌then◌else◌}
 use Rattle.std.proofs.lemmas.List.{length-append, length-take}
@@ -18,11 +18,11 @@ use Rattle.mgmt_core.specs.Writing.{last_segment, segment_at}
 use Rattle.forwarder.specs.Datasets.{segment_data, segment_name}
 use Rattle.forwarder.specs.Request.{ListKind, RouteList, StrategyList, list_name}
 
--- an element whose type has one octet
+-- the length of an element whose type takes one octet
 element_fits : (kind : ℕ) (value : List ℕ) → kind < 253 → length (element (kind, value)) ≤ length value + 10
 element_fits kind value lt = omega (arith, length-element kind value, length-spelling_one kind lt, length-spelling_nine (length value))
 
--- the SignatureInfo
+-- the length of the SignatureInfo
 info_len : length (element (22, octets (info_fields sign.Digest None None))) ≤ 5
 unfolding spelling
 info_len = omega arith
@@ -103,7 +103,7 @@ segment_name_len kind version segment =
       number_fits 50 segment (omega arith),
     )
 
--- the octets of a segment
+-- the length of the octets of a segment
 pub segment_at_len : (text : List ℕ) (k : ℕ) (part : List ℕ × ℕ) → segment_at text k ≡ Some part → length part.0 ≤ 4096
 segment_at_len text k part e = split (nat_lt (last_segment text) k) e
   where

@@ -1,4 +1,4 @@
--- What the request of an Interest says of its name.
+-- What the request of an Interest says about its name.
 use Rattle.std.proofs.Common.{◌≡◌, ℕ, ◌-◌, zero, suc, Bool, true, false, List, [], ◌∷◌, length, take, refl, sym, ap, ◌∙◌, Ok, Err}
 use Rattle.std.specs.Prelude.{Option, Some, None, codes, bytes_eq, is_some, nat_lt, slice_get, ◌==◌, ◌&&◌, if◌then◌else◌}
 use Rattle.std.proofs.lemmas.Slice.Eq.{bytes_eq-Decides}
@@ -22,7 +22,7 @@ use Rattle.forwarder.specs.Verdict.{DropReason, HopLimit, Scope}
 use Rattle.forwarder.specs.Policy.{Policy}
 use Rattle.forwarder.specs.Request.{ListAsked, Request, generic, Refused, ForList, ForTables, ForRepository, ForData, has_no_hops, named_request, is_out_of_scope, list_asked, management, request_of}
 
--- ---- each request by its cause
+-- ---- a property of each request, proved case by case
 
 module _ (p : Policy) (face : ℕ) (i : PlainInterest) (P : Request → Type 0)
     (unheard : (reason : DropReason) → P (Refused reason)) (lists : (asked : ListAsked) → list_asked i ≡ Some asked → P (ForList asked)) (tables : P ForTables)
@@ -146,7 +146,7 @@ begins_before cs c e = split (nat_lt (length cs) 4) (action_at cs) refl e
     split false None k e = cc e
     split false (Some action) k e = begins_with_action cs action k
 
--- no other name is such a command
+-- no other name is a command on the tables
 pub no_command : (name : List Field) (c : PlainCommand) → begins_with management name ≡ false → command_at name ≡ Ok c → ⊥
 no_command name c other e =
     let begins = begins_whole management name PARAMETERS_SHA256_DIGEST (begins_before (without_last PARAMETERS_SHA256_DIGEST name) c e) in cc (begins, other)

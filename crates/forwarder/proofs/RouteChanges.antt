@@ -1,4 +1,4 @@
--- What each change of the routes does to the entry of a name.
+-- How each change of the routes affects the entry of a name.
 use Rattle.std.proofs.Common.{◌≡◌, ℕ, Bool, true, false, cond, not, eqb, List, refl, sym, ap, ◌∙◌, Option, None, Some, unwrap_or, arith}
 use Rattle.std.proofs.lemmas.Bool.{eqb-true}
 use Rattle.std.proofs.lemmas.Bool.Decides.{nat_tests}
@@ -26,7 +26,7 @@ same_name a b e = name_cmp-antisymmetric a b ((Equal-is (name_cmp a b)).0 e)
 pub same_face : (f face : ℕ) → eq_by_cmp nat_cmp f face ≡ eqb f face
 same_face f face = grind (arith, nat_tests)
 
--- an entry without next hops and routes is no other than that of a name without an entry
+-- an entry without next hops and without routes equals `no_entry`, as for a name without an entry
 pub vacant_is : (e : Entry) → is_vacant e ≡ true → e ≡ no_entry
 vacant_is e is =
     let both = parts (eqb (map.len e.hops) 0) (eqb (map.len e.registered) 0) is in
@@ -38,7 +38,7 @@ vacant_is e is =
     parts true b h = (refl, h)
     parts false b h = absurd cc
 
--- what goes as it is vacant, and what stays, are the same entry to whoever asks for it
+-- looking up an entry gives the same result, whether a vacant entry is removed or kept
 pub kept_or_gone : (e : Entry) → unwrap_or (unless_vacant e) no_entry ≡ e
 kept_or_gone e =
     elim (is_vacant e) as (λ b. is_vacant e ≡ b → unwrap_or (cond b None (Some e)) no_entry ≡ e) [
@@ -50,7 +50,7 @@ valued : (routes : Routes) (n name : List Field) (o : Option Entry) → map.get 
 valued routes n name None = get-remove name_cmp-total routes n name
 valued routes n name (Some e) = get-insert name_cmp-total routes n e name
 
--- what is read off the entry of a name, where one name has this entry
+-- what is read off the entry of a name, after the entry of `n` was set to `e`
 module _ {V : Type 0} (read : Entry → V) (routes : Routes) (n : List Field) (e : Entry) (name : List Field) where
   by_name : (b : Bool) (o : Option Entry) → unwrap_or o no_entry ≡ e → read (unwrap_or (cond b o (map.get routes name)) no_entry) ≡ cond b (read e) (read (entry_at routes name))
   by_name true o is = ap read is
@@ -74,7 +74,7 @@ module _ {V : Type 0} (read : Entry → V) (routes : Routes) (n : List Field) (e
       by true t = here ∙ ap (λ (m : List Field). cond b y (read (entry_at routes m))) (sym (same_name name n t))
       by false t = refl
 
-  -- by what is read off the new entry
+  -- if the new entry `e` reads as `y` or as before, so do the changed routes
   pub changed_with : (b : Bool) (y : V) → read e ≡ cond b y (read (entry_at routes n))
       → read (entry_at (map.insert routes n e) name) ≡ cond (eq_by_cmp name_cmp name n && b) y (read (entry_at routes name))
   changed_with b y = changed_there (read (entry_at (map.insert routes n e) name)) b y read_with
@@ -87,16 +87,16 @@ module _ {V : Type 0} (read : Entry → V) (routes : Routes) (n : List Field) (e
   either_way true x = refl
   either_way false x = refl
 
-  -- where it is read off the new entry as off the old
+  -- if the new entry `e` reads as the old entry, the changed routes read as before
   pub unread_with : read e ≡ read (entry_at routes n) → read (entry_at (map.insert routes n e) name) ≡ read (entry_at routes name)
   unread_with same = changed_with false (read (entry_at routes name)) same ∙ either_way (eq_by_cmp name_cmp name n) (read (entry_at routes name))
 
   pub unread_valued : read e ≡ read (entry_at routes n) → read (entry_at (with_value routes n (unless_vacant e)) name) ≡ read (entry_at routes name)
   unread_valued same = changed_valued false (read (entry_at routes name)) same ∙ either_way (eq_by_cmp name_cmp name n) (read (entry_at routes name))
 
--- ---- changes of all entries
+-- ---- changes to all entries at once
 
--- an entry that each change leaves as it is, but for these two parts
+-- a change to the next hops and to the routes of every entry, as it affects one entry
 revised_at : (hops : ByFace → ByFace) (registered : Registered → Registered) → hops map.empty ≡ map.empty → registered map.empty ≡ map.empty
     → (o : Option Entry)
     → unwrap_or (option_and_then (λ (e : Entry). unless_vacant (record { hops = hops e.hops; registered = registered e.registered })) o) no_entry

@@ -1,5 +1,5 @@
--- What one event makes of what is read off the routes, as a hop or a registered route: it is changed by
--- commands of status 200 and by faces that close, and by no other event.
+-- How one event changes what is read off the routes, such as a next hop or a registered route: only
+-- commands of status 200 and faces that close change it.
 use Rattle.std.proofs.Common.{◌≡◌, ℕ, Bool, true, false, cond, List, refl, sym, ap, ◌∙◌, Result, Ok, Err}
 use Rattle.std.specs.Prelude.{[], Option, Some, None, not, ◌==◌}
 use Rattle.hmac_keys.specs.KeyFile.{AreApart}
@@ -33,7 +33,8 @@ use Rattle.forwarder.proofs.Requests.{by_request, no_command}
 use Rattle.forwarder.proofs.RunSteps.{seen_with}
 use Rattle.forwarder.proofs.Uses.{dropped_outcome}
 
--- what is read off the routes after an outcome, by what a command that was done and a closing do to it
+-- what is read off the routes after an outcome, if `command` and `closing` say how a command that
+-- takes effect and a closing face change it
 abbrev pub after_by : {V : Type 0} → (Result PlainCommand ℕ → ℕ → V → V) → (ℕ → V → V) → Outcome → V → V
 after_by command closing Nothing x = x
 after_by command closing (InterestPassed from whole i) x = x
@@ -46,7 +47,7 @@ record_routes : (p : Policy) (r : Option Recorded) → (with_record p r).routes 
 record_routes p None = refl
 record_routes p (Some r) = refl
 
--- an allowed command of status 200
+-- whether the verdict is Allowed with status 200
 abbrev is_done : Verdict → Bool
 is_done Passed = false
 is_done (Allowed rule status) = status == OK
@@ -69,7 +70,7 @@ module _ {V : Type 0} (see : Routes → V) (q : Policy) (command : Result PlainC
   same true x y e = sym e
   same false x y e = refl
 
-  -- a command on the tables, with its status
+  -- a command on the tables changes what is read if its status is 200
   on_tables : (from : ℕ) (r : Result PlainCommand ℕ) → see (after_tables q from r).routes ≡ cond (tables_status q from r == OK) (command r from was) was
   on_tables from (Err status) = same (status == OK) was (command (Err status) from was) (unread status from was)
   on_tables from (Ok c) = by_status (tables_status q from (Ok c) == OK)
@@ -78,7 +79,7 @@ module _ {V : Type 0} (see : Routes → V) (q : Policy) (command : Result PlainC
       by_status true = done from c
       by_status false = refl
 
-  -- a command changes it where it is done, and no other packet does
+  -- a command that takes effect changes what is read; no other Interest changes it
   command_read : (from : ℕ) (whole : List ℕ) (i : PlainInterest) (v : Verdict) (x : V)
       → cond (is_done v) (command (command_at i.name) from x) x ≡ after (packet_outcome from (AnInterest whole i) v) x
   command_read from whole i Passed x = refl
@@ -123,7 +124,7 @@ module _ {V : Type 0} (see : Routes → V) (q : Policy) (command : Result PlainC
       no_effect : new ≡ q → (v : Verdict) → is_done v ≡ false → IsRead v
       no_effect e v not = ap (λ (p : Policy). see p.routes) e ∙ ap (λ (b : Bool). cond b (command (command_at i.name) from was) was) (sym not)
 
-      -- a name that is no command on the tables
+      -- a name that is not a command on the tables
       other_name : begins_with management i.name ≡ false → new.routes ≡ q.routes → (v : Verdict) → IsRead v
       other_name other e v = ap see e ∙ by_read (command_at i.name) refl (is_done v)
         where

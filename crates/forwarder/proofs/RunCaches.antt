@@ -1,4 +1,4 @@
--- What a cache holds after a step of a run, it may hold.
+-- After a step of a run, the cache holds only Data that it may hold.
 use Rattle.std.proofs.Common.{◌≡◌, ℕ, List, ◌∷◌, get_or, refl, sym, ap, subst, ◌∙◌, inl, inr}
 use Rattle.std.specs.Prelude.{◌⊎◌, Option, Some, None, max, not}
 use Rattle.std.specs.List.{All, Contains}
@@ -19,9 +19,9 @@ use Rattle.forwarder.specs.Node.{NodeState, IsStep}
 use Rattle.forwarder.specs.Runs.{Run, Then, MayHold, Stands, now_of}
 use Rattle.forwarder.proofs.RunSteps.{is_waiting, now_is}
 
--- ---- lists of what is held
+-- ---- lists of cached Data
 
--- what stands in a list has what all of it have
+-- a property that all Data of a list have is a property of each Data in it
 all_contained : (P : CachedData → Type 0) (cs : List CachedData) (c : CachedData) → All P cs → Contains cs c → P c
 all_contained P cs c h at = subst P at.2 (h at.0 c at.1)
 
@@ -31,7 +31,7 @@ all_forgotten P old new h kept = All-weaker (λ c. Contains old c) P (λ c at. a
 all_front : (P : CachedData → Type 0) (c : CachedData) (cs : List CachedData) → P c → All P cs → All P (c ∷ without (full_name_of c) cs)
 all_front P c cs p h = All-cons P c _ p (All-filter (λ d. not (eq_by_cmp name_cmp (full_name_of d) (full_name_of c))) P cs h)
 
--- ---- one use
+-- ---- one use of the cache
 
 module _ (now : ℕ) (waiting : Pending) (old new : StoreState) (K K' : CachedData → Type 0) (held : All K old.cached) where
   module _ (keep : (c : CachedData) → K c → K' c) where
@@ -51,7 +51,7 @@ module _ (now : ℕ) (waiting : Pending) (old new : StoreState) (K K' : CachedDa
     inserted c arrives (inl (awaited, inr f)) = all_forgotten K' old.cached new.cached (All-weaker K K' keep old.cached held) f.0
     inserted c arrives (inr (other, e)) = unchanged e
 
-  -- an erase takes what it may take
+  -- each Data that is left after an erase has the property `K'`
   erased : (name : List Field) (count : Option ℕ) (gone : ℕ) → ((c : CachedData) → K c → ¬ ((count ≡ None) × IsPrefix name (full_name_of c)) → K' c)
       → IsErased name count old.cached new.cached gone → All K' new.cached
   erased name count gone keep h = by_count h.2
@@ -70,7 +70,7 @@ module _ (now : ℕ) (waiting : Pending) (old new : StoreState) (K K' : CachedDa
   use_held (Inserts c) keep bring h = inserted (λ c k. keep c k (λ t. t)) c (bring c refl) h
   use_held (Erases name count) keep bring h = erased name count h.0.0 keep h.0.1
 
--- ---- a step
+-- ---- one step
 
 pub cache_held : (first : Policy) (past : Run) (old new : NodeState) (event : PlainEvent) (answer : Answer) → first.now ≡ 0 → Stands first past old → IsStep old event answer new
     → All (MayHold (Then past event answer)) new.cache.cached

@@ -1,4 +1,4 @@
--- A step of a node that stands in a run goes on with the run.
+-- A step of a node that agrees with a run extends the run.
 use Rattle.std.proofs.Common.{◌≡◌, ℕ, Bool, true, false, List, ap, subst, ◌∙◌, Result, Ok, Err}
 use Rattle.std.specs.Prelude.{Option, Some, None, max, nat_le}
 use Rattle.std.specs.List.{All}
@@ -29,7 +29,7 @@ either_map : (b : Bool) {A B C D : Type 0} → (A → C) → (B → D) → IfTru
 either_map true f g h = f h
 either_map false f g h = g h
 
--- ---- an answer that may depend on less may depend on more
+-- ---- an answer that depends on less is also an answer that may depend on more
 
 abbrev pub seen_with : Policy → (PlainKey → Records) → Bool → (PlainKey → Option (List ℕ) → Type 0) → Seen
 seen_with p records full gives = record { policy = p; records = records; is_full = full; MayGive = gives }
@@ -66,9 +66,9 @@ module _ (p : Policy) (records : PlainKey → Records) (full : Bool) (G H : Plai
   more_replies (Tick now) answer h = h
   more_replies (NewRules rules keys now) answer h = h
 
--- ---- what a node shows is what the past does
+-- ---- what a node shows agrees with the past
 
--- what the cache gives, it may give
+-- a Data that the cache gives is a Data that it may give
 gives_held : (past : Run) (now : ℕ) (cached : List CachedData) → All (MayHold past) cached → (key : PlainKey) (given : Option (List ℕ))
     → GivesData key now cached given → MayCache past now key given
 gives_held past now cached held key None h = tt

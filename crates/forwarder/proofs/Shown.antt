@@ -1,4 +1,4 @@
--- Lists, and what they show.
+-- Lists, and what they show through a view.
 use Rattle.std.proofs.Common.{◌≡◌, Bool, true, false, cond, List, [], ◌∷◌, map, refl, sym, ap, ◌∙◌}
 use Rattle.std.specs.Prelude.{filter, ◌||◌, ◌&&◌}
 use Rattle.std.specs.List.{list_any}
@@ -11,7 +11,7 @@ filter-map view p (x ∷ xs) =
       | false ↦ filter-map view p xs
     ]
 
--- what a filter of what a list shows shows
+-- the view of a filtered list is the filter of the view
 pub shown_filter : {A B : Type 0} (view : A → B) (p : B → Bool) (xs ys : List A) → ys ≡ filter (λ x. p (view x)) xs → map view ys ≡ filter p (map view xs)
 shown_filter view p xs ys e = ap (map view) e ∙ sym (filter-map view p xs)
 
@@ -19,7 +19,7 @@ pub list_any-map : {A B : Type 0} (view : A → B) (p : B → Bool) (xs : List A
 list_any-map view p [] = refl
 list_any-map view p (x ∷ xs) = ap (λ b. p (view x) || b) (list_any-map view p xs)
 
--- some element of a filter passes a test
+-- whether some element of a filtered list passes a test
 pub list_any-filter : {A : Type 0} (p q : A → Bool) (xs : List A) → list_any p (filter q xs) ≡ list_any (λ x. q x && p x) xs
 list_any-filter p q [] = refl
 list_any-filter p q (x ∷ xs) =

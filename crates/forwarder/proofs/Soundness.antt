@@ -54,7 +54,7 @@ has_numbers face (entry ∷ faces) = ap (λ (b : Bool). (entry.0 == face) || b) 
 
 -- ---- records
 
--- each face that the causes give a record is one of these
+-- each face to which the causes may add a record has the property `P`
 abbrev AddOnly : (ℕ → Type 0) → List Cause → Type 0
 AddOnly P [] = Unit {0}
 AddOnly P (cause ∷ causes) = ((f : ℕ) → Adds cause f → P f) × AddOnly P causes
@@ -76,7 +76,7 @@ follows_within P causes old new adds follows was f (k, e) =
       | inr is ↦ is
     ]
 
--- each send goes to one of these faces
+-- each send goes to a face with the property `P`
 abbrev SendsTo : (ℕ → Type 0) → List Send → Type 0
 SendsTo P [] = Unit {0}
 SendsTo P (sent ∷ sends) = P sent.0 × SendsTo P sends
@@ -116,7 +116,7 @@ nack_adds : (P : ℕ → Type 0) (face reason : ℕ) (i : PlainInterest) (sends 
 nack_adds P face reason i [] = (λ f none. absurd none, tt)
 nack_adds P face reason i (sent ∷ sends) = (λ f none. absurd none, (λ f none. absurd none, tt))
 
--- an answer whose sends, where it is passed, go to these faces
+-- if the answer's verdict is Passed, its sends go to faces with the property `P`
 abbrev PassesTo : (ℕ → Type 0) → Answer → Type 0
 PassesTo P answer = answer.verdict ≡ Passed → SendsTo P answer.sends
 
@@ -164,7 +164,7 @@ of_packet P now face token (AData whole d) answer asker all = of_data P now face
 of_packet P now face token (ANack reason whole i) answer asker all = of_nack P now face reason token whole i answer.verdict answer.sends
 of_packet P now face token Idle answer asker all = of_idle P now face token answer.verdict answer.sends
 
--- ---- what is passed on goes to open faces
+-- ---- the sends of a passed event go to open faces
 
 module _ (seen : Seen) (P : ℕ → Type 0) (face : ℕ) (token : Token) (asker : P face) where
   drops : (reason : _) (answer : Answer) → answer ≡ dropped reason → PassesTo P answer
@@ -176,7 +176,7 @@ module _ (seen : Seen) (P : ℕ → Type 0) (face : ℕ) (token : Token) (asker 
   back : (octets : List ℕ) (answer : Answer) → answer ≡ passed ((face, octets) ∷ []) → PassesTo P answer
   back octets answer is e = subst (λ (a : Answer). SendsTo P a.sends) (sym is) (asker, tt)
 
--- the present list, or a list of the past
+-- a list of the current version or of another version
 list_passes : (seen : Seen) (P : ℕ → Type 0) (face : ℕ) (token : Token) (asker : P face) (asked : ListAsked) (answer : Answer)
     → answer ≡ list_answer seen.policy face token asked → PassesTo P answer
 list_passes seen P face token asker asked answer is =
@@ -248,7 +248,7 @@ module _ (seen : Seen) (P : ℕ → Type 0) (face : ℕ) (token : Token) (asker 
 
 -- ---- what follows from events alone
 
--- the faces are the same, and those that have routes are open
+-- the faces are the same, and if all faces with routes were open, they still are
 abbrev KeepsOpen : Policy → Policy → Type 0
 KeepsOpen p q = (q.faces ≡ p.faces) × (AllAreUp p.routes (open_faces p) → AllAreUp q.routes (open_faces q))
 
@@ -291,7 +291,7 @@ effect_keeps : (p : Policy) (face now : ℕ) (octets : List ℕ) (new : Policy) 
 effect_keeps p face now octets new None is = subst (KeepsOpen p) (sym is) (keeps_itself p)
 effect_keeps p face now octets new (Some packet) (said, is_said, is) = subst (KeepsOpen p) (sym is) (said_keeps p face packet said)
 
--- once a moment has come
+-- all faces with routes are open once time has advanced to a moment
 pub later_up : (old new : NodeState) (moment : ℕ) → IsSound old → IsLater old moment new → AllAreUp new.policy.routes (open_faces new.policy)
 later_up old new moment sound later =
     subst (λ (p : Policy). AllAreUp p.routes (open_faces p)) (sym later.policy) ((moment_keeps old.policy moment).1 sound.routes)
@@ -340,7 +340,7 @@ none_open face (entry ∷ faces) is =
       | false ↦ λ e. none_open face faces e
     ] is
 
--- what may open has not, and there is a place for it
+-- a face that can open is not open, and fewer than 64 faces are open
 opens : (p : Policy) (face : ℕ) → can_open p face ≡ true → (is_open face p.faces ≡ false) × (length p.faces < MAX_FACES)
 opens p face is =
     elim (eqb face 0) as (λ b. cond b false (cond (is_open face p.faces) false (cond (leb MAX_FACES (length p.faces)) false true)) ≡ true → (is_open face p.faces ≡ false) × (length p.faces < MAX_FACES)) [
@@ -361,7 +361,7 @@ module _ (old new : NodeState) (sound : IsSound old) where
       → (f : ℕ) → HasRecord waiting f → is_open f old.policy.faces ≡ true
   waits_open now waiting expiry f has = sound.records f (had_records (Expires now) old.pending waiting (λ f none. none) expiry f has)
 
-  -- where the faces are the same
+  -- the node is sound if the open faces are unchanged
   same_faces : KeepsOpen old.policy new.policy → ((f : ℕ) → HasRecord new.pending f → is_open f old.policy.faces ≡ true) → IsSound new
   same_faces (is, up) records = record {
     few = subst (λ (faces : List FaceEntry). length faces ≤ MAX_FACES) (sym is) sound.few;

@@ -1,4 +1,4 @@
--- Where nodes stand in runs.
+-- How nodes agree with runs.
 use Rattle.std.proofs.Common.{◌≡◌, ℕ, [], refl, sym, ap, subst, ◌∙◌}
 use Rattle.std.specs.Prelude.{Option, unwrap_or}
 use Rattle.std.specs.FinMap as map
@@ -14,12 +14,12 @@ use Rattle.forwarder.specs.Verdict.{Answer}
 use Rattle.forwarder.proofs.RunSteps.{may_reply, pending_is}
 use Rattle.forwarder.proofs.RunCaches.{all_forgotten, cache_held}
 
--- a node without records and with an empty cache
+-- a node without records and with an empty cache agrees with the empty run
 pub new_stands : (first : Policy) (capacity : ℕ) → Stands first Start (record { policy = first; pending = map.empty; cache = record { cached = []; capacity = capacity } })
 new_stands first capacity =
     record { policy = refl; pending = λ key. ap (λ (o : Option Records). unwrap_or o no_records) (get-empty key_cmp key); cache = All-nil (MayHold Start) }
 
--- a step goes on with a run
+-- a step extends a run
 pub step_goes_on : (first : Policy) (past : Run) (old new : NodeState) (event : PlainEvent) (answer : Answer) → first.now ≡ 0 → IsRun first past → Stands first past old → IsStep old event answer new
     → IsRun first (Then past event answer) × Stands first (Then past event answer) new
 step_goes_on first past old new event answer begins is_run stands step = (
@@ -31,7 +31,7 @@ step_goes_on first past old new event answer begins is_run stands step = (
   },
 )
 
--- a step that is refused memory stands still
+-- a step that runs out of memory leaves the node in agreement with its run
 pub refused_stands : (first : Policy) (past : Run) (old new : NodeState) → Stands first past old → ChangesCacheOnly old new → Stands first past new
 refused_stands first past old new stands unharmed = record {
   policy = subst (λ (p : Policy). IsPolicyOf first past p) (sym unharmed.policy) stands.policy;

@@ -1,4 +1,4 @@
--- What a repository stores came in an event that allowed it.
+-- Each object that a repository stores came in an event that allowed it.
 use Rattle.std.proofs.Common.{◌≡◌, ℕ, Bool, true, false, cond, List, refl, sym, ap, subst, ◌∙◌, Result, Ok, Err, inl, inr}
 use Rattle.std.specs.Prelude.{◌⊎◌, Option, Some, None, not, ◌==◌, if◌then◌else◌}
 use Rattle.std.specs.Cmp.{Equal-is}
@@ -36,7 +36,7 @@ use Rattle.forwarder.specs.Effects.{IsAfter, IsEffect, after_decision, can_open,
 use Rattle.forwarder.specs.Runs.{Run, Start, Then, IsPolicyOf}
 use Rattle.forwarder.specs.Allowed.{Allows, AllowedIn}
 
--- an object of this full name and octets
+-- an object is stored under this full name, with these octets
 abbrev Holds : Objects → List Field → List ℕ → Type 0
 Holds objects name octets = map.get objects name ≡ Some octets
 
@@ -91,7 +91,7 @@ pub record_stored : (p : Policy) (r : Option Recorded) → (with_record p r).hel
 record_stored p None = refl
 record_stored p (Some r) = refl
 
--- ---- Data that are wanted
+-- ---- Data that the repository wants
 
 same_name : (a b : List Field) → eq_by_cmp name_cmp a b ≡ true → a ≡ b
 same_name a b e = name_cmp-antisymmetric a b ((Equal-is (name_cmp a b)).0 e)
@@ -114,7 +114,7 @@ offered s whole d name octets = by_wanted (is_wanted d.name (sha256 whole) s.wan
 
 -- ---- runs
 
--- the octets are of a Data that was allowed, whose full name this is
+-- these octets are a Data that was allowed, and `name` is its full name
 abbrev pub IsOfAllowed : Policy → Run → List Field → List ℕ → Type 0
 IsOfAllowed first run name octets =
     (d : PlainData) × AllowedIn first run (AData octets d) × (name ≡ full_name d.name (sha256 octets))

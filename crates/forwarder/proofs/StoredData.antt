@@ -1,4 +1,4 @@
--- What the repository stores stays Data.
+-- Each object that the repository stores is a Data.
 use Rattle.std.proofs.Common.{◌≡◌, ℕ, Bool, true, false, List, sym, ap, subst, ◌∙◌, Result, Ok, Err}
 use Rattle.std.specs.Prelude.{⊤}
 use Rattle.ndn_tlv.specs.declared.memory.Memory.{Memory}
@@ -25,7 +25,7 @@ use Rattle.forwarder.proofs.Stored.{record_stored, tables_stored, undecided_stor
 abbrev StoresData : Policy → Type 0
 StoresData p = AreObjects p.held.objects
 
--- what is a Data was read as one
+-- if the packet is a Data, its octets were read as that Data
 abbrev pub IsReadAsData : PlainFrame → Type 0
 IsReadAsData (AnInterest whole i) = ⊤
 IsReadAsData (AData whole d) = IsData whole d
@@ -53,16 +53,16 @@ effect_stores : (p new : Policy) (face : ℕ) (packet : PlainFrame) (b : Bool) �
 effect_stores p new face packet true (said, says, is) read h = subst StoresData (sym is) (said_stores p face packet said read h)
 effect_stores p new face packet false is read h = subst StoresData (sym is) h
 
--- after a moment
+-- the objects are Data after a moment
 pub later_stores : (old new : State) (now : ℕ) → IsLater (state_of old) now (state_of new) → AreObjects old.repo.held.objects → AreObjects new.repo.held.objects
 later_stores old new now later h = subst StoresData (sym later.policy) h
 
--- after an event that brings nothing to be decided
+-- the objects are Data after an event whose packet rules do not decide, or that brings no packet
 pub undecided_stores : (old new : Policy) (event : PlainEvent) → new ≡ undecided_effect (at_moment old (moment event)) event → AreObjects old.held.objects → AreObjects new.held.objects
 undecided_stores old new event is h =
     subst (λ (s : Held). AreObjects s.objects) (sym (ap (λ (p : Policy). p.held) is ∙ undecided_stored (at_moment old (moment event)) event)) h
 
--- after a packet
+-- the objects are Data after a packet
 pub handled_stores : (old new : State) (before after : List Send) (face : ℕ) (token : Token) (now : ℕ) (packet : PlainFrame) (r : Result code.Verdict Memory)
     → HandlesPacket old new before after face token now packet r → IsReadAsData packet → AreObjects old.repo.held.objects → AreObjects new.repo.held.objects
 handled_stores old new before after face token now packet (Ok verdict) done read h = by_answer done.handled

@@ -1,4 +1,4 @@
--- Runs in which denied events give way to their moments.
+-- Runs in which a tick at the same moment may replace a denied event.
 use Rattle.std.proofs.Common.{◌≡◌, ℕ, true, List, refl, sym, ap, subst, ◌∙◌, inl, inr}
 use Rattle.std.specs.Prelude.{[], Option, Some, None, max, nat_le}
 use Rattle.std.specs.FinMap as map
@@ -62,7 +62,7 @@ records_ticks (Then before event answer) (Then other another reply) (t, inr (d, 
     ∙ sym (idle_records (max (now_of before) (moment event)) event answer key (records_of before key) d)
     ∙ records_then before event answer key
 
--- who waits is the same, at the same moment
+-- the records that are pending at a moment are the same in both runs
 waiting_ticks : (past other : Run) → HasTicksForDenied past other → (now : ℕ) (waiting : Pending) → IsWaiting past now waiting → IsWaiting other now waiting
 waiting_ticks past other t now waiting w = record {
   living = w.living;
@@ -90,7 +90,7 @@ held_ticks (Then before event answer) (Then other another reply) (t, inr (d, e, 
 held_ticks (Then before event answer) (Then other another reply) (t, inr (d, e, a)) c (inr (h, stays)) =
     subst (λ (x : PlainEvent). MayHold (Then other x reply) c) (sym e) (inr (held_ticks before other t c h, λ takes. takes))
 
--- what a denied event leaves is what its moment leaves
+-- a denied event leaves the same policy as a tick at its moment
 denied_after : (first : Policy) (before : Run) (event : PlainEvent) (answer : Answer) (was p : Policy) → KeysAreApart first before → MayReply first before event answer
     → is_denied answer.verdict ≡ true → IsPolicyOf first before was → IsAfter was event p → IsAfter was (Tick (moment event)) p
 denied_after first before event answer was p apart reply d is after =
@@ -111,7 +111,7 @@ policy_ticks first (Then before event answer) (Then other another reply) apart i
     let after = denied_after first before event answer h.0 p apart.0 is.1 d h.1 h.2 in
     (h.0, policy_ticks first before other apart.0 is.0 t h.0 h.1, subst (λ (x : PlainEvent). IsAfter h.0 x p) (sym e) after)
 
--- what the cache may give after the first run, it may after the second
+-- what the cache may give after the first run, it may also give after the second run
 given_ticks : (past other : Run) → HasTicksForDenied past other → (now : ℕ) (key : PlainKey) (given : Option (List ℕ)) → MayCache past now key given → MayCache other now key given
 given_ticks past other t now key None h = tt
 given_ticks past other t now key (Some octets) h = (h.0, held_ticks past other t h.0 h.1, h.2, h.3)

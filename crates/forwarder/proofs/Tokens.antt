@@ -1,4 +1,4 @@
--- Tokens as they lie in memory, and as they are.
+-- Tokens as borrowed octets, and as plain values.
 use Rattle.std.proofs.Common.{List, ℕ, None, Some, Option}
 use Rattle.std.specs.Prelude.{IfSome}
 use Rattle.std.specs.Borrow.{Bor}

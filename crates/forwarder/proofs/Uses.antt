@@ -1,4 +1,4 @@
--- What events come to, and what they ask the cache for.
+-- The outcomes of events, and how events use the cache.
 use Rattle.std.proofs.Common.{◌≡◌, ℕ, Bool, true, false, cond, List, refl, sym, ap, Result, Ok, Err}
 use Rattle.std.specs.Prelude.{Option, None, Some, is_some, ◌==◌}
 use Rattle.ndn_packets.specs.Answers.{begins_with}
@@ -22,7 +22,7 @@ use Rattle.forwarder.specs.CommandStep.{request_use}
 use Rattle.forwarder.specs.Handling.{packet_use}
 use Rattle.forwarder.proofs.Requests.{by_request, no_command}
 
--- ---- events that come to nothing
+-- ---- events whose outcome is Nothing
 
 pub dropped_outcome : (face : ℕ) (read : Result PlainFrame PacketFault) (reason : DropReason) → read_outcome face read (Dropped reason) ≡ Nothing
 dropped_outcome face (Err fault) reason = refl
@@ -55,7 +55,7 @@ denied_outcome (FaceDown face now) v d = denied_closing face v d
 denied_outcome (Tick now) v d = refl
 denied_outcome (NewRules rules keys now) v d = refl
 
--- ---- what leaves the cache alone
+-- ---- packets that leave the cache unchanged
 
 pub nack_use : (now face reason : ℕ) (whole : List ℕ) (i : PlainInterest) (v : Verdict) → packet_use now face (ANack reason whole i) v ≡ Untouched
 nack_use now face reason whole i Passed = refl
@@ -65,15 +65,15 @@ nack_use now face reason whole i (Denied kind rule why) = refl
 nack_use now face reason whole i (NoRule kind) = refl
 nack_use now face reason whole i (Dropped why) = refl
 
--- an Interest for a list, which is passed or dropped
+-- an Interest for a list leaves the cache unchanged
 pub list_use : (now face : ℕ) (whole : List ℕ) (i : PlainInterest) (asked : ListAsked) → list_asked i ≡ Some asked → packet_use now face (AnInterest whole i) Passed ≡ Untouched
 list_use now face whole i asked is = ap (λ (o : Option ListAsked). cond (is_some o) Untouched (LooksUp (key_of i))) is
 
--- an Interest for Data, which is passed
+-- an Interest for Data that is passed looks up the cache
 pub data_use : (now face : ℕ) (whole : List ℕ) (i : PlainInterest) → list_asked i ≡ None → packet_use now face (AnInterest whole i) Passed ≡ LooksUp (key_of i)
 data_use now face whole i none = ap (λ (o : Option ListAsked). cond (is_some o) Untouched (LooksUp (key_of i))) none
 
--- a name that is no command on the tables erases nothing
+-- a name that is not a command on the tables erases nothing
 other_use : (i : PlainInterest) (status : ℕ) → begins_with management i.name ≡ false → Untouched ≡ command_use (command_at i.name) status
 other_use i status other = by_read (command_at i.name) refl
   where
@@ -81,16 +81,17 @@ other_use i status other = by_read (command_at i.name) refl
     by_read (Err refused) k = refl
     by_read (Ok c) k = absurd (no_command i.name c other k)
 
--- what an allowed command asks the cache for is read off its request, or off its name
+-- the use of the cache by an allowed command is the same, whether it is read off its request or off
+-- its name
 pub commanded_use : (p : Policy) (face status : ℕ) (i : PlainInterest) → is_command (request_of p face i) ≡ true
     → request_use i status (request_of p face i) ≡ command_use (command_at i.name) status
 commanded_use p face status i =
     by_request p face i (λ r. is_command r ≡ true → request_use i status r ≡ command_use (command_at i.name) status)
     (λ reason e. cc e) (λ asked is e. cc e) (λ e. refl) (λ other e. other_use i status other) (λ other e. cc e)
 
--- ---- what inserts a Data
+-- ---- which events insert a Data
 
--- the outcome of an event that inserts a Data
+-- if an outcome inserts `c`, a Data was allowed
 inserts_by : (now : ℕ) (o : Outcome) (c : CachedData) → cache_use now o ≡ Inserts c → (whole : List ℕ) × (d : PlainData) × (o ≡ DataCame whole d) × (c ≡ held_from now whole d)
 inserts_by now Nothing c e = cc e
 inserts_by now (InterestPassed face whole i) c e = by_list (is_some (list_asked i)) e
@@ -120,7 +121,7 @@ inserts_by now (DataCame whole d) c e = let same : held_from now whole d ≡ c =
 inserts_by now (NackPassed face reason i) c e = cc e
 inserts_by now (FaceClosed face) c e = cc e
 
--- the event of such an outcome brings a Data that is allowed
+-- if the outcome is that a Data was allowed, the event brings that Data and its rule allows it
 data_came : (face : ℕ) (read : Result PlainFrame PacketFault) (v : Verdict) (whole : List ℕ) (d : PlainData) → read_outcome face read v ≡ DataCame whole d
     → (read ≡ Ok (AData whole d)) × ((rule : ℕ) × (v ≡ DataAllowed rule))
 data_came face (Err fault) v whole d e = cc e

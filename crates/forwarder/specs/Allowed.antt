@@ -10,20 +10,21 @@ use Rattle.forwarder.specs.Deciding.{IsDecidedAs}
 use Rattle.forwarder.specs.Effects.{decided_packet}
 use Rattle.forwarder.specs.Runs.{Run, Start, Then, IsPolicyOf, now_of}
 
--- at this policy the event brings this packet, and its first matching rule allows it
+-- under the policy `was`, the event brings this packet, and the first rule that applies allows it
 pub record Allows (was : Policy) (event : PlainEvent) (packet : PlainFrame) : Type 0 where
   pub rule : RuleNo
   pub brings : decided_packet (at_moment was (moment event)) event ≡ Some packet
   pub said : IsDecidedAs (at_moment was (moment event)) packet (Allowed rule)
 
--- some event of the run brought this packet, and it was allowed then
+-- some event of the run brought this packet, and the packet was allowed at that event
 abbrev pub AllowedIn : Policy → Run → PlainFrame → Type 0
 AllowedIn first Start packet = ⊥
 AllowedIn first (Then before event answer) packet =
     AllowedIn first before packet
     ⊎ ((was : Policy) × IsPolicyOf first before was × Allows was event packet)
 
--- the same, and this was the greatest moment so far
+-- some event of the run brought this packet and it was allowed, when the greatest moment so far was
+-- `now`
 abbrev pub AllowedAt : Policy → Run → PlainFrame → ℕ → Type 0
 AllowedAt first Start packet now = ⊥
 AllowedAt first (Then before event answer) packet now =

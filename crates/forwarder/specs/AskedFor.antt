@@ -1,4 +1,4 @@
--- Why a face gets a Data: it asked for it, and gets that or the node's own answer.
+-- Why a Data is sent to a face: the face asked for it, and gets that Data or the node's own answer.
 use Rattle.std.specs.Prelude.{◌≡◌, ◌⊎◌, ℕ, List, Some, IsTrue, Ok, max}
 use Rattle.std.specs.FinMap as map
 use Rattle.sha2.specs.Sha256.{sha256}
@@ -14,7 +14,7 @@ use Rattle.forwarder.specs.Allowed.{AllowedIn, Allows}
 use Rattle.forwarder.specs.Runs.{Run, now_of, records_of}
 use Rattle.forwarder.specs.DataSends.{IsReplyToCommand, IsSegmentAskedFor}
 
--- an Interest of the face is pending when this moment has come, and the Data answers it
+-- an Interest of the face is still pending when time has advanced to `now`, and the Data answers it
 pub record IsPendingFor (past : Run) (now face : ℕ) (whole : List ℕ) (d : PlainData) : Type 0 where
   pub key : PlainKey
   pub in_record : InRecord
@@ -29,13 +29,13 @@ pub record BringsPacketOn (event : PlainEvent) (face : ℕ) (packet : PlainFrame
   pub brings : event ≡ Packet face now octets
   pub read : frame_at octets ≡ Ok packet
 
--- the node made it: it is the reply to this Interest, which is a command, or the segment of a list
--- that it asks for
+-- the node made these octets: they are the reply to the Interest `i`, which is a command, or the
+-- segment of a list that `i` asks for
 abbrev pub IsOwnAnswer : Policy → ℕ → List ℕ → PlainInterest → List ℕ → Type 0
 IsOwnAnswer p face asked i octets =
     IsReplyToCommand p face asked i octets ⊎ IsSegmentAskedFor p face i octets
 
--- the Data answers this Interest, and came in an earlier event that allowed it; or the node made it
+-- the Data answers this Interest and came in an earlier event that allowed it, or the node made it
 abbrev pub AnswersNow : Policy → Run → Policy → ℕ → List ℕ → PlainInterest → List ℕ → PlainData
     → Type 0
 AnswersNow first past p face asked i whole d =
@@ -43,9 +43,9 @@ AnswersNow first past p face asked i whole d =
     × AllowedIn first past (AData whole d))
     ⊎ IsOwnAnswer p face asked i whole
 
--- Where the run left this policy, the face asked for this Data. Either the event brings it and
--- allows it, and an Interest of the face is pending that it answers; or the event brings an
--- Interest on the face itself, and the Data answers that, or is the node's own answer.
+-- After a run that leaves the policy `was`, the face asked for this Data. Either the event brings
+-- and allows the Data, which answers a pending Interest of the face; or the event brings an
+-- Interest on this face, and the Data answers that Interest or is the node's own answer to it.
 abbrev pub WasAskedFor : Policy → Run → Policy → PlainEvent → ℕ → List ℕ → PlainData → Type 0
 WasAskedFor first past was event face whole d =
     (Allows was event (AData whole d)
@@ -53,8 +53,8 @@ WasAskedFor first past was event face whole d =
     ⊎ ((asked : List ℕ) × (i : PlainInterest) × BringsPacketOn event face (AnInterest asked i)
     × AnswersNow first past (at_moment was (moment event)) face asked i whole d)
 
--- the event brings an Interest on this face, and what is sent is the node's own answer to it, with
--- its token
+-- the event brings an Interest on this face, and what is sent is the node's own answer to that
+-- Interest, with the Interest's token
 abbrev pub AnswersItself : Policy → PlainEvent → Send → Type 0
 AnswersItself was event sent =
     (asked packet : List ℕ) × (i : PlainInterest)

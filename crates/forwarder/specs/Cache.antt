@@ -1,4 +1,5 @@
--- How an event uses the cache, and the cache after that (NFD Developer's Guide, "Content Store").
+-- How an event uses the cache, and the cache after this use (NFD Developer's Guide, "Content
+-- Store").
 use Rattle.std.specs.Prelude.{◌≡◌, ◌⊎◌, ℕ, List, true, All, Contains, Option, None, Result, Ok, Err, IsTrue, is_some, ◌==◌, if◌then◌else◌}
 use Rattle.sha2.specs.Sha256.{sha256}
 use Rattle.ndn_tlv.specs.Element.{Field}
@@ -16,14 +17,14 @@ use Rattle.forwarder.specs.Request.{list_asked}
 
 pub data CacheUse : Type 0 where
   Untouched : CacheUse
-  -- an Interest of this key asks for Data
+  -- an Interest of this key asks for Data, and the cache is looked up
   LooksUp : (key : PlainKey) → CacheUse
-  -- an allowed Data is to be cached, if it is awaited
+  -- an allowed Data is to be cached, if some face waits for it
   Inserts : (c : CachedData) → CacheUse
-  -- an allowed command erases Data under a name, at most `count` where that is given
+  -- an allowed command erases the Data under a name, at most `count` of them if `count` is given
   Erases : (name : List Field) (count : Option ℕ) → CacheUse
 
--- a Data as it is cached from its arrival on
+-- a Data in the cache, which arrived at the moment `now`
 abbrev pub held_from : ℕ → List ℕ → PlainData → CachedData
 held_from now whole d = record {
   name = d.name;
@@ -33,8 +34,9 @@ held_from now whole d = record {
   arrival = now;
 }
 
--- The use by an allowed command that was answered with this status, read off its name: an erase,
--- where the status is 200. A name of the repository reads as no such command.
+-- How an allowed command that was answered with this status uses the cache, read off the command's
+-- name: an erase of status 200 erases Data. A name under the repository's prefix is not read as an
+-- erase.
 abbrev pub command_use : Result PlainCommand ℕ → ℕ → CacheUse
 command_use (Err refused) status = Untouched
 command_use (Ok c) status = elim c.action [
@@ -42,7 +44,7 @@ command_use (Ok c) status = elim c.action [
   | _ ↦ Untouched
 ]
 
--- the use of the cache by an event of this outcome, at this moment
+-- how an event of this outcome uses the cache, at the moment `now`
 abbrev pub cache_use : ℕ → Outcome → CacheUse
 cache_use now Nothing = Untouched
 cache_use now (InterestPassed face whole i) =
@@ -58,14 +60,15 @@ IsAwaited waiting c =
     (key : PlainKey) × IsTrue (answers c.name c.digest key.name key.can_be_prefix)
     × (is_alive (records_at waiting key) ≡ true)
 
--- some of what was cached may be gone, or in another order; nothing is new
+-- some cached Data may have been dropped or reordered; no Data was added
 abbrev pub MayForget : StoreState → StoreState → Type 0
 MayForget old new =
     All (λ c. Contains old.cached c) new.cached × (new.capacity ≡ old.capacity)
 
--- The cache after a use: a Data that is served becomes the most recently used; an awaited Data is
--- cached, or is not and the cache may drop some, and no other Data comes into it; an erase is that
--- of the content store.
+-- The cache after a use. A Data that is served becomes the most recently used. If some face waits
+-- for an inserted Data, either the Data is cached, or it is not cached and some cached Data may be
+-- dropped; if no face waits for it, the cache is unchanged. An erase removes Data as the content
+-- store's erase does.
 abbrev pub CacheAfter : ℕ → Pending → CacheUse → StoreState → StoreState → Type 0
 CacheAfter now waiting Untouched old new = new ≡ old
 CacheAfter now waiting (LooksUp key) old new =
@@ -77,8 +80,8 @@ CacheAfter now waiting (Erases name count) old new =
     ((gone : ℕ) × IsErased name count old.cached new.cached gone)
     × (new.capacity ≡ old.capacity)
 
--- The use removes any cached Data of this full name. An erase with Count may remove it too, but
--- which ones it removes is not read off the event.
+-- The use removes each cached Data of this full name. An erase with Count may also remove this
+-- Data, but the event does not determine which Data such an erase removes.
 abbrev pub TakesAway : CacheUse → CachedData → Type 0
 TakesAway Untouched c = ⊥
 TakesAway (LooksUp key) c = ⊥

@@ -1,4 +1,4 @@
--- What an event and its answer do to the records of pending Interests (NFD Developer's Guide,
+-- How an event and its answer change the records of pending Interests (NFD Developer's Guide,
 -- "Pending Interest Table").
 use Rattle.std.specs.Prelude.{ℕ, ◌+◌, ◌-◌, ◌^◌, List, [], ◌∷◌, map, min, Bool, true, false, Result, Ok, Err, ◌==◌, if◌then◌else◌}
 use Rattle.std.specs.List.{list_any}
@@ -14,11 +14,12 @@ use Rattle.forwarder.specs.Event.{PlainEvent, Send, Token, token_in}
 use Rattle.forwarder.specs.Outcome.{Outcome, Nothing, InterestPassed, CommandAllowed, DataCame, NackPassed, FaceClosed, outcome_of}
 use Rattle.forwarder.specs.Verdict.{Answer}
 
--- a period after a moment, at most the greatest u64
+-- the moment `lifetime` milliseconds after `now`, at most the greatest u64
 abbrev pub deadline : ℕ → ℕ → ℕ
 deadline now lifetime = min (now + lifetime) (2 ^ 64 - 1)
 
--- the in-record of an Interest that came now with a token, until its lifetime is over
+-- the in-record of an Interest that came now with a token; it expires when the InterestLifetime is
+-- over
 abbrev pub in_record_for : ℕ → Token → List ℕ → PlainInterest → InRecord
 in_record_for now token whole i = record {
   interest = whole;
@@ -27,11 +28,11 @@ in_record_for now token whole i = record {
   token = token;
 }
 
--- whether something was sent back to the face: a Data, or a Nack
+-- whether a packet, which is a Data or a Nack, was sent back to the face
 abbrev pub is_answered : ℕ → List Send → Bool
 is_answered face sends = list_any (λ sent. sent.0 == face) sends
 
--- whether octets are a Nack, as they are read
+-- whether these octets are read as a Nack
 abbrev pub is_nack_frame : Result PlainFrame PacketFault → Bool
 is_nack_frame (Err fault) = false
 is_nack_frame (Ok (AnInterest whole i)) = false
@@ -45,13 +46,13 @@ is_nack octets = is_nack_frame (frame_at octets)
 abbrev pub is_nacked : List Send → Bool
 is_nacked sends = list_any (λ sent. is_nack sent.1) sends
 
--- an Interest of this Nonce was sent to each of these faces
+-- an Interest with this Nonce was sent to each of these faces
 abbrev pub sent_causes : PlainKey → List ℕ → ℕ → List ℕ → List Cause
 sent_causes key nonce now faces = map (λ face. SentTo key face nonce now) faces
 
--- An Interest that is passed becomes pending where nothing was sent back to its face, and was sent
--- to each of the faces. Where a Nack was sent back, the face has no pending Interest under its key
--- any more.
+-- A passed Interest becomes pending if nothing was sent back to its face, and is recorded as sent
+-- to each face that it went to. If a Nack was sent back, the face no longer has a pending Interest
+-- under this key.
 abbrev pub interest_causes : ℕ → ℕ → Token → List ℕ → PlainInterest → List Send → List Cause
 interest_causes now face token whole i sends =
     let key = key_of i in
@@ -60,14 +61,14 @@ interest_causes now face token whole i sends =
     Arrives key face (in_record_for now token whole i)
     ∷ map (λ (sent : Send). SentTo key sent.0 i.nonce now) sends)
 
--- The reason of a passed Nack is recorded; where it was sent on, the records of its key are
--- removed.
+-- The reason of a passed Nack is recorded. If Nacks were sent back to the faces that ask, the
+-- records of the key are removed.
 abbrev pub nack_causes : ℕ → ℕ → PlainInterest → List Send → List Cause
 nack_causes face reason i sends =
     NackCame (key_of i) face i.nonce reason
     ∷ (if is_nil sends then [] else Removed (key_of i) ∷ [])
 
--- An allowed Data satisfies all pending Interests that it answers, whether it is sent or not.
+-- An allowed Data satisfies all pending Interests that it answers, whether the Data is sent or not.
 abbrev pub causes_by : ℕ → Token → List Send → Outcome → List Cause
 causes_by now token sends Nothing = []
 causes_by now token sends (InterestPassed face whole i) =
@@ -77,18 +78,18 @@ causes_by now token sends (DataCame whole d) = Satisfied d.name (sha256 whole) �
 causes_by now token sends (NackPassed face reason i) = nack_causes face reason i sends
 causes_by now token sends (FaceClosed face) = Closed face ∷ []
 
--- the causes of an event and its answer in their order, at this moment, where what was due has
--- expired
+-- the causes of an event and its answer, in order, at the moment `now`, once the records that were
+-- due have expired
 abbrev pub causes_of : ℕ → PlainEvent → Answer → List Cause
 causes_of now event answer =
     causes_by now (token_in event) answer.sends (outcome_of event answer.verdict)
 
--- the records of a key after these causes, in their order
+-- the records of a key after these causes, applied in order
 abbrev pub after_causes : List Cause → PlainKey → Records → Records
 after_causes [] key r = r
 after_causes (cause ∷ causes) key r = after_causes causes key (records_after cause key r)
 
--- these causes in front of earlier ones, the last first
+-- these causes put before the earlier ones, so that the last cause comes first
 abbrev pub before_earlier : List Cause → List Cause → List Cause
 before_earlier [] earlier = earlier
 before_earlier (cause ∷ causes) earlier = before_earlier causes (cause ∷ earlier)

@@ -1,4 +1,4 @@
--- The codes of a node's maps, by which its state is plain data.
+-- How the keys of a node's maps are encoded, so that the state of the node is plain data.
 use Rattle.std.specs.Coded.{Coded}
 use Rattle.std.specs.FinMap as map
 use Rattle.ndn_packets.specs.Key.{key_code}

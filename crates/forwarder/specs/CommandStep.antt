@@ -1,4 +1,5 @@
--- An allowed command that is carried out: time passes, and then it is answered and has its effect.
+-- How an allowed command is carried out: time passes, then the command is answered and has its
+-- effect.
 use Rattle.std.specs.Prelude.{◌≡◌, ◌∷◌, ◌++◌, ℕ, List}
 use Rattle.ndn_packets.specs.Packet.{PlainInterest}
 use Rattle.forwarder.specs.declared.state.State.{State}
@@ -11,7 +12,7 @@ use Rattle.forwarder.specs.Commands.{after_request, allowed_reply, replied, with
 use Rattle.forwarder.specs.Node.{NodeState}
 use Rattle.forwarder.specs.State.{IsLater, state_of}
 
--- the use of the cache by an allowed command: one on the repository has none
+-- how an allowed command uses the cache; a command to the repository does not use the cache
 abbrev pub request_use : PlainInterest → ℕ → Request → CacheUse
 request_use i status (Refused reason) = Untouched
 request_use i status (ForList asked) = Untouched
@@ -19,8 +20,8 @@ request_use i status ForTables = command_use (command_at i.name) status
 request_use i status ForRepository = Untouched
 request_use i status ForData = Untouched
 
--- an allowed command that is this request was answered and had its effect on a node that was this
--- at its moment
+-- an allowed command, which is the request `request`, was answered and had its effect on the node
+-- `was`, for which time had already advanced to the moment of the command
 pub record IsCommanded (was : NodeState) (face : ℕ) (token : Token) (i : PlainInterest)
     (request : Request) (status : ℕ) (sends : List Send) (new : NodeState) : Type 0 where
   pub answered : status ≡ (allowed_reply was.policy face i request).status
@@ -32,7 +33,7 @@ pub record IsCommanded (was : NodeState) (face : ℕ) (token : Token) (i : Plain
   pub cache : CacheAfter was.policy.now was.pending (request_use i status request)
       was.cache new.cache
 
--- the sends are appended to the earlier ones
+-- the command was carried out, and its sends were appended to the earlier sends
 abbrev pub IsCarriedOut : State → State → List Send → List Send → ℕ → Token → ℕ → PlainInterest
     → Request → ℕ → Type 0
 IsCarriedOut old new before after face token moment i request status =

@@ -1,6 +1,6 @@
--- How commands are answered, and what they change (NFD Management, "Control Command"). A command
--- that is allowed is recorded and replied to in the same step, whatever its status; the status
--- tells whether it has its effect.
+-- How commands are answered, and what they change (NFD Management, "Control Command"). An allowed
+-- command is recorded and answered in the same step, whatever its status; the status tells whether
+-- the command has its effect.
 use Rattle.std.specs.Prelude.{◌≡◌, ℕ, List, [], ◌∷◌, ◌++◌, length, Bool, Option, None, Some, unwrap_or, slice_get, codes, nat_lt, ◌||◌, Result, Ok, Err, if◌then◌else◌}
 use Rattle.std.specs.Option.{option_map}
 use Rattle.std.specs.FinMap as map
@@ -44,7 +44,7 @@ NOT_AUTHORIZED = 403
 
 -- ---- commands on routes, strategies and the cache
 
--- the status of a command that came from a face
+-- the status in the reply to a command that came from this face
 abbrev pub tables_status : Policy → ℕ → Result PlainCommand ℕ → ℕ
 tables_status p face (Err status) = status
 tables_status p face (Ok c) = status_of c face (open_faces p) p.routes p.choices
@@ -58,7 +58,7 @@ tables_reply p face c =
     let status = tables_status p face c in
     response status (unwrap_or (text_of status) []) (tables_body p face c)
 
--- the routes and strategies after the command, and the next version of the lists
+-- the routes and strategies after the command, with the next version of the lists
 abbrev pub after_tables : Policy → ℕ → Result PlainCommand ℕ → Policy
 after_tables p face (Err status) = with_next_version p
 after_tables p face (Ok c) =
@@ -79,7 +79,7 @@ repository_content r = repo_response r.status (unwrap_or (repo_text_of r.status)
 abbrev pub after_repository : Policy → PlainInterest → Policy
 after_repository p i = record p { held = after_command p.repo i.name p.now p.held }
 
--- the Interest by which the node asks for what is wanted
+-- the Interest by which the node asks for the Data that the repository wants
 abbrev pub fetch_text : Want → List ℕ → List ℕ
 fetch_text want nonce =
     element (
@@ -88,8 +88,8 @@ fetch_text want nonce =
           ++ (NONCE, nonce) ∷ (INTEREST_LIFETIME, shortest_nni want.lifetime) ∷ [])),
     )
 
--- such an Interest cannot be written: its name is empty or has a digest of parameters, or it is too
--- long, which is not expected, since the command is longer
+-- whether the node's Interest cannot be written: its name is empty or has a parameters digest, or
+-- the Interest is too long, which is not expected, since the command is longer than the Interest
 abbrev pub is_unwritable : Want → List ℕ → Bool
 is_unwritable want nonce =
     is_bad_name want.name || nat_lt 8800 (length (fetch_text want nonce))
@@ -98,7 +98,8 @@ abbrev pub to_chosen : Choice → List ℕ → List Send
 to_chosen choices.NoRoute text = []
 to_chosen (choices.Send faces) text = to_each faces text
 
--- It is sent to where the strategy sends a new Interest that no face asked for.
+-- The node's Interest is sent to the faces that the strategy chooses for a new Interest that no
+-- face asked for.
 abbrev pub fetch_sends : Policy → List ℕ → Option Want → List Send
 fetch_sends p nonce None = []
 fetch_sends p nonce (Some want) =
@@ -107,13 +108,13 @@ fetch_sends p nonce (Some want) =
 
 -- ---- all commands
 
--- the reply to a command, and what is fetched for it
+-- the reply to a command, and the Interests that the node sends to fetch Data for the command
 pub record Reply : Type 0 where
   pub status : ℕ
   pub content : List ℕ
   pub fetches : List Send
 
--- no other request is decided
+-- the reply to an allowed request; requests that rules do not decide have none
 abbrev pub allowed_reply : Policy → ℕ → PlainInterest → Request → Reply
 allowed_reply p face i (Refused reason) = record { status = 0; content = []; fetches = [] }
 allowed_reply p face i (ForList asked) = record { status = 0; content = []; fetches = [] }
@@ -129,7 +130,7 @@ allowed_reply p face i ForRepository =
     }
 allowed_reply p face i ForData = record { status = 0; content = []; fetches = [] }
 
--- a reply of status 403
+-- the Content of a reply of status 403
 abbrev pub refused_content : Request → List ℕ → List ℕ
 refused_content (Refused reason) text = []
 refused_content (ForList asked) text = []
@@ -137,18 +138,18 @@ refused_content ForTables text = response NOT_AUTHORIZED text []
 refused_content ForRepository text = repo_response NOT_AUTHORIZED text 0
 refused_content ForData text = []
 
--- why a command is denied, and by which rule
+-- the id of the rule that denies a command, and the text that gives the reason and this id
 abbrev pub id_of : List PlainRule → ℕ → List ℕ
 id_of rules rule = unwrap_or (option_map (λ r. r.id) (slice_get rules rule)) []
 
 abbrev pub denial_text : Policy → ℕ → Reason → List ℕ
 denial_text p rule reason = reason_name reason ++ (codes " by " ++ id_of p.rules rule)
 
--- a Data of the command's name, on the face that the command came from
+-- a Data with the command's name, sent back on the face that the command came from
 abbrev pub replied : ℕ → Token → PlainInterest → List ℕ → Send
 replied face token i content = sent_back face token (reply_text i.name content)
 
--- the Content of the reply to a command, by the decision on it
+-- the Content of the reply to a command, given the decision on the command
 abbrev pub reply_content : Policy → ℕ → PlainInterest → Decision → List ℕ
 reply_content p face i (decided.Allowed rule) =
     (allowed_reply p face i (request_of p face i)).content
@@ -156,7 +157,7 @@ reply_content p face i (decided.Denied rule reason) =
     refused_content (request_of p face i) (denial_text p rule.0 reason)
 reply_content p face i decided.NoRule = refused_content (request_of p face i) (codes "no rule")
 
--- the answer to a command, by the decision on it
+-- the answer to a command, given the decision on the command
 abbrev pub command_answer : Policy → ℕ → Token → PlainInterest → Decision → Answer
 command_answer p face token i (decided.Allowed rule) =
     let reply = allowed_reply p face i (request_of p face i) in
@@ -173,8 +174,8 @@ command_answer p face token i decided.NoRule = record {
   sends = replied face token i (reply_content p face i decided.NoRule) ∷ [];
 }
 
--- How a packet that is denied, or that no rule applies to, is answered: a command by a reply of
--- status 403, which names the reason and the rule, and a Data by nothing. No other packet is
+-- How a packet is answered that is denied, or to which no rule applies: a command gets a reply of
+-- status 403, which names the reason and the rule, and a Data gets no answer. No other packet is
 -- denied.
 abbrev pub IsDenial : Policy → ℕ → Token → PlainFrame → Decision → Answer → Type 0
 IsDenial p face token (AnInterest whole i) (decided.Allowed rule) answer = ⊥
@@ -190,12 +191,12 @@ IsDenial p face token (AData whole d) decided.NoRule answer =
 IsDenial p face token (ANack reason whole i) decision answer = ⊥
 IsDenial p face token Idle decision answer = ⊥
 
--- the signer, time and number of an allowed command are recorded
+-- the policy after the signer, time and number of an allowed command are recorded
 abbrev pub with_record : Policy → Option Recorded → Policy
 with_record p None = p
 with_record p (Some r) = record p { guard = with_recorded p.guard r }
 
--- what an allowed command changes
+-- the policy after an allowed command
 abbrev pub after_request : Policy → ℕ → PlainInterest → Request → Policy
 after_request p face i (Refused reason) = p
 after_request p face i (ForList asked) = p

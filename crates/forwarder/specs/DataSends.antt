@@ -1,5 +1,5 @@
--- Why Data are sent: each answers an Interest that is pending on its face, or the Interest of the
--- event itself.
+-- Why Data are sent: each sent Data answers an Interest that is pending on the face, or the
+-- Interest that the event brings.
 use Rattle.std.specs.Prelude.{◌≡◌, ◌≢◌, ◌⊎◌, ℕ, List, [], ◌∷◌, Bool, true, false, None, Some, All, Result, Ok, Err, ⊤, ◌==◌, ◌||◌, if◌then◌else◌}
 use Rattle.sha2.specs.Sha256.{sha256}
 use Rattle.ndn_tlv.specs.Element.{Field}
@@ -26,9 +26,9 @@ use Rattle.forwarder.specs.Request.{ListAsked, is_command, list_asked, request_o
 use Rattle.forwarder.specs.Replies.{Seen, Waits}
 use Rattle.forwarder.specs.Verdict.{Answer, passed}
 
--- The event brings a Data that is allowed, and its received octets are sent to another face with a
--- pending Interest for it: one under some key that the Data answers. The token of the face's latest
--- such Interest is sent with them.
+-- The event brings a Data that is allowed, and its received octets are sent to another face that
+-- has a pending Interest for it, under some key that the Data answers. They are sent with the token
+-- of that face's latest such Interest.
 pub record IsForwardedData (seen : Seen) (event : PlainEvent) (sent : Send) : Type 0 where
   pub face : ℕ
   pub now : ℕ
@@ -46,21 +46,21 @@ pub record IsForwardedData (seen : Seen) (event : PlainEvent) (sent : Send) : Ty
   pub is_token : IsTokenFor seen.records packet.name (sha256 whole) sent.0 token
   pub received : sent ≡ sent_back sent.0 token whole
 
--- the reply to a command, by the decision on it
+-- these octets are the reply to a command, given a decision on the command
 abbrev pub IsReplyToCommand : Policy → ℕ → List ℕ → PlainInterest → List ℕ → Type 0
 IsReplyToCommand p face whole i octets =
     (is_command (request_of p face i) ≡ true)
     × ((decision : Decision) × IsDecidedAs p (AnInterest whole i) decision
     × (octets ≡ reply_text i.name (reply_content p face i decision)))
 
--- the segment that is asked for, of the list as it is now
+-- these octets are the requested segment of the list, as the list is now
 abbrev pub IsSegmentAskedFor : Policy → ℕ → PlainInterest → List ℕ → Type 0
 IsSegmentAskedFor p face i octets =
     (asked : ListAsked) × (list_asked i ≡ Some asked)
     × (list_answer p face None asked ≡ passed ((face, octets) ∷ []))
 
--- where a Data that answers an Interest at once comes from: the cache, the repository, or the node
--- itself
+-- these octets are a Data that answers the Interest at once: from the cache, from the repository,
+-- or made by the node itself
 abbrev pub IsAtHand : Seen → ℕ → List ℕ → PlainInterest → List ℕ → Type 0
 IsAtHand seen face whole i octets =
     seen.MayGive (key_of i) (Some octets)
@@ -68,7 +68,8 @@ IsAtHand seen face whole i octets =
     ⊎ (IsReplyToCommand seen.policy face whole i octets
     ⊎ IsSegmentAskedFor seen.policy face i octets))
 
--- the event brings an Interest, and such a Data is sent back to its face, with the Interest's token
+-- the event brings an Interest, and a Data that answers the Interest at once is sent back to the
+-- Interest's face, with the Interest's token
 pub record IsReply (seen : Seen) (event : PlainEvent) (sent : Send) : Type 0 where
   pub now : ℕ
   pub octets : List ℕ
@@ -80,7 +81,7 @@ pub record IsReply (seen : Seen) (event : PlainEvent) (sent : Send) : Type 0 whe
   pub at_hand : IsAtHand seen sent.0 whole interest packet
   pub answered : sent ≡ sent_back sent.0 (token_at octets) packet
 
--- whether octets are a Data, as they are read
+-- whether these octets are read as a Data
 abbrev pub is_data_frame : Result PlainFrame PacketFault → Bool
 is_data_frame (Err fault) = false
 is_data_frame (Ok (AnInterest whole i)) = false
@@ -88,13 +89,13 @@ is_data_frame (Ok (AData whole d)) = true
 is_data_frame (Ok (ANack reason whole i)) = false
 is_data_frame (Ok Idle) = false
 
--- whether an element is a Data by its type
+-- whether the type of the element is that of a Data
 abbrev pub is_data_element : Result Field PacketFault → Bool
 is_data_element (Err fault) = false
 is_data_element (Ok e) = e.0 == DATA
 
--- whether a link packet of these elements carries a Data by its type: its Fragment is one, and no
--- Nack comes before it
+-- whether a link packet with these elements carries a Data: the element in its Fragment has the
+-- type of a Data, and no Nack comes before the Fragment
 abbrev pub carries_data : List (Result Field TlvFault) → Bool
 carries_data [] = false
 carries_data (Err fault ∷ elements) = false
@@ -107,12 +108,12 @@ abbrev pub holds_data : Result Field PacketFault → Bool
 holds_data (Err fault) = false
 holds_data (Ok e) = if e.0 == LINK_PACKET then carries_data (elements_of e.1) else (e.0 == DATA)
 
--- Whether octets of a link hold a Data, bare or in a link packet: one that can be read, or one that
--- is too long for that, as a reply of the node may be.
+-- Whether octets that go over a link hold a Data, either bare or in a link packet: a Data that can
+-- be read, or a Data that is too long to be read, such as a long reply of the node.
 abbrev pub is_data : List ℕ → Bool
 is_data octets = is_data_frame (frame_at octets) || holds_data (only_element octets)
 
--- each Data that is sent is one of these two; nothing else that is sent is a Data
+-- each sent Data is a forwarded Data or a reply; nothing else that is sent is a Data
 abbrev pub IsExplained : Seen → PlainEvent → Send → Type 0
 IsExplained seen event sent =
     IsForwardedData seen event sent ⊎ (IsReply seen event sent ⊎ (is_data sent.1 ≡ false))
@@ -120,7 +121,7 @@ IsExplained seen event sent =
 abbrev pub EachIsExplained : Seen → PlainEvent → Answer → Type 0
 EachIsExplained seen event answer = All (IsExplained seen event) answer.sends
 
--- the octets of an event are numbers below 256
+-- the octets that an event brings are numbers below 256
 abbrev pub BringsOctets : PlainEvent → Type 0
 BringsOctets (Packet face now octets) = AreOctets octets
 BringsOctets (FaceUp face scope now) = ⊤

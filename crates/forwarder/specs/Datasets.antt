@@ -15,7 +15,7 @@ abbrev pub dataset_text : Policy → ListKind → List ℕ
 dataset_text p RouteList = fib_text p.now p.routes
 dataset_text p StrategyList = strategy_text p.choices
 
--- the name of a segment: the list, its version and the segment's number
+-- the name of a segment: the name of the list, its version and the segment's number
 abbrev pub segment_name : ListKind → ℕ → ℕ → List Field
 segment_name kind version segment =
     list_name kind ++ (VERSION, shortest_nni version) ∷ (SEGMENT, shortest_nni segment) ∷ []
@@ -24,7 +24,7 @@ segment_name kind version segment =
 abbrev pub LIST_FRESHNESS : ℕ
 LIST_FRESHNESS = 1000
 
--- a segment, as Data that names the last one, signed with DigestSha256
+-- a segment as a Data, signed with DigestSha256, whose FinalBlockId names the last segment
 abbrev pub segment_data : List Field → List ℕ → ℕ → List ℕ
 segment_data name content last =
     signed_data sign.Digest name (meta_of (meta_fields (Some LIST_FRESHNESS) (Some last)))
@@ -35,7 +35,7 @@ segment_answer face token name None = dropped NoSegment
 segment_answer face token name (Some part) =
     passed (sent_back face token (segment_data name part.0 part.1) ∷ [])
 
--- the version that is asked for is the current one, or none is asked for
+-- the version that is asked for is the current one, or no version is asked for
 abbrev pub is_present : Policy → Option ℕ → Bool
 is_present p None = true
 is_present p (Some version) = version == p.table_number
@@ -48,7 +48,7 @@ list_answer p face token asked =
     (segment_at (dataset_text p asked.kind) asked.segment)
     else dropped NoSegment
 
--- an answer with a segment's octets, if there are some
+-- an answer with the octets of a segment, or a drop if the list has no such segment
 abbrev pub answered_with : ℕ → Token → Option (List ℕ) → Answer
 answered_with face token None = dropped NoSegment
 answered_with face token (Some octets) = passed (sent_back face token octets ∷ [])

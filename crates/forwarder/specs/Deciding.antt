@@ -1,5 +1,5 @@
--- How commands and Data are decided: by the rules, and a command also by what was recorded of its
--- signer (NDN Packet Format 0.3, "Signed Interest").
+-- How commands and Data are decided: by the rules and, for a command, also by what was recorded of
+-- its signer (NDN Packet Format 0.3, "Signed Interest").
 use Rattle.std.specs.Prelude.{◌≡◌, ◌⊎◌, ◌==◌, ℕ, Option, None, Some, IfSome, ⊤, if◌then◌else◌}
 use Rattle.ndn_packets.specs.Packet.{PlainLocator, Missing, KeyName, Digest, Other, PlainSignatureInfo, PlainInterest, PlainFrame, AnInterest, AData, ANack, Idle}
 use Rattle.ndn_packets.specs.declared.types.TheConstants.{DIGEST_SHA256}
@@ -19,11 +19,11 @@ key_named (KeyName name) = Some name
 key_named Digest = None
 key_named Other = None
 
--- the signer: all DigestSha256 commands are of one signer
+-- the signer of a command; all commands signed with DigestSha256 count as commands of one signer
 abbrev pub signer_in : PlainSignatureInfo → Signer
 signer_in info = if info.kind == DIGEST_SHA256 then None else key_named info.locator
 
--- what is recorded of a command: its signer, and its time and number
+-- what is recorded of a command: its signer, its time and its number
 abbrev pub recorded_with : PlainSignatureInfo → Option ℕ → Option Recorded
 recorded_with info None = None
 recorded_with info (Some time) =
@@ -35,24 +35,25 @@ recorded_of i = elim i.signature [
   | Some signature ↦ recorded_with signature.info signature.info.time
 ]
 
--- the same, as it is read off an Interest
+-- what is recorded of a command, from the values read off its Interest
 abbrev pub recorded_by : Signed → Recorded
 recorded_by s = record { signer = signer_of s.signer; time = s.time; number = s.seq }
 
--- the time of a command is near now, and it is newer than all that was recorded of its signer
+-- the time of a command is near `p.now`, and the command is newer than all that was recorded of its
+-- signer
 abbrev pub IsFreshCommand : Policy → PlainInterest → Type 0
 IsFreshCommand p i =
     IfSome (recorded_of i) (λ r. IsFresh p.guard r.signer r.time r.number p.now)
 
--- a command has to be fresh; a Data need not
+-- whether a packet is fresh enough: a command has to be fresh, a Data does not
 abbrev pub IsFreshPacket : Policy → PlainFrame → Type 0
 IsFreshPacket p (AnInterest whole i) = IsFreshCommand p i
 IsFreshPacket p (AData whole d) = ⊤
 IsFreshPacket p (ANack reason whole i) = ⊤
 IsFreshPacket p Idle = ⊤
 
--- The first rule that applies decides. A command that it allows and that is not fresh is denied by
--- that rule, as a replay.
+-- The first rule that applies decides. If that rule allows a command that is not fresh, the rule
+-- denies it as a replay.
 abbrev pub IsDecidedAs : Policy → PlainFrame → Decision → Type 0
 IsDecidedAs p packet (Allowed rule) =
     Decides p.rules p.keys packet (Allowed rule) × IsFreshPacket p packet

@@ -30,7 +30,7 @@ abbrev pub with_open : Policy → ℕ → Scope → Policy
 with_open p face scope =
     if can_open p face then record p { faces = with_face face scope p.faces } else p
 
--- a face closes: its next hops and routes are removed, and the lists have their next version
+-- a face closes: its next hops and routes are removed, and the lists get their next version
 abbrev pub with_closed : Policy → ℕ → Policy
 with_closed p face =
     if is_open face p.faces then with_next_version (record p {
@@ -38,7 +38,7 @@ with_closed p face =
       routes = without_face p.routes face;
     }) else p
 
--- the packet of an event that rules decide, if there is one
+-- the packet of an event, if rules decide it
 abbrev pub packet_to_decide : Policy → ℕ → Result PlainFrame PacketFault → Option PlainFrame
 packet_to_decide p face (Err fault) = None
 packet_to_decide p face (Ok packet) = if is_decided p face packet then Some packet else None
@@ -51,7 +51,8 @@ decided_packet p (FaceDown face now) = None
 decided_packet p (Tick now) = None
 decided_packet p (NewRules rules keys now) = None
 
--- what an allowed packet changes: a command has its effect, and a Data is stored where it is wanted
+-- the policy after an allowed packet: a command has its effect, and a Data is stored if the
+-- repository wants it
 abbrev pub after_packet : Policy → ℕ → PlainFrame → Policy
 after_packet p face (AnInterest whole i) = after_allowed p face i
 after_packet p face (AData whole d) =
@@ -59,7 +60,7 @@ after_packet p face (AData whole d) =
 after_packet p face (ANack reason whole i) = p
 after_packet p face Idle = p
 
--- a denied packet changes nothing
+-- the policy after a decision; a denied packet changes nothing
 abbrev pub after_decision : Policy → ℕ → PlainFrame → Decision → Policy
 after_decision p face packet (Allowed rule) = after_packet p face packet
 after_decision p face packet (Denied rule reason) = p
@@ -72,7 +73,7 @@ face_in (FaceDown face now) = face
 face_in (Tick now) = 0
 face_in (NewRules rules keys now) = 0
 
--- an event that brings nothing to be decided
+-- the policy after an event without a packet that rules decide
 abbrev pub undecided_effect : Policy → PlainEvent → Policy
 undecided_effect p (Packet face now octets) = p
 undecided_effect p (FaceUp face scope now) = with_open p face scope
@@ -80,15 +81,15 @@ undecided_effect p (FaceDown face now) = with_closed p face
 undecided_effect p (Tick now) = p
 undecided_effect p (NewRules rules keys now) = with_rules p rules keys
 
--- what an event changes once its moment has come
+-- what an event changes once time has advanced to its moment
 abbrev pub IsEffect : Policy → PlainEvent → Policy → Option PlainFrame → Type 0
 IsEffect p event new None = new ≡ undecided_effect p event
 IsEffect p event new (Some packet) =
     (decision : Decision) × IsDecidedAs p packet decision
     × (new ≡ after_decision p (face_in event) packet decision)
 
--- A moment comes, and then the event has its effect. It is a function of the old policy and the
--- event, since each packet has one decision.
+-- Time advances to the moment of the event, and then the event has its effect. The new policy is a
+-- function of the old policy and the event, since each packet has only one decision.
 abbrev pub IsAfter : Policy → PlainEvent → Policy → Type 0
 IsAfter old event new =
     let p = at_moment old (moment event) in

@@ -1,4 +1,4 @@
--- Events and what is sent, as plain data.
+-- Events and sends as plain data.
 use Rattle.std.specs.Prelude.{ℕ, List, map, Option, None, Some}
 use Rattle.hmac_keys.specs.KeyFile.{NamedKey}
 use Rattle.info_rules.specs.Rule.{PlainRule}
@@ -17,7 +17,7 @@ pub data PlainEvent : Type 0 where
   Tick : (now : ℕ) → PlainEvent
   NewRules : (rules : List PlainRule) (keys : List NamedKey) (now : ℕ) → PlainEvent
 
--- an event without the place of its octets in memory
+-- an event as plain data, independent of where its octets are in memory
 abbrev pub plain : Event → PlainEvent
 plain (code.Packet face now octets) = Packet face now octets.now
 plain (code.FaceUp face scope now) = FaceUp face scope now
@@ -39,7 +39,7 @@ moment (FaceDown face now) = now
 moment (Tick now) = now
 moment (NewRules rules keys now) = now
 
--- the rules that are in force after an event, where these are before it
+-- the rules in force after an event, if `rules` are those in force before it
 abbrev pub rules_after : PlainEvent → List PlainRule → List PlainRule
 rules_after (Packet face now octets) rules = rules
 rules_after (FaceUp face scope now) rules = rules
@@ -51,7 +51,7 @@ rules_after (NewRules new keys now) rules = new
 abbrev pub Token : Type 0
 Token = Option (List ℕ)
 
--- the token of the link packet that an event brings
+-- the token of the link packet that an event brings, if it brings one
 abbrev pub token_in : PlainEvent → Token
 token_in (Packet face now octets) = token_at octets
 token_in (FaceUp face scope now) = None
@@ -63,14 +63,14 @@ token_in (NewRules rules keys now) = None
 abbrev pub Send : Type 0
 Send = ℕ × List ℕ
 
--- a packet is sent back to a face that asked, with the token of its Interest
+-- a packet is sent back to a face that asked, with the token of the face's Interest
 abbrev pub sent_back : ℕ → Token → List ℕ → Send
 sent_back face token packet = (face, lp_text token None packet)
 
--- a Nack of a reason is sent back around the Interest, with its token
+-- a Nack of this reason is sent back around the Interest, with the Interest's token
 abbrev pub nacked_back : ℕ → Token → ℕ → List ℕ → Send
 nacked_back face token reason whole = (face, lp_text token (Some reason) whole)
 
--- the octets to each of these faces
+-- the same octets, sent to each of these faces
 abbrev pub to_each : List ℕ → List ℕ → List Send
 to_each faces octets = map (λ face. (face, octets)) faces

@@ -16,13 +16,13 @@ use Rattle.forwarder.specs.Replies.{by_strategy}
 use Rattle.forwarder.specs.Node.{FollowAll, NodeState}
 use Rattle.forwarder.specs.State.{state_of}
 
--- the strategy's choice for an Interest that came on a face
+-- the strategy's choice for an Interest that came on `face`
 abbrev pub choice_from : NodeState → ℕ → PlainInterest → Choice
 choice_from s face i =
     choice_for s.policy i.name (moments (records_at s.pending (key_of i)).out_records)
     (ask_from s.policy face i)
 
--- an Interest was sent on by this choice
+-- an Interest was sent on as this choice says
 pub record IsForwarded (was : NodeState) (face : ℕ) (token : Token) (whole : List ℕ)
     (i : PlainInterest) (choice : Choice) (answer : Answer) (new : NodeState) : Type 0 where
   pub replied : answer ≡ by_strategy (seen_by was) (key_of i) whole i face token choice

@@ -1,5 +1,5 @@
--- One step by a packet that came on an open face and was read: time passes, and then it is answered
--- and has its effect.
+-- One step for a packet that was read and came on an open face: time passes, then the packet is
+-- answered and has its effect.
 use Rattle.std.specs.Prelude.{◌≡◌, ◌++◌, ℕ, List, Bool, true, false, Option, Result, Ok, IfOk, IfSome, OnErr}
 use Rattle.std.specs.Borrow.{Bor}
 use Rattle.std.specs.Option.{option_map}
@@ -30,7 +30,7 @@ use Rattle.forwarder.specs.Replies.{Seen, RepliesToPacket}
 use Rattle.forwarder.specs.Node.{NodeState, FollowAll, ChangesCacheOnly, seen_in}
 use Rattle.forwarder.specs.State.{IsLater, IsSound, state_of}
 
--- what a packet changes, by whether rules decide it
+-- the policy after a packet; the last argument tells whether rules decide the packet
 abbrev pub IsPacketEffect : Policy → ℕ → PlainFrame → Policy → Bool → Type 0
 IsPacketEffect p face packet new true =
     (decision : Decision) × IsDecidedAs p packet decision
@@ -40,7 +40,7 @@ IsPacketEffect p face packet new false = new ≡ p
 abbrev pub seen_by : NodeState → Seen
 seen_by s = seen_in s.policy s.pending s.cache
 
--- how a packet and its answer change records, and use the cache
+-- how a packet and its answer change the records and use the cache
 abbrev pub packet_causes : ℕ → ℕ → Token → PlainFrame → Answer → List Cause
 packet_causes now face token packet answer =
     causes_by now token answer.sends (packet_outcome face packet answer.verdict)
@@ -48,8 +48,8 @@ packet_causes now face token packet answer =
 abbrev pub packet_use : ℕ → ℕ → PlainFrame → Verdict → CacheUse
 packet_use now face packet verdict = cache_use now (packet_outcome face packet verdict)
 
--- a packet that came with this token was answered and had its effect on a node that was this at its
--- moment
+-- a packet that came with this token was answered and had its effect on the node `was`, for which
+-- time had already advanced to the moment of the packet
 pub record IsAnswered (was : NodeState) (face : ℕ) (token : Token) (packet : PlainFrame)
     (answer : Answer) (new : NodeState) : Type 0 where
   pub replies : RepliesToPacket (seen_by was) face token (Ok packet) answer
@@ -61,7 +61,7 @@ pub record IsAnswered (was : NodeState) (face : ℕ) (token : Token) (packet : P
   pub cache : CacheAfter was.policy.now was.pending
       (packet_use was.policy.now face packet answer.verdict) was.cache new.cache
 
--- the sends are appended to the earlier ones
+-- the packet was handled, and its sends were appended to the earlier sends
 abbrev pub IsHandled : State → State → List Send → List Send → ℕ → Token → ℕ → PlainFrame
     → code.Verdict → Type 0
 IsHandled old new before after face token moment packet verdict =
@@ -70,19 +70,19 @@ IsHandled old new before after face token moment packet verdict =
     × IsAnswered was face token packet (record { verdict = verdict_of verdict; sends = sends })
     (state_of new)
 
--- the token of a packet that came
+-- the token that came with a packet
 abbrev pub token_of : Option (Bor (List ℕ)) → Token
 token_of token = option_map (λ t. t.now) token
 
--- an Interest and a Data as packets
+-- an Interest or a Data as a packet
 abbrev pub interest_packet : Interest → PlainFrame
 interest_packet i = AnInterest i.whole.now (plain_interest i)
 
 abbrev pub data_packet : Data → PlainFrame
 data_packet d = AData d.whole.now (plain_data d)
 
--- What is true where a packet comes on a face with a token: the node is sound, the face is open,
--- the token is one, and what the repository stores is Data.
+-- What is true when a packet comes on a face with a token: the node is sound, the face is open, the
+-- token is valid, and each object that the repository stores is a Data.
 pub record AwaitsPacket (s : State) (face : ℕ) (token : Token) : Type 0 where
   pub sound : IsSound (state_of s)
   pub from : is_open face s.faces ≡ true

@@ -1,4 +1,4 @@
--- The next hops as a reading of a run, for one name and one face (NFD Management, "FIB
+-- The next hops as they are read off a run, for one name and one face (NFD Management, "FIB
 -- Management").
 use Rattle.std.specs.Prelude.{ℕ, List, Bool, Option, None, Some, Result, Ok, Err, ◌==◌, ◌&&◌, if◌then◌else◌}
 use Rattle.std.specs.Ordering.{eq_by_cmp}
@@ -11,12 +11,13 @@ use Rattle.mgmt_core.specs.Tables.{face_of}
 use Rattle.forwarder.specs.Outcome.{Outcome, Nothing, InterestPassed, CommandAllowed, DataCame, NackPassed, FaceClosed, outcome_of}
 use Rattle.forwarder.specs.Runs.{Run, Start, Then}
 
--- a command that came from a face names this hop; without a face it names the one it came from
+-- a command that came from the face `from` names this next hop; a command without a FaceId names
+-- the face that it came from
 abbrev pub names_hop : PlainCommand → ℕ → List Field → ℕ → Bool
 names_hop c from name face = eq_by_cmp name_cmp name c.name && (face == face_of c from)
 
--- a command that was done: add-nexthop sets the cost of the hop that it names, and remove-nexthop
--- removes that hop
+-- the cost of a next hop after a command that took effect: add-nexthop sets the cost of the next
+-- hop that it names, and remove-nexthop removes that next hop
 abbrev pub cost_after_command : Result PlainCommand ℕ → ℕ → List Field → ℕ → Option ℕ → Option ℕ
 cost_after_command (Err status) from name face was = was
 cost_after_command (Ok c) from name face was =
@@ -26,8 +27,9 @@ cost_after_command (Ok c) from name face was =
       | _ ↦ was
     ]
 
--- What an outcome does to the cost of a hop; None: there is no such hop. An allowed command changes
--- it where its status is 200. Where a face closes, its hops are removed.
+-- The cost of a next hop after an outcome, where None means that there is no such next hop. An
+-- allowed command changes the cost if the command's status is 200. When a face closes, its next
+-- hops are removed.
 abbrev pub cost_after : Outcome → List Field → ℕ → Option ℕ → Option ℕ
 cost_after Nothing name face was = was
 cost_after (InterestPassed from whole i) name face was = was
@@ -37,7 +39,8 @@ cost_after (DataCame whole d) name face was = was
 cost_after (NackPassed from reason i) name face was = was
 cost_after (FaceClosed closed) name face was = if face == closed then None else was
 
--- the cost that the last command on this hop gave it, where nothing has ended it since
+-- the cost that the last command on this next hop gave it, if nothing has removed the next hop
+-- since
 abbrev pub cost_of : Run → List Field → ℕ → Option ℕ
 cost_of Start name face = None
 cost_of (Then before event answer) name face =

@@ -1,5 +1,5 @@
--- Which Interests become pending (NFD Developer's Guide, "Incoming Interest Pipeline"): those that
--- are passed, where neither a Data nor a Nack is sent back to their face.
+-- Which Interests become pending (NFD Developer's Guide, "Incoming Interest Pipeline"): passed
+-- Interests to whose face neither a Data nor a Nack is sent back.
 use Rattle.std.specs.Prelude.{◌≡◌, ◌⊎◌, ℕ, List, [], ◌∷◌, false, Ok}
 use Rattle.ndn_packets.specs.FrameReading.{frame_at}
 use Rattle.ndn_packets.specs.Key.{PlainKey, key_of}
@@ -14,7 +14,7 @@ use Rattle.forwarder.specs.NextHops.{sent_on}
 use Rattle.forwarder.specs.Replies.{Seen}
 use Rattle.forwarder.specs.DataSends.{IsAtHand}
 
--- the event brings this Interest on this face, and it is passed
+-- the event brings this Interest on this face, and the Interest is passed
 pub record IsPassed (event : PlainEvent) (answer : Answer) (face : ℕ) (whole : List ℕ)
     (interest : PlainInterest) : Type 0 where
   pub now : ℕ
@@ -24,7 +24,8 @@ pub record IsPassed (event : PlainEvent) (answer : Answer) (face : ℕ) (whole :
   pub passed : answer.verdict ≡ Passed
 
 -- The event brings an Interest of this key that is passed, nothing is sent back to its face, and no
--- Nack is sent. So it is pending on the face, with this record, which has the Interest's token.
+-- Nack is sent. So the Interest is pending on the face, with the in-record `in_record`, which has
+-- the Interest's token.
 pub record IsKept (now : ℕ) (event : PlainEvent) (answer : Answer) (key : PlainKey) (face : ℕ)
     (in_record : InRecord) : Type 0 where
   pub whole : List ℕ
@@ -35,15 +36,15 @@ pub record IsKept (now : ℕ) (event : PlainEvent) (answer : Answer) (key : Plai
   pub is_key : key ≡ key_of interest
   pub is_record : in_record ≡ in_record_for now (token_in event) whole interest
 
--- it is sent on to other faces alone, as it came but for its HopLimit and without its token; to
--- none, where the strategy waits for those that were asked before
+-- the Interest is sent on to other faces only, without its token and unchanged except for its
+-- HopLimit; to no face, if the strategy waits for the faces that it was sent to before
 abbrev pub IsSentOn : ℕ → List ℕ → PlainInterest → List Send → Type 0
 IsSentOn face whole i sends =
     (faces : List ℕ) × (has_face face faces ≡ false)
     × (sends ≡ to_each faces (sent_on whole i.hop_limit))
 
--- one packet is sent back to its face with its token, and nothing to others: a Nack NoRoute, or a
--- Data from the cache, the repository or the node
+-- one packet is sent back to the Interest's face with its token, and nothing is sent to other
+-- faces: the packet is a Nack NoRoute, or a Data from the cache, the repository or the node
 abbrev pub IsSentBack : Seen → ℕ → Token → List ℕ → PlainInterest → List Send → Type 0
 IsSentBack seen face token whole i sends =
     (sends ≡ nacked_back face token NO_ROUTE whole ∷ [])

@@ -1,5 +1,5 @@
--- Where Interests are sent: the choice of the name's strategy among the next hops of its longest
--- prefix (NFD Developer's Guide, "Strategies", "Outgoing Interest Pipeline").
+-- Where Interests are sent: the strategy of the name chooses among the next hops of the longest
+-- prefix match (NFD Developer's Guide, "Strategies", "Outgoing Interest Pipeline").
 use Rattle.std.specs.Prelude.{ℕ, ◌-◌, List, Bool, false, Option, None, Some, unwrap_or, ◌==◌}
 use Rattle.ndn_tlv.specs.Element.{Field}
 use Rattle.ndn_packets.specs.HopLimit.{with_octet}
@@ -22,7 +22,7 @@ abbrev pub selection_of : StrategyId → Selection
 selection_of BestRoute = best_route
 selection_of Multicast = multicast
 
--- the strategy of the longest prefix that has one; `/` always has one
+-- the strategy of the longest prefix that has a strategy; `/` always has one
 abbrev pub strategy_for : Policy → List Field → StrategyId
 strategy_for p name = unwrap_or (longest p.choices name) BestRoute
 
@@ -30,17 +30,18 @@ strategy_for p name = unwrap_or (longest p.choices name) BestRoute
 abbrev pub hops_for : Policy → List Field → List Hop
 hops_for p name = marked (local_faces p) (longest_hops p.routes name)
 
--- the strategy's choice for an Interest of this name that was sent to these faces before
+-- the strategy's choice for an Interest of this name, where `asked` has the faces that the Interest
+-- was sent to before
 abbrev pub choice_for : Policy → List Field → ByFace → Ask → Choice
 choice_for p name asked ask =
     chosen (selection_of (strategy_for p name)) (hops_for p name) asked ask
 
--- whether HopLimit is 0 once it is lowered
+-- whether the HopLimit becomes 0 when it is decremented
 abbrev pub is_last_hop : Option ℕ → Bool
 is_last_hop None = false
 is_last_hop (Some limit) = limit == 1
 
--- an Interest that came on a face
+-- what the strategy is asked about an Interest that came on `face`
 abbrev pub ask_from : Policy → ℕ → PlainInterest → Ask
 ask_from p face i = record {
   asker = Some face;
@@ -49,7 +50,7 @@ ask_from p face i = record {
   now = p.now;
 }
 
--- an Interest of the node itself
+-- what the strategy is asked about an Interest of the node itself
 abbrev pub ask_for : Policy → List Field → Ask
 ask_for p name = record {
   asker = None;
@@ -58,8 +59,8 @@ ask_for p name = record {
   now = p.now;
 }
 
--- the received octets of an Interest with this HopLimit, as they are sent on: HopLimit is lowered,
--- and nothing else changes
+-- the received octets of an Interest with this HopLimit, as they are sent on: the HopLimit is
+-- decremented, and nothing else changes
 abbrev pub sent_on : List ℕ → Option ℕ → List ℕ
 sent_on whole None = whole
 sent_on whole (Some limit) = with_octet whole (limit - 1)

@@ -31,12 +31,12 @@ pub record NodeState : Type 0 where
 
 -- ---- a step
 
--- at each key the causes lead from the old records to the new
+-- for each key, the causes lead from the old records to the new records
 abbrev pub FollowAll : List Cause → Pending → Pending → Type 0
 FollowAll causes old new =
     (key : PlainKey) → records_at new key ≡ after_causes causes key (records_at old key)
 
--- what a node's tables show, once the moment of an event has come
+-- what a node's tables show once time has advanced to the moment of an event
 abbrev pub seen_in : Policy → Pending → StoreState → Seen
 seen_in p waiting cache = record {
   policy = p;
@@ -45,12 +45,13 @@ seen_in p waiting cache = record {
   MayGive = λ key given. GivesData key p.now cache.cached given;
 }
 
--- One step, from octets to octets: time passes, then the event is answered and has its effect. The
--- decision on a packet, and what the cache gives, appear twice each here, and are the same where
--- the keys of the book have different names and the cache is a store.
+-- One step, from received octets to sent octets: time passes, then the event is answered and has
+-- its effect. Both the decision on a packet and what the cache gives are stated twice in this
+-- record; the two statements agree if the keys of the book have different names and the cache is a
+-- store.
 pub record IsStep (old : NodeState) (event : PlainEvent) (answer : Answer)
     (new : NodeState) : Type 0 where
-  -- what is pending once the moment of the event has come
+  -- the Interests that are pending once time has advanced to the moment of the event
   pub waiting : Pending
   pub living : HoldsTheLiving waiting
   pub expiry : Follows (Expires (at_moment old.policy (moment event)).now) old.pending waiting
@@ -64,17 +65,17 @@ pub record IsStep (old : NodeState) (event : PlainEvent) (answer : Answer)
       (cache_use (at_moment old.policy (moment event)).now (outcome_of event answer.verdict))
       old.cache new.cache
 
--- a step that ran out of memory changed nothing but what is cached
+-- a step that ran out of memory changed nothing except which Data are cached
 pub record ChangesCacheOnly (old new : NodeState) : Type 0 where
   pub policy : new.policy ≡ old.policy
   pub pending : new.pending ≡ old.pending
   pub cache : MayForget old.cache new.cache
 
--- ---- where no memory is needed
+-- ---- events that need no memory
 
--- Octets that are no packet, or a link packet that holds none; what is out of scope, or an Interest
--- whose HopLimit is 0; and a Data that is not allowed, where no checker of its rule expands a
--- template.
+-- The packets that need no memory: octets that are no packet, or a link packet that holds none; a
+-- packet out of scope, or an Interest whose HopLimit is 0; and a Data that is not allowed, if no
+-- checker of its rule expands a template.
 abbrev pub NeedsNoMemory : Policy → ℕ → Result PlainFrame PacketFault → Type 0
 NeedsNoMemory p face (Err fault) = ⊤
 NeedsNoMemory p face (Ok (AnInterest whole i)) =
@@ -86,7 +87,7 @@ NeedsNoMemory p face (Ok (AData whole d)) =
 NeedsNoMemory p face (Ok (ANack reason whole i)) = is_out_of_scope p face i.name ≡ true
 NeedsNoMemory p face (Ok Idle) = ⊤
 
--- the events that need no memory, read off the node before the event
+-- the events that need no memory, as can be told from the node before the event
 abbrev pub AsksNoMemory : NodeState → PlainEvent → Type 0
 AsksNoMemory old (Packet face now octets) =
     (is_open face old.policy.faces ≡ false) ⊎ NeedsNoMemory old.policy face (frame_at octets)

@@ -5,14 +5,14 @@ use Rattle.pit_fib.specs.FaceSet.{has_face}
 use Rattle.forwarder.specs.declared.event.Scope.{Scope}
 use Rattle.forwarder.specs.declared.event.Scope.TheVariants.{Local, Far}
 
--- an open face
+-- an open face: its number and its scope
 abbrev pub FaceEntry : Type 0
 FaceEntry = ℕ × Scope
 
 abbrev pub is_open : ℕ → List FaceEntry → Bool
 is_open face faces = list_any (λ entry. entry.0 == face) faces
 
--- the scope of a face that is open
+-- the scope of a face, if the face is open
 abbrev pub find_scope : ℕ → List FaceEntry → Option Scope
 find_scope face [] = None
 find_scope face (entry ∷ faces) = if entry.0 == face then Some entry.1 else find_scope face faces
@@ -20,7 +20,7 @@ find_scope face (entry ∷ faces) = if entry.0 == face then Some entry.1 else fi
 abbrev pub numbers : List FaceEntry → List ℕ
 numbers faces = map (λ entry. entry.0) faces
 
--- the faces with this one, at its place in rising order
+-- the faces with `face` inserted, in rising order of their numbers
 abbrev pub with_face : ℕ → Scope → List FaceEntry → List FaceEntry
 with_face face scope [] = (face, scope) ∷ []
 with_face face scope (entry ∷ faces) =
@@ -30,13 +30,13 @@ with_face face scope (entry ∷ faces) =
 abbrev pub without_entry : ℕ → List FaceEntry → List FaceEntry
 without_entry face faces = filter (λ entry. not (entry.0 == face)) faces
 
--- ---- as two lists of numbers
+-- ---- the open faces as two lists of numbers
 
--- the scope of an open face, where these are the Local ones
+-- the scope of an open face, if `local` are the Local faces
 abbrev pub scope_in : List ℕ → ℕ → Scope
 scope_in local face = if has_face face local then Local else Far
 
--- the faces of these numbers, where those are the Local ones
+-- the open faces with the numbers `all`, if `local` are the Local ones
 abbrev pub entries_of : List ℕ → List ℕ → List FaceEntry
 entries_of all local = map (λ face. (face, scope_in local face)) all
 

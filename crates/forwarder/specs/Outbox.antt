@@ -4,7 +4,7 @@ use Rattle.std.specs.List.{AllByRecursion}
 use Rattle.forwarder.specs.Event.{Send}
 use Rattle.forwarder.specs.declared.sends.Sent.{Sent}
 
--- the places lie within the octets
+-- the start and the end of this send are in order and lie within the octets
 abbrev pub IsWithin : List ℕ → Sent → Type 0
 IsWithin octets sent = (sent.start ≤ sent.end) × (sent.end ≤ length octets)
 
@@ -14,12 +14,12 @@ AreWithin octets sends = AllByRecursion (IsWithin octets) sends
 abbrev pub size_of : Sent → ℕ
 size_of sent = sent.end - sent.start
 
--- the places lie within the octets, which are no more than those of all sends together
+-- each send lies within the octets, and there are no more octets than all sends have together
 pub record AreOctetsOf (octets : List ℕ) (sends : List Sent) : Type 0 where
   pub within : AreWithin octets sends
   pub no_more : length octets ≤ sum_by size_of sends
 
--- a face, and the octets between the places
+-- the face, and the octets from the start to the end of the send
 abbrev pub send_of : List ℕ → Sent → Send
 send_of octets sent = (sent.face, slice_range octets sent.start sent.end)
 

@@ -1,6 +1,6 @@
--- The outcome of an event, read once off the event and its verdict. It determines the records that
--- change, the use of the cache, and which hops and routes a command sets (NFD Developer's Guide,
--- "Forwarding").
+-- The outcome of an event, which is read off the event and its verdict only once. The outcome
+-- determines which records change, how the cache is used, and which next hops and routes a command
+-- sets (NFD Developer's Guide, "Forwarding").
 use Rattle.std.specs.Prelude.{ℕ, List, Result, Ok, Err}
 use Rattle.ndn_packets.specs.FrameReading.{frame_at}
 use Rattle.ndn_packets.specs.Packet.{PlainInterest, PlainData, PlainFrame, AnInterest, AData, ANack, Idle}
@@ -9,16 +9,16 @@ use Rattle.forwarder.specs.Event.{PlainEvent, Packet, FaceUp, FaceDown, Tick, Ne
 use Rattle.forwarder.specs.Verdict.{Verdict, Passed, Allowed, DataAllowed, Denied, NoRule, Dropped}
 
 pub data Outcome : Type 0 where
-  -- no record, cached Data, hop or route changes but by its moment: a moment, a face that opens,
-  -- rules that are replaced, and all that is dropped or denied
+  -- beyond the effect of its moment, the event changes no record, cached Data, next hop or route: a
+  -- tick, a face that opens, new rules, or anything dropped or denied
   Nothing : Outcome
   -- an Interest for Data, or for a segment of a list, was passed
   InterestPassed : (face : ℕ) (whole : List ℕ) (i : PlainInterest) → Outcome
-  -- a command of this status was allowed
+  -- a command was allowed, and answered with this status
   CommandAllowed : (face : ℕ) (i : PlainInterest) (status : ℕ) → Outcome
   -- a Data was allowed
   DataCame : (whole : List ℕ) (d : PlainData) → Outcome
-  -- a Nack for what was sent was passed
+  -- a Nack for an Interest that was sent to the face was passed
   NackPassed : (face reason : ℕ) (i : PlainInterest) → Outcome
   -- a face closed
   FaceClosed : (face : ℕ) → Outcome
@@ -41,7 +41,7 @@ allowed_data (AData whole d) = DataCame whole d
 allowed_data (ANack reason whole i) = Nothing
 allowed_data Idle = Nothing
 
--- by the verdict on a packet from a face
+-- the outcome of a packet from a face, given the verdict on the packet
 abbrev pub packet_outcome : ℕ → PlainFrame → Verdict → Outcome
 packet_outcome face packet Passed = passed_packet face packet
 packet_outcome face packet (Allowed rule status) = allowed_command face status packet

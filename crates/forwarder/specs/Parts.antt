@@ -1,4 +1,4 @@
--- The parts of a node.
+-- The parts that a node is made of.
 use Rattle.std.specs.Prelude.{ℕ, List, [], ◌∷◌, Bool, true, Option, None, Some, codes, nat_eq, nat_lt, ◌==◌, ◌&&◌, ◌||◌, if◌then◌else◌}
 use Rattle.std.specs.Cmp.Lexicographic.{pointwise}
 use Rattle.ndn_tlv.specs.Element.{Field}
@@ -11,23 +11,23 @@ use Rattle.forwarder.specs.Node.{NodeState}
 use Rattle.forwarder.specs.declared.node.NodeFault.{NodeFault}
 use Rattle.forwarder.specs.declared.node.NodeFault.TheVariants.{BadRepoPrefix, BadCapacity}
 
--- the component `localhost`
+-- whether the component is `localhost`
 abbrev pub is_localhost : Field → Bool
 is_localhost c = (c.0 == GENERIC) && pointwise nat_eq c.1 (codes "localhost")
 
--- the empty name, and names under `/localhost`
+-- whether the name is empty, or is under `/localhost`
 abbrev pub is_bad_prefix : List Field → Bool
 is_bad_prefix [] = true
 is_bad_prefix (c ∷ cs) = is_localhost c
 
--- the fault of a repository's prefix and a cache's capacity, if there is one
+-- the fault of the repository's prefix or of the cache's capacity, if one of them has a fault
 abbrev pub parts_fault : List Field → ℕ → Option NodeFault
 parts_fault repo cache =
     if is_bad_prefix repo then Some BadRepoPrefix else (
     if (cache == 0) || nat_lt 65536 cache then Some BadCapacity else
     None)
 
--- a node of these parts before its first event
+-- a node that is made of these parts, before its first event
 abbrev pub first_node : List PlainRule → List NamedKey → List Field → ℕ → NodeState
 first_node rules keys repo cache = record {
   policy = first_policy rules keys repo;

@@ -1,5 +1,5 @@
--- The part of a node that follows from its events alone: all but pending Interests and the cache
--- (NFD Developer's Guide, "Forwarding"; NFD Management).
+-- The part of a node that follows from its events alone: everything except pending Interests and
+-- the cache (NFD Developer's Guide, "Forwarding"; NFD Management).
 use Rattle.std.specs.Prelude.{ℕ, ◌+◌, ◌-◌, ◌^◌, List, [], Bool, true, false, not, Option, None, Some, filter, max, min}
 use Rattle.std.specs.FinMap as map
 use Rattle.ndn_tlv.specs.Element.{Field}
@@ -15,10 +15,10 @@ use Rattle.forwarder.specs.declared.event.Scope.TheVariants.{Local, Far}
 use Rattle.forwarder.specs.OpenFaces.{FaceEntry, find_scope, numbers}
 
 pub record Policy : Type 0 where
-  -- the greatest moment so far, in milliseconds since 1970
+  -- the greatest moment of the events so far, in milliseconds since 1970
   pub now : ℕ
-  -- the version of the lists: how many commands under /localhost/nfd were allowed, how many faces
-  -- were closed, and how many routes came to their deadlines, so far; it stops at the greatest u64
+  -- the version of the lists: the number of allowed commands under /localhost/nfd, of faces that
+  -- were closed, and of routes that expired, all counted together; at most the greatest u64
   pub table_number : ℕ
   pub rules : List PlainRule
   pub keys : List NamedKey
@@ -30,10 +30,10 @@ pub record Policy : Type 0 where
   pub choices : Choices
   -- the greatest time and number of each signer of allowed commands
   pub guard : Table
-  -- what the repository stores and wants
+  -- the objects that the repository stores, and the Data that it wants
   pub held : Held
 
--- a node of these rules, keys and prefix before its first event
+-- a node with these rules, keys and prefix, before its first event
 abbrev pub first_policy : List PlainRule → List NamedKey → List Field → Policy
 first_policy rules keys repo = record {
   now = 0;
@@ -48,8 +48,8 @@ first_policy rules keys repo = record {
   held = record { objects = map.empty; wants = map.empty };
 }
 
--- A moment comes: time rises, and the routes and the wants that are due expire. The lists have
--- their next version for each of these routes.
+-- Time advances to a moment, and the routes and the wants that are due expire. Each route that
+-- expires gives the lists their next version.
 abbrev pub at_moment : Policy → ℕ → Policy
 at_moment p moment =
     let now = max p.now moment in
@@ -60,16 +60,16 @@ at_moment p moment =
       held = record p.held { wants = wants_after now p.held.wants };
     }
 
--- these rules and keys are in force; all else is as before, the times of signers without a key
--- included
+-- these rules and keys are in force; nothing else changes, not even the recorded times of signers
+-- that no longer have a key
 abbrev pub with_rules : Policy → List PlainRule → List NamedKey → Policy
 with_rules p rules keys = record p { rules = rules; keys = keys }
 
--- the lists have their next version
+-- the lists get their next version, at most the greatest u64
 abbrev pub with_next_version : Policy → Policy
 with_next_version p = record p { table_number = min (p.table_number + 1) (2 ^ 64 - 1) }
 
--- the numbers of the open faces, and of those that are Local
+-- the numbers of all open faces, and the numbers of the Local faces
 abbrev pub open_faces : Policy → List ℕ
 open_faces p = numbers p.faces
 
@@ -80,7 +80,7 @@ is_local_scope Far = false
 abbrev pub local_faces : Policy → List ℕ
 local_faces p = numbers (filter (λ entry. is_local_scope entry.1) p.faces)
 
--- whether a face leads to another machine
+-- whether an open face leads to another machine
 abbrev pub is_far_scope : Option Scope → Bool
 is_far_scope None = false
 is_far_scope (Some scope) = not (is_local_scope scope)

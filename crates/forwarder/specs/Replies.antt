@@ -1,5 +1,5 @@
--- How a node may answer an event (NFD Developer's Guide, "Forwarding Pipelines"). One definition
--- serves a step, which reads the node's tables, and a run, which reads the past.
+-- How a node may answer an event (NFD Developer's Guide, "Forwarding Pipelines"). The same
+-- definition serves for a step, which reads the node's tables, and for a run, which reads the past.
 use Rattle.std.specs.Prelude.{◌≡◌, ◌≢◌, ◌↔◌, ℕ, List, [], ◌∷◌, All, map as map_list, Bool, not, Option, None, Some, IsSome, IsTrue, Result, Ok, Err, nat_le, length, ◌==◌, ◌&&◌, if◌then◌else◌}
 use Rattle.std.specs.FinMap as map
 use Rattle.sha2.specs.Sha256.{sha256}
@@ -33,13 +33,13 @@ use Rattle.forwarder.specs.Commands.{command_answer}
 use Rattle.forwarder.specs.Datasets.{list_answer}
 use Rattle.forwarder.specs.NextHops.{choice_for, ask_from, sent_on}
 
--- what an answer may depend on, once the event's moment has come
+-- what an answer may depend on, once time has advanced to the moment of the event
 pub record Seen : Type 1 where
   pub policy : Policy
-  -- the records of each key, and whether 4,096 keys have some
+  -- the records of each key, and whether the PIT is full, with records for 4,096 keys
   pub records : PlainKey → Records
   pub is_full : Bool
-  -- the cache may give these octets for an Interest of this key, or nothing
+  -- the cache may give these octets for an Interest of this key; with None, it may give nothing
   pub MayGive : PlainKey → Option (List ℕ) → Type 0
 
 -- ---- Interests for Data, pipeline by pipeline
@@ -51,28 +51,29 @@ interest_loop face token whole = record {
   sends = nacked_back face token DUPLICATE whole ∷ [];
 }
 
--- Content Store Hit: what is cached is sent back
+-- Content Store Hit: the cached Data is sent back
 abbrev pub content_store_hit : ℕ → Token → List ℕ → Answer
 content_store_hit face token octets = passed (sent_back face token octets ∷ [])
 
--- Outgoing Interest: to each of these faces, without a token, or not at all where its key would be
--- one too many
+-- Outgoing Interest: the Interest is sent to each of these faces without a token, or it is dropped
+-- if it needs a new key and the PIT is full
 abbrev pub outgoing_interest : Seen → PlainKey → List ℕ → PlainInterest → List ℕ → Answer
 outgoing_interest seen key whole i faces =
     if not (is_alive (seen.records key)) && seen.is_full then dropped PitFull
     else passed (to_each faces (sent_on whole i.hop_limit))
 
--- Interest Reject: a Nack is sent back where no next hop may get the Interest
+-- Interest Reject: a Nack is sent back, since no next hop may get the Interest
 abbrev pub interest_reject : ℕ → Token → List ℕ → Answer
 interest_reject face token whole = passed (nacked_back face token NO_ROUTE whole ∷ [])
 
--- by the strategy's choice
+-- the answer by the strategy's choice
 abbrev pub by_strategy : Seen → PlainKey → List ℕ → PlainInterest → ℕ → Token → Choice → Answer
 by_strategy seen key whole i face token choices.NoRoute = interest_reject face token whole
 by_strategy seen key whole i face token (choices.Send faces) =
     outgoing_interest seen key whole i faces
 
--- what the repository stores is sent back too; MustBeFresh does not apply to it
+-- an object that the repository stores is sent back as a cached Data is; MustBeFresh does not apply
+-- to it
 abbrev pub by_repository : Seen → ℕ → Token → List ℕ → PlainInterest → Option (List ℕ) → Answer
 by_repository seen face token whole i (Some octets) = content_store_hit face token octets
 by_repository seen face token whole i None =
@@ -91,8 +92,8 @@ abbrev pub by_content_store : Seen → ℕ → Token → List ℕ → PlainInter
 by_content_store seen face token whole i (Some octets) = content_store_hit face token octets
 by_content_store seen face token whole i None = content_store_miss seen face token whole i
 
--- Incoming Interest: one that loops gets a Nack; otherwise the content store answers, or the
--- repository, or the strategy chooses
+-- Incoming Interest: an Interest that loops gets a Nack; otherwise the content store answers it, or
+-- the repository, or the strategy chooses where it is sent
 abbrev pub RepliesForData : Seen → ℕ → Token → List ℕ → PlainInterest → Answer → Type 0
 RepliesForData seen face token whole i answer =
     IfTrueElse (loops (seen.records (key_of i)) face i.nonce)
@@ -119,26 +120,27 @@ RepliesToRequest seen face token whole i answer ForRepository =
 RepliesToRequest seen face token whole i answer ForData =
     RepliesForData seen face token whole i answer
 
--- a face has an in-record under a key that a Data of this name and implicit digest answers
+-- the face has an in-record under a key that a Data of this name and implicit digest answers
 abbrev pub Waits : Seen → List Field → List ℕ → ℕ → Type 0
 Waits seen name digest face =
     (key : PlainKey) × IsTrue (answers name digest key.name key.can_be_prefix)
     × IsSome (map.get (seen.records key).in_records face)
 
--- faces, each with the token that a Data is sent back with
+-- faces that wait for a Data, each with the token that the Data is sent back with
 abbrev pub Askers : Type 0
 Askers = List (ℕ × Token)
 
 abbrev pub faces_of : Askers → List ℕ
 faces_of askers = map_list {A = ℕ × Token} {B = ℕ} (λ a. a.0) askers
 
--- the received octets of a Data, to each of these
+-- the received octets of a Data, sent back to each of these faces
 abbrev pub sent_to : Askers → List ℕ → List Send
 sent_to askers whole =
     map_list {A = ℕ × Token} {B = Send} (λ a. sent_back a.0 a.1 whole) askers
 
--- The received octets are sent once to each face with a pending Interest for the Data, but for the
--- one that it came from, in rising order, with the token of the face's latest such Interest.
+-- The received octets are sent once to each face with a pending Interest for the Data, except the
+-- face that the Data came from, in rising order of the faces, with the token of each face's latest
+-- such Interest.
 abbrev pub IsSentToAskers : Seen → ℕ → List ℕ → PlainData → List Send → Type 0
 IsSentToAskers seen face whole d sends =
     (askers : Askers) × IsRising (faces_of askers)
@@ -161,7 +163,7 @@ RepliesToData seen face whole d answer =
     ((decision : Decision) × IsDecidedAs seen.policy (AData whole d) decision
     × RepliesByDecision seen face whole d answer decision)
 
--- a Nack of this reason around the Interest of each in-record, with its token, in rising order of
+-- for each in-record a Nack of this reason around its Interest, with its token, in rising order of
 -- the faces
 abbrev pub nacks_to : InRecords → ℕ → List Send
 nacks_to in_records reason =
@@ -180,7 +182,7 @@ RepliesToNack seen face reason i answer =
     IfTrueElse (is_out_of_scope seen.policy face i.name) (answer ≡ dropped OutOfScope)
     (answer ≡ nack_answer r.in_records (nacked_answer r face i.nonce reason))
 
--- the token of a Data or a Nack that comes is ignored
+-- the answer to a packet; a token that comes with a Data or a Nack is ignored
 abbrev pub RepliesToPacket : Seen → ℕ → Token → Result PlainFrame PacketFault → Answer → Type 0
 RepliesToPacket seen face token (Err fault) answer = answer ≡ dropped (Malformed fault)
 RepliesToPacket seen face token (Ok (AnInterest whole i)) answer =
@@ -193,7 +195,8 @@ RepliesToPacket seen face token (Ok AnIdle) answer = answer ≡ dropped Idle
 
 -- ---- all events
 
--- a face opens, unless its number is 0, or it is open, or 64 are
+-- the answer to a face that opens: the face is refused if its number is 0, it is open, or 64 faces
+-- are open
 abbrev pub opening_answer : Policy → ℕ → Answer
 opening_answer p face =
     if face == 0 then dropped BadFace else (
@@ -201,7 +204,7 @@ opening_answer p face =
     if nat_le MAX_FACES (length p.faces) then dropped FacesFull else
     passed []))
 
--- what may be answered to an event, by what is seen once its moment has come
+-- how an event may be answered, given what is seen once time has advanced to its moment
 abbrev pub Replies : Seen → PlainEvent → Answer → Type 0
 Replies seen (Packet face now octets) answer =
     IfTrueElse (is_open face seen.policy.faces)

@@ -1,4 +1,4 @@
--- What an Interest is to a node: a request for a segment of a list, a command, or a request for
+-- What an Interest means to a node: a request for a segment of a list, a command, or a request for
 -- Data (NFD Management, "Control Command", "Status Dataset"; NDN Naming Conventions, revision 3).
 use Rattle.std.specs.Prelude.{ℕ, List, [], ◌∷◌, ◌++◌, Bool, true, false, not, Option, None, Some, is_some, drop, length, codes, bytes_eq, ◌==◌, ◌&&◌, if◌then◌else◌}
 use Rattle.std.specs.Option.{option_map, option_or}
@@ -20,8 +20,8 @@ pub use Rattle.forwarder.specs.declared.request.ListAsked.{ListAsked}
 abbrev pub generic : List ℕ → Field
 generic text = (GENERIC, text)
 
--- /localhost, whose names stay on this machine, and /localhost/nfd, whose names are commands and
--- lists
+-- the prefix /localhost, whose names stay on this machine, and the prefix /localhost/nfd of the
+-- names of commands and lists
 abbrev pub localhost : List Field
 localhost = generic (codes "localhost") ∷ []
 
@@ -31,7 +31,7 @@ management = generic (codes "localhost") ∷ generic (codes "nfd") ∷ []
 abbrev pub is_local_name : List Field → Bool
 is_local_name name = begins_with localhost name
 
--- a name under /localhost that came from another machine
+-- whether a name under /localhost came from another machine
 abbrev pub is_out_of_scope : Policy → ℕ → List Field → Bool
 is_out_of_scope p face name = is_local_name name && is_far p face
 
@@ -42,13 +42,13 @@ list_name RouteList = management ++ generic (codes "fib") ∷ generic (codes "li
 list_name StrategyList =
     management ++ generic (codes "strategy-choice") ∷ generic (codes "list") ∷ []
 
--- a number in its shortest form
+-- the number in `value`, if it has its shortest encoding
 abbrev pub shortest_number : List ℕ → Option ℕ
 shortest_number value =
     on_result (λ n. if bytes_eq value (shortest_nni n) then Some n else None) (λ _. None)
     (nni_at value)
 
--- the number of a component of this type
+-- the number in a component, if the component has the type `kind`
 abbrev pub numbered : ℕ → Field → Option ℕ
 numbered kind c = if c.0 == kind then shortest_number c.1 else None
 
@@ -60,8 +60,9 @@ abbrev pub segmented : ListKind → Option ℕ → Option ℕ → Option ListAsk
 segmented kind version None = None
 segmented kind version (Some segment) = versioned kind segment version
 
--- By the components after a list's name: nothing or a version, and CanBePrefix, for the first
--- segment; or a version and a segment. All else is no list.
+-- What is asked for by the components after a list's name. With CanBePrefix, no component or a
+-- version asks for the first segment; a version and a segment number ask for that segment. Anything
+-- else is not a request for a list.
 abbrev pub list_after : ListKind → Bool → List Field → Option ListAsked
 list_after kind can_be_prefix [] =
     if can_be_prefix then Some (record { kind = kind; version = None; segment = 0 }) else None
@@ -77,14 +78,14 @@ list_of_kind kind i =
     then list_after kind i.can_be_prefix (drop (length (list_name kind)) i.name)
     else None
 
--- the list that an Interest asks for, if it does
+-- the segment of a list that an Interest asks for, if it asks for one
 abbrev pub list_asked : PlainInterest → Option ListAsked
 list_asked i = option_or (list_of_kind RouteList i) (list_of_kind StrategyList i)
 
 -- ---- requests
 
 pub data Request : Type 0 where
-  -- it is dropped for its HopLimit or its scope
+  -- the Interest is dropped because of its HopLimit or its scope
   Refused : (reason : DropReason) → Request
   ForList : (asked : ListAsked) → Request
   -- an Interest under /localhost/nfd that asks for no list
@@ -93,7 +94,7 @@ pub data Request : Type 0 where
   ForRepository : Request
   ForData : Request
 
--- the request of an Interest by its name
+-- the request of an Interest, given its name
 abbrev pub named_request : Policy → PlainInterest → Option ListAsked → Request
 named_request p i (Some asked) = ForList asked
 named_request p i None =
@@ -101,7 +102,7 @@ named_request p i None =
     if is_some (verb_at p.repo i.name) then ForRepository else
     ForData)
 
--- the request that is read off a name
+-- a request that was read off a name
 abbrev pub request_named : NamedRequest → Request
 request_named (named.ForList asked) = ForList asked
 request_named named.ForTables = ForTables
@@ -112,7 +113,7 @@ abbrev pub has_no_hops : Option ℕ → Bool
 has_no_hops None = false
 has_no_hops (Some limit) = limit == 0
 
--- HopLimit 0 comes first, then scope
+-- the request of an Interest on a face; HopLimit 0 is checked first, then the scope
 abbrev pub request_of : Policy → ℕ → PlainInterest → Request
 request_of p face i =
     if has_no_hops i.hop_limit then Refused HopLimit else (
@@ -126,8 +127,8 @@ is_command ForTables = true
 is_command ForRepository = true
 is_command ForData = false
 
--- whether rules decide a packet that came on an open face: every command, and every Data that is in
--- scope
+-- whether rules decide a packet that came on an open face: they decide every command, and every
+-- Data that is in scope
 abbrev pub is_decided : Policy → ℕ → PlainFrame → Bool
 is_decided p face (AnInterest whole i) = is_command (request_of p face i)
 is_decided p face (AData whole d) = not (is_out_of_scope p face d.name)

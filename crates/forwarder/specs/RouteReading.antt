@@ -1,5 +1,5 @@
--- Registered routes as a reading of a run, for one name, one face and one origin (NFD Management,
--- "RIB Management").
+-- Registered routes as they are read off a run, for one name, one face and one origin (NFD
+-- Management, "RIB Management").
 use Rattle.std.specs.Prelude.{ℕ, List, Bool, Option, None, Some, Result, Ok, Err, max, option_and_then, ◌==◌, ◌&&◌, if◌then◌else◌}
 use Rattle.std.specs.Option.{option_map}
 use Rattle.ndn_tlv.specs.Element.{Field}
@@ -14,13 +14,13 @@ use Rattle.forwarder.specs.Hops.{names_hop}
 use Rattle.forwarder.specs.Outcome.{Outcome, Nothing, InterestPassed, CommandAllowed, DataCame, NackPassed, FaceClosed, outcome_of}
 use Rattle.forwarder.specs.Runs.{Run, Start, Then, now_of}
 
--- a command that came from a face names this route
+-- a command that came from the face `from` names this route
 abbrev pub names_route : PlainCommand → ℕ → List Field → ℕ → ℕ → Bool
 names_route c from name face origin = names_hop c from name face && (origin == c.origin)
 
--- A command that was done now: register gives the route that it names its cost and flags, and where
--- it has a period, the sum of now and that period as its deadline, at most the greatest u64;
--- unregister removes that route.
+-- A command that took effect now. A register gives the route that it names its cost and flags and,
+-- if it has a period, a deadline: now plus that period, at most the greatest u64. An unregister
+-- removes the route that it names.
 abbrev pub route_after_command : Result PlainCommand ℕ → ℕ → ℕ → List Field → ℕ → ℕ
     → Option Route → Option Route
 route_after_command (Err status) now from name face origin was = was
@@ -35,8 +35,9 @@ route_after_command (Ok c) now from name face origin was =
       | _ ↦ was
     ]
 
--- What an outcome now does to a route; None: there is no such route. An allowed command changes it
--- where its status is 200. Where a face closes, its routes are removed.
+-- The route after an outcome at the moment `now`, where None means that there is no such route. An
+-- allowed command changes the route if the command's status is 200. When a face closes, its routes
+-- are removed.
 abbrev pub route_after : Outcome → ℕ → List Field → ℕ → ℕ → Option Route → Option Route
 route_after Nothing now name face origin was = was
 route_after (InterestPassed from whole i) now name face origin was = was
@@ -47,9 +48,9 @@ route_after (DataCame whole d) now name face origin was = was
 route_after (NackPassed from reason i) now name face origin was = was
 route_after (FaceClosed closed) now name face origin was = if face == closed then None else was
 
--- The route that the last register of its name, face and origin gave, where nothing has ended it
--- since: no unregister, no closing of its face, and no later event, whatever it brings, at which
--- the time was its deadline or more.
+-- The route that the last register of this name, face and origin gave, if nothing has ended it
+-- since: no unregister, no closing of its face, and no later event of any kind at or after the
+-- route's deadline.
 abbrev pub route_of : Run → List Field → ℕ → ℕ → Option Route
 route_of Start name face origin = None
 route_of (Then before event answer) name face origin =

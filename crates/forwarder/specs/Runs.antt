@@ -1,5 +1,5 @@
--- Runs of events and answers, and what is read off their past, without timers or a cache; of tables
--- it needs only how many keys are alive.
+-- Runs of events and answers, and what is read off the past of a run. This needs neither timers nor
+-- a cache, and of the PIT only how many keys have records.
 use Rattle.std.specs.Prelude.{◌≡◌, ◌⊎◌, ℕ, Bool, true, false, List, [], ◌∷◌, ◌++◌, Option, None, Some, All, Result, Ok, Err, max, nat_le, ⊤}
 use Rattle.std.specs.FinMap as map
 use Rattle.hmac_keys.specs.KeyFile.{AreApart, NamedKey}
@@ -24,25 +24,25 @@ use Rattle.forwarder.specs.Cache.{Inserts, IsAwaited, TakesAway, cache_use}
 use Rattle.forwarder.specs.Replies.{Seen, Replies}
 use Rattle.forwarder.specs.Node.{NodeState}
 
--- a run: nothing, or a run and then an event with its answer. An event that ran out of memory is in
--- none.
+-- a run: it is empty, or consists of an earlier run, an event and its answer. An event that ran out
+-- of memory is not part of a run.
 pub data Run : Type 0 where
   Start : Run
   Then : (before : Run) (event : PlainEvent) (answer : Answer) → Run
 
--- the greatest moment so far
+-- the greatest moment of the run
 abbrev pub now_of : Run → ℕ
 now_of Start = 0
 now_of (Then before event answer) = max (now_of before) (moment event)
 
--- The policy that the events of a run leave, from this first one on. It does not depend on the
--- answers.
+-- The policy that the events of a run lead to, starting from the policy `first`. It does not depend
+-- on the answers.
 abbrev pub IsPolicyOf : Policy → Run → Policy → Type 0
 IsPolicyOf first Start p = p ≡ first
 IsPolicyOf first (Then before event answer) p =
     (was : Policy) × IsPolicyOf first before was × IsAfter was event p
 
--- no two keys that the event brings have one name
+-- no two of the keys that the event brings have the same name
 abbrev pub BringsKeysApart : PlainEvent → Type 0
 BringsKeysApart (Packet face t octets) = ⊤
 BringsKeysApart (FaceUp face scope t) = ⊤
@@ -50,8 +50,8 @@ BringsKeysApart (FaceDown face t) = ⊤
 BringsKeysApart (Tick t) = ⊤
 BringsKeysApart (NewRules rules keys t) = AreApart keys
 
--- No book of the run has two keys of one name: neither the first, nor those that its events
--- brought.
+-- No book of the run has two keys of the same name: neither the first book nor those that its
+-- events brought.
 abbrev pub KeysAreApart : Policy → Run → Type 0
 KeysAreApart first Start = AreApart first.keys
 KeysAreApart first (Then before event answer) = KeysAreApart first before × BringsKeysApart event
@@ -64,7 +64,7 @@ BringsNoRules (FaceDown face t) = ⊤
 BringsNoRules (Tick t) = ⊤
 BringsNoRules (NewRules rules keys t) = ⊥
 
--- the events of a run, the last first
+-- the events of a run, from the last to the first
 abbrev pub events_back : Run → List PlainEvent
 events_back Start = []
 events_back (Then before event answer) = event ∷ events_back before
@@ -73,7 +73,7 @@ events_back (Then before event answer) = event ∷ events_back before
 abbrev pub HasNoNewRules : Run → Type 0
 HasNoNewRules past = All BringsNoRules (events_back past)
 
--- the last event of the run that brings rules and keys brings these
+-- the last event of the run that brings rules and keys brings these rules and keys
 pub record AreLastRules (past : Run) (rules : List PlainRule) (keys : List NamedKey) : Type 0 where
   pub later : List PlainEvent
   pub now : ℕ
@@ -83,19 +83,19 @@ pub record AreLastRules (past : Run) (rules : List PlainRule) (keys : List Named
 
 -- ---- pending Interests (NFD Developer's Guide, "Pending Interest Table")
 
--- all that ended or began records in a run, the last first: of each event what is due expires, and
--- then its own causes follow
+-- all causes that ended or began records in a run, from the last to the first: for each event the
+-- records that are due expire, and then the causes of the event follow
 abbrev pub past_causes : Run → List Cause
 past_causes Start = []
 past_causes (Then before event answer) =
     let now = max (now_of before) (moment event) in
     before_earlier (causes_of now event answer) (Expires now ∷ past_causes before)
 
--- the records of a key after all of these
+-- the records of a key after all causes of the run
 abbrev pub records_of : Run → PlainKey → Records
 records_of past key = records_after_all (past_causes past) key
 
--- the keys that are alive after a run, with their records, once this moment has come
+-- the keys that are alive after the run once time has advanced to `now`, with their records
 pub record IsWaiting (past : Run) (now : ℕ) (waiting : Pending) : Type 0 where
   pub living : HoldsTheLiving waiting
   pub records : (key : PlainKey)
@@ -103,8 +103,8 @@ pub record IsWaiting (past : Run) (now : ℕ) (waiting : Pending) : Type 0 where
 
 -- ---- what the cache may hold (NFD Developer's Guide, "Content Store")
 
--- The Data came, was allowed and was awaited, and no erase has removed it since. It need not be
--- cached any more.
+-- The Data came, it was allowed, some face waited for it, and no erase has removed it since. The
+-- cache may have dropped it.
 abbrev pub MayHold : Run → CachedData → Type 0
 MayHold Start c = ⊥
 MayHold (Then before event answer) c =
@@ -114,8 +114,8 @@ MayHold (Then before event answer) c =
     × ((waiting : Pending) × IsWaiting before now waiting × IsAwaited waiting c))
     ⊎ (MayHold before c × ¬ TakesAway used c)
 
--- what the cache may give for an Interest of a key: nothing, or a Data that it may hold and that
--- can serve it
+-- what the cache may give for an Interest of this key: nothing, or a Data that the cache may hold
+-- and that can serve the Interest
 abbrev pub MayCache : Run → ℕ → PlainKey → Option (List ℕ) → Type 0
 MayCache past now key None = ⊤
 MayCache past now key (Some octets) =
@@ -131,8 +131,8 @@ seen_after past p waiting = record {
   MayGive = MayCache past p.now;
 }
 
--- The answer is valid after this past: by the policy, the records of the keys that are alive, and
--- what the cache may hold.
+-- The answer is valid after this past, according to the policy, the records of the keys that are
+-- alive, and the Data that the cache may hold.
 pub record MayReply (first : Policy) (past : Run) (event : PlainEvent)
     (answer : Answer) : Type 0 where
   pub was : Policy
@@ -145,15 +145,15 @@ abbrev pub IsRun : Policy → Run → Type 0
 IsRun first Start = ⊤
 IsRun first (Then before event answer) = IsRun first before × MayReply first before event answer
 
--- the node agrees with the run
+-- the policy, the records and the cached Data of the node are those that the run allows
 pub record Stands (first : Policy) (past : Run) (node : NodeState) : Type 0 where
   pub policy : IsPolicyOf first past node.policy
   pub pending : (key : PlainKey) → records_at node.pending key ≡ records_of past key
   pub cache : All (MayHold past) node.cache.cached
 
--- ---- equal histories
+-- ---- runs with the same events
 
--- the events are the same, whatever was answered to them
+-- the events of the two runs are the same, while their answers may differ
 abbrev pub HaveOneHistory : Run → Run → Type 0
 HaveOneHistory Start Start = ⊤
 HaveOneHistory Start (Then before event answer) = ⊥
@@ -161,8 +161,8 @@ HaveOneHistory (Then before event answer) Start = ⊥
 HaveOneHistory (Then before event answer) (Then other another reply) =
     (event ≡ another) × HaveOneHistory before other
 
--- an Interest that is dropped for its HopLimit or scope, is a command, or asks for a segment of a
--- list
+-- whether an Interest is dropped because of its HopLimit or scope, is a command, or asks for a
+-- segment of a list
 abbrev pub is_request : Request → Bool
 is_request (Refused reason) = true
 is_request (ForList asked) = true
@@ -184,7 +184,7 @@ BringsRequest p (FaceDown face t) = ⊥
 BringsRequest p (Tick t) = ⊥
 BringsRequest p (NewRules rules keys t) = ⊥
 
--- a Data, allowed or not
+-- the packet is a Data, allowed or not
 abbrev pub IsDataPacket : Result PlainFrame PacketFault → Type 0
 IsDataPacket (Err fault) = ⊥
 IsDataPacket (Ok (AnInterest whole i)) = ⊥
@@ -209,7 +209,7 @@ is_denied (Denied kind rule reason) = true
 is_denied (NoRule kind) = true
 is_denied (Dropped reason) = false
 
--- in the second run the moments alone replace some events that were denied
+-- the second run is the first one, except that ticks at the same moments may replace denied events
 abbrev pub HasTicksForDenied : Run → Run → Type 0
 HasTicksForDenied Start Start = ⊤
 HasTicksForDenied Start (Then other another reply) = ⊥

@@ -1,4 +1,4 @@
--- The sends of an outbox, and the room for more that needs no memory.
+-- The sends of an outbox, and the room for further sends, which then need no memory.
 use Rattle.std.specs.Prelude.{ℕ, ◌+◌, ◌*◌, List, [], length, Bool, Option, None, Some, if◌then◌else◌}
 use Rattle.ndn_packets.specs.declared.fault.WriteFault.{WriteFault}
 use Rattle.ndn_packets.specs.declared.interest_writer.InterestWriter.{InterestWriter}
@@ -12,17 +12,17 @@ pub record SendsState : Type 0 where
   pub places : ℕ
   pub space : ℕ
 
--- what is sent, or nothing where its octets could not be written
+-- the sends, or none if their octets could not be written
 abbrev pub unless_refused : Option WriteFault → List Send → List Send
 unless_refused None sends = sends
 unless_refused (Some fault) sends = []
 
--- an Interest of the node itself to each of these faces
+-- the sends of an Interest of the node itself to each of these faces
 abbrev pub fetched : List ℕ → InterestWriter → List Send
 fetched faces w = unless_refused (interest_refusal w) (to_each faces (interest_text w))
 
--- The octets to reserve where a Data is sent to the faces that asked for it: with tokens those of a
--- link packet for each face, and without them those of one Data.
+-- The number of octets to reserve for sending a Data to the faces that asked for it: with tokens, a
+-- link packet for each face; without tokens, one copy of the Data.
 abbrev pub room_for_data : List ℕ → Bool → ℕ
 room_for_data whole with_tokens =
     if with_tokens then MAX_FACES * (length whole + LINK_EXTRA) else length whole

@@ -9,7 +9,7 @@ use Rattle.forwarder.specs.declared.verdict.Verdict as code_verdict
 use Rattle.forwarder.specs.declared.verdict.Verdict.TheVariants as said
 use Rattle.forwarder.specs.Event.{Send}
 
--- the first fact where a test passes, the second where it does not
+-- the proposition `A` if the test is true, and `B` if it is false
 abbrev pub IfTrueElse : Bool → Type 0 → Type 0 → Type 0
 IfTrueElse true A B = A
 IfTrueElse false A B = B
@@ -29,17 +29,17 @@ pub data DropReason : Type 0 where
   FaceOpen : DropReason
   FacesFull : DropReason
 
--- Rules are given by their numbers, counted from 0.
+-- Rules are given by their positions, counted from 0.
 pub data Verdict : Type 0 where
   Passed : Verdict
-  -- a command that was allowed, with the status that it was answered with
+  -- a command that was allowed, with the status of the reply
   Allowed : (rule status : ℕ) → Verdict
   DataAllowed : (rule : ℕ) → Verdict
   Denied : (kind : Kind) (rule : ℕ) (reason : Reason) → Verdict
   NoRule : (kind : Kind) → Verdict
   Dropped : (reason : DropReason) → Verdict
 
--- a verdict as plain data
+-- a verdict of the code as plain data
 abbrev pub reason_of : code_reason.DropReason → DropReason
 reason_of why.NoFace = NoFace
 reason_of (why.Malformed fault) = Malformed fault

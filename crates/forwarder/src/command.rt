@@ -28,9 +28,9 @@ use repo_core::{MAX_REPLY_LEN, RepoReply};
 use strategies::Choice;
 
 impl State {
-    /// Handles a command on routes, strategies or the cache, or one to the repository (NFD
-    /// Management, "Control Command"): it is answered in any case, and has its effect where the
-    /// rules allow it and it is fresh.
+    /// Handles a command on routes, strategies or the cache, or a command to the repository (NFD
+    /// Management, "Control Command"). The command is answered in any case, and has its effect if
+    /// the rules allow it and it is fresh.
     pub fn receive_command(
         &mut self,
         arrived: &Arrived<'_, Interest<'_>>,
@@ -98,7 +98,7 @@ impl State {
         Ok(())
     }
 
-    /// Applies an allowed command on the tables, answers it, and returns the status.
+    /// Applies an allowed command on the tables, answers it, and returns the status of the reply.
     fn command_tables(
         &mut self,
         arrived: &Arrived<'_, Interest<'_>>,
@@ -120,7 +120,7 @@ impl State {
         }
     }
 
-    /// Answers an allowed command that cannot be read.
+    /// Answers an allowed command whose name or parameters cannot be read.
     fn command_unread(
         &mut self,
         arrived: &Arrived<'_, Interest<'_>>,
@@ -146,7 +146,7 @@ impl State {
         Ok(status)
     }
 
-    /// Reserves what the command may need, lets time pass, and applies it.
+    /// Reserves the memory that the command may need, lets time pass, and applies the command.
     fn command_read(
         &mut self,
         arrived: &Arrived<'_, Interest<'_>>,
@@ -185,7 +185,7 @@ impl State {
     }
 
     /// Applies an allowed command to the repository, answers it, and sends an Interest for the Data
-    /// that it wants.
+    /// that the repository then wants.
     fn command_repository(
         &mut self,
         arrived: &Arrived<'_, Interest<'_>>,
@@ -214,7 +214,8 @@ impl State {
         Ok(reply.status)
     }
 
-    /// Sends an Interest for the Data that the reply wants, if any, to where the strategy chooses.
+    /// Sends an Interest for the Data that `reply` asks to fetch, if any, to the faces that the
+    /// strategy chooses.
     fn fetch(&self, reply: &RepoReply, nonce: [u8; 4], out: &mut Sends) -> Result<(), Memory>
         ensures ok { OnOk result (out.new.sends
             ≡ out.old.sends ++ fetch_sends (policy_of self.entry.now) nonce reply.now.fetch) }

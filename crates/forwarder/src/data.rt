@@ -30,9 +30,10 @@ use ndn_tlv::Memory;
 use pit_fib::{Faces, MAX_FACES};
 
 impl State {
-    /// Handles a Data (NFD Developer's Guide, "Incoming Data Pipeline"). Where the rules allow it,
-    /// its received octets are sent to each other face with a pending Interest for it, it is cached
-    /// if any face has one, its own included, and stored where the repository wants it.
+    /// Handles a Data (NFD Developer's Guide, "Incoming Data Pipeline"). If the rules allow the
+    /// Data, its received octets are sent to each other face with a pending Interest for it; it is
+    /// cached if any face, even the one it came from, has such an Interest; and it is stored if the
+    /// repository wants it.
     pub fn receive_data(
         &mut self,
         arrived: &Arrived<'_, Data<'_>>,
@@ -61,7 +62,7 @@ impl State {
         }
     }
 
-    /// Reserves what an allowed Data may need, lets time pass, and delivers it.
+    /// Reserves the memory that an allowed Data may need, lets time pass, and delivers the Data.
     fn receive_allowed(
         &mut self,
         arrived: &Arrived<'_, Data<'_>>,
@@ -85,8 +86,8 @@ impl State {
     }
 
     /// Sends an allowed Data to the other faces with a pending Interest for it, caches it if any
-    /// face has one, and stores it where the repository wants it. It needs no memory: room for 64
-    /// sends and their octets, and the offer are prepared.
+    /// face has such an Interest, and stores it if the repository wants it. This needs no memory:
+    /// room for 64 sends and their octets is reserved, and the offer to the repository is prepared.
     fn deliver(
         &mut self,
         face: u64,
@@ -128,8 +129,8 @@ impl State {
         Ok(())
     }
 
-    /// Sends a Data to each other face with a pending Interest for it, with the token of the face's
-    /// latest such Interest.
+    /// Sends a Data to each other face with a pending Interest for it, with the token of that
+    /// face's latest such Interest.
     fn send_with_tokens(&self, face: u64, packet: &Data<'_>, out: &mut Sends) -> Result<(), Memory>
         requires places { MAX_FACES ≤ out.old.places }
         requires space { room_for_data packet.now.whole.now true ≤ out.old.space }
@@ -142,7 +143,8 @@ impl State {
         self.push_with_tokens(&without_face(&askers, face), packet, out)
     }
 
-    /// Sends a Data to these faces, each with the token of its latest Interest for it.
+    /// Sends a Data to each of these faces, with the token of the face's latest Interest for this
+    /// Data.
     fn push_with_tokens(
         &self,
         faces: &Faces,
@@ -167,8 +169,8 @@ impl State {
     }
 }
 
-/// The most octets that a Data takes to send to the faces that asked for it: with tokens each face
-/// may get a link packet of its own, and without them one copy serves all.
+/// Returns the most octets that sending a Data to the faces that asked for it can take: with tokens
+/// each face may get a link packet of its own, and without tokens one copy serves all faces.
 fn data_room(packet: &Data<'_>, with_tokens: bool) -> usize
     ensures { result ≡ room_for_data packet.now.whole.now with_tokens }
 {

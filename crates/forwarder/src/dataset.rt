@@ -28,9 +28,9 @@ use std::alloc::Global;
 /// The FreshnessPeriod of a segment, in milliseconds.
 const FRESHNESS: u64 = 1000;
 
-/// The Data of a segment that is asked for (NFD Management, "Status Dataset"), where `table_number`
-/// is the version of the lists once the routes that are due at `now` have expired. `None` where
-/// another version is asked for, or the list has no such segment.
+/// Returns the Data of the segment that is asked for (NFD Management, "Status Dataset"), where
+/// `table_number` is the version of the lists once the routes that are due at `now` have expired.
+/// Returns `None` if another version is asked for, or if the list has no such segment.
 pub(crate) fn list_segment(
     alloc: Global,
     tables: &Tables,
@@ -43,7 +43,7 @@ pub(crate) fn list_segment(
         → p.choices ≡ tables.now.strategies.table → p.table_number ≡ table_number
         → list_answer p face token asked
         ≡ answered_with face token (option_map (λ o. o.items) octets)) }
-    // It is no longer than a packet may be.
+    // The Data is no longer than a packet may be.
     ensures short { IfOk result (λ octets. IfSome octets (λ o. length o.items ≤ 8800)) }
 {
     if !is_present(asked.version, table_number) {
@@ -57,7 +57,7 @@ pub(crate) fn list_segment(
     Ok(Some(octets))
 }
 
-/// Whether the version that is asked for, if any, is the current one.
+/// Returns whether the version that is asked for is the current one, or no version is asked for.
 fn is_present(asked: Option<u64>, table_number: u64) -> bool
     ensures { (p : Policy) → p.table_number ≡ table_number → result ≡ is_present p asked }
 {
@@ -67,7 +67,8 @@ fn is_present(asked: Option<u64>, table_number: u64) -> bool
     }
 }
 
-/// The octets of the segment of a list at a moment, and the number of the last one.
+/// Returns the octets of one segment of a list at the moment `now`, and the number of the last
+/// segment.
 fn list_part(
     alloc: Global,
     tables: &Tables,
@@ -87,7 +88,7 @@ fn list_part(
     }
 }
 
-/// The name of a segment: the list's, its version, and the segment's number.
+/// Returns the name of a segment: the name of the list, its version, and the segment's number.
 fn segment_name(
     alloc: Global,
     kind: ListKind,
@@ -113,7 +114,7 @@ fn append_word(name: &mut NameBuf, word: &[u8]) -> Result<(), Memory>
     name.append(GENERIC, word).map_err(|_| Memory)
 }
 
-/// Appends a component of this type that is a number.
+/// Appends a component of the type `kind` that contains this number.
 fn append_number(alloc: Global, name: &mut NameBuf, kind: u16, number: u64) -> Result<(), Memory>
     ensures { OnOk result (name.new ≡ name.old ++ (kind, shortest_nni number) ∷ []) }
 {
@@ -122,8 +123,8 @@ fn append_number(alloc: Global, name: &mut NameBuf, kind: u16, number: u64) -> R
     name.append(kind, &value).map_err(|_| Memory)
 }
 
-/// The Data of a segment: it names the last one, and is signed with DigestSha256. It is never too
-/// long to be written, so it fails only when out of memory.
+/// Returns a segment as a Data, signed with DigestSha256, whose FinalBlockId names the last
+/// segment. The Data is never too long to be written, so this fails only if memory runs out.
 fn segment_data<'a>(
     alloc: Global,
     name: Name<'a>,
@@ -149,8 +150,8 @@ fn segment_data<'a>(
 }
 
 impl State {
-    /// Sends a segment of a list, as it is at the moment, to the face that asks for it. The list is
-    /// made before time passes, as memory may run out.
+    /// Sends a segment of a list, as the list is at this moment, to the face that asks for it. The
+    /// segment is made before time passes, since memory may run out.
     pub fn send_list(
         &mut self,
         arrived: &Arrived<'_, Interest<'_>>,

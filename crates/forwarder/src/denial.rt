@@ -14,7 +14,7 @@ use std::alloc::Global;
 /// The status of a command that no rule allows.
 const NOT_AUTHORIZED: u16 = 403;
 
-/// The id of a rule, empty where there is no rule of this number.
+/// Returns the id of a rule, or an empty string if there is no rule at this position.
 pub fn id_of(rules: &Rules, rule: RuleNo) -> &str
     ensures { result.now ≡ id_of rules.now rule.0 }
 {
@@ -25,7 +25,7 @@ pub fn id_of(rules: &Rules, rule: RuleNo) -> &str
     }
 }
 
-/// The text of a reply to a command that a rule denies: the reason and the rule's id.
+/// Returns the text of the reply to a command that is denied: the reason and the rule's id.
 pub(crate) fn denial_text(
     alloc: Global,
     rules: &Rules,
@@ -42,8 +42,8 @@ pub(crate) fn denial_text(
     Ok(text)
 }
 
-/// Appends the Content of the reply to a command that is refused, of status 403. Appends nothing
-/// when out of memory, or where the request is no command.
+/// Appends the Content of the reply, of status 403, to a command that is refused. Appends nothing
+/// if memory runs out, or if the request is not a command.
 pub(crate) fn put_refusal(
     out: &mut Vec<u8>,
     request: NamedRequest,
@@ -52,7 +52,7 @@ pub(crate) fn put_refusal(
     ensures ok { OnOk result
         (out.new.items ≡ out.old.items ++ refused_content (request_named request) text.now) }
     ensures err { OnErr result (out.new.items ≡ out.old.items) }
-    // Where there is room, it does not run out of memory.
+    // If there is room, this does not run out of memory.
     ensures room { vec_len out.old + length (refused_content (request_named request) text.now)
         ≤ vec_capacity out.old → IsOk result }
     ensures capacity { vec_capacity out.old ≤ vec_capacity out.new }

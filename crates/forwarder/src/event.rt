@@ -12,10 +12,11 @@ pub enum Scope {
     Far,
 }
 
-/// What a node handles in one step. Moments are milliseconds since 1970 and may go backwards.
+/// An event, which a node handles in one step. Moments are milliseconds since 1970 and may go
+/// backwards.
 #[derive(Drop)]
 pub enum Event<'a> {
-    /// Octets came on a face.
+    /// Octets arrived on a face.
     Packet {
         face: u64,
         now: u64,
@@ -36,7 +37,7 @@ pub enum Event<'a> {
     Tick {
         now: u64,
     },
-    /// These rules and keys replace those in force, for the events after this one.
+    /// These rules and keys replace those in force, from the next event on.
     NewRules {
         rules: Rules,
         keys: KeyBook,
@@ -72,7 +73,8 @@ pub enum OwnedEvent {
 }
 
 impl OwnedEvent {
-    /// The event. The octets of a packet are moved to `held`, and the event borrows them.
+    /// Returns the event. The octets of a packet are moved to `held`, from which the event borrows
+    /// them.
     pub fn into_event(self, held: &mut Vec<u8>) -> Event<'_>
         ensures { plain result ≡ plain_owned self }
     {

@@ -52,7 +52,7 @@ impl State {
         Verdict::Passed
     }
 
-    /// Whether a name under `/localhost` came from another machine.
+    /// Returns whether the name is under `/localhost` and the face leads to another machine.
     pub fn is_out_of_scope(&self, face: u64, name: Name<'_>) -> bool
         ensures { result
             ≡ is_out_of_scope (policy_of self.entry.now) face (components name.entry) }

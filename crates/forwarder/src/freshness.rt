@@ -15,17 +15,17 @@ use ndn_tlv::Memory;
 use replay_guard::{Guard, Signer};
 use std::alloc::Global;
 
-/// Who signed a command, and when.
+/// The signer of a command, and when the command was signed.
 #[derive(Clone, Copy, Debug)]
 pub(crate) struct Signed<'a> {
     pub signer: Signer<'a>,
     /// The SignatureTime, in milliseconds since 1970.
     pub time: u64,
-    /// The SignatureSeqNum.
+    /// The SignatureSeqNum, if the signature has one.
     pub seq: Option<u64>,
 }
 
-/// The signer: all that is signed with DigestSha256 is of one signer.
+/// Returns the signer; everything signed with DigestSha256 counts as signed by one signer.
 fn signer_in<'a>(signature: Signature<'a>) -> Signer<'a>
     ensures { signer_of result ≡ signer_in (plain_signature signature.entry).info }
 {
@@ -38,7 +38,8 @@ fn signer_in<'a>(signature: Signature<'a>) -> Signer<'a>
     }
 }
 
-/// Who signed an Interest, and when, where it has both.
+/// Returns the signer of an Interest and its time, if the Interest has both a signature and a
+/// SignatureTime.
 fn signed_by<'a>(interest: &Interest<'a>) -> Option<Signed<'a>>
     ensures { option_map recorded_by result ≡ recorded_of (plain_interest interest.now) }
 {
@@ -51,7 +52,7 @@ fn signed_by<'a>(interest: &Interest<'a>) -> Option<Signed<'a>>
     })
 }
 
-/// Whether the time of a command is near this moment, in milliseconds since 1970, and the command
+/// Returns whether the time of a command is near `now`, in milliseconds since 1970, and the command
 /// is newer than all that was recorded of its signer.
 fn is_fresh(guard: &Guard, interest: &Interest<'_>, now: u64) -> bool
     ensures { (p : Policy) → p.guard ≡ guard.now.latest → p.now ≡ now
@@ -63,8 +64,9 @@ fn is_fresh(guard: &Guard, interest: &Interest<'_>, now: u64) -> bool
     }
 }
 
-/// The decision on a command at this moment, in milliseconds since 1970: that of the rules, but a
-/// command that they allow and that is not fresh is denied as a replay.
+/// Returns the decision on a command at the moment `now`, in milliseconds since 1970. This is the
+/// decision of the rules, but a command that the rules allow is denied as a replay if it is not
+/// fresh.
 pub(crate) fn decide_command(
     alloc: Global,
     rules: &Rules,
@@ -87,7 +89,7 @@ pub(crate) fn decide_command(
     Ok(Decision::Denied(rule, Reason::Replay))
 }
 
-/// The decision on a Data: that of the rules.
+/// Returns the decision of the rules on a Data.
 pub(crate) fn decide_data(
     alloc: Global,
     rules: &Rules,
@@ -102,7 +104,8 @@ pub(crate) fn decide_data(
     rules.decide(alloc, keys, Packet::Data(packet))
 }
 
-/// Prepares one `record` of this command, until the guard's next `record` or `prepare`.
+/// Reserves the memory for one `record` of this command. The reservation lasts until the guard's
+/// next `record` or `prepare`.
 pub(crate) fn prepare_record(guard: &mut Guard, interest: &Interest<'_>) -> Result<(), Memory>
     ensures latest { guard.new.latest ≡ guard.old.latest }
     ensures ok { OnOk result (IfSome (recorded_of (plain_interest interest.now))
@@ -114,7 +117,7 @@ pub(crate) fn prepare_record(guard: &mut Guard, interest: &Interest<'_>) -> Resu
     }
 }
 
-/// Records who signed a command, and when. It needs no memory.
+/// Records the signer of a command, and when the command was signed. This needs no memory.
 pub(crate) fn record(guard: &mut Guard, interest: &Interest<'_>) -> Result<(), Memory>
     requires { IfSome (recorded_of (plain_interest interest.now))
         (λ r. IsPrepared guard.old r.signer) }

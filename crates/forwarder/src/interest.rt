@@ -56,9 +56,9 @@ impl State {
         }
     }
 
-    /// Answers an Interest for Data: by a Nack where it loops, from the cache or the repository, or
-    /// by sending it on. The cache and the repository are looked up first, so that a hit prepares
-    /// no record.
+    /// Answers an Interest for Data: by a Nack if it loops, from the cache or the repository, or by
+    /// sending it on. The cache and the repository are looked up first, so that no record is
+    /// prepared for a hit.
     fn answer(
         &mut self,
         arrived: &Arrived<'_, Interest<'_>>,
@@ -83,8 +83,8 @@ impl State {
         self.miss(arrived, out)
     }
 
-    /// Answers an Interest from the cache, at the place that `place_for` gave (NFD Developer's
-    /// Guide, "Content Store Hit Pipeline"), or by a Nack where it loops.
+    /// Answers an Interest from the cache, at the index that `place_for` returned (NFD Developer's
+    /// Guide, "Content Store Hit Pipeline"), or by a Nack if the Interest loops.
     fn serve_cached(
         &mut self,
         arrived: &Arrived<'_, Interest<'_>>,
@@ -114,8 +114,8 @@ impl State {
         Ok(Verdict::Passed)
     }
 
-    /// Answers an Interest from the repository, which stores an object for it, or by a Nack where
-    /// it loops.
+    /// Answers an Interest with the object that the repository stores for it, or by a Nack if the
+    /// Interest loops.
     fn serve_stored(
         &mut self,
         arrived: &Arrived<'_, Interest<'_>>,
@@ -175,8 +175,8 @@ impl State {
         self.forward(arrived.face, arrived.token, interest, out)
     }
 
-    /// Sends a Nack back where an Interest loops (NFD Developer's Guide, "Interest Loop Pipeline"),
-    /// and returns whether it does. Room for it is reserved.
+    /// Sends a Nack back if an Interest loops (NFD Developer's Guide, "Interest Loop Pipeline"),
+    /// and returns whether it loops. Room for the Nack is reserved.
     fn nack_loop(
         &self,
         arrived: &Arrived<'_, Interest<'_>>,
@@ -203,8 +203,8 @@ impl State {
         Ok(true)
     }
 
-    /// Sends an Interest that neither the cache nor the repository answers to where its strategy
-    /// chooses, or a Nack back.
+    /// Sends an Interest that neither the cache nor the repository answers to the faces that its
+    /// strategy chooses, or sends a Nack back.
     fn forward(
         &mut self,
         face: u64,
@@ -241,7 +241,7 @@ impl State {
         }
     }
 
-    /// Adds the in-record of the face, and sends its Interest to these faces.
+    /// Adds the in-record of the face, and sends the face's Interest to these faces.
     fn send_on(
         &mut self,
         face: u64,
@@ -283,7 +283,7 @@ impl State {
         Ok(Verdict::Passed)
     }
 
-    /// Records that the Interest was sent to these faces now.
+    /// Records that the Interest was sent to each of these faces now.
     fn record_sent(&mut self, interest: &Interest<'_>, faces: &Faces) -> Result<(), Memory>
         requires alive { is_alive (records_at self.old.pit.pending
             (key_of (plain_interest interest.now))) ≡ true }
@@ -309,7 +309,7 @@ impl State {
     }
 }
 
-/// The octets of an Interest and of its token together.
+/// Returns the length of an Interest and its token together, in octets.
 fn kept_len(interest: &Interest<'_>, token: Option<&[u8]>) -> usize
     requires { IfSome (token_of token) IsToken }
     ensures { result ≡ length interest.now.whole.now + token_len (token_of token.entry) }

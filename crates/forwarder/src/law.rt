@@ -38,36 +38,37 @@ ghost use Rattle.forwarder.specs.RouteReading.{route_of};
 ghost use Rattle.forwarder.specs.Kept.{IsSentBack, IsKept, IsPassed, IsSentOn};
 ghost use Rattle.forwarder.specs.Runs.{Run, Start, Then, AreLastRules, BringsData, BringsKeysApart, BringsRequest, HasNoNewRules, HasTicksForDenied, HaveOneHistory, IsPolicyOf, IsRun, KeysAreApart, MayHold, MayReply, Stands, now_of, past_causes, events_back, records_of, seen_after};
 
-/// Law: the policy after an event is a function of the policy before it and the event, where the
+/// Law: the policy after an event is a function of the event and of the policy before it, if the
 /// keys of the book have different names.
 pub fn events_have_one_effect()
     ensures { (old new other : Policy) (event : PlainEvent) → AreApart old.keys
         → IsAfter old event new → IsAfter old event other → new ≡ other }
 {}
 
-/// Law: two steps of one node by one event leave the same policy, whatever they answer, where the
-/// keys of its book have different names. Only pending Interests and the cache may differ.
+/// Law: two steps of the same node by the same event leave the same policy, whatever the two steps
+/// answer, if the keys of the node's book have different names. Only pending Interests and the
+/// cache may differ.
 pub fn steps_have_one_effect()
     ensures { (old new other : NodeState) (event : PlainEvent) (answer another : Answer)
         → AreApart old.policy.keys → IsStep old event answer new → IsStep old event another other
         → new.policy ≡ other.policy }
 {}
 
-/// Law: two moments in a row are as the later of them: what is due expires, and each route that
-/// expires is counted once.
+/// Law: two moments in a row have the effect of the later one: what is due expires, and each route
+/// that expires is counted once.
 pub fn moments_in_a_row_are_as_the_later()
     ensures { (p : Policy) (m n : ℕ) → at_moment (at_moment p m) n ≡ at_moment p (max m n) }
 {}
 
-/// Law: a step leaves a sound node sound: each face with a record, a next hop or a route is open,
-/// and at most 64 faces are open.
+/// Law: a step leaves a sound node sound. In a sound node each face with a record, a next hop or a
+/// route is open, and at most 64 faces are open.
 pub fn steps_keep_nodes_sound()
     ensures { (old new : NodeState) (event : PlainEvent) (answer : Answer) → IsSound old
         → IsStep old event answer new → IsSound new }
 {}
 
-/// Law: if a node agrees with a run so far that began at the moment 0, appending the event and the
-/// answer of a step gives a valid run, and the node after the step agrees with that.
+/// Law: if a node agrees with a run that began at the moment 0, then appending the event and the
+/// answer of a step gives a valid run, and the node after the step agrees with this longer run.
 pub fn steps_go_on_with_runs()
     ensures { (first : Policy) (past : Run) (old new : NodeState) (event : PlainEvent)
         (answer : Answer) → first.now ≡ 0 → IsRun first past → Stands first past old
@@ -75,8 +76,8 @@ pub fn steps_go_on_with_runs()
         → IsRun first (Then past event answer) × Stands first (Then past event answer) new }
 {}
 
-/// Law: a node without pending Interests and with an empty cache agrees with the empty run of its
-/// policy.
+/// Law: a node without pending Interests and with an empty cache agrees with the empty run that
+/// starts from the node's policy.
 pub fn new_nodes_stand_in_the_empty_run()
     ensures { (first : Policy) (capacity : ℕ) → IsRun first Start × Stands first Start (record {
       policy = first;
@@ -85,17 +86,17 @@ pub fn new_nodes_stand_in_the_empty_run()
     }) }
 {}
 
-/// Law: after a step that ran out of memory, the node agrees with each run that it agreed with
-/// before.
+/// Law: after a step that ran out of memory, the node still agrees with each run that it agreed
+/// with before the step.
 pub fn refused_steps_stand_still()
     ensures { (first : Policy) (past : Run) (old new : NodeState) → Stands first past old
         → ChangesCacheOnly old new → Stands first past new }
 {}
 
-/// Law: where no book has two keys of one name, two runs of the same events leave the same policy.
-/// For one more event both allow only the same answer, where it brings a command, a request for a
-/// list, or an Interest that is dropped for its HopLimit or scope, and only the same verdict, where
-/// it brings a Data. So this is true at each event of two whole runs.
+/// Law: if no book has two keys of the same name, two runs of the same events leave the same
+/// policy. For one more event, both runs allow only the same answer if the event brings a command,
+/// a request for a list, or an Interest that is dropped because of its HopLimit or scope, and only
+/// the same verdict if the event brings a Data. So this is true at each event of two whole runs.
 pub fn histories_decide()
     ensures policy { (first p q : Policy) (past other : Run) → KeysAreApart first past
         → HaveOneHistory past other → IsPolicyOf first past p → IsPolicyOf first other q → p ≡ q }
@@ -108,8 +109,8 @@ pub fn histories_decide()
         → MayReply first past event a → MayReply first other event b → a.verdict ≡ b.verdict }
 {}
 
-/// Law: where the moments alone replace some events of a run that were denied, it is still a run,
-/// and leaves the same policy.
+/// Law: if ticks at the same moments replace some denied events of a run, the result is still a
+/// run, and it leaves the same policy.
 pub fn denied_events_change_nothing()
     ensures run { (first : Policy) (past other : Run) → KeysAreApart first past → IsRun first past
         → HasTicksForDenied past other → IsRun first other }
@@ -118,10 +119,10 @@ pub fn denied_events_change_nothing()
         → IsPolicyOf first other p }
 {}
 
-/// Law: each Data of a valid answer came in this event, is allowed, and is sent to another face
-/// with a pending Interest for it; or it answers the Interest of the event, from the cache, the
-/// repository or the node itself, and is sent back to its face. Nothing else that is sent is a
-/// Data.
+/// Law: each Data that a valid answer sends is of one of two kinds. Either it came in this event,
+/// is allowed, and is sent to another face with a pending Interest for it; or it answers the
+/// Interest of this event, from the cache, the repository or the node itself, and is sent back to
+/// the Interest's face. Nothing else that is sent is a Data.
 pub fn each_send_is_explained()
     ensures { (first : Policy) (past : Run) (event : PlainEvent) (answer : Answer)
         (reply : MayReply first past event answer) → BringsOctets event
@@ -129,8 +130,9 @@ pub fn each_send_is_explained()
         event answer }
 {}
 
-/// Law: where the keys of the first book have different names, and so do those that each event
-/// brings, so do those of every book of the run and of the book in force after it.
+/// Law: if the keys of the first book have different names, and the keys that each event brings
+/// have different names, then the keys of every book of the run, and of the book in force after it,
+/// have different names.
 pub fn keys_stay_apart()
     ensures books { (first : Policy) (past : Run) → AreApart first.keys
         → All BringsKeysApart (events_back past) → KeysAreApart first past }
@@ -138,30 +140,31 @@ pub fn keys_stay_apart()
         → IsPolicyOf first past p → AreApart p.keys }
 {}
 
-/// Law: the rules and keys in force after a run, by which its next event is decided, are those of
-/// the last event that brought rules and keys, or the first ones where none did.
+/// Law: the rules and keys in force after a run decide its next event. They are those of the last
+/// event that brought rules and keys, or the first ones if no event brought any.
 pub fn rules_in_force()
     ensures last { (first p : Policy) (past : Run) (rules : List PlainRule) (keys : List NamedKey)
         → IsPolicyOf first past p → AreLastRules past rules keys
         → (p.rules ≡ rules) × (p.keys ≡ keys) }
     ensures first { (first p : Policy) (past : Run) → IsPolicyOf first past p → HasNoNewRules past
         → (p.rules ≡ first.rules) × (p.keys ≡ first.keys) }
-    // Each run is one of these two cases.
+    // In each run, either no event brings rules and keys, or some event is the last one that does.
     ensures either { (past : Run) → HasNoNewRules past
         ⊎ ((rules : List PlainRule) × (keys : List NamedKey) × AreLastRules past rules keys) }
 {}
 
 /// Law: each Data that is sent was asked for by the face that it is sent to. Either the event
-/// brings it, its first matching rule allows it, and it answers an Interest that is pending on that
-/// face; or the event brings an Interest on that face, and the Data answers it and came in an
-/// earlier event that allowed it, or is the node's own reply to it or segment for it.
+/// brings the Data, the first rule that applies allows it, and it answers an Interest that is
+/// pending on that face; or the event brings an Interest on that face, and the Data either answers
+/// that Interest and came in an earlier event that allowed it, or is the node's own reply or
+/// segment for that Interest.
 pub fn every_data_sent_was_asked_for()
     ensures read { (first : Policy) (past : Run) (event : PlainEvent) (answer : Answer) (face : ℕ)
         (octets whole : List ℕ) (d : PlainData) (reply : MayReply first past event answer)
         → first.held.objects ≡ map.empty → IsRun first past → BringsOctets event
         → Contains answer.sends (face, octets) → frame_at octets ≡ Ok (AData whole d)
         → WasAskedFor first past reply.was event face whole d }
-    // A Data that cannot be read, as it is too long, is the node's own answer.
+    // A Data that is too long to be read is the node's own answer.
     ensures unread { (first : Policy) (past : Run) (event : PlainEvent) (answer : Answer) (face : ℕ)
         (octets : List ℕ) (reply : MayReply first past event answer)
         → first.held.objects ≡ map.empty → IsRun first past → BringsOctets event
@@ -171,8 +174,8 @@ pub fn every_data_sent_was_asked_for()
 {}
 
 /// Law: each allowed command has a greater time than all commands of its signer that were allowed
-/// before and, where both have a number, a greater number. So no signature is allowed twice,
-/// whatever else the Interest contains.
+/// before and, if both have a number, a greater number. So no signature is allowed twice, whatever
+/// else the Interest contains.
 pub fn commands_are_allowed_once()
     ensures newer { (first was : Policy) (past : Run) (event : PlainEvent) (whole other : List ℕ)
         (i j : PlainInterest) (r s : Recorded) → KeysAreApart first past
@@ -183,8 +186,8 @@ pub fn commands_are_allowed_once()
         (i j : PlainInterest) → KeysAreApart first past → AllowedIn first past (AnInterest whole i)
         → IsPolicyOf first past was → Allows was event (AnInterest other j)
         → i.signature ≡ j.signature → ⊥ }
-    // Conversely, where no command was recorded before the run: a command whose time is near the
-    // moment, and that is newer than all commands of its signer that were allowed, is fresh.
+    // Conversely, if no command was recorded before the run, a command is fresh if its time is near
+    // the moment and it is newer than all commands of its signer that were allowed.
     ensures fresh { (first was : Policy) (past : Run) (now : ℕ) (i : PlainInterest) (r : Recorded)
         → first.guard ≡ map.empty → IsPolicyOf first past was → recorded_of i ≡ Some r
         → AreNear r.time (at_moment was now).now
@@ -194,8 +197,7 @@ pub fn commands_are_allowed_once()
         → IsFreshCommand (at_moment was now) i }
 {}
 
-/// Law: a guard that was empty at first records the times and numbers of commands that were
-/// allowed, and no others.
+/// Law: a guard that was empty at first records the times and numbers of allowed commands only.
 pub fn guards_hold_allowed_commands()
     ensures { (first p : Policy) (past : Run) → first.guard ≡ map.empty → IsPolicyOf first past p
         → (records : List Recorded) × (p.guard ≡ table_of records)
@@ -204,7 +206,7 @@ pub fn guards_hold_allowed_commands()
 {}
 
 /// Law: each object of a repository that was empty at first is a Data that came in an event that
-/// allowed it, stored under its full name.
+/// allowed it, and is stored under its full name.
 pub fn objects_were_allowed()
     ensures { (first p : Policy) (past : Run) (name : List Field) (octets : List ℕ)
         → first.held.objects ≡ map.empty → IsPolicyOf first past p
@@ -214,16 +216,16 @@ pub fn objects_were_allowed()
 {}
 
 /// Law: each Data that a cache may hold after a run came in an event that allowed it, at the moment
-/// that is recorded as its arrival, and its implicit digest is the hash of its octets.
+/// that is recorded as its arrival. The Data's implicit digest is the hash of its octets.
 pub fn cached_data_were_allowed()
     ensures { (first : Policy) (past : Run) (c : CachedData) → IsRun first past → MayHold past c
         → (d : PlainData) × AllowedAt first past (AData c.octets d) c.arrival × (c.name ≡ d.name)
         × (c.digest ≡ sha256 c.octets) × (c.freshness ≡ d.freshness) }
 {}
 
-/// Law: the records of a key after a run are, face by face, readings of its past: the last Interest
-/// that the face sent under the key, and the last one that was sent to it, where nothing has ended
-/// them since.
+/// Law: the records of a key after a run are read off its past, face by face: the last Interest
+/// that the face sent under this key, and the last Interest that was sent to the face, if nothing
+/// has ended the record since.
 pub fn records_are_read_off_the_run()
     ensures in_records { (past : Run) (key : PlainKey) (face : ℕ)
         → map.get (records_of past key).in_records face
@@ -233,11 +235,11 @@ pub fn records_are_read_off_the_run()
         ≡ out_record_of (past_causes past) key face }
 {}
 
-/// Law: an Interest becomes pending exactly where it was passed, nothing was sent back to its face,
-/// and no Nack was sent. An in-record after an event is of that event's Interest, or was there
-/// before. Where the answer is valid, a passed Interest is sent on to other faces, or to none, and
-/// becomes pending; or one packet is sent back to its face: a Nack, or a Data from the cache, the
-/// repository or the node.
+/// Law: an Interest becomes pending exactly if it was passed, nothing was sent back to its face,
+/// and no Nack was sent. An in-record after an event comes from that event's Interest, or was there
+/// before. If the answer is valid, a passed Interest is either sent on to other faces, or to none,
+/// and becomes pending; or one packet is sent back to its face: a Nack, or a Data from the cache,
+/// the repository or the node.
 pub fn unanswered_interests_wait()
     ensures arrives { (now : ℕ) (event : PlainEvent) (answer : Answer) (key : PlainKey) (face : ℕ)
         (in_record : InRecord) → Contains (causes_of now event answer) (Arrives key face in_record)
@@ -261,9 +263,9 @@ pub fn unanswered_interests_wait()
         ⊎ IsSentBack seen face (token_in event) whole i answer.sends }
 {}
 
-/// Law: the cost of a next hop after a run is that of the last add-nexthop of its name and face
-/// that was answered with status 200, where since then no remove-nexthop of the two was answered
-/// so, and the face was not closed; otherwise there is no such next hop.
+/// Law: the cost of a next hop after a run was set by the last add-nexthop of its name and face
+/// that was answered with status 200, if since then no remove-nexthop of this name and face was
+/// answered with status 200 and the face was not closed. Otherwise there is no such next hop.
 pub fn routes_are_read_off_the_run()
     ensures { (first p : Policy) (past : Run) (name : List Field) (face : ℕ)
         → KeysAreApart first past
@@ -271,12 +273,12 @@ pub fn routes_are_read_off_the_run()
         → map.get (costs_at p.routes name) face ≡ cost_of past name face }
 {}
 
-/// Law: a registered route after a run that began at the moment 0 is the one that the last register
-/// of its name, face and origin gave that was answered with status 200: its cost and flags, and as
-/// its deadline, where it had a period, the sum of the time then and that period, at most the
-/// greatest u64. Since then no unregister of the three was answered so, the face was not closed,
-/// and no later event came at which the time was the deadline or more; otherwise there is no such
-/// route.
+/// Law: a registered route after a run that began at the moment 0 was given by the last register of
+/// its name, face and origin that was answered with status 200. It has the cost and flags of that
+/// register and, if the register had a period, a deadline: the time of the register plus the
+/// period, at most the greatest u64. Since then no unregister of this name, face and origin was
+/// answered with status 200, the face was not closed, and no later event came at or after the
+/// deadline. Otherwise there is no such route.
 pub fn registered_routes_are_read_off_the_run()
     ensures { (first p : Policy) (past : Run) (name : List Field) (face origin : ℕ)
         → KeysAreApart first past → first.now ≡ 0
@@ -286,8 +288,9 @@ pub fn registered_routes_are_read_off_the_run()
 {}
 
 /// Law: a denial in a valid answer is the decision on the event's packet by the rule that it names,
-/// or no rule applies. The answer is that of the denial: to a command a reply of status 403 that
-/// names the reason and the rule, to a Data nothing. So the kind is the packet's.
+/// or states that no rule applies. A denied command is answered by a reply of status 403 that names
+/// the reason and the rule, and a denied Data is not answered. So the kind in the verdict is the
+/// kind of the packet.
 pub fn denials_name_their_rule()
     ensures denied { (first : Policy) (past : Run) (event : PlainEvent) (answer : Answer)
         (kind : Kind) (rule : ℕ) (reason : Reason) (reply : MayReply first past event answer)

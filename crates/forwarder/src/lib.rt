@@ -1,4 +1,4 @@
-//! The forwarder as a machine over events.
+//! The forwarder as a state machine that handles events.
 #![tactic(auto)]
 
 mod arrived;

@@ -12,17 +12,18 @@ use hmac_keys::KeyBook;
 use info_rules::Rules;
 
 impl State {
-    /// Puts these rules and keys in force, once the moment has come. Nothing else changes.
+    /// Puts these rules and keys in force, once time has advanced to the moment. Apart from that,
+    /// only time passes.
     pub fn replace_rules(&mut self, rules: Rules, keys: KeyBook, now: u64) -> Verdict
         ensures step { IsStep (state_of self.old) (NewRules rules keys now)
             (record { verdict = verdict_of result; sends = [] }) (state_of self.new) }
-        // This is true of every book.
+        // No two keys have the same name; this is true of every book of keys.
         ensures apart { AreApart keys }
     {
         self.pass_time(now);
         self.rules = rules;
         self.keys = keys;
-        // From here on it is known what `KeyBook::len` ensures of every book.
+        // From here on, the proof knows what `KeyBook::len` ensures of every book.
         prove!(self.keys.len() <= usize::MAX);
         Verdict::Passed
     }

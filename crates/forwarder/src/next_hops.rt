@@ -12,8 +12,8 @@ use pit_fib::{StrategyId, Used};
 use strategies::{Ask, BestRoute, Choice, Multicast, Strategy};
 
 impl State {
-    /// The strategy's choice for an Interest of this name that was sent to these faces before (NFD
-    /// Developer's Guide, "Strategies").
+    /// Returns the strategy's choice for an Interest of this name, where `used` has the faces that
+    /// the Interest was sent to before (NFD Developer's Guide, "Strategies").
     pub fn choose(&self, name: Name<'_>, used: &Used, ask: Ask) -> Choice
         ensures { result
             ≡ choice_for (policy_of self.entry.now) (components name.entry) used.now ask }
@@ -26,7 +26,7 @@ impl State {
         }
     }
 
-    /// An Interest that came on a face.
+    /// Returns what the strategy is asked about an Interest that came on this face.
     pub fn ask_from(&self, face: u64, interest: &Interest<'_>) -> Ask
         ensures { result ≡ ask_from (policy_of self.entry.now) face (plain_interest interest.now) }
     {
@@ -38,7 +38,7 @@ impl State {
         }
     }
 
-    /// An Interest of the node itself.
+    /// Returns what the strategy is asked about an Interest of the node itself.
     pub fn ask_for(&self, name: Name<'_>) -> Ask
         ensures { result ≡ ask_for (policy_of self.entry.now) (components name.entry) }
     {

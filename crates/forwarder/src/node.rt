@@ -30,7 +30,7 @@ use std::alloc::{AllocError, Global};
 use std::marker::Model;
 use thiserror::Error;
 
-/// The parts of a node.
+/// The parts that a node is made of.
 #[derive(Drop)]
 pub struct NodeParts {
     /// The rules that decide which commands and Data are allowed.
@@ -39,11 +39,11 @@ pub struct NodeParts {
     pub keys: KeyBook,
     /// The repository's prefix, neither empty nor under `/localhost`.
     pub repo: NameBuf,
-    /// The capacity of the cache in Data, from 1 to 65,536.
+    /// The number of Data that the cache can hold, from 1 to 65,536.
     pub cache: u32,
 }
 
-/// Why a node cannot be made. Of several faults, the first in this order is reported.
+/// Why a node cannot be made. If there are several faults, the first in this order is reported.
 #[derive(Clone, Copy, Debug, PartialEq, Eq, Error)]
 pub enum NodeFault {
     #[error("the repository's prefix is empty, or begins with /localhost")]
@@ -89,7 +89,7 @@ impl From<AllocError> for NodeFault {
     }
 }
 
-/// Whether a name cannot be the repository's prefix.
+/// Returns whether a name cannot be the repository's prefix.
 fn is_bad_prefix(repo: &NameBuf) -> bool
     ensures { result ≡ is_bad_prefix_of repo.now }
 {
@@ -100,9 +100,9 @@ fn is_bad_prefix(repo: &NameBuf) -> bool
 }
 
 impl Node {
-    /// A node without faces.
+    /// Returns a node without faces.
     ///
-    /// Fails with the first fault in the order of `NodeFault`.
+    /// Fails with the fault that comes first in `NodeFault`.
     pub fn new(alloc: Global, parts: NodeParts) -> Result<Node, NodeFault>
         ensures ok { IfOk result
             (λ node. node ≡ first_node parts.rules parts.keys parts.repo parts.cache) }
@@ -136,7 +136,7 @@ impl Node {
         Ok(Node { state })
     }
 
-    /// The rules that decide commands and Data. The clause beside `exact` is true of every node.
+    /// Returns the rules that decide commands and Data. The clause `sound` is true of every node.
     pub fn rules(&self) -> &Rules
         ensures exact { result.now ≡ self.now.policy.rules }
         ensures sound { IsSound self.now }
@@ -144,30 +144,31 @@ impl Node {
         &self.state.rules
     }
 
-    /// The keys that the rules name. No two have the same name, as `KeyBook::len` ensures of every
-    /// book.
+    /// Returns the keys that the rules name. No two keys have the same name, as `KeyBook::len`
+    /// ensures of every book.
     pub fn keys(&self) -> &KeyBook
         ensures { result.now ≡ self.now.policy.keys }
     {
         &self.state.keys
     }
 
-    /// The greatest moment so far, in milliseconds since 1970.
+    /// Returns the greatest moment so far, in milliseconds since 1970.
     pub fn now(&self) -> u64
         ensures { result ≡ self.now.policy.now }
     {
         self.state.now
     }
 
-    /// The open face at a place, counted from 0 in rising order, and its scope. At most 64 are
-    /// open.
+    /// Returns the open face at position `i`, counted from 0 in rising order of the numbers, and
+    /// its scope. At most 64 faces are open.
     pub fn open_face(&self, i: usize) -> Option<(u64, Scope)>
         ensures { result ≡ slice_get self.now.policy.faces i }
     {
         self.state.faces.entry(i)
     }
 
-    /// Whether an event brings a Data that the repository wants once the event's moment has come.
+    /// Returns whether an event brings a Data that the repository wants once time has advanced to
+    /// the event's moment.
     pub fn wants(&self, event: &Event<'_>) -> bool
         ensures { result ≡ brings_wanted
             (at_moment self.now.policy (moment (plain event.now))) (plain event.now) }
@@ -178,7 +179,8 @@ impl Node {
         }
     }
 
-    /// Whether octets that come at this moment are a Data that the repository then wants.
+    /// Returns whether octets that come at this moment are a Data that the repository wants at that
+    /// moment.
     fn wants_packet(&self, now: u64, octets: &[u8]) -> bool
         ensures { result ≡ is_wanted_packet (at_moment self.now.policy now) (frame_at octets.now) }
     {
@@ -194,20 +196,21 @@ impl Node {
     /// Handles one event (NFD Developer's Guide, "Forwarding"): returns the verdict, and appends
     /// the sends to the outbox.
     ///
-    /// New rules and keys replace those in force, from the next event on, and change nothing else.
+    /// New rules and keys replace those in force from the next event on, and change nothing else.
     ///
-    /// On `Memory` the cache may have dropped Data or changed their order of use, and nothing else
-    /// changes. Face changes, moments, new rules, packets on faces that are not open, octets that
-    /// hold no packet, packets out of scope, Interests of HopLimit 0, and Data that the rules do
-    /// not allow, unless their first rule has a hyper-relation, need no memory.
+    /// If memory runs out, the cache may have dropped Data or changed their order of use; nothing
+    /// else changes. These events need no memory: face changes, moments, new rules, packets on
+    /// faces that are not open, octets that hold no packet, packets out of scope, Interests of
+    /// HopLimit 0, and Data that the rules do not allow, unless their first rule has a
+    /// hyper-relation.
     pub fn step(&mut self, event: Event<'_>, outbox: &mut Outbox) -> Result<Verdict, Memory>
-        // One step, from octets to octets.
+        // One step, from received octets to sent octets.
         ensures answered { IfOk result
             (λ verdict. (sends : List Send) × (outbox.new ≡ outbox.old ++ sends)
             × IsStep self.old (plain event.entry)
             (record { verdict = verdict_of verdict; sends = sends }) self.new) }
-        // If the node agrees with a run so far, appending this event and its answer gives a valid
-        // run, and the node agrees with that.
+        // If the node agrees with a run, appending this event and its answer gives a valid run, and
+        // the new node agrees with this longer run.
         ensures run { IfOk result (λ verdict. let sends = drop (length outbox.old) outbox.new in
             (first : Policy) (past : Run) → first.now ≡ 0 → IsRun first past
             → Stands first past self.old
@@ -218,7 +221,7 @@ impl Node {
         ensures memory { OnErr result (ChangesCacheOnly self.old self.new
             × (outbox.new ≡ outbox.old)) }
         ensures without_memory { AsksNoMemory self.old (plain event.entry) → IsOk result }
-        // These are true of every event.
+        // The following clauses are true of every event.
         ensures octets { BringsOctets (plain event.entry) }
         ensures keys { BringsKeysApart (plain event.entry) }
     {

@@ -10,9 +10,9 @@ use std::marker::Model;
 /// The open faces, each Local or Far: at most 64, in rising order of their numbers.
 #[derive(Drop)]
 pub struct OpenFaces {
-    /// All of them.
+    /// All open faces.
     all: Faces,
-    /// The Local ones.
+    /// The Local faces.
     local: Faces,
 }
 
@@ -29,7 +29,7 @@ impl Model for OpenFaces {
 }
 
 impl OpenFaces {
-    /// No faces.
+    /// Returns an empty list of open faces.
     pub fn new() -> OpenFaces
         ensures { result ≡ [] }
     {
@@ -39,14 +39,15 @@ impl OpenFaces {
         }
     }
 
-    /// Whether the face is open.
+    /// Returns whether the face is open.
     pub fn contains(&self, face: u64) -> bool
         ensures { result ≡ is_open face self.now }
     {
         self.all.contains(face)
     }
 
-    /// The number of open faces. The clauses beside `exact` are true of all open faces.
+    /// Returns the number of open faces. The clauses other than `exact` are true of all lists of
+    /// open faces.
     pub fn len(&self) -> usize
         ensures exact { result ≡ length self.now }
         ensures small { result ≤ MAX_FACES }
@@ -55,14 +56,15 @@ impl OpenFaces {
         self.all.len()
     }
 
-    /// The open face at a place, counted from 0 in rising order.
+    /// Returns the open face at position `i`, counted from 0 in rising order of the numbers.
     pub fn get(&self, i: usize) -> Option<u64>
         ensures { result ≡ slice_get (numbers self.now) i }
     {
         self.all.get(i)
     }
 
-    /// The open face at a place, counted from 0 in rising order, and its scope.
+    /// Returns the open face at position `i`, counted from 0 in rising order of the numbers, and
+    /// its scope.
     pub fn entry(&self, i: usize) -> Option<(u64, Scope)>
         ensures { result ≡ slice_get self.now i }
     {
@@ -74,7 +76,7 @@ impl OpenFaces {
         }
     }
 
-    /// Whether the face is open and leads to another machine.
+    /// Returns whether the face is open and leads to another machine.
     pub fn is_far(&self, face: u64) -> bool
         ensures { result ≡ is_far_scope (find_scope face self.now) }
     {
@@ -105,14 +107,14 @@ impl OpenFaces {
         *self = OpenFaces { all, local };
     }
 
-    /// The numbers of the open faces.
+    /// Returns the numbers of the open faces.
     pub fn numbers(&self) -> &Faces
         ensures { result.now ≡ numbers self.now }
     {
         &self.all
     }
 
-    /// The numbers of the Local ones.
+    /// Returns the numbers of the Local faces.
     pub fn locals(&self) -> &Faces
         ensures { result.now ≡ numbers (filter (λ entry. is_local_scope entry.1) self.now) }
     {
@@ -120,7 +122,7 @@ impl OpenFaces {
     }
 }
 
-/// The faces without this one.
+/// Returns `faces` without `face`.
 pub fn without_face(faces: &Faces, face: u64) -> Faces
     ensures { result ≡ filter (λ f. not (f == face)) faces.now }
 {

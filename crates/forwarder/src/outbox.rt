@@ -6,7 +6,7 @@ use ndn_tlv::Memory;
 use std::alloc::Global;
 use std::marker::Model;
 
-/// The packets to send: octets, each with the number of the face to send them to, in order.
+/// The packets to send, in order: for each the octets, and the number of the face to send them to.
 #[derive(Drop)]
 pub struct Outbox {
     pub(crate) sends: Sends,
@@ -22,7 +22,7 @@ impl Model for Outbox {
 }
 
 impl Outbox {
-    /// An outbox with no sends.
+    /// Returns an outbox with no sends.
     pub fn new(alloc: Global) -> Outbox
         ensures { result ≡ [] }
     {
@@ -31,28 +31,28 @@ impl Outbox {
         }
     }
 
-    /// The number of sends.
+    /// Returns the number of sends.
     pub fn len(&self) -> usize
         ensures { result ≡ length self.now }
     {
         self.sends.len()
     }
 
-    /// Whether there are no sends.
+    /// Returns whether there are no sends.
     pub fn is_empty(&self) -> bool
         ensures { IsTrue result ↔ (self.now ≡ []) }
     {
         self.sends.is_empty()
     }
 
-    /// The face and the octets of the send at `i`, counted from 0.
+    /// Returns the face and the octets of the send at `i`, counted from 0.
     pub fn sent(&self, i: usize) -> Option<(u64, &[u8])>
         ensures { option_map (λ sent. (sent.0, sent.1.now)) result ≡ slice_get self.now i }
     {
         self.sends.sent(i)
     }
 
-    /// Adds a send of these octets. When out of memory, the sends do not change.
+    /// Adds a send of these octets. If memory runs out, the sends do not change.
     pub fn push(&mut self, face: u64, octets: &[u8]) -> Result<(), Memory>
         ensures ok { OnOk result (self.new ≡ self.old ++ (face, octets.now) ∷ []) }
         ensures err { OnErr result (self.new ≡ self.old) }
@@ -60,7 +60,7 @@ impl Outbox {
         self.sends.push(face, octets)
     }
 
-    /// Removes the sends and their octets. The room that they took stays reserved.
+    /// Removes all sends and their octets. The memory that they took stays reserved.
     pub fn clear(&mut self)
         ensures { self.new ≡ [] }
     {

@@ -17,7 +17,7 @@ use ndn_packets::{Frame, Framed, read_lp};
 use ndn_tlv::Memory;
 
 impl State {
-    /// Handles octets that came on a face (NFD Developer's Guide, "Forwarding Pipelines").
+    /// Handles octets that arrived on a face (NFD Developer's Guide, "Forwarding Pipelines").
     pub fn receive(
         &mut self,
         face: u64,
@@ -78,7 +78,7 @@ impl State {
         }
     }
 
-    /// Drops a packet: lets time pass, and does no more.
+    /// Drops a packet: lets time pass, and does nothing else.
     pub fn drop_packet(&mut self, now: u64, reason: DropReason) -> Verdict
         ensures verdict { result ≡ said.Dropped reason }
         ensures later { IsLater (state_of self.old) now (state_of self.new) }

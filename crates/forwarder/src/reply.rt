@@ -12,12 +12,12 @@ use ndn_names::Name;
 use ndn_tlv::Memory;
 use repo_core::{RepoReply, put_repo_reply, repo_status_text};
 
-/// A reply has at most this many octets beyond its name and its Content: the headers and the
+/// The most octets that a reply has in addition to its name and its Content: the headers and the
 /// signature.
 const REPLY_EXTRA: usize = 77;
 
-/// A number of octets that is enough for a reply of this name with a token, where its Content has
-/// at most `content_len` octets. `Memory` where the number overflows.
+/// Returns a number of octets that is enough for a reply of this name with a token, if its Content
+/// has at most `content_len` octets. Fails with `Memory` if the number overflows.
 pub(crate) fn reply_room(name: Name<'_>, content_len: usize) -> Result<usize, Memory>
     ensures { IfOk result (λ room. (content : List ℕ) → length content ≤ content_len
         → length (reply_text (components name.entry) content) + LINK_EXTRA ≤ room) }
@@ -31,12 +31,13 @@ pub(crate) fn reply_room(name: Name<'_>, content_len: usize) -> Result<usize, Me
     Ok(room)
 }
 
-/// Appends the Content of a reply of this status, with its own text, or nothing when out of memory.
+/// Appends the Content of a reply of this status, with the text of the status. Appends nothing if
+/// memory runs out.
 pub(crate) fn put_status(out: &mut Vec<u8>, status: u16, body: &[u8]) -> Result<(), Memory>
     ensures ok { OnOk result (out.new.items ≡ out.old.items
         ++ response status (unwrap_or (text_of status) []) body.now) }
     ensures err { OnErr result (out.new.items ≡ out.old.items) }
-    // Where there is room, it does not run out of memory.
+    // If there is room, this does not run out of memory.
     ensures room { vec_len out.old
         + length (response status (unwrap_or (text_of status) []) body.now)
         ≤ vec_capacity out.old → IsOk result }
@@ -45,12 +46,12 @@ pub(crate) fn put_status(out: &mut Vec<u8>, status: u16, body: &[u8]) -> Result<
     put_response(out, status, text, body)
 }
 
-/// Appends the Content of the repository's reply, or nothing when out of memory.
+/// Appends the Content of the repository's reply. Appends nothing if memory runs out.
 pub(crate) fn put_repo_status(out: &mut Vec<u8>, reply: &RepoReply) -> Result<(), Memory>
     ensures ok { OnOk result
         (out.new.items ≡ out.old.items ++ repository_content reply.now) }
     ensures err { OnErr result (out.new.items ≡ out.old.items) }
-    // Where there is room, it does not run out of memory.
+    // If there is room, this does not run out of memory.
     ensures room { vec_len out.old + length (repository_content reply.now) ≤ vec_capacity out.old
         → IsOk result }
 {

@@ -13,36 +13,36 @@ use ndn_packets::Interest;
 use ndn_tlv::{nni_len, nni_of};
 use repo_core::Repo;
 
-/// What a list is of.
+/// A kind of list: a list of routes, or a list of strategies.
 #[derive(Clone, Copy, Debug, PartialEq, Eq)]
 pub(crate) enum ListKind {
     RouteList,
     StrategyList,
 }
 
-/// A segment of a list that is asked for (NFD Management, "Status Dataset").
+/// A request for one segment of a list (NFD Management, "Status Dataset").
 #[derive(Clone, Copy, Debug, PartialEq, Eq)]
 pub(crate) struct ListAsked {
     pub kind: ListKind,
-    /// The version, where one is asked for.
+    /// The version of the list, if the request names one.
     pub version: Option<u64>,
-    /// The segment's number, counted from 0.
+    /// The number of the segment, counted from 0.
     pub segment: u64,
 }
 
-/// What an Interest asks for by its name.
+/// What an Interest asks for, according to its name.
 #[derive(Clone, Copy, Debug, PartialEq, Eq)]
 pub(crate) enum NamedRequest {
     ForList(ListAsked),
-    /// A command on routes, strategies or the cache: any name under `/localhost/nfd` that is no
-    /// list's.
+    /// A command on routes, strategies or the cache: any name under `/localhost/nfd` that does not
+    /// ask for a list.
     ForTables,
     /// A command to the repository.
     ForRepository,
     ForData,
 }
 
-/// Whether the name begins with the components that these octets encode.
+/// Returns whether the name begins with the components that `octets` encode.
 fn begins(name: Name<'_>, octets: &[u8]) -> bool
     ensures { (prefix : List Field) → IsNameValue octets.now prefix
         → result ≡ begins_with prefix (components name.entry) }
@@ -50,14 +50,14 @@ fn begins(name: Name<'_>, octets: &[u8]) -> bool
     name.as_octets().starts_with(octets)
 }
 
-/// Whether the name stays on this machine: it begins with `/localhost`.
+/// Returns whether the name stays on this machine, that is, begins with `/localhost`.
 pub(crate) fn is_local_name(name: Name<'_>) -> bool
     ensures { result ≡ is_local (components name.entry) }
 {
     begins(name, b"\x08\x09localhost")
 }
 
-/// Whether the name is a command's or a list's: it begins with `/localhost/nfd`.
+/// Returns whether the name is that of a command or a list, that is, begins with `/localhost/nfd`.
 pub(crate) fn is_management(name: Name<'_>) -> bool
     ensures { result ≡ begins_with management (components name.entry) }
 {
@@ -69,7 +69,7 @@ impl ListKind {
     ghost use Rattle.ndn_names.specs.Name.{IsNameValue};
     ghost use Rattle.forwarder.specs.Request.{generic, list_name, management};
 
-    /// The third component of the list's name.
+    /// Returns the third component of the list's name.
     pub fn module(self) -> &'static [u8]
         ensures { list_name self
             ≡ management ++ generic result.now ∷ generic (codes "list") ∷ [] }
@@ -80,7 +80,7 @@ impl ListKind {
         }
     }
 
-    /// The octets of the list's name.
+    /// Returns the octets of the list's name.
     fn octets(self) -> &'static [u8]
         ensures { IsNameValue result.now (list_name self) }
     {
@@ -95,14 +95,14 @@ impl ListKind {
     }
 }
 
-/// Whether the name begins with that of a list.
+/// Returns whether the name begins with the name of the list.
 fn is_list_name(kind: ListKind, name: Name<'_>) -> bool
     ensures { result ≡ begins_with (list_name kind) (components name.entry) }
 {
     begins(name, kind.octets())
 }
 
-/// A number in its shortest form.
+/// Returns the number in `value`, if it has its shortest encoding.
 fn shortest_number(value: &[u8]) -> Option<u64>
     ensures { result ≡ shortest_number value.now }
 {
@@ -115,7 +115,7 @@ fn shortest_number(value: &[u8]) -> Option<u64>
     Some(number)
 }
 
-/// The number of a component of this type.
+/// Returns the number in a component, if the component has the type `kind`.
 fn numbered(kind: u16, component: Component<'_>) -> Option<u64>
     ensures { result ≡ numbered kind (field_of component.entry) }
 {
@@ -126,8 +126,8 @@ fn numbered(kind: u16, component: Component<'_>) -> Option<u64>
     }
 }
 
-/// What is asked for by the components after a list's name: nothing or a version, and CanBePrefix,
-/// or a version and a segment.
+/// Returns what the components after a list's name ask for. With CanBePrefix, no component or a
+/// version asks for the first segment; a version and a segment number ask for that segment.
 fn list_after(kind: ListKind, can_be_prefix: bool, name: Name<'_>) -> Option<ListAsked>
     ensures { result ≡ list_after kind can_be_prefix (drop 4 (components name.entry)) }
 {
@@ -155,7 +155,7 @@ fn list_after(kind: ListKind, can_be_prefix: bool, name: Name<'_>) -> Option<Lis
     versioned(kind, numbered(SEGMENT, segment)?, version)
 }
 
-/// A segment of the list of the version in this component.
+/// Returns a request for this segment of the list, of the version that the component encodes.
 fn versioned(kind: ListKind, segment: u64, version: Component<'_>) -> Option<ListAsked>
     ensures { result ≡ versioned_as kind segment (numbered VERSION (field_of version.entry)) }
 {
@@ -167,7 +167,7 @@ fn versioned(kind: ListKind, segment: u64, version: Component<'_>) -> Option<Lis
     })
 }
 
-/// The segment of a list of this kind that an Interest asks for.
+/// Returns the segment that an Interest asks for, if it asks for a list of this kind.
 fn list_of_kind(kind: ListKind, interest: &Interest<'_>) -> Option<ListAsked>
     ensures { result ≡ list_of_kind kind (plain_interest interest.now) }
 {
@@ -178,7 +178,7 @@ fn list_of_kind(kind: ListKind, interest: &Interest<'_>) -> Option<ListAsked>
     }
 }
 
-/// The segment of a list that an Interest asks for.
+/// Returns the segment that an Interest asks for, if it asks for a list.
 pub(crate) fn list_asked(interest: &Interest<'_>) -> Option<ListAsked>
     ensures { result ≡ list_asked (plain_interest interest.now) }
 {
@@ -188,7 +188,7 @@ pub(crate) fn list_asked(interest: &Interest<'_>) -> Option<ListAsked>
     }
 }
 
-/// What an Interest asks for by its name, given the prefix of the repository.
+/// Returns what an Interest asks for according to its name, given the prefix of the repository.
 pub(crate) fn named_request(repo: &Repo, interest: &Interest<'_>) -> NamedRequest
     ensures { (p : Policy) → p.repo ≡ repo.now.start
         → request_named result
@@ -206,7 +206,7 @@ pub(crate) fn named_request(repo: &Repo, interest: &Interest<'_>) -> NamedReques
     }
 }
 
-/// Whether the HopLimit of the Interest is 0.
+/// Returns whether the HopLimit of the Interest is 0.
 pub(crate) fn has_no_hops(interest: &Interest<'_>) -> bool
     ensures { result ≡ has_no_hops_of interest.now.hop_limit }
 {

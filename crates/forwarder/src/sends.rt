@@ -18,11 +18,11 @@ use pit_fib::{Faces, MAX_FACES};
 use std::alloc::Global;
 use std::marker::Model;
 
-/// A link packet is at most this many octets longer than the packet in it: its headers, a token of
+/// The most octets by which a link packet is longer than the packet in it: its headers, a token of
 /// 32 octets, and a Nack with its reason.
 pub const LINK_EXTRA: usize = 70;
 
-/// The place of the octets of one send.
+/// One send: the face, and the range of its octets.
 #[derive(Clone, Copy)]
 struct Sent {
     face: u64,
@@ -30,8 +30,8 @@ struct Sent {
     end: usize,
 }
 
-/// The packets to send, in order, and the room that is reserved for more. When a call runs out of
-/// memory, the sends do not change.
+/// The packets to send, in order, and the memory that is reserved for more. If memory runs out in a
+/// call, the sends do not change.
 #[derive(Drop)]
 pub struct Sends {
     octets: Vec<u8>,
@@ -56,7 +56,7 @@ impl Model for Sends {
 }
 
 impl Sends {
-    /// No sends.
+    /// Returns a value without sends.
     pub fn new(alloc: Global) -> Sends
         ensures { result.sends ≡ [] }
     {
@@ -66,21 +66,21 @@ impl Sends {
         }
     }
 
-    /// The number of sends.
+    /// Returns the number of sends.
     pub fn len(&self) -> usize
         ensures { result ≡ length self.now.sends }
     {
         self.places.len()
     }
 
-    /// Whether there are no sends.
+    /// Returns whether there are no sends.
     pub fn is_empty(&self) -> bool
         ensures { IsTrue result ↔ (self.now.sends ≡ []) }
     {
         self.places.is_empty()
     }
 
-    /// The face and the octets of the send at `i`, counted from 0.
+    /// Returns the face and the octets of the send at `i`, counted from 0.
     pub fn sent(&self, i: usize) -> Option<(u64, &[u8])>
         ensures { option_map (λ sent. (sent.0, sent.1.now)) result ≡ slice_get self.now.sends i }
     {
@@ -88,7 +88,7 @@ impl Sends {
         Some((sent.face, &self.octets[sent.start..sent.end]))
     }
 
-    /// Removes the sends and their octets. The room that they took stays reserved.
+    /// Removes all sends and their octets. The memory that they took stays reserved.
     pub fn clear(&mut self)
         ensures sends { self.new.sends ≡ [] }
         ensures places { self.old.places + length self.old.sends ≤ self.new.places }
@@ -98,12 +98,12 @@ impl Sends {
         self.octets.clear();
     }
 
-    /// Reserves room for this many more sends, with this many octets in all.
+    /// Reserves memory for `places` more sends, with `space` octets in all.
     pub fn reserve(&mut self, places: usize, space: usize) -> Result<(), Memory>
         ensures sends { self.new.sends ≡ self.old.sends }
         ensures places { OnOk result (places ≤ self.new.places) }
         ensures space { OnOk result (space ≤ self.new.space) }
-        // The room that was there is not lost.
+        // The memory that was reserved before stays reserved.
         ensures places_kept { self.old.places ≤ self.new.places }
         ensures space_kept { self.old.space ≤ self.new.space }
     {
@@ -116,10 +116,10 @@ impl Sends {
     pub fn push(&mut self, face: u64, octets: &[u8]) -> Result<(), Memory>
         ensures ok { OnOk result (self.new.sends ≡ self.old.sends ++ (face, octets.now) ∷ []) }
         ensures err { OnErr result (self.new.sends ≡ self.old.sends) }
-        // Where there is room, it does not run out of memory.
+        // If there is room, this does not run out of memory.
         ensures promised { 1 ≤ self.old.places → length octets.now ≤ self.old.space
             → IsOk result }
-        // The room left for later sends.
+        // At most the room of this send is used up.
         ensures room { self.old.places ≤ self.new.places + 1 }
         ensures space { self.old.space ≤ self.new.space + length octets.now }
     {
@@ -130,7 +130,7 @@ impl Sends {
         Ok(())
     }
 
-    /// Adds a packet sent back to a face that asked, with the token of its Interest.
+    /// Adds a packet that is sent back to a face that asked, with the token of the face's Interest.
     pub fn push_back(
         &mut self,
         face: u64,
@@ -141,17 +141,17 @@ impl Sends {
         ensures ok { OnOk result (self.new.sends ≡ self.old.sends
             ++ sent_back face (token_of token.entry) packet.now ∷ []) }
         ensures err { OnErr result (self.new.sends ≡ self.old.sends) }
-        // Where there is room, it does not run out of memory.
+        // If there is room, this does not run out of memory.
         ensures promised { 1 ≤ self.old.places → length packet.now + LINK_EXTRA ≤ self.old.space
             → IsOk result }
-        // The room left for later sends.
+        // At most the room of this send is used up.
         ensures room { self.old.places ≤ self.new.places + 1 }
         ensures space { self.old.space ≤ self.new.space + (length packet.now + LINK_EXTRA) }
     {
         self.push_lp(face, token, None, packet)
     }
 
-    /// Adds a Nack of this reason around an Interest's octets, with its token.
+    /// Adds a Nack of this reason around the octets of an Interest, with the Interest's token.
     pub fn push_nack(
         &mut self,
         face: u64,
@@ -163,10 +163,10 @@ impl Sends {
         ensures ok { OnOk result (self.new.sends ≡ self.old.sends
             ++ nacked_back face (token_of token.entry) reason interest.now ∷ []) }
         ensures err { OnErr result (self.new.sends ≡ self.old.sends) }
-        // Where there is room, it does not run out of memory.
+        // If there is room, this does not run out of memory.
         ensures promised { 1 ≤ self.old.places → length interest.now + LINK_EXTRA ≤ self.old.space
             → IsOk result }
-        // The room left for later sends.
+        // At most the room of this send is used up.
         ensures room { self.old.places ≤ self.new.places + 1 }
         ensures space { self.old.space ≤ self.new.space + (length interest.now + LINK_EXTRA) }
     {
@@ -174,7 +174,7 @@ impl Sends {
     }
 
     /// Adds a packet in a link packet with a token, a Nack of a reason, or both (NDNLPv2, "Packet
-    /// Format"), or bare where there is neither.
+    /// Format"). Without a token and a Nack, the packet is sent bare.
     fn push_lp(
         &mut self,
         face: u64,
@@ -198,8 +198,8 @@ impl Sends {
         Ok(())
     }
 
-    /// Adds a reply: a Data of this name and Content, without MetaInfo, signed with DigestSha256.
-    /// It is sent back with the token of the Interest that it answers.
+    /// Adds a reply: a Data with this name and Content, without MetaInfo, signed with DigestSha256.
+    /// The reply is sent back with the token of the Interest that it answers.
     pub fn push_reply(
         &mut self,
         face: u64,
@@ -211,11 +211,11 @@ impl Sends {
         ensures ok { OnOk result (self.new.sends ≡ self.old.sends ++ sent_back face
             (token_of token.entry) (reply_text (components name.entry) content.now) ∷ []) }
         ensures err { OnErr result (self.new.sends ≡ self.old.sends) }
-        // Where there is room, it does not run out of memory.
+        // If there is room, this does not run out of memory.
         ensures promised { 1 ≤ self.old.places
             → length (reply_text (components name.entry) content.now) + LINK_EXTRA
             ≤ self.old.space → IsOk result }
-        // The room left for later sends.
+        // At most the room of this send is used up.
         ensures room { self.old.places ≤ self.new.places + 1 }
         ensures space { self.old.space ≤ self.new.space
             + (length (reply_text (components name.entry) content.now) + LINK_EXTRA) }
@@ -227,13 +227,13 @@ impl Sends {
         Ok(())
     }
 
-    /// Adds a send of these octets to each face. The octets are stored once, and not at all without
-    /// a face.
+    /// Adds a send of these octets to each face. The octets are stored once, or not at all if there
+    /// is no face.
     pub fn push_to_each(&mut self, faces: &Faces, octets: &[u8]) -> Result<(), Memory>
         ensures ok { OnOk result
             (self.new.sends ≡ self.old.sends ++ to_each faces.now octets.now) }
         ensures err { OnErr result (self.new.sends ≡ self.old.sends) }
-        // Where there is room, it does not run out of memory.
+        // If there is room, this does not run out of memory.
         ensures promised { length faces.now ≤ self.old.places → length octets.now ≤ self.old.space
             → IsOk result }
     {
@@ -248,14 +248,14 @@ impl Sends {
         Ok(())
     }
 
-    /// Adds an Interest as it is sent on to each face, its HopLimit lowered by one, where it has
-    /// one, and nothing else changed. Its octets are stored once, and not at all without a face.
+    /// Adds an Interest as it is sent on to each face: its HopLimit, if it has one, is decremented,
+    /// and nothing else changes. The octets are stored once, or not at all if there is no face.
     pub fn push_interest(&mut self, faces: &Faces, interest: &Interest<'_>) -> Result<(), Memory>
         requires hops { interest.now.hop_limit ≢ Some 0 }
         ensures ok { OnOk result (self.new.sends ≡ self.old.sends
             ++ to_each faces.now (sent_on interest.now.whole.now interest.now.hop_limit)) }
         ensures err { OnErr result (self.new.sends ≡ self.old.sends) }
-        // Where there is room, it does not run out of memory.
+        // If there is room, this does not run out of memory.
         ensures promised { length faces.now ≤ self.old.places
             → length interest.now.whole.now ≤ self.old.space → IsOk result }
     {
@@ -270,17 +270,17 @@ impl Sends {
         Ok(())
     }
 
-    /// Adds an Interest of the node itself to each face, or nothing where it cannot be written. Its
-    /// octets are stored once, and not at all without a face.
+    /// Adds an Interest of the node itself to each face, or nothing if the Interest cannot be
+    /// written. Its octets are stored once, or not at all if there is no face.
     pub fn push_fetch(&mut self, faces: &Faces, interest: &InterestWriter<'_>) -> Result<(), Memory>
         ensures ok { OnOk result
             (self.new.sends ≡ self.old.sends ++ fetched faces.now interest.now) }
         ensures err { OnErr result (self.new.sends ≡ self.old.sends) }
-        // Where there is room, it does not run out of memory.
+        // If there is room, this does not run out of memory.
         ensures promised { length faces.now ≤ self.old.places
             → (interest_refusal interest.now ≡ None
             → length (interest_text interest.now) ≤ self.old.space) → IsOk result }
-        // A list of faces is never longer.
+        // No list of faces is longer than this.
         ensures few { length faces.now ≤ MAX_FACES }
     {
         let count = faces.len();
@@ -296,7 +296,7 @@ impl Sends {
     }
 }
 
-/// Adds the place of one send. There is room for it.
+/// Adds one send of the octets from `start` to `end`. There is room for it.
 fn place(places: &mut Vec<Sent>, face: u64, start: usize, end: usize) -> Result<(), Memory>
     requires { vec_len places.old < vec_capacity places.old }
     ensures ok { IsOk result }
@@ -308,7 +308,7 @@ fn place(places: &mut Vec<Sent>, face: u64, start: usize, end: usize) -> Result<
     Ok(())
 }
 
-/// Adds the place of a send to each face. There is room for them.
+/// Adds a send of the octets from `start` to `end` to each face. There is room for these sends.
 fn place_each(places: &mut Vec<Sent>, faces: &Faces, start: usize, end: usize) -> Result<(), Memory>
     requires { vec_len places.old + length faces.now ≤ vec_capacity places.old }
     ensures ok { IsOk result }
@@ -324,7 +324,7 @@ fn place_each(places: &mut Vec<Sent>, faces: &Faces, start: usize, end: usize) -
     Ok(())
 }
 
-/// Appends a reply with the token of the Interest that it answers, or nothing when out of memory.
+/// Appends a reply with the token of the Interest that it answers, or nothing if memory runs out.
 fn put_reply_back(
     out: &mut Vec<u8>,
     token: Option<&[u8]>,
@@ -349,7 +349,7 @@ fn put_reply_back(
     done
 }
 
-/// Whether a packet was written. A fault other than `Memory` gives false.
+/// Returns whether a packet was written. A fault other than `Memory` gives false.
 fn written(done: Result<(), WriteFault>) -> Result<bool, Memory>
     ensures ok { IfOk result (λ written. written ≡ is_ok done) }
     ensures other { OnOk result (done ≢ Err WriteFault.Memory) }
@@ -362,7 +362,7 @@ fn written(done: Result<(), WriteFault>) -> Result<bool, Memory>
     }
 }
 
-/// Appends an Interest as it is sent on, or nothing when out of memory.
+/// Appends an Interest as it is sent on, or nothing if memory runs out.
 fn put_sent_on(out: &mut Vec<u8>, interest: &Interest<'_>) -> Result<(), Memory>
     requires hops { interest.now.hop_limit ≢ Some 0 }
     ensures ok { OnOk result (out.new.items
@@ -381,7 +381,7 @@ fn put_sent_on(out: &mut Vec<u8>, interest: &Interest<'_>) -> Result<(), Memory>
     Ok(())
 }
 
-/// Writes the HopLimit of an Interest that has one.
+/// Overwrites the HopLimit of an Interest that has a HopLimit.
 fn set_hop_limit(octets: &mut [u8], limit: u8)
     requires { ∥ ((old : ℕ) × HasHopLimit octets.old old) ∥₁ }
     ensures { octets.new ≡ with_octet octets.old limit }

@@ -22,7 +22,7 @@ pub struct State {
     pub keys: KeyBook,
     pub faces: OpenFaces,
     pub pit: Pit,
-    /// Routes, strategies and the cache.
+    /// The tables of routes and strategies, and the cache.
     pub tables: Tables,
     /// The signers of allowed commands, with their latest times and numbers.
     pub guard: Guard,
@@ -30,8 +30,8 @@ pub struct State {
 }
 
 impl State {
-    /// Advances time to the greatest moment so far: what is due expires. What is prepared stays
-    /// prepared.
+    /// Advances time to `moment`, if it is later than the moments so far; what is due expires. What
+    /// was prepared stays prepared.
     pub fn pass_time(&mut self, moment: u64)
         ensures later { IsLater (state_of self.old) moment (state_of self.new) }
         ensures pit { self.new.pit.prepared ≡ self.old.pit.prepared }

@@ -15,7 +15,7 @@ pub enum Verdict {
     Denied(Kind, RuleNo, Reason),
     /// No rule applies to the command or Data, which is denied.
     NoRule(Kind),
-    /// The event had no effect but that of its moment.
+    /// The event had no effect beyond that of its moment.
     Dropped(DropReason),
 }
 
@@ -24,7 +24,7 @@ pub enum Verdict {
 pub enum DropReason {
     /// The face is not open.
     NoFace,
-    /// The octets are no packet.
+    /// The octets are not a packet.
     Malformed(PacketFault),
     /// The octets are a link packet that holds no packet.
     Idle,
@@ -32,18 +32,18 @@ pub enum DropReason {
     HopLimit,
     /// A name under `/localhost` came from another machine.
     Scope,
-    /// The Interest came back: its Nonce is known. The face got a Nack.
+    /// The Interest came back: its Nonce is already known. A Nack was sent to the face.
     Loop,
     /// Interests of 4,096 keys are pending.
     PitFull,
-    /// A Nack came for an Interest that is not known to have been sent there.
+    /// The Nack is for an Interest that is not known to have been sent to this face.
     NoPending,
-    /// The list has no such segment, or has another version by now.
+    /// The list has no such segment, or has another version.
     NoSegment,
-    /// A face has the number 0.
+    /// The face number is 0.
     BadFace,
-    /// The face is open already.
+    /// The face is already open.
     FaceOpen,
-    /// 64 faces are open.
+    /// 64 faces are already open.
     FacesFull,
 }

@@ -1,4 +1,4 @@
--- A front of a journal is the journal of a beginning of the run.
+-- The first events of a journal are the journal of a beginning of the run.
 use Rattle.std.proofs.Common.{◌≡◌, inl, inr, Bool, true, false, List, [], ◌∷◌, ◌++◌, length, length-append, arith, refl, sym, ap, subst, ◌∙◌}
 use Rattle.std.proofs.lemmas.List.{append-nil}
 use Rattle.std.specs.Prelude.{max}
@@ -13,7 +13,7 @@ pub whole_begins : (past : Run) → IsBeginningOf past past
 whole_begins Start = refl
 whole_begins (Then before event answer) = inl refl
 
--- all but the last of what a front leaves out
+-- `left` is a beginning of the journal without its last event
 pub record Fewer (left earlier : List PlainEvent) : Type 0 where
   pub rest : List PlainEvent
   pub is : earlier ≡ left ++ rest
@@ -31,7 +31,7 @@ fewer_with : (chosen : Bool) (left earlier lost journal : List PlainEvent) (even
 fewer_with true left earlier lost journal event x grows e = fewer left earlier lost event x (sym grows ∙ e)
 fewer_with false left earlier lost journal event x grows e = record { rest = x ∷ lost; is = sym grows ∙ e }
 
--- what leaves a longer journal is not among the beginnings of a shorter one
+-- a journal cannot be both longer and shorter than another
 too_long : (left written more lost : List PlainEvent) (x : PlainEvent) → left ≡ written ++ more → written ≡ left ++ (x ∷ lost) → ⊥
 too_long left written more lost x e f = omega (arith, ap length e, ap length f, length-append written more, length-append left (x ∷ lost))
 

@@ -1,4 +1,4 @@
--- Whether an event is journalled, and that one that is not changes no more than its moment does.
+-- Whether an event is journalled. An event that is not journalled only advances the time.
 use Rattle.std.proofs.Common.{◌≡◌, inl, inr, ℕ, Bool, true, false, refl, sym, ap, ◌∙◌}
 use Rattle.std.specs.Prelude.{Option, Some, None, if◌then◌else◌}
 use Rattle.sha2.specs.Sha256.{sha256}
@@ -17,7 +17,7 @@ use Rattle.forwarder.specs.Deciding.{IsDecidedAs}
 use Rattle.forwarder.specs.Effects.{IsAfter, IsEffect, after_packet, after_decision, can_open, decided_packet, face_in, undecided_effect}
 use Rattle.journal.specs.Journal.{IsChosen, IsJournalled, is_journalled_as, is_journalled_packet, is_journalled_undecided}
 
--- ---- where one decision allows a packet, so does each
+-- ---- if one decision allows a packet, every decision on it does
 
 abbrev is_allowed : Decision → Bool
 is_allowed (Allowed rule) = true
@@ -30,7 +30,7 @@ both_allow p packet rule (Denied n reason) apart x (inl y) = sym (ap is_allowed 
 both_allow p packet rule (Denied n reason) apart x (inr y) = absurd (y.2 x.1)
 both_allow p packet rule NoRule apart x y = sym (ap is_allowed (one_decision p.rules p.keys packet (Allowed rule) NoRule apart x.0 y))
 
--- by whether it is allowed alone
+-- for an allowed packet, the rule that allows it makes no difference
 allowed_as : (p : Policy) (packet : PlainFrame) (said : Decision) → is_allowed said ≡ true → is_journalled_as p packet said ≡ is_journalled_packet p packet
 allowed_as p packet (Allowed rule) is = refl
 allowed_as p packet (Denied rule reason) is = cc is

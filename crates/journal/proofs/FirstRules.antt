@@ -1,4 +1,4 @@
--- A run that begins with rules and keys needs no others before them.
+-- A run that begins with new rules and keys does not depend on the rules and keys before them.
 use Rattle.std.proofs.Common.{◌≡◌, ℕ, List, [], ◌∷◌, ◌++◌, refl, sym, ap, subst}
 use Rattle.hmac_keys.specs.KeyFile.{NamedKey}
 use Rattle.info_rules.specs.Rule.{PlainRule}

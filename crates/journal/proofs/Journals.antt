@@ -1,4 +1,4 @@
--- The events of a journal, handled anew, leave the policy of the run.
+-- Replaying the events of a journal leads to the policy of the run.
 use Rattle.std.proofs.Common.{◌≡◌, ◌≤◌, ℕ, Bool, true, false, List, [], ◌∷◌, ◌++◌, length, length-append, arith, refl, sym, ap, subst, ◌∙◌}
 use Rattle.std.specs.Prelude.{max}
 use Rattle.hmac_keys.specs.KeyFile.{AreApart}
@@ -31,7 +31,7 @@ one_end (c ∷ a) (d ∷ b) x y e =
     let first : c ≡ d = cc in
     record { front = cc (first, same.front); last = same.last }
 
--- ---- a run leaves one journal
+-- ---- a run has one journal
 
 pub policy_once : (first p q : Policy) (past : Run) → KeysAreApart first past → IsPolicyOf first past p → IsPolicyOf first past q → p ≡ q
 policy_once first p q past apart h k = one_policy first p q past past apart (one_history past) h k
@@ -55,9 +55,9 @@ one_journal first (Then before event answer) a b apart h k =
     let dated = with_moment (max k.0.now (moment event)) event in
     after.2 ∙ ap (λ (c : Bool). with_event c dated h.1) chosen ∙ ap (with_event k.4.0 dated) earlier ∙ sym k.4.2
 
--- ---- its events leave the policy of the run
+-- ---- the journal's events lead to the policy of the run
 
--- what a run of the events of a journal leaves, where the run of the journal leaves this policy
+-- the policy after a run of the journal's events, if the original run leads to the policy `p`
 pub record Keeps (first p : Policy) (again : Run) (journal : List PlainEvent) : Type 0 where
   pub left : Policy
   pub is_policy : IsPolicyOf first again left
@@ -65,10 +65,10 @@ pub record Keeps (first p : Policy) (again : Run) (journal : List PlainEvent) : 
   pub same : IsJournalOf first again journal
   pub apart : KeysAreApart first again
 
--- one more event of the run
+-- a run with one more event
 module _ (first was p : Policy) (event : PlainEvent) (earlier journal : List PlainEvent) (keys : AreApart was.keys) (brings : BringsKeysApart event) (after : IsAfter was event p)
     (before_keeps : (again : Run) → events_of again ≡ earlier → Keeps first was again earlier) where
-  -- that is not journalled
+  -- the event is not journalled
   more_idle : (again : Run) → IsJournalled was event false → journal ≡ earlier → events_of again ≡ journal → Keeps first p again journal
   more_idle again is grows e =
       let k = before_keeps again (e ∙ grows) in
@@ -80,7 +80,7 @@ module _ (first was p : Policy) (event : PlainEvent) (earlier journal : List Pla
         apart = k.apart;
       }
 
-  -- that is
+  -- the event is journalled
   more_last : (again : Run) → IsJournalled was event true → journal ≡ earlier ++ (with_moment (max was.now (moment event)) event ∷ []) → events_of again ≡ journal → Keeps first p again journal
   more_last Start is grows e = absurd (not_empty earlier _ (sym (e ∙ grows)))
   more_last (Then before other answer) is grows e =
@@ -131,7 +131,7 @@ keeps_policy first p q past again journal apart h j e is =
     let k = keeps first p past again journal apart h j e in
     subst (λ (w : Policy). AreOneFrom p.now w p) (policy_once first k.left q again k.apart k.is_policy is) k.one
 
--- ---- what comes next
+-- ---- the next event
 
 pub next_effect : (p q r : Policy) (event : PlainEvent) → AreOneFrom p.now q p → p.now ≤ moment event → IsAfter p event r → IsAfter q event r
 next_effect p q r event one le h = subst (λ (w : Policy). IsEffect w event r (decided_packet w event)) (sym (one (moment event) le)) h

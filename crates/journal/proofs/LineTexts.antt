@@ -61,7 +61,7 @@ two_ended a b = sym (append_assoc a (32 ∷ b) (10 ∷ []))
 three_ended : (a b c : List ℕ) → a ++ (32 ∷ (b ++ (32 ∷ (c ++ (10 ∷ []))))) ≡ (a ++ (32 ∷ (b ++ (32 ∷ c)))) ++ (10 ∷ [])
 three_ended a b c = ap (λ (t : List ℕ). a ++ (32 ∷ t)) (two_ended b c) ∙ two_ended a (b ++ (32 ∷ c))
 
--- one line as a text
+-- a text with one line
 one_line : (event : PlainEvent) (line text : List ℕ) → length text ≤ 20001 → LineSpells event line → Lacks 10 line → text ≡ ended line → IsTextOf (event ∷ []) text
 one_line event line text short spells lacks e =
     let fits : length line ≤ 20000 = omega (arith, short, ap length e, length-append line (10 ∷ [])) in
@@ -99,7 +99,7 @@ line_text now (entry.NewRules rules keys) event fits has short is =
     (words_lack (codes "rules" ∷ decimal now ∷ hex_word rules.now ∷ hex_word keys.now ∷ []) (Lacks-from_test 10 (codes "rules") refl, (number_lacks now fits, (hex_lacks rules.now has.0, (hex_lacks keys.now has.1, tt)))))
     (ap (λ (t : List ℕ). codes "rules " ++ t) (three_ended (decimal now) (hex_word rules.now) (hex_word keys.now))))
 
--- ---- an entry at another moment
+-- ---- an entry at another time
 
 pub moved_entry : (t now : ℕ) (e : Entry) (event : PlainEvent) → IsEventOf now e event → IsEventOf t e (with_moment t event)
 moved_entry t now (entry.Packet face octets) event is = ap (with_moment t) is

@@ -1,4 +1,4 @@
--- Whole lines, and less than a line after them, have one reading.
+-- Whole lines, and an unfinished line after them, have one reading.
 use Rattle.std.proofs.Common.{◌≡◌, inl, inr, ℕ, List, [], ◌∷◌, ◌++◌, append_assoc, arith, refl, sym, ap, subst, ◌∙◌}
 use Rattle.std.proofs.lemmas.List.{append-nil}
 use Rattle.forwarder.specs.Event.{PlainEvent}
@@ -7,7 +7,7 @@ use Rattle.node_core.specs.Script.Line.{IsEventLine, IsSkipped, Lacks}
 use Rattle.node_core.proofs.Lists.{Lacks-no_cut, cut_once}
 use Rattle.node_core.proofs.OneReading.{whole_once}
 
--- ---- an empty line at the end says nothing
+-- ---- an empty line at the end is skipped
 
 none_at_end : (lines : List (List ℕ)) → AreLines lines → AreLines (lines ++ ([] ∷ []))
 none_at_end [] are = (tt, tt)
@@ -27,7 +27,7 @@ say_at_end (line ∷ lines) [] h = (h.0, say_at_end lines [] h.1)
 say_at_end (line ∷ lines) (event ∷ events) (inl h) = inl (h.0, say_at_end lines (event ∷ events) h.1)
 say_at_end (line ∷ lines) (event ∷ events) (inr h) = inr (h.0, say_at_end lines events h.1)
 
--- whole lines are a script
+-- whole lines form a script
 whole_script : (lines : List (List ℕ)) (events : List PlainEvent) → AreLines lines → SpellEvents lines events → IsScript (joined lines) events
 whole_script lines events are say =
     (lines ++ ([] ∷ []), (none_at_end lines are, joined_at_end lines ∙ sym (append-nil (joined (lines ++ ([] ∷ []))))), say_at_end lines events say)
@@ -35,12 +35,12 @@ whole_script lines events are say =
 say_once : (lines : List (List ℕ)) (a b : List PlainEvent) → AreLines lines → SpellEvents lines a → SpellEvents lines b → a ≡ b
 say_once lines a b are x y = whole_once (joined lines) a b (whole_script lines a are x) (whole_script lines b are y)
 
--- a line is one event
+-- a line spells at most one event
 pub line_once : (line : List ℕ) (a b : PlainEvent) → Lacks 10 line → IsEventLine a line → IsEventLine b line → a ≡ b
 line_once line a b lacks x y =
     let same : a ∷ [] ≡ b ∷ [] = say_once (line ∷ []) (a ∷ []) (b ∷ []) (lacks, tt) (inr (x, tt)) (inr (y, tt)) in cc same
 
--- ---- a text is cut into lines in one way
+-- ---- a text is split into lines in one way
 
 pub first_line : (line rest : List ℕ) → ended line ++ rest ≡ line ++ (10 ∷ rest)
 first_line line rest = append_assoc line (10 ∷ []) rest

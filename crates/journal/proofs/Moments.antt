@@ -1,4 +1,4 @@
--- What two policies are from a moment on.
+-- Two policies that are the same from a given time on.
 use Rattle.std.proofs.Common.{◌≡◌, ◌≤◌, ℕ, ◌+◌, ◌-◌, ◌^◌, arith, sym, ap, ◌∙◌}
 use Rattle.std.specs.Prelude.{max, min}
 use Rattle.pit_fib.specs.Fib.{due_count, left_at}
@@ -7,7 +7,7 @@ use Rattle.forwarder.specs.Policy.{Policy, at_moment}
 use Rattle.forwarder.proofs.LaterMoments.{moments_in_a_row}
 use Rattle.journal.specs.Journal.{AreOneFrom}
 
--- the policy with this time
+-- the policy with another time
 abbrev with_time : Policy → ℕ → Policy
 with_time p now = record p {
   now = now;
@@ -21,14 +21,14 @@ at_greatest p m =
     let same : max p.now (max p.now m) ≡ max p.now m = omega arith in
     ap (with_time p) same
 
--- a moment comes to one of them
+-- if two policies are the same from a time on, this remains true after one of them is advanced
 pub one_later : (was q : Policy) (m : ℕ) → AreOneFrom was.now q was → AreOneFrom (max was.now m) q (at_moment was m)
 one_later was q m one n le =
     let after : was.now ≤ n = omega arith in
     let same : max m n ≡ n = omega arith in
     one n after ∙ sym (moments_in_a_row was m n ∙ ap (at_moment was) same)
 
--- the time of one comes to the other
+-- the time of one policy is advanced to the time of the other
 pub one_now : (was q : Policy) (m : ℕ) → AreOneFrom was.now q was → at_moment q (max was.now m) ≡ at_moment was m
 one_now was q m one =
     let after : was.now ≤ max was.now m = omega arith in

@@ -1,4 +1,4 @@
--- An event at another moment.
+-- An event with another time.
 use Rattle.std.proofs.Common.{◌≡◌, ℕ, Bool, refl, sym, ap, subst, ◌∙◌}
 use Rattle.std.specs.Prelude.{Option, Some, None}
 use Rattle.ndn_packets.specs.Packet.{PlainFrame}
@@ -29,7 +29,7 @@ moved_keys now (FaceDown face t) apart = apart
 moved_keys now (Tick t) apart = apart
 moved_keys now (NewRules rules keys t) apart = apart
 
--- ---- at one policy its moment does not matter
+-- ---- for a fixed policy, the time of the event makes no difference
 
 module _ (p : Policy) (now : ℕ) where
   same_packet : (event : PlainEvent) → decided_packet p event ≡ decided_packet p (with_moment now event)
@@ -68,8 +68,8 @@ module _ (p : Policy) (now : ℕ) where
   moved_choice event chosen None h = h ∙ same_choice event
   moved_choice event chosen (Some packet) h = h
 
--- where a policy comes to be another at this moment, the event has the same effect there, and is
--- journalled there where it is here
+-- if two policies become the same at this time, the event has the same effect on both, and it is
+-- journalled for both or for neither
 module _ (was q : Policy) (now : ℕ) (event : PlainEvent) (met : at_moment q now ≡ at_moment was (moment event)) where
   comes : at_moment was (moment event) ≡ at_moment q (moment (with_moment now event))
   comes = sym met ∙ ap (at_moment q) (sym (moved_moment now event))

@@ -31,7 +31,7 @@ use Rattle.journal.proofs.Journals.{keeps}
 use Rattle.journal.proofs.Lines.{lines_once}
 use Rattle.journal.proofs.Texts.{cut_text_once, survives, text_lines}
 
--- ---- lines that were played
+-- ---- lines that were handled
 
 plays_from : (lines : List (List ℕ)) (events : List PlainEvent) (answers : List Answer) (old new : NodeState) → AreLines lines → SpellEvents lines events
     → AreOutcomes old events (map Answered answers) new → Plays lines events old new
@@ -55,7 +55,7 @@ plays_then a b es fs old mid new h k =
     (subst (λ (o : List Outcome). AreOutcomes old (es ++ fs) o new) (sym (map-append Answered h.answers k.answers))
     (AreOutcomes-append old mid new es fs (map Answered h.answers) (map Answered k.answers) h.handled k.handled))
 
--- a line that was played is short
+-- a line that was handled is not too long
 short_line : (line : List ℕ) (events : List PlainEvent) → SpellEvents (line ∷ []) events → IsShort line
 short_line line [] h = h.0.0
 short_line line (event ∷ events) (inl h) = h.0.0
@@ -63,7 +63,7 @@ short_line line (event ∷ events) (inr h) = h.0.0
 
 -- ---- the loop
 
--- So many lines were replayed, with so many events and octets.
+-- `number` lines were replayed; they have `events` events and `whole` octets.
 pub record SoFar (old new : NodeState) (unread left : Option (List ℕ)) (number events whole : ℕ) : Type 0 where
   pub lines : List (List ℕ)
   pub said : List PlainEvent
@@ -139,13 +139,13 @@ pub none_lacks : (octets : List ℕ) → length octets ≡ 0 → Lacks 10 octets
 none_lacks [] none = tt
 none_lacks (o ∷ octets) none = absurd (omega (arith, none))
 
--- its event was answered
+-- the event of the line was answered
 pub plays_step : (line : List ℕ) (event : PlainEvent) (verdict : Verdict) (held out : List Send) (old new : NodeState) → Lacks 10 line → IsEventLine event line → IsEvent event
     → (sends : List Send) × (out ≡ held ++ sends) × IsStep old event (record { verdict = verdict_of verdict; sends = sends }) new → PlaysLine line old new true
 plays_step line event verdict held out old new lacks is is_event h =
     (event, plays_event line event (record { verdict = verdict_of verdict; sends = h.0 }) old new lacks is (is_event, h.2))
 
--- ---- why a replay stops
+-- ---- the fault of a replay
 
 pub unharmed : (node : NodeState) → ChangesCacheOnly node node
 unharmed node = record { policy = refl; pending = refl; cache = (All-contains_itself node.cache.cached, refl) }
@@ -177,7 +177,7 @@ stops_reading fault.Memory old node unread between left number events whole rest
 
 -- ---- the end
 
--- what is read through no LF is all that is left
+-- if the octets read up to the next LF contain no LF, they are all the remaining octets
 all_through : (text : List ℕ) → Lacks 10 (take_through 10 text) → (take_through 10 text ≡ text) × (drop_through 10 text ≡ [])
 all_through [] lacks = (refl, refl)
 all_through (o ∷ text) lacks = by (o == 10) refl lacks (λ h. all_through text h)
@@ -196,7 +196,7 @@ all_read (Some text) (Some xs) left whole cut read is rest lacks =
     let all = all_through xs (subst (Lacks 10) is lacks) in
     (read ∙ ap (λ (t : List ℕ). whole ++ t) (sym all.0 ∙ sym is), rest ∙ ap (λ (t : List ℕ). Some t) all.1)
 
--- ---- what is restored
+-- ---- the restored policy
 
 events_of_run : (past : Run) (old new : NodeState) (events : List PlainEvent) (answers : List Answer) → AreOutcomes old events (map Answered answers) new
     → events_of (run_from past events (map Answered answers)) ≡ events_of past ++ events
@@ -211,7 +211,7 @@ part_apart first part Start begins apart = subst (KeysAreApart first) (sym begin
 part_apart first part (Then before event answer) (inl same) apart = subst (KeysAreApart first) (sym same) apart
 part_apart first part (Then before event answer) (inr begins) apart = part_apart first part before begins apart.0
 
--- the whole lines of a text are the text of its events
+-- the whole lines of a text are the text of their events
 whole_text : (events : List PlainEvent) (lines : List (List ℕ)) (left cut : List ℕ) → AreLines lines → Lacks 10 cut → left ≡ joined lines ++ cut → IsCutTextOf events left
     → IsTextOf events (take (length (joined lines)) left)
 whole_text events lines left cut are lacks had h =

@@ -1,4 +1,4 @@
--- What a crash leaves of a journal's text.
+-- The text that a crash leaves of a journal.
 use Rattle.std.proofs.Common.{◌≡◌, ◌≢◌, ◌⊎◌, inl, inr, ℕ, List, [], ◌∷◌, ◌++◌, append_assoc, refl, sym, ap, subst, ◌∙◌}
 use Rattle.forwarder.specs.Event.{PlainEvent}
 use Rattle.forwarder.specs.Policy.{Policy}
@@ -42,9 +42,9 @@ texts_join [] added text more h k = subst (λ (t : List ℕ). IsTextOf added (t 
 texts_join (event ∷ journal) added text more h k =
     (h.0, h.1 ++ more, h.2, h.3, ap (λ (t : List ℕ). t ++ more) h.4 ∙ append_assoc (ended h.0) h.1 more, texts_join journal added h.1 more h.5 k)
 
--- ---- a front of a text
+-- ---- a prefix of a text
 
--- a front ends within a first line, or goes on after it
+-- a prefix ends within the first line or after it
 pub record HoldsLine (line rest left lost : List ℕ) : Type 0 where
   pub more : List ℕ
   pub front : left ≡ line ++ (10 ∷ more)
@@ -64,7 +64,7 @@ front_of (x ∷ line) rest (o ∷ left) lost lacks e =
       | (inr g) ↦ inr (record { more = g.more; front = (let f = g.front in cc (first, f)); back = g.back })
     ]
 
--- the events of the whole lines of a front
+-- the events in the whole lines of a prefix
 pub record LeftOf (journal : List PlainEvent) (left : List ℕ) : Type 0 where
   pub events : List PlainEvent
   pub others : List PlainEvent
@@ -100,7 +100,7 @@ left_of (event ∷ journal) text left lost h e =
       | (inr g) ↦ one_left event journal h.0 h.1 left lost h.2 h.3 g (left_of journal h.1 g.more lost h.5 g.back)
     ]
 
--- ---- what was written whole is read
+-- ---- text that was written whole is read
 
 pub record Begins (journal events : List PlainEvent) : Type 0 where
   pub others : List PlainEvent

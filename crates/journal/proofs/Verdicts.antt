@@ -1,4 +1,4 @@
--- What the verdict on an event says of the journal.
+-- The verdict on an event tells whether the event is journalled.
 use Rattle.std.proofs.Common.{◌≡◌, ℕ, Bool, true, false, List, [], ◌∷◌, refl, ap, ◌∙◌, Result, Ok, Err}
 use Rattle.std.specs.Prelude.{Option, Some, None, max, nat_le, length, not, ◌==◌, ◌&&◌, if◌then◌else◌}
 use Rattle.sha2.specs.Sha256.{sha256}
@@ -37,7 +37,7 @@ use Rattle.journal.specs.Journal.{IsChosen, IsJournalOf, IsJournalled, is_journa
 use Rattle.forwarder.specs.Wanted.{brings_wanted, is_wanted_packet}
 use Rattle.journal.specs.Journalled.{is_journalled_by}
 
--- ---- which answers to packets allow nothing
+-- ---- answers to packets that allow nothing
 
 abbrev allows : Verdict → Bool
 allows Passed = false

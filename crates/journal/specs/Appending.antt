@@ -1,4 +1,4 @@
--- What an event appends to the journal.
+-- The text that an event appends to the journal.
 use Rattle.std.specs.Prelude.{◌≡◌, ◌⊎◌, ℕ, List, [], ◌∷◌, ◌++◌, Bool, true, false, Option, None, Some, max, ⊤}
 use Rattle.forwarder.specs.Event.{PlainEvent, Send, moment}
 use Rattle.forwarder.specs.Node.{NodeState, IsStep}
@@ -10,8 +10,8 @@ use Rattle.journal.specs.Line.{IsEventOf, entry_text, is_change_entry}
 use Rattle.journal.specs.Journalled.{is_journalled_by, is_journalled_where}
 use Rattle.journal.specs.Text.{IsTextOf}
 
--- The node answered an event, and this text was appended to the journal: a line of the event at
--- the greatest moment so far if it is journalled, otherwise nothing.
+-- The node answered an event, and this text was appended to the journal: the line of the event at
+-- the latest time so far if the event is journalled, otherwise nothing.
 pub record Steps (old : NodeState) (event : PlainEvent) (wanted : Bool) (verdict : Verdict)
     (sends : List Send) (new : NodeState) (added : List ℕ) : Type 0 where
   pub step : IsStep old event (record { verdict = verdict; sends = sends }) new
@@ -20,22 +20,22 @@ pub record Steps (old : NodeState) (event : PlainEvent) (wanted : Bool) (verdict
       (with_moment (max old.policy.now (moment event)) event) [])
       added
 
--- whether an event is journalled, by its entry
+-- the event of the entry is journalled
 abbrev pub is_journalled_entry : Entry → Bool → Verdict → Bool
 is_journalled_entry e wanted verdict = is_journalled_where (is_change_entry e) wanted verdict
 
--- the line of an entry, or nothing
+-- the line of the entry if the event is journalled, otherwise nothing
 abbrev pub added_text : Bool → ℕ → Entry → List ℕ
 added_text true now e = entry_text now e
 added_text false now e = []
 
--- the entry's line at this time is a line of a script of its event
+-- the entry's line at this time spells the entry's event
 abbrev pub IsLineAt : ℕ → Entry → Type 0
 IsLineAt time e =
     (event : PlainEvent) → IsEventOf time e event → IsTextOf (event ∷ []) (entry_text time e)
 
--- Exactly the line of an event was appended if it is journalled, otherwise nothing. If the content
--- of the journal is not known, nothing is claimed.
+-- The event's line was appended if the event is journalled, otherwise nothing. Nothing is claimed
+-- if the content of the journal is not known.
 abbrev pub Journals : Option (List ℕ) → Option (List ℕ) → ℕ → Coming → Verdict → Type 0
 Journals None new time coming verdict = ⊤
 Journals (Some text) new time coming verdict =
@@ -43,7 +43,7 @@ Journals (Some text) new time coming verdict =
     (new ≡ Some (text ++ added_text chosen time coming.entry))
     × (chosen ≡ true → IsLineAt time coming.entry)
 
--- A beginning of the entry's line was written, perhaps all of it.
+-- A prefix of the entry's line was written, possibly the whole line.
 pub record CutsLine (text : List ℕ) (new : Option (List ℕ)) (time : ℕ) (e : Entry) : Type 0 where
   pub front : List ℕ
   pub back : List ℕ
@@ -51,7 +51,7 @@ pub record CutsLine (text : List ℕ) (new : Option (List ℕ)) (time : ℕ) (e 
   pub parts : entry_text time e ≡ front ++ back
   pub grown : new ≡ Some (text ++ front)
 
--- The event is journalled, and nothing was written, or a beginning of its line.
+-- The event is journalled, and a prefix of its line was written, possibly nothing.
 abbrev pub FailsToJournal : Option (List ℕ) → Option (List ℕ) → ℕ → Coming → Verdict → Type 0
 FailsToJournal None new time coming verdict = ⊤
 FailsToJournal (Some text) new time coming verdict =

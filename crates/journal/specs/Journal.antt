@@ -1,5 +1,5 @@
--- The journal of a node: the events of a run that may change more than the time. They alone decide
--- the policy that the run leads to.
+-- The journal of a node: the events of a run that may change more than the time. They alone
+-- determine the policy that the run leads to.
 use Rattle.std.specs.Prelude.{◌≡◌, ◌⊎◌, ◌≤◌, ℕ, Bool, true, false, List, [], ◌∷◌, ◌++◌, Option, None, Some, max}
 use Rattle.sha2.specs.Sha256.{sha256}
 use Rattle.ndn_packets.specs.Packet.{PlainFrame, AnInterest, AData, ANack, Idle}
@@ -13,24 +13,24 @@ use Rattle.forwarder.specs.Deciding.{IsDecidedAs}
 use Rattle.forwarder.specs.Effects.{can_open, decided_packet}
 use Rattle.forwarder.specs.Runs.{Run, Start, Then, IsPolicyOf}
 
--- ---- which events
+-- ---- the journalled events
 
--- Of the allowed packets, each command, whatever its status, and each Data that the repository
--- wants are journalled.
+-- An allowed command is journalled, whatever its status. An allowed Data is journalled if the
+-- repository wants it.
 abbrev pub is_journalled_packet : Policy → PlainFrame → Bool
 is_journalled_packet p (AnInterest whole i) = true
 is_journalled_packet p (AData whole d) = is_wanted d.name (sha256 whole) p.held.wants
 is_journalled_packet p (ANack reason whole i) = false
 is_journalled_packet p Idle = false
 
--- Packets that are denied are not journalled.
+-- Packets that are not allowed are not journalled.
 abbrev pub is_journalled_as : Policy → PlainFrame → Decision → Bool
 is_journalled_as p packet (Allowed rule) = is_journalled_packet p packet
 is_journalled_as p packet (Denied rule reason) = false
 is_journalled_as p packet NoRule = false
 
--- Of the events without a packet to decide, these are journalled: a face that opens, an open face
--- that closes, and new rules.
+-- These events without a packet to decide are journalled: a face that opens, an open face that
+-- closes, and new rules.
 abbrev pub is_journalled_undecided : Policy → PlainEvent → Bool
 is_journalled_undecided p (Packet face now octets) = false
 is_journalled_undecided p (FaceUp face scope now) = can_open p face
@@ -38,15 +38,16 @@ is_journalled_undecided p (FaceDown face now) = is_open face p.faces
 is_journalled_undecided p (Tick now) = false
 is_journalled_undecided p (NewRules rules keys now) = true
 
--- whether an event is journalled, by the policy at its moment
+-- `chosen` tells whether the event is journalled, by the policy at the event's time
 abbrev pub IsChosen : Policy → PlainEvent → Bool → Option PlainFrame → Type 0
 IsChosen p event chosen None = chosen ≡ is_journalled_undecided p event
 IsChosen p event chosen (Some packet) =
     (decision : Decision) × IsDecidedAs p packet decision
     × (chosen ≡ is_journalled_as p packet decision)
 
--- Whether an event is journalled, by the policy before it. If the keys of the policy have different
--- names, each packet has one decision, so the policy and the event determine the answer.
+-- `chosen` tells whether the event is journalled, by the policy before it. If the keys of the
+-- policy have different names, each packet has one decision, so the policy and the event determine
+-- `chosen`.
 abbrev pub IsJournalled : Policy → PlainEvent → Bool → Type 0
 IsJournalled old event chosen =
     let p = at_moment old (moment event) in
@@ -54,7 +55,7 @@ IsJournalled old event chosen =
 
 -- ---- the journal of a run
 
--- the event at another moment
+-- the event with another time
 abbrev pub with_moment : ℕ → PlainEvent → PlainEvent
 with_moment now (Packet face t octets) = Packet face now octets
 with_moment now (FaceUp face scope t) = FaceUp face scope now
@@ -62,46 +63,46 @@ with_moment now (FaceDown face t) = FaceDown face now
 with_moment now (Tick t) = Tick now
 with_moment now (NewRules rules keys t) = NewRules rules keys now
 
--- the journal after an event, which is appended if it is journalled
+-- the journal after an event; the event is appended if it is journalled
 abbrev pub with_event : Bool → PlainEvent → List PlainEvent → List PlainEvent
 with_event true event journal = journal ++ (event ∷ [])
 with_event false event journal = journal
 
--- The journal after an event that arrives at this policy. Its moment in the journal is the greatest
--- one so far: a clock may be set back, but the moments of a journal never decrease.
+-- The journal after an event, where `was` is the policy before it. The event is stored with the
+-- latest time so far: a clock may be set back, but the times of a journal never decrease.
 abbrev pub IsJournalAfter : Policy → PlainEvent → List PlainEvent → List PlainEvent → Type 0
 IsJournalAfter was event old new =
     (chosen : Bool) × IsJournalled was event chosen
     × (new ≡ with_event chosen (with_moment (max was.now (moment event)) event) old)
 
--- The journal of a run from this first policy. It does not depend on the answers.
+-- The journal of a run from the policy `first`. It does not depend on the answers.
 abbrev pub IsJournalOf : Policy → Run → List PlainEvent → Type 0
 IsJournalOf first Start journal = journal ≡ []
 IsJournalOf first (Then before event answer) journal =
     (was : Policy) × (earlier : List PlainEvent) × IsPolicyOf first before was
     × IsJournalOf first before earlier × IsJournalAfter was event earlier journal
 
--- ---- what the journal restores
+-- ---- the restored policy
 
--- the events of a run, the first one first
+-- the events of a run in order
 abbrev pub events_of : Run → List PlainEvent
 events_of Start = []
 events_of (Then before event answer) = events_of before ++ (event ∷ [])
 
--- From this moment on the two policies are the same. Before it they may differ in now, and in what
--- expires by then: wants, and routes with their count in the version of the lists.
+-- From the time `now` on, the two policies are the same. Before it they may differ in their time
+-- and in what expires by then: wants, and routes with their count in the version of the lists.
 abbrev pub AreOneFrom : ℕ → Policy → Policy → Type 0
 AreOneFrom now p q = (m : ℕ) → now ≤ m → at_moment p m ≡ at_moment q m
 
--- the first run is a beginning of the other, or all of it
+-- the first run is a beginning of the other run, or equal to it
 abbrev pub IsBeginningOf : Run → Run → Type 0
 IsBeginningOf part Start = part ≡ Start
 IsBeginningOf part (Then before event answer) =
     (part ≡ Then before event answer) ⊎ IsBeginningOf part before
 
--- What is left of a run's journal is the journal of a part of the run, a beginning of it. Each
--- beginning whose whole journal is left is a beginning of this part. Replaying the events that are
--- left from the first policy gives the policy of this part.
+-- The events `left` are the journal of a beginning of the run, called `part`. Each shorter
+-- beginning whose whole journal is left is a beginning of `part`. Replaying `left` from the first
+-- policy leads to the policy of `part`.
 pub record KeepsBeginning (first : Policy) (past : Run) (left : List PlainEvent) : Type 0 where
   pub part : Run
   pub policy : Policy

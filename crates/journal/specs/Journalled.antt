@@ -1,10 +1,10 @@
--- Whether an event is journalled, by its verdict. For a Data the verdict does not state whether the
--- repository wanted it.
+-- Whether an event is journalled, by its verdict. The verdict on a Data does not state whether the
+-- repository wanted the Data.
 use Rattle.std.specs.Prelude.{Bool, true, false}
 use Rattle.forwarder.specs.Event.{PlainEvent, Packet, FaceUp, FaceDown, Tick, NewRules}
 use Rattle.forwarder.specs.Verdict.{Verdict, Passed, Allowed, DataAllowed, Denied, NoRule, Dropped}
 
--- an event that is journalled if it passed: it changes faces or rules
+-- the event changes faces or rules, so it is journalled if it passed
 abbrev pub is_change : PlainEvent → Bool
 is_change (Packet face now octets) = false
 is_change (FaceUp face scope now) = true
@@ -12,8 +12,8 @@ is_change (FaceDown face now) = true
 is_change (Tick now) = false
 is_change (NewRules rules keys now) = true
 
--- whether an event is journalled, by whether it changes faces or rules, whether it brought a Data
--- that was wanted, and its verdict
+-- whether an event is journalled, from three facts: whether it changes faces or rules, whether it
+-- brought a wanted Data, and its verdict
 abbrev pub is_journalled_where : Bool → Bool → Verdict → Bool
 is_journalled_where changes wanted Passed = changes
 is_journalled_where changes wanted (Allowed rule status) = true

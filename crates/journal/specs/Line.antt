@@ -12,7 +12,8 @@ use Rattle.node_core.specs.Script.Writing.{hex_word}
 use Rattle.journal.specs.declared.line.Entry.{Entry}
 use Rattle.journal.specs.declared.line.Entry.TheVariants as entry
 
--- The events that an entry is written for. For rules and keys the entry has the files.
+-- The event that an entry stands for. An entry with new rules and keys contains the octets of the
+-- two files.
 abbrev pub IsEventOf : ℕ → Entry → PlainEvent → Type 0
 IsEventOf now (entry.Packet face octets) event = event ≡ Packet face now octets.now
 IsEventOf now (entry.FaceUp face scope) event = event ≡ FaceUp face scope now
@@ -22,7 +23,7 @@ IsEventOf now (entry.NewRules rules keys) event =
     (r : List PlainRule) × (k : List NamedKey)
     × AreRules rules.now r × AreKeys keys.now k × (event ≡ NewRules r k now)
 
--- the entry's numbers are below 2 ^ 64, and its octets are octets
+-- the entry's numbers are below 2 ^ 64, and its octets are below 256
 abbrev pub HasOctets : Entry → Type 0
 HasOctets (entry.Packet face octets) = (face < 2 ^ 64) × AreOctets octets.now
 HasOctets (entry.FaceUp face scope) = face < 2 ^ 64
@@ -30,7 +31,7 @@ HasOctets (entry.FaceDown face) = face < 2 ^ 64
 HasOctets entry.Tick = ⊤
 HasOctets (entry.NewRules rules keys) = AreOctets rules.now × AreOctets keys.now
 
--- the entry's line with its LF, with hexadecimal in lower case
+-- the entry's line with its LF; hexadecimal is in lower case
 abbrev pub entry_text : ℕ → Entry → List ℕ
 entry_text now (entry.Packet face octets) =
     codes "in " ++ (decimal face ++ (codes " " ++ (decimal now ++ (codes " "
@@ -45,7 +46,7 @@ entry_text now (entry.NewRules rules keys) =
     codes "rules " ++ (decimal now ++ (codes " " ++ (hex_word rules.now ++ (codes " "
     ++ (hex_word keys.now ++ codes "\n")))))
 
--- the entry is of an event that changes faces or rules
+-- the event of the entry changes faces or rules
 abbrev pub is_change_entry : Entry → Bool
 is_change_entry (entry.Packet face octets) = false
 is_change_entry (entry.FaceUp face scope) = true

@@ -1,4 +1,4 @@
--- What the replay of a journal's text does, and what it restores.
+-- The effect of replaying a journal's text, and the policy that it restores.
 use Rattle.std.specs.Prelude.{◌≡◌, ℕ, ◌+◌, Bool, true, false, Option, Some, IfSome, List, [], ◌∷◌, ◌++◌, length, map, take, ⊤}
 use Rattle.std.specs.Io.KnownBytes.{Consumes}
 use Rattle.forwarder.specs.Event.{PlainEvent}
@@ -15,9 +15,9 @@ use Rattle.journal.specs.declared.replaying.ReplayFault.TheVariants as fault
 use Rattle.journal.specs.Journal.{AreOneFrom, IsJournalOf}
 use Rattle.journal.specs.Text.{IsTextOf, Survives}
 
--- The events of these lines were answered in order, and led from the old node to the new one. If
--- the old node agrees with a run so far, appending them gives a valid run, and the new node agrees
--- with that.
+-- The events of these lines were answered in order and led from the old node to the new one. If the
+-- old node agrees with a run, appending the events gives a valid run, and the new node agrees with
+-- it.
 pub record Plays (lines : List (List ℕ)) (events : List PlainEvent)
     (old new : NodeState) : Type 0 where
   pub are_lines : AreLines lines
@@ -27,7 +27,7 @@ pub record Plays (lines : List (List ℕ)) (events : List PlainEvent)
   pub goes_on : ExtendsRuns old events (map Answered answers) new
 
 -- Everything was read: whole lines, whose events were answered, and then octets without an LF,
--- which were not handed on. A reader whose octets are known had these, and has no more.
+-- which were ignored. If the reader's octets were known, they were these, and none are left.
 pub record Replays (old new : NodeState) (unread left : Option (List ℕ))
     (done : Replayed) : Type 0 where
   pub lines : List (List ℕ)
@@ -40,9 +40,9 @@ pub record Replays (old new : NodeState) (unread left : Option (List ℕ))
   pub whole_is : done.whole ≡ length (joined lines)
   pub cut_is : done.cut ≡ length cut
 
--- The events of the lines before were answered. Then a line, counted from 1, was bad; or the reader
--- failed; or memory ran out for a line or for the step of its event. Such a step may have dropped
--- Data from the cache.
+-- The events of the earlier lines were answered. Then a line, counted from 1, was bad; or the
+-- reader failed; or memory ran out for a line or for the step of its event. Such a step may have
+-- dropped Data from the cache.
 abbrev pub StopsReplay : NodeState → NodeState → Option (List ℕ) → Option (List ℕ) → ReplayFault
     → Type 0
 StopsReplay old new unread left (fault.BadLine n) =
@@ -57,10 +57,10 @@ StopsReplay old new unread left fault.Memory =
     × Plays lines events old last × ChangesCacheOnly last new
     × Consumes unread left (joined lines ++ rest)
 
--- What a replay restores of a run, if a crash left this of the text of the run's journal: the
--- policy of a beginning of the run, which includes each beginning whose journal's text is left
--- whole. From the last moment of that beginning on, the node has its policy. The node agrees with a
--- run whose journal has the whole lines as its text, so lines appended after them extend it.
+-- What a replay restores, if a crash left these octets of the text of a run's journal: the policy
+-- of a beginning of the run. That beginning includes each shorter one whose whole text is left.
+-- From the beginning's last time on, the node has its policy. The node agrees with a run whose
+-- journal's text is the whole lines, so lines that are appended after them continue that journal.
 pub record Restores (first : Policy) (past : Run) (left : List ℕ) (done : Replayed)
     (new : NodeState) : Type 0 where
   pub survives : Survives first past left
@@ -72,8 +72,8 @@ pub record Restores (first : Policy) (past : Run) (left : List ℕ) (done : Repl
   pub is_journal : IsJournalOf first again survives.events
   pub is_text : IsTextOf survives.events (take done.whole left)
 
--- This holds for each run, if the node that replays its journal has the run's first policy and has
--- handled nothing yet.
+-- `Restores` holds for each run, if the node that replays the journal has the run's first policy
+-- and has not handled any event.
 abbrev pub RestoresRuns : NodeState → NodeState → List ℕ → Replayed → Type 0
 RestoresRuns old new left done =
     (first p : Policy) (past : Run) (journal : List PlainEvent) (text lost : List ℕ)
@@ -83,12 +83,12 @@ RestoresRuns old new left done =
 
 -- ---- one line
 
--- a line was handed to a node, and has one event, or none
+-- a line was handled; the flag tells whether it has an event
 abbrev pub PlaysLine : List ℕ → NodeState → NodeState → Bool → Type 0
 PlaysLine line old new true = (event : PlainEvent) × Plays (line ∷ []) (event ∷ []) old new
 PlaysLine line old new false = Plays (line ∷ []) [] old new
 
--- why a line was not handed to a node
+-- why a line was not handled
 abbrev pub StopsLine : List ℕ → ℕ → NodeState → NodeState → ReplayFault → Type 0
 StopsLine line number old new (fault.BadLine n) =
     IsBadLine line × (n ≡ number) × (new ≡ old)

@@ -1,4 +1,4 @@
--- The text of a journal: the events as lines of a script, each with its LF.
+-- The text of a journal: its events as lines of a script, each with its LF.
 use Rattle.std.specs.Prelude.{◌≡◌, ℕ, List, [], ◌∷◌, ◌++◌}
 use Rattle.forwarder.specs.Event.{PlainEvent}
 use Rattle.forwarder.specs.Policy.{Policy}
@@ -7,22 +7,22 @@ use Rattle.node_core.specs.Script.{ended}
 use Rattle.node_core.specs.Script.Line.{Lacks, IsEventLine}
 use Rattle.journal.specs.Journal.{IsBeginningOf, IsJournalOf, KeepsBeginning}
 
--- one line for each event, and no other lines
+-- the text has one line for each event, and no other lines
 abbrev pub IsTextOf : List PlainEvent → List ℕ → Type 0
 IsTextOf [] text = text ≡ []
 IsTextOf (event ∷ events) text =
     (line rest : List ℕ) × IsEventLine event line × Lacks 10 line × (text ≡ ended line ++ rest)
     × IsTextOf events rest
 
--- What a crash may leave of a text: the whole lines of these events, and then octets without an LF,
--- which are no event.
+-- The text that a crash may leave: the whole lines of these events, and then octets without an LF,
+-- which spell no event.
 abbrev pub IsCutTextOf : List PlainEvent → List ℕ → Type 0
 IsCutTextOf events text =
     (whole cut : List ℕ) × (text ≡ whole ++ cut) × IsTextOf events whole × Lacks 10 cut
 
--- What is left of the text of a run's journal is whole lines and then octets without an LF. The
--- events of these lines are the journal of a beginning of the run, which includes each beginning
--- whose journal's text is left whole.
+-- The octets that are left of the text of a run's journal are whole lines and then octets without
+-- an LF. The events of these lines are the journal of a beginning of the run. That beginning
+-- includes each shorter one whose whole text is left.
 pub record Survives (first : Policy) (past : Run) (left : List ℕ) : Type 0 where
   pub events : List PlainEvent
   pub are_lines : IsCutTextOf events left

@@ -12,25 +12,26 @@ use thiserror::Error;
 /// What is needed to journal an event.
 #[derive(Clone, Copy)]
 pub struct Coming<'a> {
-    /// The entry of its line.
+    /// The content of the event's line.
     pub entry: Entry<'a>,
-    /// Whether it brings a Data that the repository wants at its moment.
+    /// Whether the event brings a Data that the repository wants at the event's time.
     pub is_wanted: bool,
 }
 
-/// Why an event is not in the journal.
+/// Why an event was not journalled.
 #[derive(Clone, Copy, Debug, PartialEq, Eq, Error)]
 pub enum AppendFault {
-    /// No line could be made for the event. Nothing was written.
+    /// The line of the event could not be made. Nothing was written.
     #[error("{0}")]
     Line(LineFault),
-    /// The file failed. A beginning of the line may have been written.
+    /// The file failed. A prefix of the line may have been written.
     #[error("the journal cannot be written")]
     File,
 }
 
-/// Appends the line of an event with this verdict, if the event is journalled, and returns when the
-/// line survives a crash. The time is the greatest moment so far, in milliseconds since 1970.
+/// Appends the line of an event with this verdict, if the event is journalled. Returns when the
+/// line survives a crash. `time` is the latest time of any event so far, in milliseconds since
+/// 1970.
 pub fn append_event<F: JournalFile>(
     alloc: Global,
     file: &mut F,
@@ -42,7 +43,7 @@ pub fn append_event<F: JournalFile>(
         coming.now (verdict_of verdict.now)) }
     ensures failed { OnErr result (FailsToJournal (F.synced file.old) (F.synced file.new) time
         coming.now (verdict_of verdict.now)) }
-    // If the event is not journalled, nothing is written, and nothing fails.
+    // If the event is not journalled, the file is unchanged and the call succeeds.
     ensures silent { is_journalled_entry coming.now.entry coming.now.is_wanted
         (verdict_of verdict.now) ≡ false → IsOk result × (file.new ≡ file.old) }
 {
@@ -59,7 +60,7 @@ pub fn append_event<F: JournalFile>(
     }
 }
 
-/// Whether an event with this verdict is journalled.
+/// Returns whether an event with this verdict is journalled.
 fn is_journalled(coming: &Coming<'_>, verdict: &Verdict) -> bool
     ensures { result
         ≡ is_journalled_entry coming.now.entry coming.now.is_wanted (verdict_of verdict.now) }
@@ -74,7 +75,7 @@ fn is_journalled(coming: &Coming<'_>, verdict: &Verdict) -> bool
     }
 }
 
-/// Whether the entry is of an event that changes faces or rules.
+/// Returns whether the event of the entry changes faces or rules.
 fn is_change(entry: &Entry<'_>) -> bool
     ensures { result ≡ is_change_entry entry.now }
 {

@@ -4,21 +4,21 @@ ghost use Rattle.node_core.specs.Script.Ending.{AppendsFront};
 
 use thiserror::Error;
 
-/// A journal could not be written.
+/// The journal could not be written.
 #[derive(Clone, Copy, Debug, PartialEq, Eq, Error)]
 pub enum FileFault {
     #[error("the journal cannot be written")]
     Failed,
 }
 
-/// The file that a journal is appended to. It contains the octets of key files, which are secrets.
+/// The file that contains a journal. It contains the octets of key files, which are secrets.
 pub trait JournalFile {
-    // The octets of the file that survive a crash, if they are known. If this is none, as for a
-    // file of the system, no contract says what the file has.
+    // The octets of the file that survive a crash, or `None` if they are not known. For a file of
+    // the operating system they are not known, and no contract states its content.
     ghost synced: { Self → Option (List ℕ) };
 
-    /// Appends octets, and returns when they survive a crash. If it fails, a beginning of them may
-    /// have been appended.
+    /// Appends octets, and returns when they survive a crash. On failure, a prefix of the octets
+    /// may have been appended.
     fn append(&mut self, octets: &[u8]) -> Result<(), FileFault>
         ensures done { OnOk result (Appends (synced self.old) (synced self.new) octets.now) }
         ensures cut { OnErr result (AppendsFront (synced self.old) (synced self.new) octets.now) };

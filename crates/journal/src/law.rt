@@ -14,8 +14,8 @@ ghost use Rattle.journal.specs.Appending.{Steps};
 ghost use Rattle.journal.specs.Text.{IsCutTextOf, IsTextOf, Survives};
 ghost use Rattle.journal.specs.Journal.{AreOneFrom, IsJournalled, IsJournalOf, KeepsBeginning, events_of, with_event, with_moment};
 
-/// Law: the event and the policy before it decide whether it is journalled. An event that is not
-/// journalled changes the policy only as its moment does.
+/// Law: an event and the policy before it decide whether the event is journalled. An event that is
+/// not journalled changes the policy only by advancing its time.
 pub fn other_events_bring_their_moments()
     ensures decided { (old : Policy) (event : PlainEvent) (a b : Bool) → AreApart old.keys
         → IsJournalled old event a → IsJournalled old event b → a ≡ b }
@@ -24,8 +24,8 @@ pub fn other_events_bring_their_moments()
         → new ≡ at_moment old (moment event) }
 {}
 
-/// Law: whether a step journals its event depends only on its verdict and, for a Data, on whether
-/// the repository wants it at that moment.
+/// Law: whether a step journals its event depends only on the verdict and, for a Data, on whether
+/// the repository wants the Data at that time.
 pub fn verdicts_say_what_is_journalled()
     ensures { (old new : NodeState) (event : PlainEvent) (answer : Answer)
         → IsStep old event answer new → let p = at_moment old.policy (moment event) in
@@ -33,8 +33,8 @@ pub fn verdicts_say_what_is_journalled()
         (is_journalled_by event (brings_wanted p event) answer.verdict) }
 {}
 
-/// Law: if the node agrees with a run, a step extends the run's journal by its event, and the text
-/// by the event's line, if the event is journalled, and by nothing otherwise.
+/// Law: if the node agrees with a run and the event of a step is journalled, the step appends the
+/// event to the run's journal and the event's line to the text. Otherwise it appends nothing.
 pub fn journals_grow_by_steps()
     ensures journal { (first : Policy) (past : Run) (old new : NodeState) (event : PlainEvent)
         (answer : Answer) (journal : List PlainEvent) → Stands first past old
@@ -45,7 +45,8 @@ pub fn journals_grow_by_steps()
         (with_moment p.now event) journal) }
     ensures text { (journal added : List PlainEvent) (text more : List ℕ) → IsTextOf journal text
         → IsTextOf added more → IsTextOf (journal ++ added) (text ++ more) }
-    // So the text of a run's journal and what a step adds are the text of the longer run's journal.
+    // The text of a run's journal, followed by what a step appends, is the text of the longer run's
+    // journal.
     ensures both { (first : Policy) (past : Run) (old new : NodeState) (event : PlainEvent)
         (verdict : Verdict) (sends : List Send) (journal : List PlainEvent) (text added : List ℕ)
         → Stands first past old → IsJournalOf first past journal → IsTextOf journal text
@@ -57,7 +58,7 @@ pub fn journals_grow_by_steps()
         × IsTextOf longer (text ++ added) }
 {}
 
-/// Law: a run that has a policy has a journal, and only one if the keys of each of its key books
+/// Law: a run that leads to a policy has a journal. It has only one if the keys of each key book
 /// have different names.
 pub fn journals_are_one()
     ensures some { (first p : Policy) (past : Run) → IsPolicyOf first past p
@@ -66,9 +67,9 @@ pub fn journals_are_one()
         → IsJournalOf first past a → IsJournalOf first past b → a ≡ b }
 {}
 
-/// Law: replaying the events of a run's journal from the first policy gives the policy of the run
-/// from its last moment on. The replayed run has the same journal, so the run can be continued from
-/// there.
+/// Law: replaying the events of a run's journal from the first policy leads to the run's policy,
+/// from the run's last time on. The replayed run has the same journal, so the run can be continued
+/// after the replay.
 pub fn journals_keep_policy()
     ensures policy { (first p q : Policy) (past again : Run) (journal : List PlainEvent)
         → KeysAreApart first past → IsPolicyOf first past p → IsJournalOf first past journal
@@ -76,34 +77,35 @@ pub fn journals_keep_policy()
     ensures journal { (first p : Policy) (past again : Run) (journal : List PlainEvent)
         → KeysAreApart first past → IsPolicyOf first past p → IsJournalOf first past journal
         → events_of again ≡ journal → IsJournalOf first again journal }
-    // There is such a policy.
+    // The replayed run leads to a policy.
     ensures some { (first p : Policy) (past again : Run) (journal : List PlainEvent)
         → KeysAreApart first past → IsPolicyOf first past p → IsJournalOf first past journal
         → events_of again ≡ journal → (q : Policy) × IsPolicyOf first again q }
-    // The next event, if its moment is not earlier, has the same effect.
+    // The next event has the same effect after the replay as after the run, if its time is not
+    // earlier.
     ensures next { (p q r : Policy) (event : PlainEvent) → AreOneFrom p.now q p
         → p.now ≤ moment event → IsAfter p event r → IsAfter q event r }
 {}
 
-/// Law: if the first event brings rules and keys, the ones before it make no difference. So the
-/// replay of a journal that begins with new rules does not depend on the rules and keys that the
-/// node was made with. The repository's prefix has to be the same.
+/// Law: if the first event brings rules and keys, the rules and keys before it make no difference.
+/// So the replay of a journal that begins with new rules does not depend on the rules and keys that
+/// the node was created with. The repository's prefix must be the same.
 pub fn rules_at_the_start_are_the_first()
     ensures { (first q : Policy) (r rules : List PlainRule) (k keys : List NamedKey) (now : ℕ)
         (again : Run) (rest : List PlainEvent) → events_of again ≡ NewRules rules keys now ∷ rest
         → IsPolicyOf (with_rules first r k) again q → IsPolicyOf first again q }
 {}
 
-/// Law: the first events of a run's journal, as a crash leaves them, are the journal of a beginning
-/// of the run, and lead to its policy. Each beginning whose journal was written whole is in it.
+/// Law: if a crash leaves only the first events of a run's journal, these events are the journal of
+/// a beginning of the run and lead to the policy of that beginning. That beginning includes each
+/// shorter one whose whole journal is left.
 pub fn crashes_leave_a_beginning()
     ensures { (first p : Policy) (past : Run) (journal left lost : List PlainEvent)
         → KeysAreApart first past → IsPolicyOf first past p → IsJournalOf first past journal
         → journal ≡ left ++ lost → KeepsBeginning first past left }
 {}
 
-/// Law: what a crash may leave of a journal's text has one reading: that of its whole lines as a
-/// script.
+/// Law: the text that a crash may leave of a journal has one reading: its whole lines as a script.
 pub fn journal_texts_have_one_reading()
     ensures script { (text : List ℕ) (events : List PlainEvent) → IsCutTextOf events text
         → IsScriptSoFar text events }
@@ -111,9 +113,9 @@ pub fn journal_texts_have_one_reading()
         → IsScriptSoFar text b → a ≡ b }
 {}
 
-/// Law: the whole lines of any beginning of the text of a run's journal are the journal of a
-/// beginning of the run. What a crash leaves of a file whose `synced` is none, as a file of the
-/// system, is not specified.
+/// Law: for each prefix of the text of a run's journal, its whole lines are the journal of a
+/// beginning of the run. If `synced` is `None`, as for a file of the operating system, the content
+/// after a crash is not specified.
 pub fn journals_survive_crashes()
     ensures { (first p : Policy) (past : Run) (journal : List PlainEvent) (text left lost : List ℕ)
         → KeysAreApart first past → IsPolicyOf first past p → IsJournalOf first past journal

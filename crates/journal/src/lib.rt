@@ -1,4 +1,5 @@
-//! The journal of a node: the events it stores so that it has the same policy after a restart.
+//! The journal of a node: the stored events from which the node restores its policy after a
+//! restart.
 #![tactic(auto)]
 
 mod append;

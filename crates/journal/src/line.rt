@@ -11,10 +11,10 @@ use forwarder::Scope;
 use std::alloc::{AllocError, Global};
 use thiserror::Error;
 
-/// The longest line, in octets and with the LF at its end.
+/// The greatest length of a line in octets, including its LF.
 const LONGEST_LINE: usize = 20_001;
 
-/// What a line states of an event, besides its moment.
+/// The content of a line, except its time.
 #[derive(Clone, Copy)]
 pub enum Entry<'a> {
     /// Octets arrived on a face.
@@ -25,25 +25,25 @@ pub enum Entry<'a> {
     FaceDown { face: u64 },
     /// Time passed.
     Tick,
-    /// The octets of a rule file and of a key file, which replace those in force. The keys are
-    /// secrets, and their line contains them.
+    /// The octets of a rule file and of a key file, which replace the rules and keys in force. Keys
+    /// are secrets, and the line contains them.
     NewRules { rules: &'a [u8], keys: &'a [u8] },
 }
 
-/// Why an entry has no line.
+/// Why no line could be made for an entry.
 #[derive(Clone, Copy, Debug, PartialEq, Eq, Error)]
 pub enum LineFault {
-    /// The line would have more than 20,000 octets, without its LF.
+    /// The line would have more than 20,000 octets, not counting its LF.
     #[error("a line of the journal would be too long")]
     TooLong,
     #[error("no memory for the line of the journal")]
     Memory,
 }
 
-/// The line of a journal for an entry at this moment, with its LF.
+/// Returns the journal's line for an entry at the time `now`, with its LF.
 pub fn line_of(alloc: Global, now: u64, entry: &Entry<'_>) -> Result<String, LineFault>
     ensures text { IfOk result (λ line. string_bytes line ≡ entry_text now entry.now) }
-    // It is a line of a script, of the event at this moment.
+    // The line is a line of a script, and it spells the event of the entry at the time `now`.
     ensures line { OnOk result
         ((event : PlainEvent) → IsEventOf now entry.now event
         → IsTextOf (event ∷ []) (entry_text now entry.now)) }
@@ -58,7 +58,7 @@ pub fn line_of(alloc: Global, now: u64, entry: &Entry<'_>) -> Result<String, Lin
     Ok(line)
 }
 
-/// The text of an entry, however long.
+/// Returns the text of an entry of any length.
 fn text_of(alloc: Global, now: u64, entry: &Entry<'_>) -> Result<String, AllocError>
     ensures text { IfOk result (λ line. string_bytes line ≡ entry_text now entry.now) }
     ensures octets { OnOk result (HasOctets entry.now) }
@@ -82,7 +82,7 @@ fn text_of(alloc: Global, now: u64, entry: &Entry<'_>) -> Result<String, AllocEr
     }
 }
 
-/// Octets in hexadecimal, or a dash for none.
+/// Returns octets in hexadecimal, or a dash for no octets.
 fn hex_word(alloc: Global, octets: &[u8]) -> Result<String, AllocError>
     ensures word { IfOk result (λ word. string_bytes word ≡ hex_word_of octets.now) }
     ensures octets { AreOctets octets.now }

@@ -12,33 +12,33 @@ use std::alloc::Global;
 use std::io::{BufRead, ErrorKind, Read};
 use thiserror::Error;
 
-/// What was replayed.
+/// The result of a replay.
 #[derive(Clone, Copy, Debug, PartialEq, Eq)]
 pub struct Replayed {
     /// The number of events in the whole lines.
     pub events: u64,
-    /// The number of octets in the whole lines, with their LFs.
+    /// The number of octets in the whole lines, including their LFs.
     pub whole: u64,
-    /// The number of octets after the last LF, which are not a whole line.
+    /// The number of octets after the last LF. They are not a whole line.
     pub cut: u64,
 }
 
-/// Why a journal was not replayed to its end. The node has handled the events of the lines before.
+/// Why a journal was not replayed to its end. The node has handled the events of all earlier lines.
 #[derive(Clone, Copy, Debug, PartialEq, Eq, Error)]
 pub enum ReplayFault {
-    /// This whole line, counted from 1, is not a line of a script.
+    /// The line with this number, counted from 1, is not a line of a script.
     #[error("line {0} of the journal is a bad line")]
     BadLine(u64),
-    /// The reader failed, or had 4,294,967,295 lines.
+    /// The reader failed, or the journal has 4,294,967,295 lines.
     #[error("the journal cannot be read")]
     Read,
-    /// Out of memory for a line, or for the step of its event.
+    /// Memory ran out for a line or for the step of its event.
     #[error("out of memory")]
     Memory,
 }
 
-/// Hands the events of a journal's whole lines to a node. The octets after the last LF, as a crash
-/// may leave them, are not handed on, only counted.
+/// Replays the events in the whole lines of a journal on a node. The octets after the last LF,
+/// which a crash may leave, are only counted.
 ///
 /// A line is read whole before it is parsed, and takes as much memory as it has octets.
 pub fn replay<R: BufRead>(
@@ -74,7 +74,8 @@ pub fn replay<R: BufRead>(
     Err(ReplayFault::Read)
 }
 
-/// Replaces the octets by the next line with its LF, or by all that is left.
+/// Replaces the content of `octets` by the next line with its LF, or by all remaining octets if no
+/// LF follows.
 fn read_line<R: BufRead>(reader: &mut R, octets: &mut Vec<u8>) -> Result<(), ReplayFault>
     ensures read { Consumes (R.remaining reader.old) (R.remaining reader.new) octets.new.items }
     ensures stops { StopsAt octets.new.items 10 }
@@ -91,7 +92,7 @@ fn read_line<R: BufRead>(reader: &mut R, octets: &mut Vec<u8>) -> Result<(), Rep
     }
 }
 
-/// The octets before the LF at the end, if there is one.
+/// Returns the line without its LF, or `None` if it has no LF.
 fn whole_line(octets: &[u8]) -> Option<&[u8]>
     requires { StopsAt octets.now 10 }
     ensures found { IfSome result (λ line. (octets.now ≡ ended line.now) × Lacks 10 line.now) }
@@ -102,7 +103,7 @@ fn whole_line(octets: &[u8]) -> Option<&[u8]>
 }
 
 #[tactic(auto, using(crate::proofs::Replays::plays_step, crate::proofs::Replays::plays_skipped))]
-/// Hands the event of the line of this number to a node. Returns whether the line has one.
+/// Handles the event of the line with this number on a node. Returns whether the line has an event.
 fn play_line(
     alloc: Global,
     node: &mut Node,

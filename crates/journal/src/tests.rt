@@ -1,4 +1,5 @@
-//! The lines of a journal, in the format of `docs/SCRIPTS.md`, and what is appended and replayed.
+//! Tests of the lines of a journal, in the format of `docs/SCRIPTS.md`, and of appending and
+//! replaying.
 ghost use Rattle.std.specs.Prelude.{None};
 
 use crate::{
@@ -12,7 +13,7 @@ use std::alloc::Global;
 use std::io;
 use std::io::{BufReader, ErrorKind, Read};
 
-/// Whether this is the line of an entry at the moment 1000.
+/// Returns whether `line` is the line of the entry at the time 1000.
 fn is_line(alloc: Global, entry: &Entry<'_>, line: &str) -> bool {
     line_of(alloc, 1000, entry).is_ok_and(|text| text.as_str() == line)
 }
@@ -49,7 +50,7 @@ fn lines_of_octets(rt: HostRuntime) {
     assert!(rt; is_line(rt.alloc(), &rules, "rules 1000 - 2f412036620a\n"));
 }
 
-/// Whether new rules with this number of octets have a line.
+/// Returns whether a line can be made for new rules of `len` octets.
 fn has_line(alloc: Global, len: usize) -> Option<bool> {
     let rules = vec![in alloc; b';'; len].ok()?;
     let entry = Entry::NewRules {
@@ -67,7 +68,7 @@ fn longest_lines(rt: HostRuntime) {
     assert!(rt; has_line(rt.alloc(), 9_994) == Some(false));
 }
 
-/// A file in memory.
+/// A journal file in memory.
 #[derive(Drop)]
 struct MemoryFile {
     octets: Vec<u8>,
@@ -94,7 +95,7 @@ fn parts(alloc: Global) -> Option<NodeParts> {
     })
 }
 
-/// The file after an event with this verdict was appended at the moment 1000.
+/// Returns the file after an event with this verdict was appended at the time 1000.
 fn file_after(alloc: Global, entry: Entry<'_>, verdict: Verdict) -> Option<MemoryFile> {
     let mut file = MemoryFile {
         octets: Vec::new(alloc),
@@ -107,12 +108,12 @@ fn file_after(alloc: Global, entry: Entry<'_>, verdict: Verdict) -> Option<Memor
     Some(file)
 }
 
-/// Whether the file then has these octets.
+/// Returns whether appending an event with this verdict writes exactly these octets.
 fn appends(alloc: Global, entry: Entry<'_>, verdict: Verdict, octets: &[u8]) -> bool {
     file_after(alloc, entry, verdict).is_some_and(|file| file.octets.as_slice() == octets)
 }
 
-/// A face that opens is in the journal, and one that the node refuses to open is not.
+/// The opening of a face is journalled. An opening that the node refuses is not.
 #[test]
 fn journal_of_an_opening(rt: HostRuntime) {
     let opens = Entry::FaceUp {
@@ -124,13 +125,13 @@ fn journal_of_an_opening(rt: HostRuntime) {
     assert!(rt; appends(rt.alloc(), opens, dropped, b""));
 }
 
-/// A tick is not in the journal.
+/// A tick is not journalled.
 #[test]
 fn journal_of_a_moment(rt: HostRuntime) {
     assert!(rt; appends(rt.alloc(), Entry::Tick, Verdict::Passed, b""));
 }
 
-/// A new node that a text was replayed to, and the result of the replay.
+/// Replays a text on a new node, and returns the node and the result of the replay.
 fn replayed(alloc: Global, text: &[u8]) -> Option<(Node, Result<Replayed, ReplayFault>)> {
     let mut node = Node::new(alloc, parts(alloc)?).ok()?;
     let mut reader = text;
@@ -145,7 +146,7 @@ in 2 1002 050b07030801410a0401020304
 down 2 1003
 ";
 
-/// Whether the whole lines of a text, each of which is an event, are replayed.
+/// Returns whether the whole lines of the text are replayed. Each line must be an event.
 fn replays_whole_lines(alloc: Global, text: &[u8]) -> bool {
     let events = text.iter().filter(|octet| **octet == b'\n').count();
     let whole = text
@@ -160,7 +161,7 @@ fn replays_whole_lines(alloc: Global, text: &[u8]) -> bool {
     replayed(alloc, text).is_some_and(|(_, end)| end == Ok(wanted))
 }
 
-/// A crash may cut a journal anywhere.
+/// A crash may cut a journal at any octet.
 #[test]
 fn fronts_of_a_journal(rt: HostRuntime) {
     for len in 0..SOME_EVENTS.len() + 1 {
@@ -171,7 +172,7 @@ fn fronts_of_a_journal(rt: HostRuntime) {
     }
 }
 
-/// The time and the open faces of the node that a text was replayed to.
+/// Returns the time and the open faces of the node on which the text was replayed.
 fn time_and_faces(alloc: Global, text: &[u8]) -> Option<(u64, Option<u64>, Option<u64>)> {
     let (node, end) = replayed(alloc, text)?;
     let first = node.open_face(0).map(|(face, _)| face);
@@ -179,7 +180,7 @@ fn time_and_faces(alloc: Global, text: &[u8]) -> Option<(u64, Option<u64>, Optio
     end.is_ok().then_some((node.now(), first, second))
 }
 
-/// A line that was cut may read as another one, so it is not handed on.
+/// A line that was cut short may spell another event, so it is not replayed.
 #[test]
 fn lines_that_were_cut(rt: HostRuntime) {
     let text = b"up 1 local 1000\nup 22 far 1001\ntick 1700\n";
@@ -191,7 +192,7 @@ fn lines_that_were_cut(rt: HostRuntime) {
     assert!(rt; time_and_faces(rt.alloc(), b"up 1 local 1000\nup 22 far 1001") == first);
 }
 
-/// How a replay of a text ended.
+/// Returns the result of replaying the text.
 fn end_of(alloc: Global, text: &[u8]) -> Option<Result<Replayed, ReplayFault>> {
     Some(replayed(alloc, text)?.1)
 }
@@ -208,7 +209,7 @@ fn bad_lines(rt: HostRuntime) {
     assert!(rt; end_of(rt.alloc(), b"tick 1\n# 2\ntick 03") == cut);
 }
 
-/// A reader that gives octets once, and then fails.
+/// A reader that gives its octets once and then fails.
 #[derive(Drop)]
 struct Failing<'a> {
     octets: &'a [u8],
@@ -228,7 +229,8 @@ impl Read for Failing<'_> {
     }
 }
 
-/// The time of a node after a replay from a reader that fails after these octets, and the fault.
+/// Returns the time of the node after a replay whose reader fails after these octets, and the
+/// fault.
 fn fails_after(alloc: Global, octets: &[u8], kind: ErrorKind) -> Option<(u64, ReplayFault)> {
     let mut node = Node::new(alloc, parts(alloc)?).ok()?;
     let mut reader = BufReader::new(alloc, Failing { octets, kind }).ok()?;
@@ -236,7 +238,7 @@ fn fails_after(alloc: Global, octets: &[u8], kind: ErrorKind) -> Option<(u64, Re
     Some((node.now(), fault))
 }
 
-/// The lines before the failure are handled, and no others.
+/// The lines before the failure are handled, and no other lines.
 #[test]
 fn a_reader_that_fails(rt: HostRuntime) {
     let text = b"tick 17\ntick 1700";

@@ -1,4 +1,4 @@
-//! The node, by its scripts and by its steps.
+//! Tests that play scripts on a node, and tests that call its steps.
 
 mod cache;
 mod decisions;
@@ -32,7 +32,7 @@ use std::io::Write;
 use std::process::Abort;
 use test_support::{KEYS, SAMPLE};
 
-/// The parts of a node whose repository is at `/repo`.
+/// Returns the parts of a node whose repository is at `/repo`.
 fn parts_of(alloc: Global, rules: &str, cache: u32) -> Option<NodeParts> {
     Some(NodeParts {
         rules: Rules::read(alloc, &InfoTree::read(alloc, rules).ok()?).ok()?,
@@ -42,12 +42,12 @@ fn parts_of(alloc: Global, rules: &str, cache: u32) -> Option<NodeParts> {
     })
 }
 
-/// The parts of a node under the sample rules.
+/// Returns the parts of a node under the sample rules.
 fn parts(alloc: Global) -> Option<NodeParts> {
     parts_of(alloc, SAMPLE, 1024)
 }
 
-/// The output of a script, and then how it ended.
+/// Returns the output of a script, followed by how the script ended.
 fn outcome(alloc: Global, parts: NodeParts, script: &str) -> Option<String> {
     let mut output = Vec::new(alloc);
     let end = run_script(alloc, &mut script.as_bytes(), &mut output, parts);
@@ -55,14 +55,15 @@ fn outcome(alloc: Global, parts: NodeParts, script: &str) -> Option<String> {
     String::from_utf8(output).ok()
 }
 
-// A dialogue is a script in which each event is followed by its answer, with words for packets.
+// A dialogue is a script in which each event is followed by its answer, and in which words may
+// stand for packets.
 
-/// Whether a line of a dialogue belongs to an answer: `3 passed`, or `> 2 INTEREST`.
+/// Returns whether a line of a dialogue belongs to an answer, such as `3 passed` or `> 2 INTEREST`.
 fn is_answer(line: &str) -> bool {
     line.starts_with('>') || line.starts_with(|c: char| c.is_ascii_digit())
 }
 
-/// The lines of a dialogue that are not answers.
+/// Returns the lines of a dialogue that do not belong to answers.
 fn script_of(alloc: Global, dialogue: &str) -> Option<String> {
     let mut script = String::new(alloc);
     for line in dialogue.lines() {
@@ -87,7 +88,7 @@ fn push_spelled(alloc: Global, text: &mut String, word: &str) -> Option<()> {
     }
 }
 
-/// A dialogue with the hexadecimal that its words stand for.
+/// Returns a dialogue whose words are replaced by the hexadecimal that they stand for.
 fn spelled(alloc: Global, dialogue: &str) -> Option<String> {
     let mut text = String::new(alloc);
     for line in dialogue.lines() {
@@ -102,8 +103,8 @@ fn spelled(alloc: Global, dialogue: &str) -> Option<String> {
     Some(text)
 }
 
-/// Plays the script of a dialogue, and checks each answer. After the last one the script ends well.
-/// The same events at a port have the same answers.
+/// Plays the script of a dialogue, and checks each answer and that the script then ends without a
+/// fault. The same events at a port must have the same answers.
 fn replies_under(rt: &(impl Abort + AllocGlobal), rules: &str, cache: u32, dialogue: &str) {
     let alloc = rt.alloc();
     let parts = parts_of(alloc, rules, cache).expect(rt, "parts");
@@ -126,7 +127,7 @@ fn replies_under(rt: &(impl Abort + AllocGlobal), rules: &str, cache: u32, dialo
     );
 }
 
-/// The same under the sample rules, with a cache of 1,024 Data.
+/// Does the same as `replies_under`, with the sample rules and a cache of 1,024 Data.
 fn replies(rt: &(impl Abort + AllocGlobal), dialogue: &str) {
     replies_under(rt, SAMPLE, 1024, dialogue);
 }

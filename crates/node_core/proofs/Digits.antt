@@ -1,4 +1,4 @@
--- Digits that are read two by two, and the greatest of their values.
+-- Hexadecimal digits that are read two at a time, and the greatest of their values.
 use Rattle.std.proofs.Common.{◌≡◌, ℕ, ◌+◌, ◌*◌, ◌%◌, ◌<◌, ◌≤◌, inl, inr, max, false, List, length, take, drop, slice_index, slice_set, Ok, Some, None, is_some, refl, sym, ap, ◌∙◌, arith}
 use Rattle.std.specs.Prelude.{Option, MatchOption}
 use Rattle.std.proofs.lemmas.Bool.{cases_lt}
@@ -6,7 +6,7 @@ use Rattle.hex.specs.Hex.{decode_pairs, digit_or_error, hex_digit_value, is_hex_
 use Rattle.hex.proofs.Pairs.{prepend, decode_step}
 use Rattle.hex.proofs.HexLemmas.{decode_pairs-ok}
 
--- a value below 16 of what may be a digit, and 255 of what is none
+-- the value of a digit is below 16, and the value of any other octet is 255
 abbrev pub IsValue : Option ℕ → ℕ → Type 0
 IsValue o value = MatchOption o (value ≡ 255) (λ v. (value ≡ v) × (v < 16))
 
@@ -18,12 +18,12 @@ digit_none : (o : Option ℕ) (value : ℕ) → IsValue o value → 16 ≤ value
 digit_none None value is high = refl
 digit_none (Some v) value is high = absurd (omega (arith, is.0, is.1, high))
 
--- the digits before a place spell octets where no value so far was too great
+-- if all values up to this index are below 16, the digits up to it spell these octets
 abbrev pub SpellSoFar : List ℕ → List ℕ → ℕ → ℕ → Type 0
 SpellSoFar digits octets i greatest =
     greatest < 16 → decode_pairs 0 digits ≡ prepend (take i octets) (decode_pairs (2 * i) (drop (2 * i) digits))
 
--- a place of what is no digit, where a value was too great
+-- if the greatest value is 16 or more, some octet is not a digit
 abbrev pub HasNoDigit : List ℕ → ℕ → Type 0
 HasNoDigit digits greatest = 16 ≤ greatest → (k : ℕ) × (k < length digits) × (is_hex_digit (slice_index digits k) ≡ false)
 
@@ -54,7 +54,7 @@ module _ (digits octets : List ℕ) (i high low greatest most value : ℕ) (few 
             ]
       ]
 
--- what holds no digit somewhere spells nothing
+-- a text with an octet that is not a digit spells no octets
 pub spells_none : (digits spelled : List ℕ) (k : ℕ) → k < length digits → is_hex_digit (slice_index digits k) ≡ false → decode_pairs 0 digits ≡ Ok spelled → ⊥
 spells_none digits spelled k few bad is =
     let good = (decode_pairs-ok 0 digits spelled is).0 k 0 few in cc (bad, good)

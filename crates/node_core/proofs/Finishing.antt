@@ -1,4 +1,4 @@
--- From what was fed to what is known at the end of a run.
+-- The result of a run, from the octets that were read.
 use Rattle.std.proofs.Common.{◌≡◌, ℕ, zero, suc, refl, ◌+◌, ◌≤◌, List, [], ◌∷◌, ◌++◌, length, sym, ap, ◌∙◌, arith, append_assoc, append-nil, subst, take}
 use Rattle.std.specs.Prelude.{Option, Some, None, IfSome, Result, Ok, Err, IfErr, MatchOption}
 use Rattle.std.specs.Io.KnownBytes.{Appends, Consumes, IsAtEnd}
@@ -22,40 +22,40 @@ use Rattle.node_core.specs.declared.script.RunFault.TheVariants as fault
 use Rattle.node_core.proofs.Known.{Appends-start, Appends-then, Appends-kept, Consumes-start, AppendsFront-after, AppendsFront-all}
 use Rattle.node_core.proofs.Playing.{Fed, Fed-start, Plays-none, Plays-then, joined-append}
 
--- where a run starts
+-- the state at the start of a run
 abbrev pub start : NodeState → Place
 start first = record { node = first; lines = 0; events = 0 }
 
 pub start_is : (place : Place) → IsStart place → place ≡ start place.node
 start_is place h = λ i. record { node = place.node; lines = h.lines i; events = h.events i }
 
--- a node of these parts
+-- a node with these parts is new
 pub first_is_new : (rules : List PlainRule) (keys : List NamedKey) (repo : List Field) (cache : ℕ) → IsNew (first_node rules keys repo cache)
 first_is_new rules keys repo cache = record {
   now = refl;
   stands = new_stands (first_policy rules keys repo) cache;
 }
 
--- a node was made, so its parts are right
+-- a node was created, so its parts are valid
 pub made_of_good_parts : {N : Type 0} (P : Type 0) (Q : NodeFault → Type 0) (why : Option NodeFault) (made : Result N NodeFault) (node : N) → made ≡ Ok node
     → MatchOption why (IfErr made (λ f. f ≡ Memory)) (λ f. made ≡ Err f) → P → MatchOption why P Q
 made_of_good_parts P Q None made node is h p = p
 made_of_good_parts P Q (Some f) made node is h p = let other : Ok node ≡ Err f = sym is ∙ h in absurd cc
 
--- what is so of the octets that were read, whatever comes after them, is so of known octets
+-- a fact about the octets that were read, whatever follows them, holds for known octets
 known_text : (unread left : Option (List ℕ)) (P : List ℕ → Type 0) (front : List ℕ) → Consumes unread left front → ((more : List ℕ) → P (front ++ more)) → IfSome unread P
 known_text None left P front h k = tt
 known_text (Some xs) None P front h k = absurd h
 known_text (Some xs) (Some ys) P front h k = subst P (sym h) (k ys)
 
--- what is so of the octets that were read to the end is so of known octets
+-- a fact about all octets up to the end holds for known octets
 known_end : (unread left : Option (List ℕ)) (P : List ℕ → Type 0) (front : List ℕ) → Consumes unread left front → IsAtEnd left → P front → IfSome unread P
 known_end None left P front h e k = tt
 known_end (Some xs) None P front h e k = absurd h
 known_end (Some xs) (Some ys) P front h e k =
     subst P (sym (h ∙ ap (λ (t : List ℕ). front ++ t) e ∙ append-nil front)) k
 
--- ---- what comes after octets that were fed
+-- ---- octets that follow those that were read
 
 shape_more : (j l c : List ℕ) → (j ++ (l ++ [])) ++ c ≡ j ++ (l ++ c)
 shape_more j l c = rw (append-nil l) (append_assoc j l c)
@@ -132,7 +132,7 @@ shape_end j l = rw (append-nil l, append-nil (l ++ (10 ∷ []))) (append_assoc j
 shape_all : (j l : List ℕ) → j ++ ((l ++ (10 ∷ [])) ++ []) ≡ (j ++ ((l ++ (10 ∷ [])) ++ [])) ++ []
 shape_all j l = sym (append-nil (j ++ ((l ++ (10 ∷ [])) ++ [])))
 
--- the text with the LF at its end, after its last line
+-- the text with an LF appended after its last line
 ended_whole : (front line : List ℕ) (lines : List (List ℕ)) → front ≡ joined lines ++ (line ++ []) → ended front ≡ joined (lines ++ (line ∷ [])) ++ []
 ended_whole front line lines is =
     ap ended is ∙ shape_end (joined lines) line ∙ shape_all (joined lines) line
@@ -168,19 +168,19 @@ module _ (first : NodeState) (fresh : IsNew first) where
   Stops-from_feed fault.Memory unread left held holds stream read h =
       (h.4.events, h.2, IsTextOfRun-from_plays h.0 h.1 h.2 h.4, h.5, BeginsWith-known unread left stream h.0 h.3 h.1 h.2 h.4 read h.6)
 
-  -- memory was refused before anything was read
+  -- memory ran out before anything was read
   pub Stops-memory : (unread held : Option (List ℕ)) → Stops first fault.Memory unread unread held held
   Stops-memory unread held =
       Stops-from_feed fault.Memory unread unread held held [] (Consumes-start unread)
       ([], start first, [], [], Plays-none (start first), AppendsFront-all held held [] (Appends-start held), refl)
 
-  -- a refused chunk
+  -- the fault of a chunk
   pub Stops-chunk : (f : RunFault) (unread left held holds new : Option (List ℕ)) (front chunk : List ℕ) (mid : Place) (line : List ℕ) → Fed front (start first) mid line [] held holds
       → Consumes unread left (front ++ chunk) → FeedStops f (line ++ chunk) mid holds new → Stops first f unread left held new
   Stops-chunk f unread left held holds new front chunk mid line fed read h =
       Stops-from_feed f unread left held new (front ++ chunk) read (FeedStops-after f front chunk (start first) mid line held holds new fed h)
 
-  -- a refused read
+  -- the fault of a read
   pub Stops-read : (unread left held holds : Option (List ℕ)) (front : List ℕ) (mid : Place) (line : List ℕ) → Fed front (start first) mid line [] held holds
       → Consumes unread left front → Lacks 10 line → Stops first fault.Read unread left held holds
   Stops-read unread left held holds front mid line fed read lacks = (
@@ -193,7 +193,7 @@ module _ (first : NodeState) (fresh : IsNew first) where
     (fed.lines, line, fed.plays.are_lines, lacks, fed.stream_is ∙ ap (λ (t : List ℕ). joined fed.lines ++ t) (append-nil line), fed.plays.say),
   )
 
-  -- the last line was refused
+  -- the fault of the last line
   pub Stops-last : (f : RunFault) (unread left held holds new : Option (List ℕ)) (front : List ℕ) (mid : Place) (line : List ℕ) → Fed front (start first) mid line [] held holds
       → Consumes unread left front → IsAtEnd left → Lacks 10 line → LineStops f line mid holds new → Stops first f unread left held new
   Stops-last (fault.BadLine n) unread left held holds new front mid line fed read end lacks h =
@@ -227,7 +227,7 @@ module _ (first : NodeState) (fresh : IsNew first) where
             (fed.lines, ended line ++ [], (plays.are_lines, ap ended fed.stream_is ∙ shape_end (joined fed.lines) line), plays.say),
       )
 
-  -- the whole script was played
+  -- the whole script was run
   pub Ends-last : (unread left held holds new : Option (List ℕ)) (front : List ℕ) (mid to : Place) (line text : List ℕ) → Fed front (start first) mid line [] held holds
       → Consumes unread left front → IsAtEnd left → Plays (line ∷ []) mid to text → Appends holds new text → Ends first unread left held new
   Ends-last unread left held holds new front mid to line text fed read end last written =

@@ -1,4 +1,4 @@
--- Texts that are cut at an octet.
+-- Texts that are split at an octet.
 use Rattle.std.proofs.Common.{◌≡◌, ℕ, zero, suc, ◌+◌, ◌-◌, ◌<◌, List, [], ◌∷◌, ◌++◌, length, get_or, take, drop, refl, sym, ap, ◌∙◌, arith, append_assoc, add-one, length-drop}
 use Rattle.std.proofs.Math.Seq.{drop-cons}
 use Rattle.std.proofs.lemmas.List.{take-append-drop, take_all}
@@ -11,7 +11,7 @@ use Rattle.std.proofs.lemmas.Slice.Eq.{slice_eq-Decides}
 use Rattle.std.proofs.lemmas.Bool.Decides.{Decides-eqb}
 use Rattle.node_core.specs.Script.Line.{Lacks}
 
--- an octet that is at no place
+-- if no index has the octet, the text lacks it
 pub Lacks-from_places : (octet : ℕ) (text : List ℕ) → ((k : ℕ) → k < length text → get_or text k 0 ≡ octet → ⊥) → Lacks octet text
 Lacks-from_places octet [] h = tt
 Lacks-from_places octet (o ∷ text) h =
@@ -23,12 +23,12 @@ Lacks-take octet [] (suc n) h lt = tt
 Lacks-take octet (o ∷ text) (suc n) h lt =
     (h 0 (omega arith), Lacks-take octet text n (λ k below e. h (suc k) (omega arith) e) (omega arith))
 
--- a text around a place
+-- a text is the octets before an index, the octet at the index, and the octets after the index
 pub split_at_place : (text : List ℕ) (i at : ℕ) → i < length text → get_or text i 0 ≡ at → text ≡ take i text ++ (at ∷ drop (i + 1) text)
 split_at_place text i at lt e =
     sym (take-append-drop i text) ∙ ap (λ (d : List ℕ). take i text ++ d) (drop-cons text i 0 lt ∙ ap (λ (o : ℕ). o ∷ drop (suc i) text) e ∙ rw add-one refl)
 
--- a text that lacks an octet has no place for it
+-- a text that contains an octet does not lack it
 pub Lacks-no_cut : (octet : ℕ) (a b : List ℕ) → Lacks octet (a ++ (octet ∷ b)) → ⊥
 Lacks-no_cut octet [] b h = h.0 refl
 Lacks-no_cut octet (o ∷ a) b h = Lacks-no_cut octet a b h.1
@@ -41,7 +41,7 @@ pub record SameCut (a b c d : List ℕ) : Type 0 where
   pub front : a ≡ c
   pub back : b ≡ d
 
--- a text is cut at its first octet of a value in one way
+-- splitting a text at the first octet of a value gives one result
 pub cut_once : (octet : ℕ) (a b c d : List ℕ) → Lacks octet a → Lacks octet c → a ++ (octet ∷ b) ≡ c ++ (octet ∷ d) → SameCut a b c d
 cut_once octet [] b [] d ha hc e = record { front = refl; back = cc }
 cut_once octet [] b (o ∷ c) d ha hc e = absurd (hc.0 cc)
@@ -51,7 +51,7 @@ cut_once octet (o ∷ a) b (p ∷ c) d ha hc e =
     let first : o ≡ p = cc in
     record { front = cc (first, same.front); back = same.back }
 
--- `&text[i..]`
+-- the slice `&text[i..]`
 pub take_rest : (i : ℕ) (text : List ℕ) → drop i text ≡ take (length text - i) (drop i text)
 take_rest i text = sym (take_all (length text - i) (drop i text) (simp length-drop (omega arith)))
 
@@ -59,7 +59,7 @@ pub get_or-empty : (text : List ℕ) → length text ≡ 0 → get_or text 0 0 �
 get_or-empty [] h = refl
 get_or-empty (o ∷ text) h = absurd (omega arith)
 
--- a text cut twice
+-- two ways to split a text into three parts are the same
 pub record SameCuts (a b c d e f : List ℕ) : Type 0 where
   pub first : a ≡ d
   pub second : b ≡ e
@@ -72,7 +72,7 @@ cut_twice_once octet a b c d e f la lb ld le h =
     let two = cut_once octet b c e f lb le one.back in
     record { first = one.front; second = two.front; third = two.back }
 
--- a test that computes on a literal
+-- a test for literals: the text does not contain the octet
 abbrev lacks : ℕ → List ℕ → Bool
 lacks octet text = list_all (λ o. not (o == octet)) text
 
@@ -93,11 +93,11 @@ pub full_list : (text : List ℕ) → (length text == 0) ≡ false → 0 < lengt
 full_list [] h = cc h
 full_list (o ∷ text) h = omega arith
 
--- two texts that a test told apart
+-- two texts that a test found to differ
 pub differ_bytes : (xs ys : List ℕ) (r : Bool) → r ≡ pointwise eqb xs ys → r ≡ false → xs ≡ ys → ⊥
 differ_bytes xs ys r h apart e = let same = (slice_eq-Decides Decides-eqb xs ys r h).1 e in cc (apart, same)
 
--- a front, and a rest that is cut at a place
+-- `n` octets of the remaining text are moved to the front
 pub front_longer : (whole front rest : List ℕ) (n : ℕ) → whole ≡ front ++ rest → whole ≡ (front ++ take n rest) ++ take (length rest - n) (drop n rest)
 front_longer whole front rest n e =
     e ∙ ap (λ (d : List ℕ). front ++ d) (sym (take-append-drop n rest) ∙ ap (λ (d : List ℕ). take n rest ++ d) (take_rest n rest)) ∙ sym (append_assoc front (take n rest) (take (length rest - n) (drop n rest)))

@@ -1,4 +1,4 @@
--- Decimal texts, read and written.
+-- Decimal texts of numbers.
 use Rattle.std.proofs.Common.{◌≡◌, ℕ, zero, suc, ◌<◌, ◌≤◌, ◌^◌, List, length, get_or, refl, sym, ap, ◌∙◌, arith, rules, Result, Ok, Err, inl, inr}
 use Rattle.std.specs.Prelude.{IfSome, IfNone}
 use Rattle.std.specs.Result.{result_ok}
@@ -18,7 +18,7 @@ Digits ds = AllDigits 10 ds
 own : IsNumeralModel Digits (digits_value 10)
 own = numerals_by_value Digits (search rules)
 
--- the first octet of a number's text
+-- the first octet of a number's text is at least the digit 0
 pub first_of_decimal : (n : ℕ) → n < 2 ^ 64 → 48 ≤ get_or (decimal n) 0 0
 first_of_decimal zero lt = rw (decimal_digit 0 (omega arith)) (omega arith)
 first_of_decimal (suc n) lt = let h = first_decimal (suc n) (omega arith) lt in omega arith
@@ -46,7 +46,7 @@ number_none bs (Err e) h = λ n lt is. let same = parse-decimal 64 n bs (Err e) 
 pub decimal-IsUtf8 : (n : ℕ) → n < 2 ^ 64 → IsUtf8 (decimal n)
 decimal-IsUtf8 n lt = IsUtf8-from_ascii (decimal n) (IsAscii-decimal n lt)
 
--- digits are no octets below those of the digits
+-- a text of digits contains no octet below the digit 0
 digits-Lacks : (octet : ℕ) → octet < 48 → (ds : List ℕ) → Digits ds → Lacks octet ds
 digits-Lacks octet low ds h =
     Lacks-from_places octet ds (λ k lt e. let d = digit_at ds k h lt in omega (arith, d.0, d.1))

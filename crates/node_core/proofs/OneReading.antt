@@ -1,4 +1,4 @@
--- A script has one reading.
+-- A script has at most one reading.
 use Rattle.std.proofs.Common.{◌≡◌, ℕ, ◌+◌, ◌≤◌, List, [], ◌∷◌, ◌++◌, length, get_or, refl, sym, ap, subst, ◌∙◌, arith, append_assoc, length-append, inl, inr, Ok, codes}
 use Rattle.std.specs.Prelude.{◌⊎◌}
 use Rattle.std.specs.Fmt.{decimal}
@@ -20,7 +20,7 @@ use Rattle.node_core.specs.Script.{ended, joined, AreLines, SpellEvents, IsScrip
 use Rattle.node_core.proofs.Lists.{SameCut, cut_once}
 use Rattle.node_core.proofs.Words.{HexSpells-Lacks, decoded_length, scope_word-Lacks, number-Lacks, up_words, down_words, in_words, rules_words, tick_text}
 
--- ---- a line says one event
+-- ---- a line spells at most one event
 
 scope_word_once : (s t : Scope) → scope_word s ≡ scope_word t → s ≡ t
 scope_word_once Local Local h = refl
@@ -39,7 +39,7 @@ HexSpells_once [] (p ∷ b) word h k = absurd (no_hex_dash p b word h k)
 HexSpells_once (o ∷ a) [] word h k = absurd (no_hex_dash o a word k h)
 HexSpells_once (o ∷ a) (p ∷ b) word h k = cc (h, k)
 
--- the octets of a word are one rule file, and one key file
+-- the octets of a word spell at most one rule file, and at most one key file
 rules_of_octets : (octets : List ℕ) (a b : List PlainRule) → AreRules octets a → AreRules octets b → a ≡ b
 rules_of_octets octets a b h k =
     let same = one_tree octets h.1.0 k.1.0 h.1.1 k.1.1 in
@@ -110,7 +110,7 @@ not_skipped event line h k =
     let high = first_of_event event line h.1 in
     let low = first_of_nothing line k.1 in omega (arith, high, low)
 
--- ---- lines say one list of events
+-- ---- lines spell at most one list of events
 
 SpellEvents_once : (lines : List (List ℕ)) (a b : List PlainEvent) → SpellEvents lines a → SpellEvents lines b → a ≡ b
 SpellEvents_once [] [] [] h k = refl
@@ -128,9 +128,9 @@ SpellEvents_once (l ∷ lines) (e ∷ a) (f ∷ b) (inr h) (inr k) =
     let first = LineSpells_once e f l h.0.1 k.0.1 in
     let rest = SpellEvents_once lines a b h.1 k.1 in cc (first, rest)
 
--- ---- a text has one front of lines that say something
+-- ---- the lines before the first bad line are determined by the text
 
--- the end of a text, or a bad line
+-- the text is at its end, or its next line is bad
 abbrev Tail : List ℕ → Type 0
 Tail r = (r ≡ []) ⊎ ((line rest : List ℕ) × (r ≡ ended line ++ rest) × Lacks 10 line × IsBadLine line)
 

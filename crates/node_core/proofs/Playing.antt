@@ -1,4 +1,4 @@
--- Lines that were played one after another.
+-- Lines that were run one after another.
 use Rattle.std.proofs.Common.{◌≡◌, ℕ, suc, ◌+◌, ◌<◌, ◌≤◌, inl, inr, List, [], ◌∷◌, ◌++◌, length, refl, sym, ap, ◌∙◌, arith, append_assoc, append-nil, length-append, Result, Ok, Err, subst}
 use Rattle.std.proofs.Common.{Bool, true, false, ◌==◌, eq-eqb}
 use Rattle.std.proofs.lemmas.Bool.{eqb-true}
@@ -26,7 +26,7 @@ use Rattle.forwarder.proofs.LaterMoments.{after_rules}
 use Rattle.node_core.proofs.Outcomes.{AreOutcomes-append}
 use Rattle.node_core.proofs.Known.{Keeps-from_none, Appends-start, Appends-then, AppendsFront-all}
 
--- ---- one reply
+-- ---- one answer
 
 pub record HasOutcome (old new : NodeState) (event : PlainEvent) (outcome : Result Verdict Memory) (out : List Send) : Type 0 where
   pub done_as : Outcome
@@ -48,7 +48,7 @@ outcome_from_step old new event (Err e) held out none ok err quiet is =
 
 -- ---- the rules in force
 
--- what no event asks memory for is not refused for want of it
+-- an event for which memory ran out does not change the rules in force
 refused_rules : (old new : NodeState) (event : PlainEvent) → IsOutcome old event NoMemory new → rules_after event old.policy.rules ≡ old.policy.rules
 refused_rules old new (Packet face now octets) h = refl
 refused_rules old new (FaceUp face scope now) h = refl
@@ -60,7 +60,7 @@ next_rules : (old new : NodeState) (event : PlainEvent) (outcome : Outcome) → 
 next_rules old new event (Answered answer) h = after_rules old.policy new.policy event h.1.policy
 next_rules old new event NoMemory h = ap (λ (p : Policy). p.rules) h.1.policy ∙ sym (refused_rules old new event h)
 
--- the line of an event is the same by the rules after it
+-- the line of an event is the same with the rules before the event and with the rules after it
 answered_text : (old new : NodeState) (event : PlainEvent) (answer : Answer) (n : ℕ) → IsStep old event answer new
     → outcome_text new.policy.rules n (Answered answer) ≡ outcome_text old.policy.rules n (Answered answer)
 answered_text old new (Packet face now octets) answer n h = ap (λ (l : List PlainRule). outcome_text l n (Answered answer)) (after_rules old.policy new.policy (Packet face now octets) h.policy)
@@ -134,7 +134,7 @@ pub LineStops-cut : (result : Result (Unit {0}) RunFault) (line : List ℕ) (fro
 LineStops-cut (Ok done) line from to text held holds plays cut is = tt
 LineStops-cut (Err f) line from to text held holds plays cut is = rw is (to, text, plays, cut)
 
--- ---- lines after lines
+-- ---- several lines
 
 pub AreLines-append : (a b : List (List ℕ)) → AreLines a → AreLines b → AreLines (a ++ b)
 AreLines-append [] b ha hb = hb
@@ -205,7 +205,7 @@ joined-append (l ∷ a) b = ap (λ (t : List ℕ). ended l ++ t) (joined-append 
 pub IsBadLine-long : (line : List ℕ) → 20000 < length line → IsBadLine line
 IsBadLine-long line long = (λ h. omega (arith, h.0), λ event h. omega (arith, h.0))
 
--- a line that is too long is a bad one
+-- a line that is too long is bad
 pub LineFails-from_add : (f : RunFault) (line : List ℕ) (from : Place) → AddStops f line from → LineFails f line from
 LineFails-from_add (fault.BadLine n) line from h = (h.0, IsBadLine-long line h.1)
 LineFails-from_add fault.Read line from h = absurd h
@@ -219,7 +219,7 @@ first_octet o text true e f = ([], ended text, ap (λ (p : ℕ). p ∷ ended tex
 first_octet o text false e f =
     (o ∷ f.0, f.1, ap (λ (t : List ℕ). o ∷ t) f.2, (λ same. let yes : (o == 10) ≡ true = eq-eqb o 10 same in cc (e, yes), f.3))
 
--- each text ends its first line
+-- every text with an LF appended begins with a line and its LF
 pub first_line : (text : List ℕ) → (line rest : List ℕ) × (ended text ≡ ended line ++ rest) × Lacks 10 line
 first_line [] = ([], [], refl, tt)
 first_line (o ∷ text) = first_octet o text (o == 10) refl (first_line text)
@@ -241,9 +241,9 @@ TurnsBad-long stream long lines is lacks h = λ more.
     let f = first_line more in
     (long ++ f.0, f.1, ap (λ (t : List ℕ). ended (t ++ more)) is ∙ shape_long (joined lines) long more f.0 f.1 f.2, Lacks-append 10 long f.0 lacks f.3, IsBadLine-long (long ++ f.0) (omega (arith, length-append long f.0)))
 
--- ---- octets that were fed so far
+-- ---- octets that were read so far
 
--- the lines that ended in a stream led to a place, and an unended line and a rest are left
+-- the finished lines of a stream led to a state; an unfinished line and unread octets remain
 pub record Fed (stream : List ℕ) (from to : Place) (line rest : List ℕ) (held holds : Option (List ℕ)) : Type 0 where
   pub lines : List (List ℕ)
   pub text : List ℕ
@@ -258,7 +258,7 @@ Fed-start place line rest held =
 shape_line : (j l f a : List ℕ) → j ++ (l ++ (f ++ (10 ∷ a))) ≡ (j ++ ((l ++ f) ++ (10 ∷ []))) ++ a
 shape_line j l f a = simp append_assoc
 
--- the line with its front, and what comes after it
+-- the unfinished line is completed by the octets up to the next LF
 Fed-line_is : (stream : List ℕ) (from to : Place) (line rest front after : List ℕ) (held holds : Option (List ℕ)) → (fed : Fed stream from to line rest held holds)
     → rest ≡ front ++ (10 ∷ after) → stream ≡ joined fed.lines ++ ((line ++ front) ++ (10 ∷ after))
 Fed-line_is stream from to line rest front after held holds fed is =
@@ -284,7 +284,7 @@ Fed-then stream from mid to line rest front after text held holds new fed is pla
           ∙ ap (λ (t : List ℕ). t ++ ([] ++ after)) (sym (joined-append fed.lines ((line ++ front) ∷ [])));
     }
 
--- where a line that has not ended is found too long
+-- an unfinished line is too long
 pub FeedStops-last : (f : RunFault) (stream : List ℕ) (from mid : Place) (line rest : List ℕ) (held holds : Option (List ℕ)) → Fed stream from mid line rest held holds
     → Lacks 10 line → Lacks 10 rest → AddStops f (line ++ rest) mid → FeedStops f stream from held holds
 FeedStops-last (fault.BadLine n) stream from mid line rest held holds fed la lb h =
@@ -295,7 +295,7 @@ FeedStops-last (fault.Node n) stream from mid line rest held holds fed la lb h =
 FeedStops-last fault.Memory stream from mid line rest held holds fed la lb h =
     (fed.lines, mid, fed.text, line ++ rest, fed.plays, AppendsFront-all held holds fed.text fed.written, fed.stream_is)
 
--- where a line is refused
+-- the fault of a finished line
 pub FeedStops-line : (f : RunFault) (stream : List ℕ) (from mid : Place) (line rest front after : List ℕ) (held holds : Option (List ℕ)) → Fed stream from mid line rest held holds
     → rest ≡ front ++ (10 ∷ after) → Lacks 10 line → Lacks 10 front → LineFails f (line ++ front) mid → FeedStops f stream from held holds
 FeedStops-line (fault.BadLine n) stream from mid line rest front after held holds fed is la lb h =
@@ -307,9 +307,9 @@ FeedStops-line (fault.Node n) stream from mid line rest front after held holds f
 FeedStops-line fault.Memory stream from mid line rest front after held holds fed is la lb h =
     (fed.lines, mid, fed.text, line ++ rest, fed.plays, AppendsFront-all held holds fed.text fed.written, fed.stream_is)
 
--- ---- answers that were gathered, and are written
+-- ---- answers that were gathered and are then written
 
--- the text that a writer got is the text that was gathered
+-- the text that was written is the text that was gathered
 gathered : (a : List ℕ) (text : List ℕ) (held holds : Option (List ℕ)) → a ≡ [] ++ text → Appends held holds a → Appends held holds text
 gathered a text held holds is written = subst (Appends held holds) is written
 
@@ -317,7 +317,7 @@ gathered_front : (a text : List ℕ) (held holds : Option (List ℕ)) → Append
 gathered_front a text held holds h k =
     (k.0, k.1 ++ h.1, h.2 ∙ ap (λ (t : List ℕ). t ++ h.1) (sym h.3 ∙ k.2) ∙ append_assoc k.0 k.1 h.1, k.3)
 
--- a text without its last octet begins as the text does
+-- a prefix of a text that is shorter than the text lies within the text without its last octet
 init_after : (xs ys zs : List ℕ) (a z : ℕ) → xs ++ (a ∷ []) ≡ ys ++ (z ∷ zs) → (rest : List ℕ) × (xs ≡ ys ++ rest)
 init_after xs [] zs a z h = (xs, refl)
 init_after [] (y ∷ ys) zs a z h = absurd (let e = ap length h in omega (arith, e, length-append ys (z ∷ zs)))
@@ -338,7 +338,7 @@ TurnsBad-begins stream lines turns =
     let n = nonempty t.0 t.1 in
     init_after stream (joined lines) n.1 10 n.0 (ap ended (sym (append-nil stream)) ∙ t.2 ∙ ap (λ (s : List ℕ). joined lines ++ s) n.2)
 
--- the answers before a refused line were written
+-- the answers before the fault of a line were written
 pub FeedStops-written : (f : RunFault) (stream : List ℕ) (from : Place) (text : List ℕ) (held holds : Option (List ℕ)) → FeedStops f stream from (Some []) (Some text)
     → Appends held holds text → FeedStops f stream from held holds
 FeedStops-written (fault.BadLine n) stream from text held holds h written = (h.0, h.1, h.2, h.3, gathered text h.2 held holds h.4 written, h.5, h.6)
@@ -347,7 +347,7 @@ FeedStops-written fault.Write stream from text held holds h written = (h.0, h.1,
 FeedStops-written (fault.Node n) stream from text held holds h written = absurd h
 FeedStops-written fault.Memory stream from text held holds h written = (h.0, h.1, h.2, h.3, h.4, gathered_front text h.2 held holds h.5 (AppendsFront-all held holds text written), h.6)
 
--- the answers before a refused line could not be written
+-- the answers before the fault of a line could not be written
 pub FeedStops-cut : (f : RunFault) (stream : List ℕ) (from : Place) (text : List ℕ) (held holds : Option (List ℕ)) → FeedStops f stream from (Some []) (Some text)
     → AppendsFront held holds text → FeedStops fault.Write stream from held holds
 FeedStops-cut (fault.BadLine n) stream from text held holds h cut =
@@ -366,7 +366,7 @@ module _ (stream : List ℕ) (from to : Place) (line after : List ℕ) (held hol
   gathered_cut_of (Err f) played stopped cut = FeedStops-cut f stream from after held holds stopped cut
 
 module _ (result : Result (Unit {0}) RunFault) (stream : List ℕ) (from : Place) where
-  -- what was gathered, from an empty text on
+  -- answers that were gathered in an empty text
   module _ (to : Place) (line before after : List ℕ) (held holds : Option (List ℕ)) (none : before ≡ []) where
     pub gathered_written : OnOk result ((lines : List (List ℕ)) × (text : List ℕ) × Plays lines from to text × Appends (Some before) (Some after) text × (stream ≡ joined lines ++ line))
         → Appends held holds after

@@ -16,7 +16,7 @@ use Rattle.node_core.specs.Script.Line.{Lacks, scope_word, HexSpells, LineSpells
 use Rattle.node_core.proofs.Lists.{Lacks-from_test, cut_once, cut_twice_once, Lacks-no_cut}
 use Rattle.node_core.proofs.Numbers.{decimal-Lacks}
 
--- no octets are spelled by the empty word
+-- the empty word spells no octets
 pub HexSpells-empty : (octets : List ℕ) → HexSpells octets [] → ⊥
 unfolding decode_pairs
 HexSpells-empty [] h = cc h
@@ -26,7 +26,7 @@ guarded : (b : Bool) (e : FromHexError) (r : Result (List ℕ) FromHexError) (oc
 guarded true e r octets h = cc h
 guarded false e r octets h = h
 
--- what an even text decodes to
+-- the length of a word that decodes to octets
 pub decoded_length : (word octets : List ℕ) → decode_of word ≡ Ok octets → length word ≡ 2 * length octets
 decoded_length word octets h =
     (decode_pairs-ok 0 word octets (guarded (length word % 2 == 1) _ (decode_pairs 0 word) octets h)).1
@@ -90,7 +90,7 @@ first text = get_or text 0 0
 abbrev second : List ℕ → ℕ
 second text = get_or text 1 0
 
--- a line of `up`, cut at spaces
+-- a line with `up`, split at its spaces
 pub up_text : (event : PlainEvent) (text : List ℕ) → LineSpells event (codes "up" ++ (32 ∷ text))
     → (a b c : List ℕ) × UpWords event a b c × (text ≡ a ++ (32 ∷ (b ++ (32 ∷ c))))
 up_text (FaceUp face scope now) text h =
@@ -140,7 +140,7 @@ rules_text (NewRules rules keys now) text h = (
   cc h.1.4,
 )
 
--- digits have no space, and the dash has none
+-- hexadecimal digits and the dash contain no space
 digits_lack : (word : List ℕ) → AllPass is_hex_digit word → Lacks 32 word
 digits_lack [] h = tt
 digits_lack (o ∷ word) h = (
@@ -161,7 +161,7 @@ up_lacks event a b c u = (rw u.face_is (number-Lacks u.face u.wide.0), rw u.scop
 pub in_lacks : (event : PlainEvent) (a b c : List ℕ) → InWords event a b c → Lacks 32 a × Lacks 32 b
 in_lacks event a b c u = (rw u.face_is (number-Lacks u.face u.wide.0), rw u.now_is (number-Lacks u.now u.wide.1))
 
--- the same words, where the text was cut already
+-- the words into which the text was already split are the words of the event
 pub up_words : (event : PlainEvent) (text a b c : List ℕ) → Lacks 32 a → Lacks 32 b → text ≡ a ++ (32 ∷ (b ++ (32 ∷ c)))
     → LineSpells event (codes "up" ++ (32 ∷ text)) → UpWords event a b c
 up_words event text a b c la lb is h =
@@ -212,7 +212,7 @@ rules_words event text a b c la lb is h =
       keys_spelled = rw same.third u.keys_spelled;
     }
 
--- the kind of an event
+-- the first word of an event's line
 abbrev pub kind_word : PlainEvent → List ℕ
 kind_word (FaceUp face scope now) = codes "up"
 kind_word (FaceDown face now) = codes "down"
@@ -227,7 +227,7 @@ kind_word-Lacks (Tick now) = Lacks-from_test 32 (codes "tick") refl
 kind_word-Lacks (Packet face now octets) = Lacks-from_test 32 (codes "in") refl
 kind_word-Lacks (NewRules rules keys now) = Lacks-from_test 32 (codes "rules") refl
 
--- a line of an event begins with its kind
+-- a line of an event begins with the word of its kind
 pub kind_first : (event : PlainEvent) (line : List ℕ) → LineSpells event line → (text : List ℕ) × (line ≡ kind_word event ++ (32 ∷ text))
 kind_first (FaceUp face scope now) line h = (_, h.1)
 kind_first (FaceDown face now) line h = (_, h.1)
@@ -243,13 +243,13 @@ which_kind (Tick now) kind up down tick packet rules h = tick h
 which_kind (Packet face now octets) kind up down tick packet rules h = packet h
 which_kind (NewRules r keys now) kind up down tick packet rules h = rules h
 
--- a line without a space
+-- a line without a space spells no event
 pub no_space : (line : List ℕ) → Lacks 32 line → (event : PlainEvent) → LineSpells event line → ⊥
 no_space line lacks event h =
     let w = kind_first event line h in
     Lacks-no_cut 32 (kind_word event) w.0 (rw w.1 at lacks)
 
--- a line whose first word is no kind
+-- a line whose first word is not the kind of an event spells no event
 pub no_kind : (line kind text : List ℕ) → Lacks 32 kind → line ≡ kind ++ (32 ∷ text)
     → (kind ≡ codes "up" → ⊥) → (kind ≡ codes "down" → ⊥) → (kind ≡ codes "tick" → ⊥) → (kind ≡ codes "in" → ⊥)
     → (kind ≡ codes "rules" → ⊥) → (event : PlainEvent) → LineSpells event line → ⊥

@@ -1,4 +1,4 @@
--- How the octets of a rule file are read.
+-- Reading the octets of rule files.
 use Rattle.std.specs.Prelude.{◌≡◌, ◌⊎◌, ℕ, List, Err, IsUtf8}
 use Rattle.info_rules.specs.declared.fault.RulesFault.{RulesFault}
 use Rattle.info_rules.specs.declared.fault.RulesFaultKind.TheVariants.{Syntax}
@@ -10,18 +10,18 @@ use Rattle.info_rules.specs.Tree.{PlainEntry}
 use Rattle.info_rules.specs.TreeGrammar.{TreeOf}
 use Rattle.info_rules.specs.TreeReading.{tree_in, IsTreeFaultOf}
 
--- the octets are UTF-8, and these are the rules of their entries
+-- the octets are UTF-8, and their entries mean these rules
 abbrev pub AreRules : List ℕ → List PlainRule → Type 0
 AreRules octets rules =
     IsUtf8 octets × ((entries : List PlainEntry) × TreeOf octets entries × IsRuleFile entries rules)
 
--- the fault of the entries of the octets, or out of memory
+-- the octets spell entries, and `why` is the fault of the entries or that memory ran out
 abbrev pub IsFaultOfEntries : List ℕ → RulesFault → Type 0
 IsFaultOfEntries octets why =
     (entries : List PlainEntry) × TreeOf octets entries
     × ((rules_in entries ≡ Err why) ⊎ (why ≡ memory_fault))
 
--- the fault of the text, or a Syntax fault at line 0 where the octets are not UTF-8
+-- `why` is the fault of the text, or a Syntax fault at line 0 if the octets are not UTF-8
 abbrev pub IsFaultOfRules : List ℕ → RulesFault → Type 0
 IsFaultOfRules octets why =
     (IsUtf8 octets × (IsTreeFaultOf (tree_in octets) why ⊎ IsFaultOfEntries octets why))

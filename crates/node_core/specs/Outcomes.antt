@@ -1,4 +1,4 @@
--- How events in a row are handled.
+-- The handling of consecutive events.
 use Rattle.std.specs.Prelude.{◌≡◌, List, [], ◌∷◌}
 use Rattle.forwarder.specs.Event.{PlainEvent}
 use Rattle.forwarder.specs.Node.{NodeState, IsStep, ChangesCacheOnly, AsksNoMemory}
@@ -7,23 +7,24 @@ use Rattle.forwarder.specs.Runs.{Run, Then, BringsKeysApart, IsRun, Stands}
 use Rattle.forwarder.specs.DataSends.{BringsOctets}
 use Rattle.forwarder.specs.Verdict.{Answer}
 
--- how an event was handled: answered, or not, as memory ran out
+-- the outcome of an event: an answer, or that memory ran out
 pub data Outcome : Type 0 where
   Answered : (answer : Answer) → Outcome
   NoMemory : Outcome
 
--- what is true of every event: a packet has octets, and no two keys that it brings have one name
+-- the properties of every event: a packet consists of octets, and the keys of a key book have
+-- different names
 abbrev pub IsEvent : PlainEvent → Type 0
 IsEvent event = BringsOctets event × BringsKeysApart event
 
--- How an event is handled: answered by a step, or not handled, as memory ran out. The cache may
--- then have dropped some Data.
+-- The outcome of an event. Either a step answers it, or memory ran out; then the cache may have
+-- dropped some Data.
 abbrev pub IsOutcome : NodeState → PlainEvent → Outcome → NodeState → Type 0
 IsOutcome old event (Answered answer) new = IsEvent event × IsStep old event answer new
 IsOutcome old event NoMemory new =
     IsEvent event × ChangesCacheOnly old new × (AsksNoMemory old event → ⊥)
 
--- the events are handled in order
+-- the outcomes of the events in order
 abbrev pub AreOutcomes : NodeState → List PlainEvent → List Outcome → NodeState → Type 0
 AreOutcomes old [] [] new = new ≡ old
 AreOutcomes old [] (done_as ∷ outcomes) new = ⊥
@@ -31,8 +32,7 @@ AreOutcomes old (event ∷ events) [] new = ⊥
 AreOutcomes old (event ∷ events) (done_as ∷ outcomes) new =
     (next : NodeState) × IsOutcome old event done_as next × AreOutcomes next events outcomes new
 
--- The run with these events and the answers to them appended. An event that ran out of memory is
--- left out.
+-- The run after these events and their answers. Events for which memory ran out are left out.
 abbrev pub run_from : Run → List PlainEvent → List Outcome → Run
 run_from past [] outcomes = past
 run_from past (event ∷ events) [] = past
@@ -40,8 +40,8 @@ run_from past (event ∷ events) (Answered answer ∷ outcomes) =
     run_from (Then past event answer) events outcomes
 run_from past (event ∷ events) (NoMemory ∷ outcomes) = run_from past events outcomes
 
--- if the old node agrees with a run so far, appending the events and their answers gives a valid
--- run, and the new node agrees with that
+-- if the old node agrees with a run, appending the events and their answers gives a valid run, and
+-- the new node agrees with that run
 abbrev pub ExtendsRuns : NodeState → List PlainEvent → List Outcome → NodeState → Type 0
 ExtendsRuns old events outcomes new =
     (first : Policy) (past : Run) → first.now ≡ 0 → IsRun first past → Stands first past old

@@ -14,8 +14,8 @@ use info_rules::{Kind, Reason, RuleNo, Rules};
 use itoa::Buffer;
 use ndn_tlv::Memory;
 
-/// Appends the text of an answer: a line with the event's number and its verdict, and a line for
-/// each send. A rule is printed as its id. When out of memory, nothing is appended.
+/// Appends the text of an answer: a line with the event's number and its verdict, and one line for
+/// each packet that is sent. A rule is printed as its id. If memory runs out, nothing is appended.
 pub fn put_answer(
     text: &mut Vec<u8>,
     number: u64,
@@ -26,7 +26,7 @@ pub fn put_answer(
     ensures ok { OnOk result (text.new.items ≡ text.old.items
         ++ lines_text number (result_text rules.now outcome.now) outbox.now) }
     ensures err { OnErr result (text.new.items ≡ text.old.items) }
-    // Where there is room, it does not run out of memory.
+    // If the spare capacity is enough, memory does not run out.
     ensures room { vec_len text.old
         + length (lines_text number (result_text rules.now outcome.now) outbox.now)
         ≤ vec_capacity text.old → IsOk result }
@@ -40,9 +40,9 @@ pub fn put_answer(
     done
 }
 
-/// Appends the line of an event that was answered: its number and its verdict, as a script prints
-/// them. A rule is printed as its id, which is empty where there is no rule of its number. When out
-/// of memory, nothing is appended.
+/// Appends the line of an answered event: its number and its verdict, in the format of scripts. A
+/// rule is printed as its id, or as nothing if there is no rule with its number. If memory runs
+/// out, nothing is appended.
 pub fn put_verdict(
     text: &mut Vec<u8>,
     number: u64,
@@ -52,7 +52,7 @@ pub fn put_verdict(
     ensures ok { OnOk result (text.new.items ≡ text.old.items
         ++ numbered_line number (verdict_text rules.now (verdict_of verdict.now))) }
     ensures err { OnErr result (text.new.items ≡ text.old.items) }
-    // Where there is room, it does not run out of memory.
+    // If the spare capacity is enough, memory does not run out.
     ensures room { vec_len text.old
         + length (numbered_line number (verdict_text rules.now (verdict_of verdict.now)))
         ≤ vec_capacity text.old → IsOk result }
@@ -66,13 +66,13 @@ pub fn put_verdict(
     done
 }
 
-/// Appends the line of an event for which a step ran out of memory, as a script prints it. When out
-/// of memory, nothing is appended.
+/// Appends the line of an event for which memory ran out, in the format of scripts. If memory runs
+/// out again, nothing is appended.
 pub fn put_refused(text: &mut Vec<u8>, number: u64) -> Result<(), Memory>
     ensures ok { OnOk result
         (text.new.items ≡ text.old.items ++ numbered_line number (codes "memory")) }
     ensures err { OnErr result (text.new.items ≡ text.old.items) }
-    // Where there is room, it does not run out of memory.
+    // If the spare capacity is enough, memory does not run out.
     ensures room { vec_len text.old + length (numbered_line number (codes "memory"))
         ≤ vec_capacity text.old → IsOk result }
     ensures capacity { vec_capacity text.old ≤ vec_capacity text.new }
@@ -85,12 +85,12 @@ pub fn put_refused(text: &mut Vec<u8>, number: u64) -> Result<(), Memory>
     done
 }
 
-/// Appends a line for each send, as a script prints them: the face, and the octets in hexadecimal
-/// or a dash for none. When out of memory, nothing is appended.
+/// Appends one line for each packet that is sent, in the format of scripts: the face, and the
+/// octets in hexadecimal or a dash for no octets. If memory runs out, nothing is appended.
 pub fn put_sends(text: &mut Vec<u8>, outbox: &Outbox) -> Result<(), Memory>
     ensures ok { OnOk result (text.new.items ≡ text.old.items ++ flat_map send_text outbox.now) }
     ensures err { OnErr result (text.new.items ≡ text.old.items) }
-    // Where there is room, it does not run out of memory.
+    // If the spare capacity is enough, memory does not run out.
     ensures room { vec_len text.old + length (flat_map send_text outbox.now)
         ≤ vec_capacity text.old → IsOk result }
     ensures capacity { vec_capacity text.old ≤ vec_capacity text.new }
@@ -103,7 +103,7 @@ pub fn put_sends(text: &mut Vec<u8>, outbox: &Outbox) -> Result<(), Memory>
     done
 }
 
-/// Appends the text of an answer, or some octets of it.
+/// Appends the text of an answer. If memory runs out, some of its octets may be appended.
 fn put_parts(
     text: &mut Vec<u8>,
     number: u64,
@@ -118,7 +118,7 @@ fn put_parts(
     put_send_lines(text, outbox)
 }
 
-/// Appends the line of an event, or some octets of it.
+/// Appends the line of an event. If memory runs out, some of its octets may be appended.
 fn put_outcome(
     text: &mut Vec<u8>,
     number: u64,
@@ -134,7 +134,7 @@ fn put_outcome(
     }
 }
 
-/// Appends the line of an event that was answered, or some octets of it.
+/// Appends the line of an answered event. If memory runs out, some of its octets may be appended.
 fn put_line(text: &mut Vec<u8>, number: u64, verdict: Verdict, rules: &Rules) -> Result<(), Memory>
     ensures { Puts text.old text.new result
         (numbered_line number (verdict_text rules.now (verdict_of verdict))) }
@@ -145,7 +145,8 @@ fn put_line(text: &mut Vec<u8>, number: u64, verdict: Verdict, rules: &Rules) ->
     put_word(text, b"\n")
 }
 
-/// Appends the line of an event that ran out of memory, or some octets of it.
+/// Appends the line of an event for which memory ran out. If memory runs out again, some octets of
+/// the line may be appended.
 fn put_refused_line(text: &mut Vec<u8>, number: u64) -> Result<(), Memory>
     ensures { Puts text.old text.new result (numbered_line number (codes "memory")) }
 {
@@ -153,7 +154,8 @@ fn put_refused_line(text: &mut Vec<u8>, number: u64) -> Result<(), Memory>
     put_word(text, b" memory\n")
 }
 
-/// Appends a line for each send, or some octets of them.
+/// Appends one line for each packet that is sent. If memory runs out, some of their octets may be
+/// appended.
 fn put_send_lines(text: &mut Vec<u8>, outbox: &Outbox) -> Result<(), Memory>
     ensures { Puts text.old text.new result (flat_map send_text outbox.now) }
 {
@@ -165,7 +167,8 @@ fn put_send_lines(text: &mut Vec<u8>, outbox: &Outbox) -> Result<(), Memory>
     Ok(())
 }
 
-/// Appends the line of a send, or some octets of it.
+/// Appends the line of one packet that is sent. If memory runs out, some of its octets may be
+/// appended.
 fn put_send(text: &mut Vec<u8>, face: u64, octets: &[u8]) -> Result<(), Memory>
     ensures { Puts text.old text.new result (send_text (face, octets.now)) }
 {
@@ -176,7 +179,8 @@ fn put_send(text: &mut Vec<u8>, face: u64, octets: &[u8]) -> Result<(), Memory>
     put_word(text, b"\n")
 }
 
-/// Appends octets in hexadecimal, or a dash for none, or some of these digits.
+/// Appends octets in hexadecimal, or a dash for no octets. If memory runs out, some of the digits
+/// may be appended.
 fn put_octets(text: &mut Vec<u8>, octets: &[u8]) -> Result<(), Memory>
     ensures { Puts text.old text.new result (hex_word octets.now) }
 {
@@ -186,7 +190,7 @@ fn put_octets(text: &mut Vec<u8>, octets: &[u8]) -> Result<(), Memory>
     put_digits(text, octets)
 }
 
-/// Appends octets in hexadecimal, or nothing.
+/// Appends octets in hexadecimal. If memory runs out, nothing is appended.
 fn put_digits(text: &mut Vec<u8>, octets: &[u8]) -> Result<(), Memory>
     ensures { Puts text.old text.new result (encode_lower octets.now) }
 {
@@ -197,7 +201,7 @@ fn put_digits(text: &mut Vec<u8>, octets: &[u8]) -> Result<(), Memory>
     Ok(())
 }
 
-/// Fills a text with the two digits of each octet.
+/// Fills `digits` with the two hexadecimal digits of each octet.
 fn fill_digits(digits: &mut [u8], octets: &[u8])
     requires { length digits.old ≡ 2 * length octets.now }
     ensures { digits.new ≡ encode_lower octets.now }
@@ -208,7 +212,8 @@ fn fill_digits(digits: &mut [u8], octets: &[u8])
     }
 }
 
-/// The digit of a value. It is computed, so that the loop over octets has no branch and no table.
+/// Returns the hexadecimal digit of a value. The digit is computed, so that a loop over octets
+/// needs no branch and no table.
 #[inline(always)]
 fn digit_of(value: u8) -> u8
     requires { value < 16 }
@@ -221,7 +226,7 @@ fn digit_of(value: u8) -> u8
     }
 }
 
-/// Appends a number in decimal, or nothing.
+/// Appends a number in decimal. If memory runs out, nothing is appended.
 fn put_number(text: &mut Vec<u8>, number: u64) -> Result<(), Memory>
     ensures { Puts text.old text.new result (decimal number) }
 {
@@ -229,7 +234,7 @@ fn put_number(text: &mut Vec<u8>, number: u64) -> Result<(), Memory>
     put_word(text, buffer.format(number).as_bytes())
 }
 
-/// Appends the verdict on an event, or some octets of it.
+/// Appends the verdict on an event. If memory runs out, some of its octets may be appended.
 fn put_verdict_text(text: &mut Vec<u8>, rules: &Rules, verdict: Verdict) -> Result<(), Memory>
     ensures { Puts text.old text.new result (verdict_text rules.now (verdict_of verdict)) }
 {
@@ -298,7 +303,7 @@ fn kind_name(kind: Kind) -> &'static [u8]
     }
 }
 
-/// Appends two words, or some octets of them.
+/// Appends two words. If memory runs out, some of their octets may be appended.
 fn put_words(text: &mut Vec<u8>, first: &[u8], second: &[u8]) -> Result<(), Memory>
     ensures { Puts text.old text.new result (first.now ++ second.now) }
 {
@@ -306,7 +311,7 @@ fn put_words(text: &mut Vec<u8>, first: &[u8], second: &[u8]) -> Result<(), Memo
     put_word(text, second)
 }
 
-/// Appends a word, or nothing.
+/// Appends a word. If memory runs out, nothing is appended.
 fn put_word(text: &mut Vec<u8>, word: &[u8]) -> Result<(), Memory>
     ensures { Puts text.old text.new result word.now }
 {

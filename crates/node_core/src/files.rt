@@ -1,4 +1,4 @@
-//! The octets of rule files.
+//! Reads rule files from octets.
 ghost use Rattle.std.specs.Prelude.{MatchResult};
 ghost use Rattle.node_core.specs.Files.{AreRules, IsFaultOfRules};
 
@@ -6,7 +6,8 @@ use info_rules::{InfoTree, Rules, RulesFault, RulesFaultKind};
 use std::alloc::Global;
 use std::str;
 
-/// The rules in the octets of a rule file. Octets that are not UTF-8 have a Syntax fault at line 0.
+/// Reads the rules in the octets of a rule file. Octets that are not UTF-8 are reported as a Syntax
+/// fault at line 0.
 pub fn read_rules(alloc: Global, octets: &[u8]) -> Result<Rules, RulesFault>
     ensures { MatchResult result (AreRules octets.now) (IsFaultOfRules octets.now) }
 {

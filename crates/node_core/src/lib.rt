@@ -1,4 +1,4 @@
-//! Scripts: the events of a forwarder as text, and its answers as text.
+//! Scripts: the events of a forwarder and its answers, as text.
 #![tactic(auto)]
 
 mod answer;

@@ -18,36 +18,36 @@ use std::alloc::Global;
 use std::io::{Read, Write};
 use thiserror::Error;
 
-/// Why a script was not run to its end. Answers that were written before are not undone.
+/// Why a script was not run to its end. Answers that were already written stay written.
 #[derive(Clone, Copy, Debug, PartialEq, Eq, Error)]
 pub enum RunFault {
     /// The line with this number, counted from 1, is not a line of a script.
     #[error("line {0} is a bad line")]
     BadLine(u64),
-    /// The reader failed, or was called 4,294,967,295 times.
+    /// The reader failed or was called 4,294,967,295 times.
     #[error("the script cannot be read")]
     Read,
-    /// The writer failed, took no octets, or was called 4,294,967,295 times for the answers to the
-    /// octets of one read.
+    /// The writer failed, accepted no octets, or was called 4,294,967,295 times for the answers to
+    /// the octets of one read.
     #[error("the answers cannot be written")]
     Write,
-    /// The node cannot be made. Nothing was read or written.
+    /// The node could not be created. Nothing was read or written.
     #[error("{0}")]
     Node(NodeFault),
-    /// Out of memory to read a line, with its rules and keys, or to print an answer.
+    /// Memory ran out for reading a line with its rules and keys, or for printing an answer.
     #[error("out of memory")]
     Memory,
 }
 
-/// Runs the events of a script on a new node, and writes their answers. The answers to the lines
-/// that end within the octets of one read are written before it reads more.
+/// Runs the events of a script on a new node and writes the answers. The answers to all lines that
+/// end within the octets of one read are written before the next read.
 ///
 /// A line is `up FACE local|far MOMENT`, `down FACE MOMENT`, `tick MOMENT`, `in FACE MOMENT HEX` or
-/// `rules MOMENT HEX HEX`, with single spaces, decimal numbers without leading zeros, `-` for no
-/// octets, and an LF or the end of the input after at most 20,000 octets. The octets of `rules` are
-/// those of a rule file and of a key file. Empty lines, and lines that begin with `#`, are skipped.
-/// An event for which a step runs out of memory is answered `memory`. The cache may then have
-/// dropped Data, and nothing else changed.
+/// `rules MOMENT HEX HEX`. Words are separated by single spaces, numbers are decimal without
+/// leading zeros, and `-` stands for no octets. A line has at most 20,000 octets and ends with an
+/// LF or at the end of the input. The two HEX words of `rules` are the octets of a rule file and of
+/// a key file. Empty lines and lines that begin with `#` are skipped. An event for which memory
+/// runs out is answered `memory`. Its only effect is that the cache may have dropped Data.
 pub fn run_script<R: Read, W: Write>(
     alloc: Global,
     reader: &mut R,
@@ -84,8 +84,8 @@ pub fn run_script<R: Read, W: Write>(
     player.play(chunk.as_mut_slice(), reader, writer)
 }
 
-/// Law: a text is a script of one list of events, or has one first bad line, after one list of
-/// events, or neither, and never both.
+/// Law: a text spells at most one list of events. A text that is not a script has at most one first
+/// bad line, and at most one list of events before that line. No text is both a script and bad.
 pub fn scripts_have_one_reading()
     ensures whole { (text : List ℕ) (a b : List PlainEvent) → IsScript text a → IsScript text b
         → a ≡ b }

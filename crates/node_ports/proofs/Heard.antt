@@ -1,4 +1,4 @@
--- An endpoint that is heard in time, or not.
+-- Recording datagrams from clients, which may be idle.
 use Rattle.std.proofs.Common.{◌≡◌, ℕ, ◌<◌, List, length, position, slice_get, slice_set, slice_index_or, refl, inl, inr}
 use Rattle.std.specs.Prelude.{Option, Some, None}
 use Rattle.std.proofs.lemmas.Option.{slice_get-get_or}

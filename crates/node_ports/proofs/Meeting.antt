@@ -1,4 +1,4 @@
--- What a datagram meets.
+-- What is done with a datagram.
 use Rattle.std.proofs.Common.{◌≡◌, ℕ, ◌≤◌, List, take, length-take, arith, ap}
 use Rattle.std.specs.Prelude.{Option, None, Some}
 use Rattle.std.specs.Option.{option_map}
@@ -7,11 +7,11 @@ use Rattle.node_ports.specs.declared.ports.TheConstants.{FRAME_ROOM}
 use Rattle.node_ports.specs.declared.udp.Waiting.{Waiting}
 use Rattle.node_ports.specs.Udp.{Datagram}
 
--- octets that were cut once
+-- truncating octets that are already truncated changes nothing
 pub cut_once : (len : ℕ) (octets : List ℕ) → len ≤ FRAME_ROOM → take FRAME_ROOM (take len octets) ≡ take len octets
 cut_once len octets h = take_all FRAME_ROOM (take len octets) (omega (arith, length-take len octets, h))
 
--- the datagram of octets that wait
+-- the waiting datagram with its octets
 abbrev pub datagram_of : List ℕ → Waiting → Datagram
 datagram_of octets waiting = record { endpoint = waiting.endpoint; face = waiting.face; octets = octets }
 

@@ -1,4 +1,4 @@
--- The client that was silent longest.
+-- The client that has been silent longest.
 use Rattle.std.proofs.Common.{◌≡◌, ℕ, ◌+◌, ◌<◌, ◌≤◌, List, length, take, drop, remove, suc, length-take, slice_index_or, inl, inr, ◌⊎◌, arith, ap, All}
 use Rattle.std.specs.Prelude.{Option, Some, None, []}
 use Rattle.std.specs.declared.net.socket_addr.SocketAddr.TheVariants.{V4}
@@ -15,7 +15,8 @@ nobody = record { endpoint = V4 (record { ip = record { octets = [] }; port = 0 
 abbrev pub heard_at : List Client → ℕ → ℕ
 heard_at clients k = (slice_index_or clients k nobody).heard
 
--- among so many clients from the front, the one at this place was silent longest, and is the first of several
+-- the client at index `place` has been silent longest among the first `count`, and it is the first
+-- such client
 pub record IsLongestOf (clients : List Client) (count place : ℕ) : Type 0 where
   pub within : place < count
   pub least : (k : ℕ) → k < count → heard_at clients place ≤ heard_at clients k
@@ -57,7 +58,7 @@ IsLongestOf-kept clients count place h kept = record {
   first = h.first;
 }
 
--- the same at any default
+-- the time of a client's last datagram does not depend on the default value
 heard_any : (clients : List Client) (k : ℕ) (d : Client) → k < length clients → (slice_index_or clients k d).heard ≡ heard_at clients k
 heard_any clients k d h = ap (λ (c : Client). c.heard) (get_or_default clients k d nobody h)
 
@@ -68,7 +69,7 @@ pub AreHeardUntil-remove : (moment : ℕ) (idle : Option ℕ) (clients : List Cl
 AreHeardUntil-remove moment None clients place h = tt
 AreHeardUntil-remove moment (Some idle) clients place h = All-remove (λ c. moment ≤ c.heard + idle) clients place h
 
--- no client among so many from the front is silent for this time before this moment
+-- none of the first `count` clients has been silent for this time before `moment`
 abbrev pub EndAfter : List Client → ℕ → ℕ → ℕ → Type 0
 EndAfter clients time count moment = (k : ℕ) → k < count → moment ≤ heard_at clients k + time
 

@@ -1,4 +1,4 @@
--- Endpoints of 127.0.0.1, and datagrams of strangers.
+-- Endpoints of 127.0.0.1, and datagrams from strangers.
 use Rattle.std.proofs.Common.{◌≡◌, ℕ, ◌+◌, ◌<◌, ◌⊎◌, List, length, slice_get, slice_set, slice_index_or, arith, refl, sym, ◌∙◌, subst, inl, inr}
 use Rattle.std.specs.Prelude.{Some}
 use Rattle.std.specs.declared.net.socket_addr.SocketAddr.{SocketAddr}
@@ -7,7 +7,7 @@ use Rattle.std.proofs.lemmas.List.{get_or-set_same, get_or-set_other}
 use Rattle.std.proofs.lemmas.Option.{get_or_from_slice_get, slice_get_read}
 use Rattle.node_ports.specs.Endpoints.{IsLocalhostAt}
 
--- the first endpoints, so many, are these ports of 127.0.0.1
+-- the first `count` endpoints are these ports of 127.0.0.1
 abbrev pub ArePut : List ℕ → List SocketAddr → ℕ → Type 0
 ArePut ports endpoints count =
     (place port : ℕ) (endpoint : SocketAddr) → place < count → slice_get ports place ≡ Some port

@@ -1,4 +1,4 @@
--- Turns at a port, one after another.
+-- Consecutive turns at a port.
 use Rattle.std.proofs.Common.{◌≡◌, ℕ, zero, suc, ◌+◌, ◌-◌, ◌^◌, ◌<◌, inl, inr, List, [], ◌∷◌, ◌++◌, length, map, take, refl, sym, ap, ◌∙◌, subst, arith, add-one, add-zero, append_assoc, append-nil, length-append, zero-add}
 use Rattle.std.specs.Prelude.{◌⊎◌, Bool, Option, Some, None, slice_get, true, false, Result, Ok, Err, OnOk, OnErr, IsOk, max, min}
 use Rattle.std.specs.Result.{is_err}
@@ -23,7 +23,7 @@ use Rattle.node_ports.specs.Ports.{Gives, Takes, count_of, cut_to, one_more}
 use Rattle.node_ports.specs.Serving.{Shown, HasEnded, GivesAll, AreSendsTaken, count_after, sends_of, all_sends, refused_count, HasFront, KeepsJournal, Handles, EndsNext, Serves}
 use Rattle.node_core.proofs.Outcomes.{AreOutcomes-append, goes_on_from}
 
--- ---- what was taken
+-- ---- the packets that were taken
 
 pub AreSendsTaken-append : (a b : List Send) (m n : ℕ) (x y : List Send) → AreSendsTaken a m x → AreSendsTaken b n y → AreSendsTaken (a ++ b) (m + n) (x ++ y)
 AreSendsTaken-append [] b m n x y h k =
@@ -60,7 +60,7 @@ count_after-add n a (suc b) = let e : a + suc b ≡ suc (a + b) = omega arith in
 pub count_after-one : (n a : ℕ) → one_more (count_after n a) ≡ count_after n (a + 1)
 count_after-one n a = rw (add-one a) refl
 
--- ---- what came
+-- ---- the events that arrived
 
 pub GivesAll-none : (coming left : Option (List PlainEvent)) (size : ℕ) → left ≡ coming → GivesAll coming left size []
 GivesAll-none None left size e = e
@@ -133,14 +133,14 @@ KeepsJournal-then old mid a b c es fs rs ss outcomes goes_on h k = λ first past
     let two = k first (run_from past es rs) one.0 one.1 begins on.0 on.1 one.2 one.3 one.4 in
     (two.0, two.1, subst (λ (r : Run). IsJournalOf first r two.0) (sym (run_from-append old mid past es fs rs ss outcomes)) two.2, two.3, two.4)
 
--- the line of an event, where it is journalled
+-- the line of a journalled event
 module _ (old new : NodeState) (event : PlainEvent) (v : PlainVerdict) (sends : List Send) (coming : Coming) (time : ℕ) (before after : Option (List ℕ)) (is : IsEventOf (moment event) coming.entry event)
     (at : time ≡ max old.policy.now (moment event)) (step : IsStep old event (record { verdict = v; sends = sends }) new)
     (wanted : (text : List ℕ) → before ≡ Some text → coming.is_wanted ≡ brings_wanted (at_moment old.policy (moment event)) event) where
   abbrev pub answer : Answer
   answer = record { verdict = v; sends = sends }
 
-  -- what is added where the line is a line of a script
+  -- the text that the event appends to a run's journal
   grows : (text : List ℕ) → before ≡ Some text → (is_journalled_entry coming.entry coming.is_wanted v ≡ true → IsLineAt time coming.entry) → (first : Policy) (past : Run) (journal : List PlainEvent) → Stands first past old
       → IsJournalOf first past journal → IsTextOf journal text
       → (longer : List PlainEvent) × IsJournalOf first (Then past event answer) longer
@@ -172,7 +172,7 @@ module _ (old new : NodeState) (event : PlainEvent) (v : PlainVerdict) (sends : 
 
 -- ---- turns
 
--- with their outcomes
+-- before the first turn there are no events and no outcomes
 
 pub Serves-start : (node : NodeState) (before : Shown) → (s : Serves node node before before 0 0 0) × (s.arrivals ≡ []) × (s.outcomes ≡ [])
 Serves-start node before = (
@@ -240,7 +240,7 @@ Serves-refused old mid new before between after events refused failed h k =
     let P : ℕ → Type 0 = λ n. Serves old new before after (events + 1) (refused + 1) n in
     subst P (add-zero failed) (Serves-then old mid new before between after events refused failed 0 NoMemory h k)
 
--- a count that stops goes on as if it did not
+-- adding to a count that is limited gives the same as limiting the sum
 pub count_of-add : (n m : ℕ) → min (count_of n + m) (2 ^ 64 - 1) ≡ count_of (n + m)
 count_of-add n m = omega arith
 
@@ -257,7 +257,7 @@ take-next [] i x h = cc h
 take-next (y ∷ ys) zero x h = let same : y ≡ x = cc h in ap (λ (t : Send). t ∷ []) same
 take-next (y ∷ ys) (suc i) x h = ap (λ (t : List Send). y ∷ t) (take-next ys i x h)
 
--- the sends so far, and one more
+-- one more send after those that were made
 pub sent_next : (xs : List Send) (i failed more : ℕ) (x : Send) (y : List Send) (a b c : Option (List Send)) → slice_get xs i ≡ Some x
     → ((taken : List Send) × AreSendsTaken (take i xs) failed taken × Takes a b taken) → AreSendsTaken (x ∷ []) more y → Takes b c y
     → (taken : List Send) × AreSendsTaken (take (i + 1) xs) (failed + more) taken × Takes a c taken
@@ -314,7 +314,7 @@ Handles-answered old new before mid after event v out failed known gives taken f
       failures = counted ∙ ap (λ (n : ℕ). count_after n failed) failures;
     }
 
--- the step of an event, with what is in the outbox, which was empty
+-- the step of an event, if the outbox was empty before and contains these sends
 pub step_of_outbox : (old new : NodeState) (event : PlainEvent) (verdict : Verdict) (held out : List Send) → held ≡ []
     → ((sends : List Send) × (out ≡ held ++ sends) × IsStep old event (record { verdict = verdict_of verdict; sends = sends }) new) → IsStep old event (record { verdict = verdict_of verdict; sends = out }) new
 step_of_outbox old new event verdict held out none step =

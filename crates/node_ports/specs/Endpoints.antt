@@ -1,22 +1,22 @@
--- Endpoints of datagrams: an IPv4 or IPv6 address, and a port. An IPv6 address has its scope, which
--- states on which link a link-local address is.
+-- Endpoints of datagrams: an IPv4 or IPv6 address with a port. An IPv6 address includes its scope,
+-- which is the link of a link-local address.
 use Rattle.std.specs.Prelude.{◌≡◌, ℕ, ◌∷◌, [], Bool, List, length, slice_get, Some}
 use Rattle.std.specs.Net.Addr.{IsV4And, ipv4_octets}
 use Rattle.std.specs.Net.Socket.{socket_ip, socket_port}
 use Rattle.std.specs.declared.net.socket_addr.SocketAddr.{SocketAddr}
 use Rattle.std.specs.contracts.net.socket_addr.SocketAddrPartialEq.TheImpl as socket
 
--- whether a known endpoint is this one, by `==`
+-- the known endpoint equals `endpoint`, by the operator `==`
 abbrev pub is_at : SocketAddr → SocketAddr → Bool
 is_at endpoint known = (socket.ghosts).eq known endpoint
 
--- an endpoint is this port of 127.0.0.1
+-- the endpoint is this port of 127.0.0.1
 abbrev pub IsLocalhostAt : ℕ → SocketAddr → Type 0
 IsLocalhostAt port endpoint =
     IsV4And (socket_ip endpoint) (λ ip. ipv4_octets ip ≡ 127 ∷ 0 ∷ 0 ∷ 1 ∷ [])
     × (socket_port endpoint ≡ port)
 
--- endpoints are these ports of 127.0.0.1, in their order
+-- the endpoints are these ports of 127.0.0.1, in the same order
 pub record AreLocalhostAt (ports : List ℕ) (endpoints : List SocketAddr) : Type 0 where
   pub count : length endpoints ≡ length ports
   pub each : (place port : ℕ) (endpoint : SocketAddr) → slice_get ports place ≡ Some port

@@ -1,5 +1,5 @@
--- Which endpoints have faces, and what is done with a datagram of an endpoint: it is for its face,
--- a face opens for it, or another face closes first.
+-- The endpoints that have faces, and what is done with a datagram: it is given on its endpoint's
+-- face, a face opens for its endpoint, or another face closes first.
 use Rattle.std.specs.Prelude.{◌≡◌, ℕ, ◌+◌, ◌-◌, ◌<◌, ◌≤◌, ◌⊎◌, ◌==◌, List, [], ◌∷◌, ◌++◌, All, find, length, option_map, position, remove, slice_get, unwrap_or, Option, None, Some, if◌then◌else◌}
 use Rattle.std.specs.Option.{option_or}
 use Rattle.std.specs.declared.net.socket_addr.SocketAddr.{SocketAddr}
@@ -16,7 +16,7 @@ use Rattle.node_ports.specs.Ports.{one_more}
 abbrev pub known_count : KnownEndpoints → ℕ
 known_count endpoints = length endpoints.peers + length endpoints.clients.rows
 
--- the endpoint of a peer's face, which is the peer's place, counted from 1
+-- the endpoint of a peer's face; the number of the face is the peer's position, counted from 1
 abbrev pub peer_at : List SocketAddr → ℕ → Option SocketAddr
 peer_at peers face = if face == 0 then None else slice_get peers (face - 1)
 
@@ -26,17 +26,17 @@ endpoint_at endpoints face = option_or (peer_at endpoints.peers face)
     (option_map (λ (client : Client). client.endpoint)
     (find (λ client. client.face == face) endpoints.clients.rows))
 
--- the first place of an endpoint among the peers
+-- the index of the first peer with this endpoint
 abbrev pub peer_place : SocketAddr → KnownEndpoints → Option ℕ
 peer_place endpoint endpoints = position (is_at endpoint) endpoints.peers
 
--- the endpoints with other clients
+-- the known endpoints with these clients in place of the others
 abbrev pub with_clients : KnownEndpoints → List Client → KnownEndpoints
 with_clients endpoints rows =
     record endpoints { clients = record endpoints.clients { rows = rows } }
 
--- An endpoint has this face: a peer's is its place, counted from 1. For a client a datagram is
--- recorded now.
+-- The endpoint has this face. A peer's face is the peer's position, counted from 1. For a client, a
+-- datagram is recorded at `now`.
 abbrev pub Knows : KnownEndpoints → KnownEndpoints → SocketAddr → ℕ → ℕ → Type 0
 Knows before after endpoint now face =
     ((place : ℕ) × (peer_place endpoint before ≡ Some place) × (face ≡ place + 1)
@@ -44,12 +44,12 @@ Knows before after endpoint now face =
     ⊎ ((rows : List Client) × (peer_place endpoint before ≡ None)
     × Hears before.clients.rows rows endpoint now face × (after ≡ with_clients before rows))
 
--- an endpoint has no face
+-- the endpoint has no face
 abbrev pub IsNewcomer : KnownEndpoints → SocketAddr → Type 0
 IsNewcomer before endpoint =
     (peer_place endpoint before ≡ None) × IsNoClient before.clients.rows endpoint
 
--- the next face opens for an endpoint
+-- the next face opens for the endpoint
 abbrev pub OpensNew : KnownEndpoints → KnownEndpoints → SocketAddr → ℕ → ℕ → Type 0
 OpensNew before after endpoint now face =
     (face ≡ before.next)
@@ -59,13 +59,14 @@ OpensNew before after endpoint now face =
       refused = None;
     })
 
--- No face opens for an endpoint: it gets a number, which stays the same until a face opens.
+-- No face opens for the endpoint. It gets a number, which stays the same until a face opens.
 abbrev pub OpensNone : KnownEndpoints → KnownEndpoints → ℕ → Type 0
 OpensNone before after face =
     (face ≡ unwrap_or before.refused before.next)
     × (after ≡ record before { next = one_more face; refused = Some face })
 
--- the face of the client that was silent longest closes, and it is removed from these clients
+-- the face of the client in `rows` that has been silent longest closes, and the client is removed
+-- from `rows`
 abbrev pub Closes : KnownEndpoints → List Client → KnownEndpoints → Client → ℕ → Type 0
 Closes before rows after client face =
     (place : ℕ) × IsSilentLongest before.clients.rows place client × (face ≡ client.face)
@@ -76,16 +77,17 @@ abbrev pub NoneIsIdle : KnownEndpoints → ℕ → Type 0
 NoneIsIdle before now =
     All (λ client. IsIdle before.clients.idle now client → ⊥) before.clients.rows
 
--- no client was silent long enough for its face to close in favour of an endpoint without one
+-- no client has been silent long enough for its face to close to make room for an endpoint without
+-- a face
 abbrev pub NoneGivesWay : KnownEndpoints → ℕ → Type 0
 NoneGivesWay before now =
     All (λ client. GivesWay before.clients.idle now client → ⊥) before.clients.rows
 
--- What is done with a datagram of an endpoint. If a client is idle, the face of the one that was
--- silent longest closes, whatever the endpoint, and the datagram is recorded for the endpoint if it
--- is a client that is not idle. Otherwise the datagram is for the face of its endpoint; or, while
--- fewer than 64 endpoints are known, a face opens; or, while 64 are, a face that gives way closes,
--- and if there is none, no face opens.
+-- What is done with a datagram from `endpoint`. If a client is idle, the face of the client that
+-- has been silent longest closes, whatever the endpoint; the datagram is recorded if its endpoint
+-- is a client that is not idle. If no client is idle, the datagram is given on the face of its
+-- endpoint. If the endpoint has no face and fewer than 64 endpoints are known, a face opens. If 64
+-- are known, a face that gives way closes, and without such a face no face opens.
 abbrev pub Meets : KnownEndpoints → KnownEndpoints → SocketAddr → ℕ → Met → Type 0
 Meets before after endpoint now (Face face) =
     NoneIsIdle before now × Knows before after endpoint now face

@@ -1,4 +1,4 @@
--- A port in memory.
+-- Ports in memory.
 use Rattle.std.specs.Prelude.{ℕ, List}
 use Rattle.forwarder.specs.Event.{PlainEvent, Packet, FaceUp, FaceDown, Tick, NewRules, Send}
 use Rattle.node_ports.specs.declared.memory.OwnedArrival.{OwnedArrival}
@@ -11,8 +11,8 @@ plain_arrival (owned.FaceDown face now) = FaceDown face now
 plain_arrival (owned.Tick now) = Tick now
 plain_arrival (owned.NewRules renewal now) = NewRules renewal.rules renewal.keys now
 
--- the events still to come, the packets that were taken, the number of failed calls, and which call
--- of each kind is told to fail, counted from 1, or 0 for none
+-- the events still to come, the packets that were taken, and the number of failed calls; for each
+-- kind of call, the number of the call that is told to fail, counted from 1, or 0 for none
 pub record MemoryState : Type 0 where
   pub events : List PlainEvent
   pub sent : List Send

@@ -4,7 +4,7 @@ use Rattle.node_ports.specs.declared.ports.Arrival.{Arrival}
 use Rattle.node_ports.specs.declared.ports.Arrival.TheVariants as code
 use Rattle.forwarder.specs.Event.{PlainEvent, Packet, FaceUp, FaceDown, Tick, NewRules, Send}
 
--- a packet lies within a buffer of this size
+-- the packet of the arrival lies within a buffer of this size
 abbrev pub LiesWithin : ℕ → Arrival → Type 0
 LiesWithin size code.End = ⊤
 LiesWithin size (code.Packet face now len) = len ≤ size
@@ -13,7 +13,7 @@ LiesWithin size (code.FaceDown face now) = ⊤
 LiesWithin size (code.Tick now) = ⊤
 LiesWithin size (code.NewRules renewal now) = ⊤
 
--- the event that arrived, if any, with the octets of the buffer
+-- the event of the arrival, if there is one, with the octets of the buffer
 abbrev pub arrived : Arrival → List ℕ → Option PlainEvent
 arrived code.End buffer = None
 arrived (code.Packet face now len) buffer = Some (Packet face now (take len buffer))
@@ -22,7 +22,7 @@ arrived (code.FaceDown face now) buffer = Some (FaceDown face now)
 arrived (code.Tick now) buffer = Some (Tick now)
 arrived (code.NewRules renewal now) buffer = Some (NewRules renewal.rules renewal.keys now)
 
--- an event with its packet, if it has one, cut to this size
+-- the event with its packet, if it has one, truncated to this size
 abbrev pub cut_to : ℕ → PlainEvent → PlainEvent
 cut_to size (Packet face now octets) = Packet face now (take size octets)
 cut_to size (FaceUp face scope now) = FaceUp face scope now
@@ -30,8 +30,8 @@ cut_to size (FaceDown face now) = FaceDown face now
 cut_to size (Tick now) = Tick now
 cut_to size (NewRules rules keys now) = NewRules rules keys now
 
--- The first of the events to come was given, cut to this size, or there were none. If the events to
--- come are not known, nothing is claimed of it.
+-- The first event to come was given, truncated to this size, or there was no event to come. Nothing
+-- is claimed of the event if the events to come are not known.
 abbrev pub Gives : Option (List PlainEvent) → Option (List PlainEvent) → ℕ → Option PlainEvent
     → Type 0
 Gives None new size event = new ≡ None
@@ -39,15 +39,15 @@ Gives (Some []) new size event = (event ≡ None) × (new ≡ Some [])
 Gives (Some (first ∷ rest)) new size event =
     (event ≡ Some (cut_to size first)) × (new ≡ Some rest)
 
--- these packets were taken too, if it is known what was taken
+-- these packets were taken as well, if it is known which packets were taken
 abbrev pub Takes : Option (List Send) → Option (List Send) → List Send → Type 0
 Takes None new sends = new ≡ None
 Takes (Some old) new sends = new ≡ Some (old ++ sends)
 
--- a count that stops at the greatest u64
+-- `n`, but at most the greatest u64
 abbrev pub count_of : ℕ → ℕ
 count_of n = min n (2 ^ 64 - 1)
 
--- one more, unless the count has stopped
+-- the count after one more, at most the greatest u64
 abbrev pub one_more : ℕ → ℕ
 one_more n = count_of (n + 1)

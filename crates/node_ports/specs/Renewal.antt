@@ -11,6 +11,6 @@ pub record RenewalValue : Type 0 where
   pub rule_octets : List ℕ
   pub key_octets : List ℕ
 
--- these are the rules of a rule file and the keys of a key file
+-- the rules are those of the rule file, and the keys are those of the key file
 abbrev pub AreOfFiles : List PlainRule → List NamedKey → List ℕ → List ℕ → Type 0
 AreOfFiles rules keys rule_octets key_octets = AreRules rule_octets rules × AreKeys key_octets keys

@@ -1,4 +1,5 @@
--- Turns of a node at a port: which events arrived, their outcomes, and what was taken.
+-- Turns of a node at a port: the events that arrived, their outcomes, and the packets that were
+-- taken.
 use Rattle.std.specs.Prelude.{◌≡◌, ℕ, zero, suc, ◌+◌, ◌<◌, ◌⊎◌, Bool, true, false, Option, None, Some, List, [], ◌∷◌, ◌++◌, length, map, ⊤}
 use Rattle.std.specs.List.{flat_map}
 use Rattle.node_ports.specs.declared.serving.ServeFault.{ServeFault}
@@ -16,8 +17,8 @@ use Rattle.forwarder.specs.Verdict.{Answer, verdict_of}
 use Rattle.journal.specs.Journal.{IsJournalOf}
 use Rattle.journal.specs.Text.{IsTextOf}
 
--- what a port shows: the number of failed calls and, if it knows them, the events still to come,
--- the packets that were taken, and the octets of its journal
+-- the visible state of a port: the number of failed calls and, if they are known, the events still
+-- to come, the packets that were taken, and the octets of the journal
 pub record Shown : Type 0 where
   pub failures : ℕ
   pub coming : Option (List PlainEvent)
@@ -28,13 +29,13 @@ abbrev pub shown : ℕ → Option (List PlainEvent) → Option (List Send) → O
 shown failures coming taken journal =
     record { failures = failures; coming = coming; taken = taken; journal = journal }
 
--- no events are left to come, if they are known
+-- no events are still to come, if the events to come are known
 abbrev pub HasEnded : Option (List PlainEvent) → Type 0
 HasEnded None = ⊤
 HasEnded (Some events) = events ≡ []
 
--- These events were the first of the events to come, each cut to this size, and the rest are still
--- to come.
+-- These events were the first of the events to come, each truncated to this size, and the others
+-- are still to come.
 abbrev pub GivesAll : Option (List PlainEvent) → Option (List PlainEvent) → ℕ → List PlainEvent
     → Type 0
 GivesAll None new size events = new ≡ None
@@ -42,19 +43,19 @@ GivesAll (Some old) new size events =
     (came left : List PlainEvent) × (old ≡ came ++ left) × (events ≡ map (cut_to size) came)
     × (new ≡ Some left)
 
--- what was taken of some sends: all in order, except this number of failed ones
+-- `taken` is all the sends in order, except `failed` of them
 abbrev pub AreSendsTaken : List Send → ℕ → List Send → Type 0
 AreSendsTaken [] failed taken = (failed ≡ 0) × (taken ≡ [])
 AreSendsTaken (sent ∷ sends) failed taken =
     ((rest : List Send) × (taken ≡ sent ∷ rest) × AreSendsTaken sends failed rest)
     ⊎ ((fewer : ℕ) × (failed ≡ fewer + 1) × AreSendsTaken sends fewer taken)
 
--- the count of a port's failures after this number of further ones
+-- the count of failures after this number of further failures
 abbrev pub count_after : ℕ → ℕ → ℕ
 count_after count zero = count
 count_after count (suc n) = one_more (count_after count n)
 
--- what an outcome sends
+-- the packets that an outcome sends
 abbrev pub sends_of : Outcome → List Send
 sends_of (Answered answer) = answer.sends
 sends_of NoMemory = []
@@ -62,14 +63,15 @@ sends_of NoMemory = []
 abbrev pub all_sends : List Outcome → List Send
 all_sends outcomes = flat_map sends_of outcomes
 
--- the number of outcomes that ran out of memory
+-- the number of events for which memory ran out
 abbrev pub refused_count : List Outcome → ℕ
 refused_count [] = 0
 refused_count (Answered answer ∷ outcomes) = refused_count outcomes
 refused_count (NoMemory ∷ outcomes) = refused_count outcomes + 1
 
--- If the old node agrees with a run, and the journal has the text of the run's journal, then after
--- the events and their outcomes it has the text of the longer run's journal.
+-- If the old node agrees with a run, and the journal `before` is the text of that run's journal,
+-- then the journal `after` is the text of the longer run's journal, after these events and
+-- outcomes.
 abbrev pub KeepsJournal : NodeState → Option (List ℕ) → List PlainEvent → List Outcome
     → Option (List ℕ) → Type 0
 KeepsJournal old before events outcomes after =
@@ -80,7 +82,7 @@ KeepsJournal old before events outcomes after =
     × IsJournalOf first (run_from past events outcomes) longer
     × IsTextOf longer longer_text × (after ≡ Some longer_text)
 
--- one event arrived and had this outcome, and this number of its sends failed
+-- one event arrived and had this outcome, and `failed` of its sends failed
 pub record Handles (old new : NodeState) (before after : Shown) (done_as : Outcome)
     (failed : ℕ) : Type 0 where
   pub event : PlainEvent
@@ -93,8 +95,8 @@ pub record Handles (old new : NodeState) (before after : Shown) (done_as : Outco
   pub journal : KeepsJournal old before.journal (event ∷ []) (done_as ∷ []) after.journal
   pub failures : after.failures ≡ count_after before.failures failed
 
--- The journal has the text of before, or a beginning of the text that has the line of this event
--- too.
+-- The journal `after` is the journal `before`, possibly followed by a prefix of this event's line,
+-- if the old node agrees with a run whose journal's text is `before`.
 abbrev pub HasFront : NodeState → Option (List ℕ) → PlainEvent → Answer → Option (List ℕ) → Type 0
 HasFront old before event answer after =
     (first : Policy) (past : Run) (journal : List PlainEvent) (text : List ℕ)
@@ -105,8 +107,8 @@ HasFront old before event answer after =
     × IsJournalOf first (Then past event answer) longer
     × IsTextOf longer (text ++ (front ++ back)) × (after ≡ Some (text ++ front)))
 
--- An event arrived and was answered, but is not in the journal, or not whole. None of its packets
--- was sent.
+-- An event arrived and was answered, but its line is not in the journal, or only a prefix of it.
+-- None of its packets was sent.
 pub record FailsToWrite (old new : NodeState) (before after : Shown) : Type 0 where
   pub event : PlainEvent
   pub answer : Answer
@@ -116,21 +118,21 @@ pub record FailsToWrite (old new : NodeState) (before after : Shown) : Type 0 wh
   pub journal : HasFront old before.journal event answer after.journal
   pub failures : after.failures ≡ before.failures
 
--- the call for the next arrival failed, and nothing else happened
+-- the call for the next arrival failed, and nothing else changed
 pub record FailsNext (before after : Shown) : Type 0 where
   pub coming : after.coming ≡ before.coming
   pub taken : after.taken ≡ before.taken
   pub journal : after.journal ≡ before.journal
   pub failures : after.failures ≡ one_more before.failures
 
--- no event was left to come, and nothing happened
+-- no event was still to come, and nothing changed
 pub record EndsNext (before after : Shown) : Type 0 where
   pub coming : Gives before.coming after.coming FRAME_ROOM None
   pub taken : after.taken ≡ before.taken
   pub journal : after.journal ≡ before.journal
   pub failures : after.failures ≡ before.failures
 
--- what each result of a turn means, with these sends in the outbox
+-- the meaning of each result of a turn, with these sends in the outbox
 abbrev pub IsTurn : NodeState → NodeState → Shown → Shown → List Send → Turn → Type 0
 IsTurn old new before after sends (turn.Done verdict failed) =
     Handles old new before after
@@ -142,9 +144,9 @@ IsTurn old new before after sends turn.Unwritten =
 IsTurn old new before after sends turn.End =
     EndsNext before after × (new ≡ old) × (sends ≡ [])
 
--- This number of events arrived, this number of them ran out of memory, and this number of sends
--- failed. If the old node agrees with a run so far, appending the events that were answered gives a
--- valid run, and the new node agrees with that.
+-- `events` events arrived, memory ran out for `refused` of them, and `failed` sends failed. If the
+-- old node agrees with a run, appending the answered events gives a valid run, and the new node
+-- agrees with it.
 pub record Serves (old new : NodeState) (before after : Shown)
     (events refused failed : ℕ) : Type 0 where
   pub arrivals : List PlainEvent
@@ -160,17 +162,17 @@ pub record Serves (old new : NodeState) (before after : Shown)
   pub events_is : events ≡ length arrivals
   pub refused_is : refused ≡ refused_count outcomes
 
--- each turn had an event, or after fewer events none was left to come
+-- each turn had an event, or the events ended before the last turn
 abbrev pub EndsAfter : ℕ → Bool → ℕ → Option (List PlainEvent) → Type 0
 EndsAfter turns false events coming = events ≡ turns
 EndsAfter turns true events coming = (events < turns) × HasEnded coming
 
--- after this number of events, before the last turn, the call for the next arrival failed
+-- `Next`: after `events` events, before the last turn, the call for the next arrival failed
 abbrev pub StopsServing : NodeState → NodeState → Shown → Shown → ℕ → ServeFault → Type 0
 StopsServing old new before after turns (fault.Next events) =
     (mid : Shown) × (refused failed : ℕ) × Serves old new before mid events refused failed
     × FailsNext mid after × (events < turns)
--- or the event after this number of events is not in the journal
+-- `Journal`: the event after `events` events is not in the journal
 StopsServing old new before after turns (fault.Journal events) =
     (last : NodeState) × (mid : Shown) × (refused failed : ℕ)
     × Serves old last before mid events refused failed

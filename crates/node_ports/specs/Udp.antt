@@ -1,4 +1,5 @@
--- The state of UDP ports, and what they give. What a socket gives or takes is not specified.
+-- The state of UDP ports and the arrivals that they give. The behavior of a socket is not
+-- specified.
 use Rattle.std.specs.Prelude.{◌≡◌, ◌≢◌, ℕ, ◌+◌, ◌<◌, ◌≤◌, ◌==◌, ◌⊎◌, Bool, true, List, [], length, position, take, Option, None, Some, nat_le, if◌then◌else◌}
 use Rattle.std.specs.declared.net.socket_addr.SocketAddr.{SocketAddr}
 use Rattle.forwarder.specs.declared.event.Scope.{Scope}
@@ -17,29 +18,29 @@ use Rattle.node_ports.specs.Ports.{one_more}
 -- a datagram that was received and not yet given
 pub record Datagram : Type 0 where
   pub endpoint : SocketAddr
-  -- the face that it is for; none while that is not decided
+  -- the face that the datagram is for, or None if that is not yet decided
   pub face : Option ℕ
   pub octets : List ℕ
 
 pub record UdpState : Type 0 where
   -- the endpoints with faces
   pub known : KnownEndpoints
-  -- the number of peers' faces that were opened
+  -- the number of peers' faces that are already opened
   pub opened : ℕ
-  -- how many of the peers' faces, the first ones, are Local
+  -- the number of peers whose faces are Local; these are the first peers
   pub local : ℕ
   -- the datagram that waits for the next turn
   pub waiting : Option Datagram
-  -- the last moment of the clock
+  -- the last time that the clock returned
   pub told : ℕ
-  -- whether datagrams of endpoints that are not peers are accepted
+  -- datagrams from endpoints that are not peers are accepted
   pub accepts_strangers : Bool
-  -- the number of such datagrams that were dropped
+  -- the number of dropped datagrams from endpoints that are not peers
   pub strangers : ℕ
   -- the number of failed calls
   pub failures : ℕ
 
--- before the first arrival
+-- the state of the ports before the first arrival
 abbrev pub bound_to : List SocketAddr → ℕ → ℕ → UdpState
 bound_to peers local told = record {
   known = record {
@@ -57,7 +58,7 @@ bound_to peers local told = record {
   failures = 0;
 }
 
--- the same ports, with this idle time after which faces close
+-- the same ports with this idle time, after which faces close
 abbrev pub closes_after : ℕ → UdpState → UdpState
 closes_after idle ports = record ports {
   known = record ports.known { clients = record ports.known.clients { idle = Some idle } };
@@ -75,7 +76,7 @@ abbrev pub waiting_at : ℕ → Option Datagram → Option SocketAddr
 waiting_at face None = None
 waiting_at face (Some datagram) = waiting_for face datagram.endpoint datagram.face
 
--- every peer has its face
+-- every peer's face is opened
 abbrev pub HasOpened : UdpState → Type 0
 HasOpened before = before.opened ≡ length before.known.peers
 
@@ -91,8 +92,8 @@ OpensPeer before after (FaceDown face now) = ⊥
 OpensPeer before after (Tick now) = ⊥
 OpensPeer before after (NewRules renewal now) = ⊥
 
--- The datagram that waited for its face is given unchanged, cut to the buffer, in the turn after
--- the opening.
+-- The datagram that waited for its face is given unchanged, except that it is truncated to the
+-- buffer, in the turn after the opening.
 abbrev pub GivesWaiting : UdpState → UdpState → List ℕ → Arrival → Type 0
 GivesWaiting before after buffer (Packet face now len) =
     (endpoint : SocketAddr) × (octets : List ℕ) × (rows : List Client) × HasOpened before
@@ -110,7 +111,7 @@ GivesWaiting before after buffer (FaceDown face now) = ⊥
 GivesWaiting before after buffer (Tick now) = ⊥
 GivesWaiting before after buffer (NewRules renewal now) = ⊥
 
--- a waiting datagram, cut to 9,001 octets
+-- a waiting datagram, truncated to 9,001 octets
 abbrev pub kept : SocketAddr → Option ℕ → List ℕ → Datagram
 kept endpoint face datagram = record {
   endpoint = endpoint;
@@ -118,8 +119,8 @@ kept endpoint face datagram = record {
   octets = take FRAME_ROOM datagram;
 }
 
--- A datagram of this endpoint is given on its face; or it waits while a face opens for it, or while
--- another face closes first.
+-- A datagram from this endpoint is given on its face. Or it waits while a face opens for its
+-- endpoint, or while another face closes first.
 abbrev pub Brings : UdpState → UdpState → SocketAddr → List ℕ → List ℕ → Arrival → Type 0
 Brings before after endpoint datagram buffer (Packet face now len) =
     (known : KnownEndpoints) × Meets before.known known endpoint now (Face face)
@@ -143,45 +144,46 @@ Brings before after endpoint datagram buffer End = ⊥
 Brings before after endpoint datagram buffer (Tick now) = ⊥
 Brings before after endpoint datagram buffer (NewRules renewal now) = ⊥
 
--- every peer has its face, and no datagram waits
+-- every peer's face is opened, and no datagram waits
 abbrev pub Listens : UdpState → Type 0
 Listens before = HasOpened before × (before.waiting ≡ None)
 
--- a datagram of this endpoint is accepted: it is a peer's, or strangers are accepted
+-- datagrams from this endpoint are accepted: it is a peer, or strangers are accepted
 abbrev pub IsAccepted : UdpState → SocketAddr → Type 0
 IsAccepted before endpoint =
     (before.accepts_strangers ≡ true) ⊎ (position (is_at endpoint) before.known.peers ≢ None)
 
--- Datagrams of strangers may have been dropped and counted, but none if strangers are accepted.
+-- Datagrams from strangers may have been dropped and counted. If strangers are accepted, none were
+-- dropped.
 pub record DropsStrangers (before after : UdpState) : Type 0 where
   pub count : ℕ
   pub is : after ≡ record before { strangers = count }
   pub more : before.strangers ≤ count
   pub none : before.accepts_strangers ≡ true → count ≡ before.strangers
 
--- after datagrams of strangers, if any, one of an accepted endpoint was received into the front of
--- the buffer
+-- a datagram from an accepted endpoint was received into the start of the buffer, possibly after
+-- datagrams from strangers
 abbrev pub GivesReceived : UdpState → UdpState → List ℕ → Arrival → Type 0
 GivesReceived before after buffer arrival =
     Listens before × ((mid : UdpState) × (endpoint : SocketAddr) × (len : ℕ)
     × DropsStrangers before mid × IsAccepted mid endpoint
     × Brings mid after endpoint (take len buffer) buffer arrival)
 
--- No peer's face was left to open, no datagram waited, and receiving failed, perhaps after
--- datagrams of strangers.
+-- No peer's face was still to open, no datagram waited, and receiving failed, possibly after
+-- datagrams from strangers.
 abbrev pub FailsReceiving : UdpState → UdpState → Type 0
 FailsReceiving before after =
     Listens before × ((mid : UdpState) × DropsStrangers before mid
     × (after ≡ record mid { failures = one_more mid.failures }))
 
--- the datagram that waited while a face closed
+-- the datagram that waited while a face closed is handled
 abbrev pub BringsAfterClosing : UdpState → UdpState → List ℕ → Arrival → Type 0
 BringsAfterClosing before after buffer arrival =
     (endpoint : SocketAddr) × (octets : List ℕ) × HasOpened before
     × (before.waiting ≡ Some (record { endpoint = endpoint; face = None; octets = octets }))
     × Brings before after endpoint octets buffer arrival
 
--- what may be given, and the state of the ports afterwards
+-- the arrivals that may be given, and the state of the ports afterwards
 abbrev pub UdpGives : UdpState → UdpState → List ℕ → Arrival → Type 0
 UdpGives before after buffer arrival =
     OpensPeer before after arrival

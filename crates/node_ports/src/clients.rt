@@ -1,4 +1,4 @@
-//! The endpoints whose faces were opened by their own datagrams.
+//! Clients: endpoints whose faces were opened by their own datagrams.
 ghost use Rattle.std.specs.Prelude.{◌≡◌, ◌∷◌, ◌++◌, [], ◌+◌, ◌<◌, ◌≤◌, ◌==◌, ◌↔◌, All, length, List, slice_get, slice_set, remove, position, find, option_map, IfSome, IsTrue, Some, None, true, false};
 ghost use Rattle.node_ports.specs.Clients.{GivesWay, Hears, HearsInTime, IsIdle, IsNoClient, IsSilent, IsSilentLongest};
 ghost use Rattle.node_ports.specs.Endpoints.{is_at};
@@ -10,23 +10,23 @@ use forwarder::MAX_FACES;
 use std::marker::Model;
 use std::net::SocketAddr;
 
-/// How long a face has to be idle before it may close in favour of an endpoint without a face, in
-/// milliseconds.
+/// How long a face must be idle, in milliseconds, before it may close to make room for an endpoint
+/// without a face.
 pub const GIVE_WAY_MILLISECONDS: u64 = 10_000;
 
 /// An endpoint whose face was opened by its own datagram.
 #[derive(Clone, Copy)]
 pub struct Client {
-    /// Its address and port.
+    /// The address and port of the endpoint.
     pub endpoint: SocketAddr,
-    /// Its face.
+    /// The face of the endpoint.
     pub face: u64,
-    /// The moment of the last datagram from it.
+    /// The time of the last datagram from the endpoint, in milliseconds since 1970.
     pub heard: u64,
 }
 
 impl Default for Client {
-    // Fills a place without a client.
+    // Returns a placeholder for an unused array element.
     fn default() -> Client {
         Client {
             endpoint: nowhere(),
@@ -36,15 +36,15 @@ impl Default for Client {
     }
 }
 
-/// At most 64 endpoints whose faces were opened by their own datagrams, in the order of the faces.
+/// The clients, at most 64, in the order of their faces.
 ///
-/// If an idle time is set, faces that are idle for it may close, and, in favour of an endpoint
-/// without a face, those that are idle for `GIVE_WAY_MILLISECONDS`.
+/// If an idle time is set, a face that is idle for that time may close, and a face that is idle for
+/// `GIVE_WAY_MILLISECONDS` may close to make room for an endpoint without a face.
 #[derive(Drop)]
 pub struct Clients {
     rows: ArrayVec<Client, MAX_FACES>,
     idle: Option<u64>,
-    // No client is idle before this moment, so none is searched for.
+    // No client becomes idle before this time, so until then no search is needed.
     heard_until: u64,
 }
 
@@ -59,7 +59,7 @@ impl Model for Clients {
 }
 
 impl Clients {
-    /// No endpoints, and no idle time.
+    /// Returns an empty list of clients, with no idle time set.
     pub fn new() -> Clients
         ensures { result ≡ record { rows = []; idle = None } }
     {
@@ -78,7 +78,7 @@ impl Clients {
         self.heard_until = 0;
     }
 
-    /// The number of endpoints.
+    /// Returns the number of clients.
     pub fn len(&self) -> usize
         ensures exact { result ≡ length self.now.rows }
         ensures small { result ≤ MAX_FACES }
@@ -86,7 +86,7 @@ impl Clients {
         self.rows.len()
     }
 
-    /// The endpoint of a face.
+    /// Returns the endpoint of a face.
     pub fn endpoint_of(&self, face: u64) -> Option<SocketAddr>
         ensures { result ≡ option_map (λ client. client.endpoint)
             (find (λ client. client.face == face) self.now.rows) }
@@ -99,7 +99,7 @@ impl Clients {
         Some(client.endpoint)
     }
 
-    /// Adds an endpoint. There are fewer than 64 before.
+    /// Appends a client. Precondition: there are fewer than 64 clients.
     pub fn push(&mut self, client: Client)
         requires { length self.old.rows < MAX_FACES }
         ensures { self.new ≡ record self.old { rows = self.old.rows ++ (client ∷ []) } }
@@ -108,7 +108,7 @@ impl Clients {
         self.rows.push(client);
     }
 
-    /// Removes the endpoint at a place, counted from 0.
+    /// Removes the client at index `place`.
     pub fn remove(&mut self, place: usize)
         requires { place < length self.old.rows }
         ensures { self.new ≡ record self.old { rows = remove self.old.rows place } }
@@ -116,7 +116,8 @@ impl Clients {
         let _client = self.rows.remove(place);
     }
 
-    /// Records a datagram from an endpoint at this moment. Returns its face, if it has one.
+    /// Records a datagram that arrived from `endpoint` at `now`. Returns the face of the endpoint,
+    /// if it has one.
     pub fn hear(&mut self, endpoint: SocketAddr, now: u64) -> Option<u64>
         ensures found { IfSome result (λ face. (rows : List Client)
             × Hears self.old.rows rows endpoint now face
@@ -127,7 +128,8 @@ impl Clients {
         Some(self.hear_at(place, now))
     }
 
-    /// Records a datagram from an endpoint at this moment, if it has a face and is not idle.
+    /// Records a datagram that arrived from `endpoint` at `now`, if the endpoint has a face and is
+    /// not idle.
     pub fn hear_in_time(&mut self, endpoint: SocketAddr, now: u64)
         ensures heard { (rows : List Client)
             × HearsInTime self.old.idle self.old.rows rows endpoint now
@@ -141,7 +143,7 @@ impl Clients {
         }
     }
 
-    /// Whether the endpoint at a place is idle.
+    /// Returns whether the client at index `place` is idle.
     fn is_idle_at(&self, place: usize, now: u64) -> bool
         requires { place < length self.now.rows }
         ensures yes { result ≡ true → (client : Client)
@@ -155,7 +157,7 @@ impl Clients {
         }
     }
 
-    /// The face at a place, counted from 0.
+    /// Returns the face of the client at index `place`.
     pub fn face_at(&self, place: usize) -> u64
         requires { place < length self.now.rows }
         ensures { (client : Client) → slice_get self.now.rows place ≡ Some client
@@ -164,7 +166,7 @@ impl Clients {
         self.rows.as_slice()[place].face
     }
 
-    /// The first place of an endpoint, counted from 0.
+    /// Returns the index of the first client with this endpoint.
     fn place_of(&self, endpoint: SocketAddr) -> Option<usize>
         ensures first { result ≡ position (λ client. is_at endpoint client.endpoint) self.now.rows }
         ensures within { IfSome result (λ place. place < length self.now.rows) }
@@ -175,7 +177,7 @@ impl Clients {
             .position(|client| client.endpoint == endpoint)
     }
 
-    /// Records a datagram from the endpoint at a place. Returns its face.
+    /// Records a datagram from the client at index `place`. Returns the client's face.
     fn hear_at(&mut self, place: usize, now: u64) -> u64
         requires { place < length self.old.rows }
         ensures { (client : Client) × (slice_get self.old.rows place ≡ Some client)
@@ -188,7 +190,7 @@ impl Clients {
         hear_at(self.rows.as_mut_slice(), place, now)
     }
 
-    /// The place of the endpoint that was silent longest, if it is idle.
+    /// Returns the index of the client that has been silent longest, if it is idle.
     pub fn idle_place(&mut self, now: u64) -> Option<usize>
         ensures same { self.new ≡ self.old }
         ensures none { result ≡ None
@@ -206,8 +208,8 @@ impl Clients {
         place
     }
 
-    /// The place of the endpoint that was silent longest, if its face may close in favour of an
-    /// endpoint without a face.
+    /// Returns the index of the client that has been silent longest, if its face may close to make
+    /// room for an endpoint without a face.
     pub fn yielding_place(&self, now: u64) -> Option<usize>
         ensures none { result ≡ None
             → All (λ client. GivesWay self.now.idle now client → ⊥) self.now.rows }
@@ -219,7 +221,8 @@ impl Clients {
         self.silent_for(GIVE_WAY_MILLISECONDS, now)
     }
 
-    /// The place of the endpoint that was silent longest, if it was for at least this time.
+    /// Returns the index of the client that has been silent longest, if it has been silent for at
+    /// least `time` milliseconds.
     fn silent_for(&self, time: u64, now: u64) -> Option<usize>
         ensures none { result ≡ None
             → All (λ client. IsSilent time now client → ⊥) self.now.rows }
@@ -240,14 +243,14 @@ impl Clients {
     }
 }
 
-/// Whether at least this time has passed since the moment `heard`.
+/// Returns whether at least `time` milliseconds have passed between `heard` and `now`.
 fn is_silent(heard: u64, time: u64, now: u64) -> bool
     ensures { IsTrue result ↔ (heard + time ≤ now) }
 {
     heard <= now && now - heard >= time
 }
 
-/// The moment from which an endpoint is idle, if no datagram comes from it before.
+/// Returns the time at which a client becomes idle if no more datagrams arrive from it.
 fn end_of(idle: Option<u64>, heard: u64) -> u64
     ensures { IfSome idle (λ idle. result ≤ heard + idle) }
 {
@@ -257,7 +260,7 @@ fn end_of(idle: Option<u64>, heard: u64) -> u64
     }
 }
 
-/// Records a datagram from the endpoint at a place. Returns its face.
+/// Records a datagram from the client at index `place`. Returns the client's face.
 fn hear_at(clients: &mut [Client], place: usize, now: u64) -> u64
     requires { place < length clients.old }
     ensures { (client : Client) × (slice_get clients.old place ≡ Some client)
@@ -268,7 +271,7 @@ fn hear_at(clients: &mut [Client], place: usize, now: u64) -> u64
     clients[place].face
 }
 
-/// A moment before which no client has been silent for this time.
+/// Returns a time before which no client has been silent for `time` milliseconds.
 fn first_end(clients: &[Client], time: u64) -> u64
     ensures { All (λ client. result ≤ client.heard + time) clients.now }
 {
@@ -279,7 +282,7 @@ fn first_end(clients: &[Client], time: u64) -> u64
     first
 }
 
-/// The place of the endpoint that was silent longest, the first of several.
+/// Returns the index of the client that has been silent longest. If several have, the first index.
 fn silent_longest(clients: &[Client]) -> usize
     requires { 0 < length clients.now }
     ensures within { result < length clients.now }

@@ -8,13 +8,14 @@ use std::time::Duration;
 /// How long to wait for an answer, in seconds.
 pub const ANSWER_SECONDS: u64 = 4;
 
-/// Sends the octets in one datagram to this port of 127.0.0.1, from a new socket that receives from
-/// that port only.
+/// Sends the octets in one datagram to port `to` of 127.0.0.1. The new socket receives only from
+/// that port.
 pub fn send_one(rt: &impl Net, to: u16, octets: &[u8]) -> Result<UdpSocket, PortFault> {
     send_from(rt, 0, to, octets)
 }
 
-/// As `send_one`, with the socket bound to this port; for 0 the system chooses one.
+/// Sends the octets in one datagram from port `from` to port `to` of 127.0.0.1. The new socket
+/// receives only from port `to`. If `from` is 0, the system chooses a port.
 pub fn send_from(rt: &impl Net, from: u16, to: u16, octets: &[u8]) -> Result<UdpSocket, PortFault> {
     let Ok(socket) = UdpSocket::bind(rt, (Ipv4Addr::LOCALHOST, from)) else {
         return Err(PortFault::Failed);
@@ -28,8 +29,8 @@ pub fn send_from(rt: &impl Net, from: u16, to: u16, octets: &[u8]) -> Result<Udp
     }
 }
 
-/// Receives one datagram, and returns its length. A datagram longer than the buffer is cut to it.
-/// It fails if none arrives within `ANSWER_SECONDS`.
+/// Receives one datagram and returns its length in octets. A datagram longer than the buffer is
+/// truncated. Fails if no datagram arrives within `ANSWER_SECONDS`.
 pub fn receive_one(socket: &UdpSocket, buffer: &mut [u8]) -> Result<usize, PortFault>
     ensures { IfOk result (λ len. len ≤ length buffer.new) }
 {

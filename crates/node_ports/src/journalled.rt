@@ -11,8 +11,8 @@ use info_rules::Rules;
 use journal::{Coming, JournalFile, append_event};
 use std::alloc::Global;
 
-/// Ports with a journal in a file. They give and take what the underlying ports do; the line of a
-/// journalled event is in the file before any of its packets is sent.
+/// Ports with a journal in a file. They give and take the same as the underlying ports. The line of
+/// a journalled event is in the file before any of the event's packets is sent.
 #[derive(Drop)]
 pub struct JournalledPorts<P: Ports + Drop, F: JournalFile + Drop> {
     alloc: Global,
@@ -21,7 +21,7 @@ pub struct JournalledPorts<P: Ports + Drop, F: JournalFile + Drop> {
 }
 
 impl<P: Ports + Drop, F: JournalFile + Drop> JournalledPorts<P, F> {
-    /// These ports, with this file.
+    /// Returns the ports with the journal in `file`.
     pub fn new(alloc: Global, ports: P, file: F) -> JournalledPorts<P, F>
         ensures ports { result.ports ≡ ports }
         ensures file { result.file ≡ file }
@@ -29,14 +29,14 @@ impl<P: Ports + Drop, F: JournalFile + Drop> JournalledPorts<P, F> {
         JournalledPorts { alloc, ports, file }
     }
 
-    /// The underlying ports.
+    /// Returns the underlying ports.
     pub fn ports(&self) -> &P
         ensures { result.now ≡ self.now.ports }
     {
         &self.ports
     }
 
-    /// The file.
+    /// Returns the journal's file.
     pub fn file(&self) -> &F
         ensures { result.now ≡ self.now.file }
     {

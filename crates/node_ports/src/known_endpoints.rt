@@ -9,32 +9,33 @@ use crate::peers::Peers;
 use forwarder::MAX_FACES;
 use std::net::SocketAddr;
 
-/// What to do with a datagram.
+/// What to do with a datagram from an endpoint.
 #[derive(Clone, Copy)]
 pub enum Met {
-    /// Its endpoint has this face.
+    /// The endpoint has this face.
     Face(u64),
-    /// Its endpoint has no face. It is for this number: a face that opens for it, or, if 64
-    /// endpoints are known, one that no node opens.
+    /// The endpoint has no face. The datagram is given on the face with this number. The face is
+    /// opened for the endpoint, but if 64 endpoints are already known, no node opens it.
     Opening(u64),
-    /// This face closes first.
+    /// This face must close first.
     Closing(u64),
 }
 
-/// The endpoints of the peers, which have the faces from 1 on, and those whose faces were opened by
-/// their own datagrams. The number of a face that opened is not used again.
+/// The endpoints that have faces: the peers, which have the faces from 1 on, and the clients. The
+/// number of a face that was opened is not used again.
 #[derive(Drop)]
 pub struct KnownEndpoints {
     pub peers: Peers,
     pub clients: Clients,
-    /// The number of the face that opens next.
+    /// The number of the next face to open.
     pub next: u64,
-    /// The number for endpoints that get no face, if one was given out since a face opened.
+    /// The number for endpoints that get no face, if it was assigned after the last opening of a
+    /// face.
     pub refused: Option<u64>,
 }
 
 impl KnownEndpoints {
-    /// The endpoints of the peers, at most 64.
+    /// Returns the endpoints of the peers, at most 64, without clients.
     pub fn new(peers: &[SocketAddr]) -> KnownEndpoints
         requires { length peers.now ≤ MAX_FACES }
         ensures { result ≡ record {
@@ -52,7 +53,7 @@ impl KnownEndpoints {
         }
     }
 
-    /// The endpoint of a face.
+    /// Returns the endpoint of a face.
     pub fn endpoint_of(&self, face: u64) -> Option<SocketAddr>
         ensures { result ≡ endpoint_at self.now face }
     {
@@ -62,7 +63,7 @@ impl KnownEndpoints {
         }
     }
 
-    /// The endpoint of a peer's face.
+    /// Returns the endpoint of a peer's face.
     fn peer_of(&self, face: u64) -> Option<SocketAddr>
         ensures { result ≡ peer_at self.now.peers face }
     {
@@ -70,13 +71,14 @@ impl KnownEndpoints {
         self.peers.get(place)
     }
 
-    /// What to do with a datagram of this endpoint at this moment.
+    /// Decides what to do with a datagram from `endpoint` that arrives at `now`.
     pub fn meet(&mut self, endpoint: SocketAddr, now: u64) -> Met
         ensures { Meets self.old self.new endpoint now result }
     {
         if let Some(place) = self.clients.idle_place(now) {
             let face = self.clients.face_at(place);
-            // The datagram arrived in time, although it is handled after the closing.
+            // The datagram arrived before the endpoint became idle, although it is handled after
+            // the closing.
             self.clients.hear_in_time(endpoint, now);
             self.clients.remove(place);
             return Met::Closing(face);
@@ -97,7 +99,7 @@ impl KnownEndpoints {
         }
     }
 
-    /// The face of an endpoint, from which a datagram is recorded at this moment.
+    /// Returns the face of the endpoint, if it has one, and records a datagram from it at `now`.
     fn hear(&mut self, endpoint: SocketAddr, now: u64) -> Option<u64>
         ensures known { IfSome result (Knows self.old self.new endpoint now) }
         ensures none { result ≡ None → IsNewcomer self.old endpoint × (self.new ≡ self.old) }
@@ -108,7 +110,7 @@ impl KnownEndpoints {
         }
     }
 
-    /// Records a datagram from an endpoint at this moment, if it is a client.
+    /// Records a datagram from `endpoint` at `now`, if the endpoint is a client.
     pub fn hear_client(&mut self, endpoint: SocketAddr, now: u64)
         ensures { (rows : List Client) × MayHear self.old.clients.rows rows endpoint now
             × (self.new ≡ with_clients self.old rows) }
@@ -116,7 +118,7 @@ impl KnownEndpoints {
         let _face = self.clients.hear(endpoint, now);
     }
 
-    /// Opens the next face, for an endpoint without one.
+    /// Opens the next face for an endpoint without a face, and returns the number of the face.
     fn open(&mut self, endpoint: SocketAddr, now: u64) -> u64
         requires { length self.old.peers + length self.old.clients.rows < MAX_FACES }
         ensures { OpensNew self.old self.new endpoint now result }
@@ -132,7 +134,7 @@ impl KnownEndpoints {
         face
     }
 
-    /// The number for an endpoint that gets no face.
+    /// Returns the number for an endpoint that gets no face.
     fn refuse(&mut self) -> u64
         ensures { OpensNone self.old self.new result }
     {

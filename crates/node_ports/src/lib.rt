@@ -1,5 +1,5 @@
-//! Where a node's events come from and its packets go to: ports in memory, by UDP, and with a
-//! journal.
+//! Ports, from which a node gets its events and to which it sends its packets: in memory, over UDP,
+//! and with a journal.
 #![tactic(auto)]
 
 mod clients;

@@ -36,9 +36,9 @@ pub enum OwnedArrival {
     },
 }
 
-/// A port in memory: it gives the events of a list, and stores what is sent.
+/// Ports in memory. They give the events of a list and store the packets that are sent.
 ///
-/// A call that is told to fail does so once. A send that runs out of memory is a failed one.
+/// A call that is told to fail fails once. A send also fails if memory runs out.
 #[derive(Drop)]
 pub struct MemoryPorts {
     arrivals: VecDeque<OwnedArrival>,
@@ -64,7 +64,7 @@ impl Model for MemoryPorts {
 }
 
 impl MemoryPorts {
-    /// A port that gives these events and no others. No call is told to fail.
+    /// Returns ports that give only these events. No call is told to fail.
     pub fn new(alloc: Global, arrivals: Vec<OwnedArrival>) -> MemoryPorts
         ensures { result ≡ record {
           events = map plain_arrival arrivals.items;
@@ -83,28 +83,30 @@ impl MemoryPorts {
         }
     }
 
-    /// Tells the `k`th `next` from now on, counted from 1, to fail, or none if `k` is 0.
+    /// Tells the `k`th call of `next` from now on, counted from 1, to fail. If `k` is 0, none
+    /// fails.
     pub fn fail_next(&mut self, k: u64)
         ensures { self.new ≡ record self.old { next_told = k } }
     {
         self.next_told = k;
     }
 
-    /// Tells the `k`th `send` from now on, counted from 1, to fail, or none if `k` is 0.
+    /// Tells the `k`th call of `send` from now on, counted from 1, to fail. If `k` is 0, none is
+    /// told to fail.
     pub fn fail_send(&mut self, k: u64)
         ensures { self.new ≡ record self.old { send_told = k } }
     {
         self.send_told = k;
     }
 
-    /// What was sent, without the sends that failed.
+    /// Returns the packets that were sent, without the sends that failed.
     pub fn sent(&self) -> &Outbox
         ensures { result.now ≡ self.now.sent }
     {
         &self.taken
     }
 
-    // Counts a failure.
+    // Counts a failed call.
     fn fail(&mut self) -> PortFault
         ensures { self.new ≡ record self.old { failed = one_more self.old.failed } }
     {
@@ -130,7 +132,7 @@ impl Ports for MemoryPorts {
         ensures works { OnOk result (self.new.failed ≡ self.old.failed) }
         ensures failed { OnErr result ((Some self.new.events ≡ Some self.old.events)
             × (self.new.failed ≡ one_more self.old.failed)) }
-        // It fails exactly when it is told to.
+        // The call fails if and only if it is told to.
         ensures told { IsErr result ↔ (self.old.next_told ≡ 1) }
         ensures nearer { self.new.next_told ≡ self.old.next_told - 1 }
         ensures send_told { self.new.send_told ≡ self.old.send_told }
@@ -148,7 +150,7 @@ impl Ports for MemoryPorts {
         false
     }
 
-    // It has no journal.
+    // These ports have no journal.
     fn commit(
         &mut self,
         _event: &Coming<'_>,
@@ -165,7 +167,7 @@ impl Ports for MemoryPorts {
         ensures works { OnOk result (self.new.failed ≡ self.old.failed) }
         ensures failed { OnErr result ((Some self.new.sent ≡ Some self.old.sent)
             × (self.new.failed ≡ one_more self.old.failed)) }
-        // It fails when it is told to, and otherwise only when memory runs out.
+        // The call fails if it is told to, and otherwise only if memory runs out.
         ensures told { self.old.send_told ≡ 1 → IsErr result }
         ensures nearer { self.new.send_told ≡ self.old.send_told - 1 }
         ensures next_told { self.new.next_told ≡ self.old.next_told }
@@ -184,7 +186,7 @@ impl Ports for MemoryPorts {
     }
 }
 
-// Whether this call is the one that is told to fail. Each call brings it one nearer.
+// Returns whether this call is the one that is told to fail, and counts down to that call.
 fn is_told(told: &mut u64) -> bool
     ensures now { IsTrue result ↔ (told.old ≡ 1) }
     ensures nearer { told.new ≡ told.old - 1 }
@@ -194,7 +196,7 @@ fn is_told(told: &mut u64) -> bool
     now
 }
 
-// Gives an event, and puts the octets of a packet, as many as fit, at the front of the buffer.
+// Gives an event. Copies the octets of a packet, as many as fit, to the start of the buffer.
 fn put_event(event: OwnedArrival, buffer: &mut [u8]) -> Arrival
     ensures fits { LiesWithin (length buffer.new) result }
     ensures event { arrived result buffer.new

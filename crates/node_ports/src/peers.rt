@@ -6,8 +6,8 @@ use forwarder::MAX_FACES;
 use std::marker::Model;
 use std::net::{Ipv4Addr, SocketAddr, SocketAddrV4};
 
-/// At most 64 endpoints, as many as a node has faces, in the order of their faces, which never
-/// close.
+/// The endpoints of the peers, in the order of their faces. There are at most 64, since a node has
+/// at most 64 faces. These faces never close.
 #[derive(Drop)]
 pub struct Peers {
     endpoints: [SocketAddr; MAX_FACES],
@@ -27,7 +27,7 @@ impl Model for Peers {
 }
 
 impl Peers {
-    /// These endpoints, at most 64.
+    /// Returns these endpoints, at most 64.
     pub fn new(endpoints: &[SocketAddr]) -> Peers
         requires { length endpoints.now ≤ MAX_FACES }
         ensures { result ≡ endpoints.now }
@@ -40,7 +40,7 @@ impl Peers {
         }
     }
 
-    /// The number of endpoints.
+    /// Returns the number of endpoints.
     pub fn len(&self) -> usize
         ensures exact { result ≡ length self.now }
         ensures small { result ≤ MAX_FACES }
@@ -55,14 +55,14 @@ impl Peers {
         &self.endpoints[..self.len]
     }
 
-    /// The endpoint at a place, counted from 0.
+    /// Returns the endpoint at index `i`.
     pub fn get(&self, i: usize) -> Option<SocketAddr>
         ensures { result ≡ slice_get self.now i }
     {
         self.as_slice().get(i).copied()
     }
 
-    /// The first place of an endpoint, counted from 0.
+    /// Returns the index of the first endpoint that equals `endpoint`.
     pub fn place_of(&self, endpoint: SocketAddr) -> Option<usize>
         ensures first { result ≡ position (is_at endpoint) self.now }
         ensures small { IfSome result (λ place. place < MAX_FACES) }
@@ -71,7 +71,7 @@ impl Peers {
     }
 }
 
-/// Fills a place without an endpoint.
+/// Returns a placeholder for an unused array element.
 pub fn nowhere() -> SocketAddr {
     SocketAddr::V4(SocketAddrV4::new(Ipv4Addr::UNSPECIFIED, 0))
 }

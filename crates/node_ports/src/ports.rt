@@ -12,16 +12,16 @@ use journal::Coming;
 use ndn_packets::MAX_FRAME;
 use thiserror::Error;
 
-/// How many octets of a packet or datagram are read: one more than a node accepts, so that the node
-/// drops a longer packet as too long.
+/// The number of octets that are read of a packet or datagram: one more than a node accepts, so
+/// that the node drops a longer packet as too long.
 pub const FRAME_ROOM: usize = MAX_FRAME + 1;
 
-/// Law: this is one octet more than the 9,000 of the longest packet that a node accepts.
+/// Law: a buffer has room for 9,001 octets, one more than the longest packet that a node accepts.
 pub fn frame_room_is_as_promised()
     ensures { FRAME_ROOM ≡ 9001 }
 {}
 
-/// What a port gives for one turn. Moments are milliseconds since 1970.
+/// What a port gives in one turn. Times are in milliseconds since 1970.
 #[derive(Drop)]
 pub enum Arrival {
     /// Nothing more will come.
@@ -34,7 +34,7 @@ pub enum Arrival {
     FaceDown { face: u64, now: u64 },
     /// Time passed.
     Tick { now: u64 },
-    /// These rules and keys replace those in force, for what arrives after them.
+    /// These rules and keys replace those in force. They apply to what arrives later.
     NewRules { renewal: Renewal, now: u64 },
 }
 
@@ -45,23 +45,23 @@ pub enum PortFault {
     Failed,
 }
 
-/// Where arrivals come from and packets are sent. A port counts its failed calls: a `next` or
-/// `send` fails only if the count rises, or is the greatest u64.
+/// A source of arrivals that also sends packets. A port counts its failed calls: whenever `next` or
+/// `send` fails, the count increases, unless it is the greatest u64.
 pub trait Ports {
-    // The number of failed calls, up to the greatest u64.
+    // The number of failed calls, at most the greatest u64.
     ghost failures: { Self → ℕ };
 
-    // The events still to come, if the port knows them.
+    // The events that are still to come, if they are known.
     ghost coming: { Self → Option (List PlainEvent) };
 
-    // The packets that were taken, if the port stores them.
+    // The packets that the port has taken for sending, if it stores them.
     ghost taken: { Self → Option (List Send) };
 
-    // The octets of the journal that survive a crash, if the port has one and knows them.
+    // The octets of the journal that survive a crash, if the port has a journal and they are known.
     ghost journal: { Self → Option (List ℕ) };
 
-    /// Gives the next arrival, and the octets of a packet at the front of the buffer. A longer
-    /// packet is cut to the buffer.
+    /// Gives the next arrival. Copies the octets of a packet to the start of the buffer. A packet
+    /// longer than the buffer is truncated.
     fn next(&mut self, buffer: &mut [u8]) -> Result<Arrival, PortFault>
         ensures fits { IfOk result (LiesWithin (length buffer.new)) }
         ensures gives { IfOk result (λ arrival. Gives (coming self.old) (coming self.new)
@@ -69,12 +69,13 @@ pub trait Ports {
         ensures takes_none { taken self.new ≡ taken self.old }
         ensures journals_none { journal self.new ≡ journal self.old }
         ensures works { OnOk result (failures self.new ≡ failures self.old) }
-        // A failed call gives nothing, and is counted.
+        // A failed call gives no arrival and is counted.
         ensures failed { OnErr result ((coming self.new ≡ coming self.old)
             × (failures self.new ≡ one_more (failures self.old))) };
 
-    /// As `next`, if something arrives at once or within some milliseconds; otherwise nothing is
-    /// given. A port that cannot wait for so short a time may return none.
+    /// Gives the next arrival like `next`, but only if one arrives at once or within some
+    /// milliseconds. Otherwise returns `None`. A port that cannot wait for so short a time may
+    /// always return `None`.
     fn next_soon(&mut self, _buffer: &mut [u8]) -> Option<Arrival>
         ensures fits { IfSome result (LiesWithin (length _buffer.new)) }
         ensures gives { IfSome result (λ arrival. Gives (coming self.old) (coming self.new)
@@ -87,13 +88,13 @@ pub trait Ports {
         None
     }
 
-    /// Whether the port has a journal.
+    /// Returns whether the port has a journal.
     fn keeps_journal(&self) -> bool
         ensures { result ≡ false → journal self.now ≡ None };
 
-    /// Is called with each event that was answered and its verdict, before its packets are sent. A
-    /// port with a journal appends the event's line at the greatest moment so far, if the event is
-    /// journalled, and returns when the line survives a crash.
+    /// Is called for each answered event with its verdict, before the event's packets are sent. If
+    /// the event is journalled, a port with a journal appends the event's line with `time`, the
+    /// latest time so far, and returns when the line survives a crash.
     fn commit(&mut self, event: &Coming<'_>, time: u64, verdict: &Verdict) -> Result<(), PortFault>
         ensures done { OnOk result (Journals (journal self.old) (journal self.new) time
             event.now (verdict_of verdict.now)) }
@@ -110,13 +111,13 @@ pub trait Ports {
         ensures gives_none { coming self.new ≡ coming self.old }
         ensures journals_none { journal self.new ≡ journal self.old }
         ensures works { OnOk result (failures self.new ≡ failures self.old) }
-        // A failed call takes nothing, and is counted.
+        // A failed call takes no packet and is counted.
         ensures failed { OnErr result ((taken self.new ≡ taken self.old)
             × (failures self.new ≡ one_more (failures self.old))) };
 
-    /// Is called with the result of the last arrival, after its packets were sent. The arrival's
-    /// octets begin the buffer, and the rules are those in force then. A port with a log writes it
-    /// there; nothing else changes.
+    /// Is called with the result of the last arrival, after its packets were sent. `_octets` begins
+    /// with the arrival's octets, and `_rules` are the rules in force then. A port with a log
+    /// writes the result to the log. Nothing else changes.
     fn note(&mut self, _turn: &Turn, _octets: &[u8], _rules: &Rules)
         ensures gives_none { coming self.new ≡ coming self.old }
         ensures takes_none { taken self.new ≡ taken self.old }
@@ -124,12 +125,12 @@ pub trait Ports {
         ensures works { failures self.new ≡ failures self.old }
     {}
 
-    /// The number of failed calls. The count stops at the greatest u64.
+    /// Returns the number of failed calls, at most the greatest u64.
     fn failures(&self) -> u64
         ensures { result ≡ failures self.now };
 }
 
-// Copies as many octets as fit to the front of the buffer, and returns their number.
+// Copies as many octets as fit to the start of the buffer, and returns their number.
 pub fn put_front(octets: &[u8], buffer: &mut [u8]) -> usize
     ensures len { result ≡ min (length octets.now) (length buffer.new) }
     ensures front { take result buffer.new ≡ take (length buffer.new) octets.now }

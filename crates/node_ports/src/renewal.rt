@@ -37,7 +37,7 @@ impl Model for Renewal {
 }
 
 impl Renewal {
-    /// Rules and keys that were read from these octets.
+    /// Returns the rules and keys with the octets that they were read from.
     pub fn new(rules: Rules, keys: KeyBook, files: FileOctets) -> Renewal
         requires { AreOfFiles rules keys files.rules.items files.keys.items }
         ensures { result ≡ record {
@@ -50,12 +50,12 @@ impl Renewal {
         Renewal { rules, keys, files }
     }
 
-    /// The number of octets of both files.
+    /// Returns the total number of octets of both files.
     pub fn octets_len(&self) -> usize {
         self.files.rules.len().saturating_add(self.files.keys.len())
     }
 
-    /// The rules, the keys, and the octets of their files.
+    /// Returns the rules, the keys, and the octets of their files.
     pub fn into_parts(self) -> (Rules, KeyBook, FileOctets)
         ensures exact { self ≡ record {
           rules = result.0;

@@ -12,21 +12,21 @@ use journal::{Coming, Entry};
 use std::alloc::Global;
 use thiserror::Error;
 
-/// What one turn did.
+/// The result of one turn.
 #[derive(Clone, Copy, Debug, PartialEq, Eq)]
 pub enum Turn {
     /// An event was answered. `failed` is the number of its sends that failed.
     Done { verdict: Verdict, failed: u64 },
-    /// A step ran out of memory, and its event counts as not having arrived.
+    /// Memory ran out for a step. Its event counts as not having arrived.
     Refused,
-    /// An event was answered, but could not be journalled. None of its packets is sent, and the
-    /// node has to end.
+    /// An event was answered but could not be journalled. None of its packets is sent, and the node
+    /// must stop.
     Unwritten,
     /// Nothing more will come.
     End,
 }
 
-/// Why a port was not served for all its turns.
+/// Why serving a port stopped before the last turn.
 #[derive(Clone, Copy, Debug, PartialEq, Eq, Error)]
 pub enum ServeFault {
     /// The port failed to give the next arrival, after this number of events.
@@ -37,26 +37,26 @@ pub enum ServeFault {
     Journal { after: u64 },
 }
 
-/// What was done in some turns.
+/// The result of several turns.
 #[derive(Clone, Copy, Debug, PartialEq, Eq)]
 pub struct Served {
     /// The number of events.
     pub events: u64,
-    /// The number of events for which a step ran out of memory.
+    /// The number of events for which memory ran out.
     pub refused: u64,
-    /// The number of failed sends, up to the greatest u64.
+    /// The number of failed sends, at most the greatest u64.
     pub failed_sends: u64,
-    /// Whether the port ended before the last turn.
+    /// Whether the port reached its end before the last turn.
     pub ended: bool,
 }
 
-/// Lets a node handle what a port gives, one arrival in each turn, for this number of turns or
-/// until the port ends.
+/// Lets a node handle the arrivals of a port, one in each turn, for `turns` turns or until the port
+/// ends.
 ///
-/// A failed send is counted, and does not prevent the others. An event for which a step runs out of
-/// memory is counted, and counts as not having arrived. Of a packet of more than 9,001 octets the
-/// first 9,001 are read, and the node drops it as too long. If the port fails to give the next
-/// arrival, the events before it remain handled.
+/// A failed send is counted and does not prevent other sends. An event for which memory runs out is
+/// counted and otherwise treated as if it had not arrived. Only the first 9,001 octets of a longer
+/// packet are read, and the node drops the packet as too long. If the port fails to give the next
+/// arrival, all earlier events remain handled.
 pub fn serve<P: Ports>(
     alloc: Global,
     node: &mut Node,
@@ -115,8 +115,9 @@ pub fn serve<P: Ports>(
 
 /// Lets a node handle the next arrival of a port.
 ///
-/// On `Done` the outbox has exactly the event's sends, failed ones included; otherwise it is empty.
-/// The fault is `Next` after 0 events, and the node is then unchanged.
+/// If the result is `Done`, the outbox contains exactly the event's sends, including those that
+/// failed. Otherwise it is empty. The only fault is `Next` after 0 events, and then the node is
+/// unchanged.
 pub fn serve_turn<P: Ports>(
     node: &mut Node,
     ports: &mut P,
@@ -138,8 +139,8 @@ pub fn serve_turn<P: Ports>(
     serve_turn_in(node, ports, &mut [0; FRAME_ROOM], outbox)
 }
 
-/// As `serve_turn`, with a buffer of the caller, so that many turns need only one. Its content
-/// before has no effect.
+/// Does the same as `serve_turn` with a buffer of the caller, so that many turns can use one
+/// buffer. The initial content of the buffer has no effect.
 pub fn serve_turn_in<P: Ports>(
     node: &mut Node,
     ports: &mut P,
@@ -166,8 +167,8 @@ pub fn serve_turn_in<P: Ports>(
     Ok(handle(node, ports, arrival, buffer, outbox))
 }
 
-/// As `serve_turn_in`, if the port gives something soon; otherwise the node and what the port shows
-/// are unchanged, and the outbox is empty.
+/// Does the same as `serve_turn_in` if the port gives an arrival soon. Otherwise the node and the
+/// visible state of the port are unchanged, and the outbox is empty.
 pub fn serve_turn_soon<P: Ports>(
     node: &mut Node,
     ports: &mut P,
@@ -191,7 +192,7 @@ pub fn serve_turn_soon<P: Ports>(
     Some(handle(node, ports, arrival, buffer, outbox))
 }
 
-// Lets a node handle what a port gave, and notes the result in the port.
+// Lets a node handle an arrival, and passes the result to the port's `note`.
 fn handle<P: Ports>(
     node: &mut Node,
     ports: &mut P,
@@ -213,7 +214,7 @@ fn handle<P: Ports>(
     turn
 }
 
-// Lets a node answer what a port gave.
+// Lets a node answer an arrival.
 fn answer<P: Ports>(
     node: &mut Node,
     ports: &mut P,
@@ -265,7 +266,8 @@ fn answer<P: Ports>(
     }
 }
 
-// Lets a node answer an event, and commits it to the port's journal before anything is sent.
+// Lets a node answer an event, and commits the event to the port's journal before its packets are
+// sent.
 fn handle_event<P: Ports>(
     node: &mut Node,
     ports: &mut P,
@@ -302,7 +304,8 @@ fn handle_event<P: Ports>(
     }
 }
 
-// Whether an event brings a Data that the repository wants. Without a journal nobody has to know.
+// Returns whether the event brings a Data that the repository wants. Without a journal the result
+// does not matter.
 fn is_wanted<P: Ports>(node: &Node, ports: &P, event: &Event<'_>) -> bool
     ensures { (text : List ℕ) → P.journal ports.now ≡ Some text
         → result ≡ brings_wanted (at_moment node.now.policy (moment (plain event.now)))
@@ -314,7 +317,7 @@ fn is_wanted<P: Ports>(node: &Node, ports: &P, event: &Event<'_>) -> bool
     node.wants(event)
 }
 
-// Sends the packets of the outbox, and counts the sends that failed.
+// Sends the packets of the outbox, and returns the number of failed sends.
 fn send_all<P: Ports>(ports: &mut P, outbox: &Outbox) -> u64
     ensures sent { (taken : List Send) × AreSendsTaken outbox.now result taken
         × Takes (P.taken ports.old) (P.taken ports.new) taken }

@@ -1,4 +1,4 @@
-//! Ports by UDP.
+//! Ports over UDP.
 ghost use Rattle.std.specs.Prelude.{◌≡◌, ◌<◌, ◌≤◌, ◌↔◌, ℕ, List, None, Some, true, false, length, take, IfOk, IfSome, IsTrue, OnOk, OnErr};
 ghost use Rattle.std.specs.Option.{option_or};
 ghost use Rattle.std.specs.declared.net.socket_addr.SocketAddr.{SocketAddr};
@@ -20,44 +20,45 @@ pub const SOON_MILLISECONDS: u64 = 1;
 
 /// A clock.
 pub trait Moments: Drop {
-    // The last moment that was returned.
+    // The last time that `now` returned.
     ghost last: { Self → ℕ };
 
-    /// The present moment, in milliseconds since 1970.
+    /// Returns the present time in milliseconds since 1970.
     fn now(&mut self) -> u64
         ensures { result ≡ last self.new };
 }
 
-/// Ports by one UDP socket, with a face for each known endpoint.
+/// Ports over one UDP socket, with a face for each known endpoint.
 ///
 /// The peers' endpoints have the faces 1, 2 and so on. Each of these faces is opened in a turn of
-/// its own before anything is received. For an unknown endpoint a Far face with the next number is
-/// opened before its first packet. While 64 endpoints are known, the opening and the packet are for
-/// the next number, 65 if no face has closed, and the endpoint is not stored: a node with 64 faces
-/// does not open it. The number of a face that opened is not used again. The ports never end.
+/// its own before any datagram is received. For an unknown endpoint, a Far face with the next
+/// number is opened before the endpoint's first packet is given. While 64 endpoints are known, the
+/// endpoint is not stored, and the opening and the packet are given with the next number, which is
+/// 65 if no face has closed. A node with 64 faces does not open it. The number of a face that was
+/// opened is not used again. The ports never end.
 ///
 /// After `close_after`, idle faces close. A peer's face never closes. After `ignore_strangers`,
-/// only datagrams of peers are accepted.
+/// only datagrams from peers are accepted.
 #[derive(Drop)]
 pub struct UdpPorts<M: Moments> {
     socket: UdpSocket,
     moments: M,
     known: KnownEndpoints,
-    // The number of peers' faces that were opened.
+    // The number of peers' faces that are already opened.
     opened: usize,
     local: u64,
     // The datagram that waits for the next turn. Its octets are in `octets`.
     waiting: Option<Waiting>,
     octets: [u8; FRAME_ROOM],
     len: usize,
-    // Whether receiving ends after a short time. If not, it waits until something arrives.
+    // Whether receiving ends after a short time. If not, receiving waits until a datagram arrives.
     is_brief: bool,
     accepts_strangers: bool,
     strangers: u64,
     failures: u64,
 }
 
-/// The endpoint of a waiting datagram, and the face that it is for, if that is decided.
+/// The endpoint of the waiting datagram, and the face that the datagram is for, if that is decided.
 #[derive(Clone, Copy)]
 struct Waiting {
     endpoint: SocketAddr,
@@ -91,7 +92,8 @@ impl<M: Moments> Model for UdpPorts<M> {
 }
 
 impl<M: Moments> UdpPorts<M> {
-    /// As `bind_at`, on this port of 127.0.0.1, with ports of 127.0.0.1 as peers.
+    /// Binds port `listen` of 127.0.0.1. The peers are ports of 127.0.0.1. Otherwise the same as
+    /// `bind_at`.
     pub fn bind(
         rt: &impl Net,
         listen: u16,
@@ -110,11 +112,12 @@ impl<M: Moments> UdpPorts<M> {
         UdpPorts::bind_at(rt, localhost(listen), endpoints, local, moments)
     }
 
-    /// Ports whose peers' faces are still to be opened: the first `local` are Local, the others
-    /// Far. It uses one socket and no heap memory. There are at most 64 peers, of the family of the
-    /// bound address. If an endpoint is named twice, only its first face gets its datagrams. No
-    /// face closes, and strangers are accepted. A Local peer may send commands, so it should have a
-    /// loopback address. The fault means that the endpoint cannot be bound.
+    /// Binds the endpoint `listen`. The peers' faces are opened in the first turns: the first
+    /// `local` faces are Local, the others Far. One socket and no heap memory are used. There are
+    /// at most 64 peers, all of the address family of `listen`. If an endpoint is given twice, only
+    /// its first face gets its datagrams. No face closes, and strangers are accepted. A Local peer
+    /// may send commands, so it should have a loopback address. Fails if the endpoint cannot be
+    /// bound.
     pub fn bind_at(
         rt: &impl Net,
         listen: SocketAddr,
@@ -144,33 +147,36 @@ impl<M: Moments> UdpPorts<M> {
         })
     }
 
-    /// From now on, a face that is not a peer's closes if nothing arrived on it for `idle`
-    /// milliseconds. While 64 endpoints are known and an unknown one sends, the face that was
-    /// silent longest closes, if that was for at least 10,000 milliseconds.
+    /// From now on, a client's face closes if nothing has arrived on it for `idle` milliseconds. If
+    /// a datagram arrives from an unknown endpoint while 64 endpoints are known, the client's face
+    /// that has been silent longest closes, provided that it has been silent for at least 10,000
+    /// milliseconds.
     ///
-    /// Faces close, one in each turn, when a datagram of any endpoint has arrived, before it is
-    /// handled. A datagram whose own face was opened in the turn before is handled first.
+    /// A face closes when a datagram from any endpoint has arrived, before that datagram is
+    /// handled. At most one face closes in each turn. A datagram for which a face was opened in the
+    /// turn before is handled first.
     pub fn close_after(&mut self, idle: u64)
         ensures { self.new ≡ closes_after idle self.old }
     {
         self.known.clients.close_after(idle);
     }
 
-    /// From now on, a datagram of an endpoint that is not a peer is dropped unread and counted.
+    /// From now on, a datagram from an endpoint that is not a peer is dropped unread and counted.
     pub fn ignore_strangers(&mut self)
         ensures { self.new ≡ record self.old { accepts_strangers = false } }
     {
         self.accepts_strangers = false;
     }
 
-    /// The number of datagrams dropped by `ignore_strangers`. The count stops at the greatest u64.
+    /// Returns the number of datagrams that `ignore_strangers` dropped, at most the greatest u64.
     pub fn strangers(&self) -> u64
         ensures { result ≡ self.now.strangers }
     {
         self.strangers
     }
 
-    /// The endpoint of a face, or of the datagram that waits for a face with this number.
+    /// Returns the endpoint of a face, or the endpoint of the datagram that waits for a face with
+    /// this number.
     pub fn endpoint_of(&self, face: u64) -> Option<SocketAddr>
         ensures { result ≡ option_or (endpoint_at self.now.known face)
             (waiting_at face self.now.waiting) }
@@ -181,7 +187,7 @@ impl<M: Moments> UdpPorts<M> {
         }
     }
 
-    /// The endpoint of the datagram that waits for this face.
+    /// Returns the endpoint of the waiting datagram, if it waits for this face.
     fn waiting_at(&self, face: u64) -> Option<SocketAddr>
         ensures { result ≡ waiting_at face self.now.waiting }
     {
@@ -192,14 +198,14 @@ impl<M: Moments> UdpPorts<M> {
         None
     }
 
-    /// Whether a datagram of this endpoint is accepted.
+    /// Returns whether datagrams from this endpoint are accepted.
     fn accepts(&self, endpoint: SocketAddr) -> bool
         ensures { IsTrue result ↔ IsAccepted self.now endpoint }
     {
         self.accepts_strangers || self.known.peers.place_of(endpoint).is_some()
     }
 
-    /// Counts a datagram of a stranger.
+    /// Counts a dropped datagram from a stranger.
     fn count_stranger(&mut self)
         ensures counted { self.new
             ≡ record self.old { strangers = one_more self.old.strangers } }
@@ -208,7 +214,7 @@ impl<M: Moments> UdpPorts<M> {
         self.strangers = self.strangers.saturating_add(1);
     }
 
-    /// Counts a failure.
+    /// Counts a failed call.
     fn fail(&mut self) -> PortFault
         ensures { self.new ≡ record self.old { failures = one_more self.old.failures } }
     {
@@ -216,15 +222,15 @@ impl<M: Moments> UdpPorts<M> {
         PortFault::Failed
     }
 
-    /// The present moment.
+    /// Returns the present time.
     fn now(&mut self) -> u64
         ensures { self.new ≡ record self.old { told = result } }
     {
         self.moments.now()
     }
 
-    /// Gives the datagram that waits for this face, at the front of the buffer. Octets that do not
-    /// fit are cut off.
+    /// Gives the waiting datagram on its face. Copies its octets to the start of the buffer; octets
+    /// that do not fit are dropped.
     fn give_waiting(&mut self, endpoint: SocketAddr, face: u64, buffer: &mut [u8]) -> Arrival
         requires opened { HasOpened self.old }
         requires waiting { (octets : List ℕ) × (self.old.waiting
@@ -239,7 +245,7 @@ impl<M: Moments> UdpPorts<M> {
         Arrival::Packet { face, now, len }
     }
 
-    /// Handles the datagram that waits while faces close.
+    /// Continues with the datagram that waited while a face closed.
     fn go_on(&mut self, endpoint: SocketAddr, buffer: &mut [u8]) -> Arrival
         requires opened { HasOpened self.old }
         requires waiting { (octets : List ℕ) × (self.old.waiting
@@ -265,7 +271,7 @@ impl<M: Moments> UdpPorts<M> {
         }
     }
 
-    /// Stores a datagram of this endpoint for the next turn.
+    /// Stores a datagram from this endpoint for the next turn.
     fn keep(&mut self, endpoint: SocketAddr, face: Option<u64>, datagram: &[u8])
         ensures { self.new
             ≡ record self.old { waiting = Some (kept endpoint face datagram.now) } }
@@ -274,7 +280,7 @@ impl<M: Moments> UdpPorts<M> {
         self.waiting = Some(Waiting { endpoint, face });
     }
 
-    /// Opens the face of the first peer without one.
+    /// Opens the face of the first peer that has no face yet.
     fn open(&mut self) -> Arrival
         requires { self.old.opened < length self.old.known.peers }
         ensures { OpensPeer self.old self.new result }
@@ -294,8 +300,8 @@ impl<M: Moments> UdpPorts<M> {
         }
     }
 
-    /// The arrival for a datagram of this endpoint, which is the first `len` octets of the buffer.
-    /// No datagram waits.
+    /// Returns the arrival for a datagram from this endpoint. The datagram is the first `len`
+    /// octets of the buffer. Precondition: no other datagram waits.
     fn arrive(&mut self, endpoint: SocketAddr, len: usize, buffer: &[u8]) -> Arrival
         requires listens { Listens self.old }
         requires fits { len ≤ length buffer.now }
@@ -316,7 +322,8 @@ impl<M: Moments> UdpPorts<M> {
         }
     }
 
-    /// Sets whether receiving ends after `SOON_MILLISECONDS`. Returns false if the system refuses.
+    /// Sets whether receiving ends after `SOON_MILLISECONDS`. Returns `false` if the system
+    /// refuses.
     fn set_brief(&mut self, is_brief: bool) -> bool
         ensures { self.new ≡ self.old }
     {
@@ -335,9 +342,10 @@ impl<M: Moments> UdpPorts<M> {
         true
     }
 
-    /// Receives a datagram, while none waits. Returns none if the socket gives none. A datagram of
-    /// an endpoint that is not accepted is counted; then the next one is received, or, if receiving
-    /// is brief, none is returned.
+    /// Receives a datagram and returns its arrival, or `None` if the socket gives no datagram. A
+    /// datagram from an endpoint that is not accepted is counted. Then, if `is_brief` is set,
+    /// `None` is returned; otherwise the next datagram is received. Precondition: no datagram
+    /// waits.
     fn receive(&mut self, buffer: &mut [u8], is_brief: bool) -> Option<Arrival>
         requires { Listens self.old }
         ensures fits { IfSome result (LiesWithin (length buffer.new)) }
@@ -361,14 +369,16 @@ impl<M: Moments> UdpPorts<M> {
         None
     }
 
-    /// Receives a datagram into the front of the buffer. Returns its length there and its endpoint.
+    /// Receives a datagram into the start of the buffer. Returns its length in octets and its
+    /// endpoint.
     fn receive_one(&self, buffer: &mut [u8]) -> Option<(usize, SocketAddr)>
         ensures { IfSome result (λ received. received.0 ≤ length buffer.new) }
     {
         self.socket.recv_from(buffer).ok()
     }
 
-    /// The next arrival: a peer's face that opens, a waiting datagram, or a datagram received now.
+    /// Returns the next arrival: the opening of a peer's face, a waiting datagram, or a datagram
+    /// that is received now.
     fn take(&mut self, buffer: &mut [u8], is_brief: bool) -> Option<Arrival>
         ensures fits { IfSome result (LiesWithin (length buffer.new)) }
         ensures gives { IfSome result (UdpGives self.old self.new buffer.new) }
@@ -391,7 +401,7 @@ impl<M: Moments> UdpPorts<M> {
 impl<M: Moments> Ports for UdpPorts<M> {
     ghost failures = { λ u. u.failures };
 
-    // What arrives, and what was taken, is not known.
+    // The events to come and the packets that were taken are not known.
     ghost coming = { λ u. None };
 
     ghost taken = { λ u. None };
@@ -423,7 +433,7 @@ impl<M: Moments> Ports for UdpPorts<M> {
         false
     }
 
-    // It has no journal.
+    // These ports have no journal.
     fn commit(
         &mut self,
         _event: &Coming<'_>,
@@ -454,7 +464,7 @@ impl<M: Moments> Ports for UdpPorts<M> {
     }
 }
 
-/// The opening of a face for an endpoint that is not a peer.
+/// Returns the opening of a Far face, for an endpoint that is not a peer.
 fn far_face(face: u64, now: u64) -> Arrival
     ensures { result ≡ Arrival.FaceUp face Scope.Far now }
 {
@@ -465,14 +475,15 @@ fn far_face(face: u64, now: u64) -> Arrival
     }
 }
 
-/// This port of 127.0.0.1.
+/// Returns port `port` of 127.0.0.1.
 fn localhost(port: u16) -> SocketAddr
     ensures { IsLocalhostAt port result }
 {
     SocketAddr::V4(SocketAddrV4::new(Ipv4Addr::LOCALHOST, port))
 }
 
-/// Sets the endpoints to these ports of 127.0.0.1. There are as many endpoints as ports.
+/// Sets the endpoints to these ports of 127.0.0.1. Precondition: there are as many endpoints as
+/// ports.
 fn put_localhost(ports: &[u16], endpoints: &mut [SocketAddr])
     requires { length endpoints.old ≡ length ports.now }
     ensures { AreLocalhostAt ports.now endpoints.new }

@@ -1,11 +1,11 @@
-//! Data that tests of several crates write and look at.
+//! Data that the tests of several crates write and read.
 
 use crate::rows::octets;
 use ndn_names::{Name, NameBuf};
 use ndn_packets::{DataWriter, Frame, Sign, read_frame};
 use std::alloc::Global;
 
-/// A Data of a URI and a Content in hexadecimal, signed by its digest.
+/// Returns a Data with this URI and a Content given in hexadecimal, signed with DigestSha256.
 pub fn data_of(alloc: Global, uri: &str, content: &str, freshness: Option<u64>) -> Option<Vec<u8>> {
     let name = NameBuf::from_uri(alloc, uri).ok()?;
     written_data(alloc, name.view(), &octets(alloc, content)?, freshness)
@@ -29,7 +29,7 @@ fn written_data<'a>(
     Some(out)
 }
 
-/// The Content of a Data, or `none` for no Data.
+/// Shows the Content of a Data, or `none` if there is no Data.
 pub fn content_shown(alloc: Global, packet: Option<&[u8]>) -> Option<String> {
     let Some(packet) = packet else {
         return String::from_str(alloc, "none").ok();
@@ -40,7 +40,7 @@ pub fn content_shown(alloc: Global, packet: Option<&[u8]>) -> Option<String> {
     }
 }
 
-/// The implicit digest of a Data.
+/// Returns the implicit digest of a Data.
 pub fn digest_of(packet: &[u8]) -> Option<[u8; 32]> {
     match read_frame(packet).ok()? {
         Frame::Data(data) => Some(data.digest()),

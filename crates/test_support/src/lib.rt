@@ -1,4 +1,4 @@
-//! What the tests of several crates share: rows of text, Data, and the sample rules and keys.
+//! What the tests of several crates share: rows of text, Data, and sample rules and keys.
 #![tactic(auto)]
 
 mod data;

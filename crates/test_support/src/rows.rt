@@ -1,8 +1,8 @@
-//! Tests as rows of a text, of which each is a case. Lines that begin with `#` are comments.
+//! Tests as rows of a text, where each row is a test case. Lines that begin with `#` are comments.
 
 use std::alloc::Global;
 
-/// Octets in hexadecimal words: `0800x64` is two octets 64 times.
+/// Reads octets from hexadecimal words, where `0800x64` stands for 64 repetitions of two octets.
 pub fn octets(alloc: Global, text: &str) -> Option<Vec<u8>> {
     let mut octets = Vec::new(alloc);
     for word in text.split_ascii_whitespace() {
@@ -15,8 +15,9 @@ pub fn octets(alloc: Global, text: &str) -> Option<Vec<u8>> {
     Some(octets)
 }
 
-/// The first line, counted from 1, that a check refuses, or 0 where it refuses none. A line that is
-/// empty or begins with `#` is no row, and a text without rows is refused at line 1.
+/// Returns the number of the first line, counted from 1, that `is_right` refuses, or 0 if it
+/// refuses none. A line that is empty or begins with `#` is not a row. A text without rows is
+/// refused at line 1.
 pub fn first_wrong<F: Fn(Global, &str) -> bool>(alloc: Global, rows: &str, is_right: F) -> usize
     requires { F.IsAlwaysCallable is_right }
 {
@@ -33,8 +34,9 @@ pub fn first_wrong<F: Fn(Global, &str) -> bool>(alloc: Global, rows: &str, is_ri
     without_rows
 }
 
-/// The first row whose input is shown as another text, and what it is shown as. A row is an input,
-/// ` -> `, and the text that it has to be shown as. A text without rows is wrong.
+/// Returns the first row whose input is not shown as the row says, and the text that the input is
+/// shown as. A row consists of an input, ` -> `, and the text that the input must be shown as. A
+/// text without rows is wrong.
 pub fn first_misshown<'a>(
     alloc: Global,
     rows: &'a str,
@@ -57,8 +59,9 @@ pub fn first_misshown<'a>(
     without_rows
 }
 
-/// A row with the signs that its symbols stand for: a tab for `␉`, an LF for `␊`, a VT for `␋`, a
-/// CR for `␍`, a unit separator for `␟`, a delete for `␡`, and a space that does not break for `⍽`.
+/// Returns a row with its symbols replaced by the characters that they stand for: a tab for `␉`, an
+/// LF for `␊`, a VT for `␋`, a CR for `␍`, a unit separator for `␟`, a delete for `␡`, and a
+/// no-break space for `⍽`.
 pub fn typed(alloc: Global, row: &str) -> Option<String> {
     let mut text = String::new(alloc);
     for symbol in row.chars() {

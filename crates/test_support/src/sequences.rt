@@ -1,6 +1,6 @@
-//! Random sequences that are the same in each run.
+//! Random sequences that are the same in every run.
 
-/// The next number of a sequence without a pattern (xorshift), below a limit.
+/// Returns the next number of a pseudo-random sequence (xorshift), less than `limit`.
 pub fn random(state: &mut u64, limit: u64) -> u64 {
     *state ^= state.wrapping_shl(13);
     *state ^= state.wrapping_shr(7);

@@ -1,6 +1,6 @@
 use super::{replies, replies_under};
 
-/// A rule for Data under `/A`, before that for all Data.
+/// A rule for Data under `/A`, which comes before the rule for all Data.
 const STRICT: &str = r"
 rule
 {
@@ -46,7 +46,7 @@ in 2 1000000 B_X
 3 data any-data
 ";
 
-/// The first rule that is for the packet decides.
+/// The first rule that applies to the packet decides.
 #[test]
 fn first_rule_denies(rt: HostRuntime) {
     replies_under(&rt, STRICT, 1, FIRST_RULE_DENIES);
@@ -62,7 +62,7 @@ in 1 1000000 D_A
 3 no-rule data
 ";
 
-/// Without a rule a command is denied, and so is Data.
+/// Without rules, commands and Data are denied.
 #[test]
 fn without_rules(rt: HostRuntime) {
     replies_under(&rt, "", 1, WITHOUT_RULES);
@@ -92,8 +92,8 @@ in 1 1000000 ADD_NEXT
 > 1 ADDED_NEXT
 ";
 
-/// A command is allowed once, and a later one of its signer has a later time. A denied one is
-/// answered, and changes nothing.
+/// A command is allowed only once, and a later command of its signer must have a later time. A
+/// denied command is answered, and changes nothing.
 #[test]
 fn signed_commands(rt: HostRuntime) {
     replies(&rt, SIGNED_COMMANDS);
@@ -112,7 +112,7 @@ in 1 1000000 AHEAD
 > 1 ADDED_AHEAD
 ";
 
-/// A signer's first command may be two minutes ahead of the node, and no more.
+/// The time of a signer's first command may be at most two minutes ahead of the node's time.
 #[test]
 fn first_times(rt: HostRuntime) {
     replies(&rt, FIRST_TIMES);

@@ -1,15 +1,16 @@
-//! Endpoints, each an address and a port, and which of them are heard.
+//! Endpoints, each an address and a port, and which of them the node listens to.
 
 use super::udp::{Moving, brings_face, brings_packet, free_port, heard_port, hears_octets, opens};
 use node_ports::{Ports, UdpPorts};
 use std::net::{Ipv4Addr, Ipv6Addr, Net, SocketAddr, UdpSocket};
 
-/// This port of 127.0.0.1.
+/// Returns this port of 127.0.0.1.
 fn loopback(port: u16) -> SocketAddr {
     SocketAddr::from((Ipv4Addr::LOCALHOST, port))
 }
 
-/// Whether one port of two addresses is two endpoints, each with a face that leads to it.
+/// Returns whether the same port at two addresses is two endpoints, each with a face that leads to
+/// it.
 fn parts_addresses(rt: &impl Net) -> Option<bool> {
     let listen = free_port(rt)?;
     let mut ports = UdpPorts::bind(rt, listen, &[], 0, Moving { last: 0 }).ok()?;
@@ -30,7 +31,7 @@ fn endpoint_is_address_and_port(rt: HostRuntime) {
     assert!(rt; parts_addresses(&rt) == Some(true));
 }
 
-/// Whether a peer at another loopback address has its face from the start.
+/// Returns whether a peer at another loopback address has a face from the start.
 fn knows_peer(rt: &impl Net) -> Option<bool> {
     let peer = UdpSocket::bind(rt, (Ipv4Addr::new(127, 0, 0, 2), 0)).ok()?;
     let endpoint = peer.local_addr().ok()?;
@@ -46,7 +47,7 @@ fn endpoint_of_a_peer(rt: HostRuntime) {
     assert!(rt; knows_peer(&rt) == Some(true));
 }
 
-/// Whether the ports of ::1 serve a client there.
+/// Returns whether the ports of ::1 serve a client at ::1.
 fn serves_version_six(rt: &impl Net, client: &UdpSocket) -> Option<bool> {
     let free = UdpSocket::bind(rt, (Ipv6Addr::LOCALHOST, 0)).ok()?;
     let listen = free.local_addr().ok()?;
@@ -57,7 +58,8 @@ fn serves_version_six(rt: &impl Net, client: &UdpSocket) -> Option<bool> {
     Some(opened && ports.send(1, b"six").is_ok() && hears_octets(client, b"six"))
 }
 
-/// The same where the machine has this address; where it has not, there is nothing to serve.
+/// Does the same as `serves_version_six` if the machine has the address ::1. If it does not, there
+/// is nothing to serve.
 fn serves_where_there_is_one(rt: &impl Net) -> Option<bool> {
     match UdpSocket::bind(rt, (Ipv6Addr::LOCALHOST, 0)) {
         Ok(client) => serves_version_six(rt, &client),
@@ -70,7 +72,8 @@ fn endpoint_of_version_six(rt: HostRuntime) {
     assert!(rt; serves_where_there_is_one(&rt) == Some(true));
 }
 
-/// Whether datagrams of strangers are dropped and counted, and those of a peer are heard.
+/// Returns whether datagrams from strangers are dropped and counted, while datagrams from a peer
+/// are handled.
 fn ignores_strangers(rt: &impl Net) -> Option<bool> {
     let (peer, known) = heard_port(rt)?;
     let (_, stranger) = heard_port(rt)?;
@@ -93,7 +96,8 @@ fn endpoint_of_a_stranger(rt: HostRuntime) {
     assert!(rt; ignores_strangers(&rt) == Some(true));
 }
 
-/// Whether a stranger is heard beside a peer where strangers are not ignored.
+/// Returns whether a stranger's datagrams are handled, besides a peer's, if strangers are not
+/// ignored.
 fn accepts_strangers(rt: &impl Net) -> Option<bool> {
     let (peer, _known) = heard_port(rt)?;
     let (_, stranger) = heard_port(rt)?;

@@ -51,7 +51,7 @@ fn face_events(rt: HostRuntime) {
     replies(&rt, FACE_EVENTS);
 }
 
-/// Whether 64 faces open, and a 65th only once one of them has closed.
+/// Returns whether 64 faces open, and a 65th opens only after one of them has closed.
 fn opens_64_faces(alloc: Global) -> Option<bool> {
     let mut script = String::new(alloc);
     let mut wanted = String::new(alloc);

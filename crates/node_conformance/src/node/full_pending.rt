@@ -1,12 +1,12 @@
-//! A node with as many pending Interests as it may have.
+//! A node with as many pending Interests as it can have.
 
 use super::octets::hexadecimal_of;
 use super::{outcome, parts};
 use std::alloc::Global;
 use std::fmt::Write;
 
-/// A script with 4,096 Interests of different names, one more of a new name, and one of a known
-/// name from another face.
+/// Returns a script with 4,096 Interests of different names, then one Interest of a new name, and
+/// one of a known name from another face.
 fn script(alloc: Global) -> Option<String> {
     let mut script = String::new(alloc);
     script
@@ -24,8 +24,8 @@ fn script(alloc: Global) -> Option<String> {
     Some(script)
 }
 
-/// Whether the new name is refused, and the known one is not: its Interest waits for the answer to
-/// the first.
+/// Returns whether the Interest of the new name is refused, but the Interest of the known name is
+/// not: it waits for the answer to the earlier Interest of that name.
 fn is_refused_alone(alloc: Global) -> Option<bool> {
     let came = outcome(alloc, parts(alloc)?, script(alloc)?.as_str())?;
     let last = came.as_str().rsplit_once("\n4100 passed\n")?.1;

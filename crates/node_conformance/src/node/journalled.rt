@@ -1,4 +1,4 @@
-//! A node that keeps a journal, and one that goes on with it.
+//! A node that keeps a journal, and a node that continues from a journal.
 ghost use Rattle.std.specs.Prelude.{None};
 
 use super::ports::{node_of, ports_of};
@@ -9,7 +9,7 @@ use node_core::{Node, Outbox};
 use node_ports::{JournalledPorts, MemoryPorts, Ports, ServeFault, Served, serve};
 use std::alloc::Global;
 
-/// A file in memory, which takes so many lines and then half of one.
+/// A file in memory, which accepts a given number of lines and then half of a line.
 #[derive(Drop)]
 struct MemoryFile {
     octets: Vec<u8>,
@@ -33,7 +33,8 @@ impl JournalFile for MemoryFile {
     }
 }
 
-/// The ports of a dialogue, with a file that takes so many lines, and how a node was served there.
+/// Returns the ports of a dialogue, with a file that accepts `lines` lines, and how serving a node
+/// there ended.
 fn served(
     alloc: Global,
     dialogue: &str,
@@ -53,14 +54,15 @@ fn served(
     Some((ports, end))
 }
 
-/// Whether the journal of a dialogue has these lines, with words for packets.
+/// Returns whether the journal of a dialogue has these lines, in which words stand for packets.
 fn has_journal(alloc: Global, dialogue: &str, lines: &str) -> Option<bool> {
     let (ports, end) = served(alloc, dialogue, 1000)?;
     end.ok()?;
     Some(ports.file().octets.as_slice() == spelled(alloc, lines)?.as_bytes())
 }
 
-/// An Interest that is no command is not journalled, nor one that waits for a Data.
+/// An Interest that is not a command is not journalled, and an Interest that waits for a Data is
+/// not journalled either.
 const JOURNAL_OF_A_LIFE: &str = "up 1 local 1000000
 up 2 far 1000000
 in 1 1000000 ADD_FIRST
@@ -76,8 +78,8 @@ fn journal_of_a_life(rt: HostRuntime) {
     assert!(rt; same == Some(true));
 }
 
-/// A command that is denied, a Data that nobody wants, a face that is open, one that is closed, and
-/// a clock that goes back.
+/// A command that is denied, a Data that the repository does not want, a face that is already open,
+/// a face that is closed, and a clock that goes back.
 const MOSTLY_DENIED: &str = "
 up 1 local 1000000
 1 passed
@@ -101,7 +103,8 @@ fn journal_of_what_is_denied(rt: HostRuntime) {
     assert!(rt; has_journal(rt.alloc(), MOSTLY_DENIED, lines) == Some(true));
 }
 
-/// Where a file fails at a line, nothing of its event is sent, and a front of the line is there.
+/// Returns whether a node stops when the journal's file fails after three lines, so that nothing of
+/// the fourth line's event is sent.
 fn fails_at_the_insert(alloc: Global) -> Option<bool> {
     let (ports, end) = served(alloc, FROM_INSERT_TO_DELETE, 3)?;
     let lines = ports.file().octets.iter().filter(|o| **o == b'\n').count();
@@ -114,7 +117,7 @@ fn a_journal_that_fails(rt: HostRuntime) {
     assert!(rt; fails_at_the_insert(rt.alloc()) == Some(true));
 }
 
-/// A node that goes on with a journal.
+/// Returns a node that continues from a journal.
 fn replayed(alloc: Global, journal: &str) -> Option<(Node, Replayed)> {
     let journal = spelled(alloc, journal)?;
     let mut node = Node::new(alloc, parts(alloc)?).ok()?;
@@ -123,15 +126,15 @@ fn replayed(alloc: Global, journal: &str) -> Option<(Node, Replayed)> {
     Some((node, done))
 }
 
-/// The journal of a node that a Data was stored in.
+/// The journal of a node in which a Data was stored.
 const JOURNAL_OF_A_STORE: &str = "up 1 local 1000000
 up 2 far 1000000
 in 1 1000000 ADD_FIRST
 in 1 1000000 INSERT
 in 2 1000000 D_A";
 
-/// What a node is asked after a restart: the stored Data, a command that was carried out before,
-/// and an Interest that the route leads on.
+/// What a node receives after a restart: an Interest for the stored Data, a command that was
+/// carried out before, and an Interest that the route leads on.
 const AFTER_A_RESTART: &str = "
 in 1 1000000 INTEREST
 > 1 D_A
@@ -139,7 +142,7 @@ in 1 1000000 INSERT
 in 1 1000000 ADD_FIRST
 ";
 
-/// What such a node sends.
+/// Returns what a node sends after a restart.
 fn sent_after_a_restart(alloc: Global) -> Option<(u64, usize, bool)> {
     let (mut node, done) = replayed(alloc, JOURNAL_OF_A_STORE)?;
     let mut ports = ports_of(alloc, AFTER_A_RESTART)?;
@@ -151,7 +154,7 @@ fn sent_after_a_restart(alloc: Global) -> Option<(u64, usize, bool)> {
     Some((done.events, ports.sent().len(), is_first))
 }
 
-/// The stored Data is served, and each command is denied as a replay.
+/// After a restart the stored Data is served, and each old command is denied as a replay.
 #[test]
 fn after_a_restart(rt: HostRuntime) {
     assert!(rt; sent_after_a_restart(rt.alloc()) == Some((5, 3, true)));

@@ -32,7 +32,7 @@ in 1 1000000 ADD_NEXT
 > 1 ADDED_NEXT
 ";
 
-/// New rules decide from the next event on. The cache, and the times of commands, stay.
+/// New rules decide from the next event on. The cache and the recorded times of commands are kept.
 #[test]
 fn rules_replaced(rt: HostRuntime) {
     replies(&rt, RULES_REPLACED);
@@ -64,8 +64,8 @@ in 1 1000000 ADD_NEXT
 > 1 ADDED_NEXT
 ";
 
-/// Without its key a signer's commands are denied, and its routes stay. With the key given back an
-/// old command is still a replay.
+/// If a signer's key is removed, its commands are denied, but its routes stay. When the key is
+/// restored, an old command is still a replay.
 #[test]
 fn key_taken_away(rt: HostRuntime) {
     replies(&rt, KEY_TAKEN_AWAY);
@@ -93,7 +93,7 @@ in 2 1000000 D_A
 > 1 D_A
 ";
 
-/// A Data is decided by the rules that are in force when it comes. The Interest still waits.
+/// A Data is decided by the rules that are in force when it comes. The Interest is still pending.
 #[test]
 fn new_rules_before_data(rt: HostRuntime) {
     replies(&rt, NEW_RULES_BEFORE_DATA);

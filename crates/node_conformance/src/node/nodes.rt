@@ -7,7 +7,8 @@ use node_core::{Event, Node, NodeFault, NodeParts, Outbox, Scope, Verdict};
 use std::alloc::Global;
 use test_support::first_wrong;
 
-/// A repository's prefix and a cache's capacity, and then the result of making a node of them.
+/// Each row is a repository's prefix and a cache's capacity, followed by the result of making a
+/// node of them.
 const PARTS: &str = "
 /repo 1024 -> Ok(())
 / 0 -> Err(BadRepoPrefix)
@@ -18,7 +19,7 @@ const PARTS: &str = "
 /repo 65537 -> Err(BadCapacity)
 ";
 
-/// The result of making a node of these parts.
+/// Returns the result of making a node of the parts in a row.
 fn made(alloc: Global, row: &str) -> Option<String> {
     let (prefix, cache) = row.split_once(' ')?;
     let parts = NodeParts {
@@ -31,7 +32,7 @@ fn made(alloc: Global, row: &str) -> Option<String> {
     format!(in alloc; "{made:?}").ok()
 }
 
-/// Whether making a node of a row's parts has the result after its arrow.
+/// Returns whether making a node of a row's parts has the result after the row's arrow.
 fn is_made(alloc: Global, row: &str) -> bool {
     let (parts, wanted) = row.split_once(" -> ").unwrap_or((row, "no arrow"));
     made(alloc, parts).as_deref() == Some(wanted)
@@ -42,7 +43,7 @@ fn parts_of_a_node(rt: HostRuntime) {
     assert!(rt; first_wrong(rt.alloc(), PARTS, is_made) == 0);
 }
 
-/// Opens the face 1.
+/// Opens face 1.
 fn opens(node: &mut Node, outbox: &mut Outbox) -> bool {
     let up = Event::FaceUp {
         face: 1,
@@ -52,7 +53,7 @@ fn opens(node: &mut Node, outbox: &mut Outbox) -> bool {
     node.step(up, outbox).is_ok()
 }
 
-/// Whether an Interest on face 1 is passed.
+/// Returns whether an Interest on face 1 is passed.
 fn passes(node: &mut Node, outbox: &mut Outbox, octets: &[u8]) -> bool {
     let interest = Event::Packet {
         face: 1,
@@ -62,12 +63,12 @@ fn passes(node: &mut Node, outbox: &mut Outbox, octets: &[u8]) -> bool {
     node.step(interest, outbox).ok() == Some(Verdict::Passed)
 }
 
-/// Whether an outbox holds two sends, and the second is this Nack.
+/// Returns whether an outbox holds two sends, the second of which is this Nack.
 fn ends_with(outbox: &Outbox, nack: &[u8]) -> bool {
     outbox.sent(1) == Some((1, nack)) && outbox.len() == 2 && outbox.sent(2).is_none()
 }
 
-/// Whether a Nack follows an earlier one in the outbox, until it is cleared.
+/// Returns whether a Nack follows an earlier Nack in the outbox, until the outbox is cleared.
 fn sends_in_order(node: &mut Node, outbox: &mut Outbox, interest: &[u8], nack: &[u8]) -> bool {
     let was_empty = outbox.is_empty();
     let passed = opens(node, outbox)
@@ -78,7 +79,7 @@ fn sends_in_order(node: &mut Node, outbox: &mut Outbox, interest: &[u8], nack: &
     was_empty && passed && ended && outbox.is_empty()
 }
 
-/// The same of a new node, whose Interest has no route.
+/// Returns whether `sends_in_order` is true of a new node, in which the Interest has no route.
 fn new_node_sends_in_order(alloc: Global) -> Option<bool> {
     let (interest, nack) = (octets_of(alloc, "INTEREST"), octets_of(alloc, "NO_ROUTE"));
     let mut node = node_of(alloc)?;
@@ -90,7 +91,7 @@ fn sends(rt: HostRuntime) {
     assert!(rt; new_node_sends_in_order(rt.alloc()) == Some(true));
 }
 
-/// Whether a node gives the ids of its rules.
+/// Returns whether the ids of a node's rules can be read from the node.
 fn tells_rules(alloc: Global) -> Option<bool> {
     let node = node_of(alloc)?;
     let rules = node.rules();
@@ -102,7 +103,7 @@ fn rules_of_a_node(rt: HostRuntime) {
     assert!(rt; tells_rules(rt.alloc()) == Some(true));
 }
 
-/// A packet on face 1.
+/// Returns the event of a packet on face 1.
 fn packet(now: u64, octets: &[u8]) -> Event<'_> {
     Event::Packet {
         face: 1,
@@ -111,7 +112,8 @@ fn packet(now: u64, octets: &[u8]) -> Event<'_> {
     }
 }
 
-/// A node with the Local face 1, which was handed a command to insert a Data by 1,001,100.
+/// Returns a node with the Local face 1, which has received a command to insert a Data until
+/// 1,001,100.
 fn node_that_wants(alloc: Global) -> Option<Node> {
     let mut node = node_of(alloc)?;
     let mut outbox = Outbox::new(alloc);
@@ -126,7 +128,7 @@ fn node_that_wants(alloc: Global) -> Option<Node> {
     Some(node)
 }
 
-/// Whether a node tells its time and its open faces.
+/// Returns whether a node returns its time and its open faces.
 fn tells_time_and_faces(alloc: Global) -> Option<bool> {
     let node = node_that_wants(alloc)?;
     Some(
@@ -141,7 +143,7 @@ fn time_and_faces_of_a_node(rt: HostRuntime) {
     assert!(rt; tells_time_and_faces(rt.alloc()) == Some(true));
 }
 
-/// Whether a node wants the one Data until the deadline, and no other.
+/// Returns whether a node wants the requested Data until the deadline, and no other Data.
 fn wants_in_time(alloc: Global) -> Option<bool> {
     let node = node_that_wants(alloc)?;
     let (wanted, other) = (octets_of(alloc, "D_A"), octets_of(alloc, "D_B"));

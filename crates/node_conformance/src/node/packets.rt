@@ -15,8 +15,8 @@ in 1 1000000 ODD
 5 dropped Malformed CriticalUnknown
 ";
 
-/// An Interest is sent on with an unknown element of an even type, and dropped for one of an odd
-/// type.
+/// An Interest with an unknown element is sent on if the element's type is even, and dropped if it
+/// is odd.
 #[test]
 fn unknown_elements(rt: HostRuntime) {
     replies(&rt, UNKNOWN_ELEMENTS);
@@ -39,8 +39,8 @@ in 1 1000000 NO_DIGEST
 6 dropped Malformed DigestMissing
 ";
 
-/// A signed Interest whose name has the digest of its parameters is sent on; with another digest or
-/// none it is not.
+/// A signed Interest is sent on if its name has the digest of its parameters, but not if it has
+/// another digest or none.
 #[test]
 fn parameters_digest(rt: HostRuntime) {
     replies(&rt, PARAMETERS_DIGEST);
@@ -67,7 +67,7 @@ in 2 1000000 -
 8 dropped Malformed Tlv Truncated
 ";
 
-/// A packet is handled without the link packet around it.
+/// A packet in a link packet is handled as the same packet without the link packet.
 #[test]
 fn link_packets(rt: HostRuntime) {
     replies(&rt, LINK_PACKETS);

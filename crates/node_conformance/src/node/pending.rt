@@ -42,7 +42,7 @@ in 2 1001099 D_A
 > 1 D_A
 ";
 
-/// At its deadline an Interest is pending no more, and time does not go back.
+/// At its deadline an Interest is no longer pending, and time does not go back.
 #[test]
 fn deadlines(rt: HostRuntime) {
     replies(&rt, BEFORE_THE_DEADLINE);
@@ -74,8 +74,8 @@ in 3 1000000 D_AB
 9 data any-data
 ";
 
-/// Longer names answer where the Interest says so. Data never goes back to its face, and ends what
-/// it answers.
+/// Data with longer names answer an Interest with CanBePrefix. A Data is never sent back to the
+/// face that it came from, and it satisfies the Interests that it answers.
 #[test]
 fn data_answers(rt: HostRuntime) {
     replies(&rt, DATA_ANSWERS);
@@ -102,8 +102,8 @@ in 1 1001010 INTEREST
 > 2 INTEREST
 ";
 
-/// A loop is answered by a Nack Duplicate. An Interest that is sent again goes on after 10
-/// milliseconds.
+/// An Interest that loops is answered by a Nack Duplicate. An Interest that is sent again is
+/// forwarded after 10 milliseconds.
 #[test]
 fn loops_and_retries(rt: HostRuntime) {
     replies(&rt, LOOPS_AND_RETRIES);
@@ -130,7 +130,7 @@ in 2 1001012 NO_ROUTE
 7 dropped NoPending
 ";
 
-/// A Nack goes back once all have answered by a Nack.
+/// A Nack is sent back once all faces have answered with a Nack.
 #[test]
 fn nacks(rt: HostRuntime) {
     replies(&rt, NACKS);

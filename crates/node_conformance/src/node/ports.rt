@@ -9,7 +9,7 @@ use node_ports::{
 };
 use std::alloc::Global;
 
-/// Two faces, an Interest without a route, and Data that nobody asked for.
+/// Events with two faces, an Interest without a route, and a Data that nobody asked for.
 pub const FIRST_PATH: &str = "
 up 1 local 0
 1 passed
@@ -24,17 +24,17 @@ in 2 1060 060f070308014115017816031b01001700
 5 denied data Tag any-data
 ";
 
-/// The word of a line at `i`, counted from 0.
+/// Returns the word at index `i` of a line, counted from 0.
 pub fn word(line: &str, i: usize) -> &str {
     line.split(' ').nth(i).unwrap_or("")
 }
 
-/// The octets of a word: hexadecimal, or a dash for none.
+/// Returns the octets that a word gives in hexadecimal; a dash stands for no octets.
 fn packet_of(alloc: Global, word: &str) -> Option<Vec<u8>> {
     hex::decode(alloc, if word == "-" { "" } else { word }).ok()
 }
 
-/// The event of a line of a script.
+/// Returns the event in a line of a script.
 pub fn event_of(alloc: Global, line: &str) -> Option<OwnedEvent> {
     let face = word(line, 1).parse::<u64>().ok()?;
     match word(line, 0) {
@@ -65,14 +65,14 @@ pub fn event_of(alloc: Global, line: &str) -> Option<OwnedEvent> {
     }
 }
 
-/// The rules and keys of these octets of a rule file and of a key file.
+/// Returns the rules and keys in the octets of a rule file and of a key file.
 fn renewal_of(alloc: Global, rules: Vec<u8>, keys: Vec<u8>) -> Option<Renewal> {
     let read = read_rules(alloc, &rules).ok()?;
     let book = KeyBook::read_octets(alloc, &keys).ok()?;
     Some(Renewal::new(read, book, FileOctets { rules, keys }))
 }
 
-/// The arrival of a line of a script.
+/// Returns the arrival in a line of a script.
 fn arrival_of(alloc: Global, line: &str) -> Option<OwnedArrival> {
     match event_of(alloc, line)? {
         OwnedEvent::Packet { face, now, octets } => Some(OwnedArrival::Packet {
@@ -94,7 +94,7 @@ fn arrival_of(alloc: Global, line: &str) -> Option<OwnedArrival> {
     }
 }
 
-/// A port that gives the events of a dialogue.
+/// Returns a port that delivers the events of a dialogue.
 pub fn ports_of(alloc: Global, dialogue: &str) -> Option<MemoryPorts> {
     let dialogue = spelled(alloc, dialogue)?;
     let script = script_of(alloc, dialogue.as_str())?;
@@ -107,12 +107,12 @@ pub fn ports_of(alloc: Global, dialogue: &str) -> Option<MemoryPorts> {
     Some(MemoryPorts::new(alloc, arrivals))
 }
 
-/// A node under the sample rules.
+/// Returns a node under the sample rules.
 pub fn node_of(alloc: Global) -> Option<Node> {
     Node::new(alloc, parts(alloc)?).ok()
 }
 
-/// Appends the text printed for one turn. Returns false if no event was answered.
+/// Appends the text that is printed for one turn. Returns false if no event was answered.
 fn put_turn<P: Ports>(
     alloc: Global,
     node: &mut Node,
@@ -127,7 +127,7 @@ fn put_turn<P: Ports>(
     put_verdict(text, number, &verdict, node.rules()).is_ok() && put_sends(text, &outbox).is_ok()
 }
 
-/// The text printed for a node's turns at a port, until nothing more comes.
+/// Returns the text that is printed for a node's turns at a port, until the port has nothing more.
 fn put_turns<P: Ports>(alloc: Global, node: &mut Node, ports: &mut P) -> Vec<u8> {
     let mut text = Vec::new(alloc);
     for number in 1..1000 {
@@ -138,7 +138,7 @@ fn put_turns<P: Ports>(alloc: Global, node: &mut Node, ports: &mut P) -> Vec<u8>
     text
 }
 
-/// Whether a node at a port prints this.
+/// Returns whether a node at a port prints this text.
 pub fn prints_at<P: Ports>(
     alloc: Global,
     parts: NodeParts,
@@ -150,12 +150,13 @@ pub fn prints_at<P: Ports>(
     Some(text.as_slice() == wanted.as_bytes())
 }
 
-/// Whether a node that gets the events of a dialogue at a port prints this.
+/// Returns whether a node that gets the events of a dialogue at a port prints this text.
 pub fn prints(alloc: Global, parts: NodeParts, dialogue: &str, wanted: &str) -> Option<bool> {
     prints_at(alloc, parts, &mut ports_of(alloc, dialogue)?, wanted)
 }
 
-/// The text of the first path in this many turns, with these calls made to fail.
+/// Serves `FIRST_PATH` for `turns` turns and returns the result. The call of the port's `next` with
+/// the number `next`, and the call of its `send` with the number `send`, fail.
 fn served(alloc: Global, turns: u64, next: u64, send: u64) -> Option<Result<Served, ServeFault>> {
     let mut node = node_of(alloc)?;
     let mut ports = ports_of(alloc, FIRST_PATH)?;
@@ -164,7 +165,8 @@ fn served(alloc: Global, turns: u64, next: u64, send: u64) -> Option<Result<Serv
     Some(serve(alloc, &mut node, &mut ports, turns))
 }
 
-/// Whether this many events came, this many sends failed, and the port then had nothing more.
+/// Returns whether this many events came and this many sends failed, and the port then had nothing
+/// more.
 fn comes_to(
     served: Option<Result<Served, ServeFault>>,
     events: u64,
@@ -180,7 +182,7 @@ fn comes_to(
         }))
 }
 
-/// Whether the port gave no next arrival after this many events.
+/// Returns whether the port failed to deliver the next arrival after `after` events.
 fn stops_after(served: Option<Result<Served, ServeFault>>, after: u64) -> bool {
     served == Some(Err(ServeFault::Next { after }))
 }
@@ -206,7 +208,7 @@ fn served_turns_with_failed_calls(rt: HostRuntime) {
     assert!(rt; comes_to(served(rt.alloc(), 10, 7, 0), 5, 0, true));
 }
 
-/// Whether `next` fails after this many events, and this many are then left.
+/// Returns whether `next` fails after `before` events, and `left` events then remain.
 fn goes_on(alloc: Global, next: u64, before: u64, left: u64) -> Option<bool> {
     let mut node = node_of(alloc)?;
     let mut ports = ports_of(alloc, FIRST_PATH)?;
@@ -228,7 +230,7 @@ fn first_path(rt: HostRuntime) {
     replies(&rt, FIRST_PATH);
 }
 
-/// The text printed for an event for which a step has no memory.
+/// The text that is printed for an event whose step ran out of memory.
 #[test]
 fn refused_line(rt: HostRuntime) {
     let mut text = Vec::new(rt.alloc());

@@ -1,4 +1,4 @@
-//! These also pass when any one allocation fails, as under `rt try --test --fail-alloc N`.
+//! Tests that also pass if any one allocation fails, as under `rt try --test --fail-alloc N`.
 
 use super::pending::{LOOPS_AND_RETRIES, NACKS};
 use super::ports::{FIRST_PATH, event_of, node_of, ports_of, word};
@@ -12,15 +12,15 @@ use node_core::{Node, NodeFault, Outbox, RunFault, Verdict, run_script};
 use node_ports::serve;
 use std::alloc::Global;
 
-/// The answer to the event of a line, unless it had no memory.
+/// Returns the verdict on the event of a line, or `None` if memory ran out.
 fn said_of(alloc: Global, node: &mut Node, outbox: &mut Outbox, line: &str) -> Option<Verdict> {
     let mut octets = Vec::new(alloc);
     let event = event_of(alloc, line)?.into_event(&mut octets);
     node.step(event, outbox).ok()
 }
 
-/// The answer to the event of a line. One that had no memory is handled again, as if for the first
-/// time.
+/// Returns the verdict on the event of a line. An event for which memory ran out is handled a
+/// second time, as if for the first time.
 fn verdict_on(alloc: Global, node: &mut Node, outbox: &mut Outbox, line: &str) -> Option<Verdict> {
     let before = outbox.len();
     let said = said_of(alloc, node, outbox, line);
@@ -30,7 +30,7 @@ fn verdict_on(alloc: Global, node: &mut Node, outbox: &mut Outbox, line: &str) -
     said
 }
 
-/// Whether a line of a dialogue has this verdict.
+/// Returns whether a line of a dialogue has this verdict.
 fn is_line_of(line: &str, verdict: Option<Verdict>) -> bool {
     let said = match verdict {
         None => "memory",
@@ -44,14 +44,15 @@ fn is_line_of(line: &str, verdict: Option<Verdict>) -> bool {
     word(line, 1) == said
 }
 
-/// Whether a line of a dialogue is of this send.
+/// Returns whether a line of a dialogue describes this send.
 fn is_line_of_send(alloc: Global, line: &str, sent: Option<(u64, &[u8])>) -> Option<bool> {
     let octets = hex::decode(alloc, word(line, 2)).ok()?;
     let face = word(line, 1).parse::<u64>().ok()?;
     Some(sent == Some((face, octets.as_slice())))
 }
 
-/// Whether a node has the answers of a dialogue, unless a test's own allocation fails.
+/// Returns whether a node gives the answers of a dialogue, unless one of the test's own allocations
+/// fails.
 fn plays(alloc: Global, node: &mut Node, dialogue: &str) -> Option<bool> {
     let mut outbox = Outbox::new(alloc);
     let mut verdict = None;
@@ -78,7 +79,8 @@ fn plays(alloc: Global, node: &mut Node, dialogue: &str) -> Option<bool> {
     Some(outbox.len() == sends)
 }
 
-/// Whether the steps of a dialogue have its answers, unless a test's own allocation fails.
+/// Returns whether a new node gives the answers of a dialogue, unless one of the test's own
+/// allocations fails.
 fn steps(alloc: Global, dialogue: &str) -> Option<bool> {
     let dialogue = spelled(alloc, dialogue)?;
     plays(alloc, &mut node_of(alloc)?, dialogue.as_str())
@@ -101,7 +103,7 @@ in 1 1050 060f070308014115017816031b01001700
 tick 1100
 ";
 
-/// The answers where no memory was refused.
+/// The answers if memory does not run out.
 const ANSWERS: &str = "1 passed
 2 passed
 > 1 6418fd032005fd03210196500d050b07030801410a0401020304
@@ -109,14 +111,14 @@ const ANSWERS: &str = "1 passed
 4 passed
 ";
 
-/// The answers where the Interest had no memory.
+/// The answers if memory runs out for the Interest.
 const ANSWERS_TO_DATA: &str = "1 passed
 2 memory
 3 denied data Tag any-data
 4 passed
 ";
 
-/// The answers where the Data had no memory.
+/// The answers if memory runs out for the Data.
 const ANSWERS_TO_INTEREST: &str = "1 passed
 2 passed
 > 1 6418fd032005fd03210196500d050b07030801410a0401020304
@@ -128,7 +130,8 @@ fn is_front(text: &[u8], whole: &str) -> bool {
     whole.as_bytes().starts_with(text)
 }
 
-/// Whether a text is the answers to the script, or a front of them.
+/// Returns whether a text is one of the three possible answers to the script, or the beginning of
+/// one.
 fn are_answers(text: &[u8]) -> bool {
     is_front(text, ANSWERS)
         || is_front(text, ANSWERS_TO_DATA)
@@ -158,7 +161,7 @@ fn script_with_refused_memory(rt: HostRuntime) {
     assert!(rt; script(rt.alloc()));
 }
 
-/// Whether all events of the first path come, and what had no memory is counted.
+/// Returns whether all events of `FIRST_PATH` come, and those for which memory ran out are counted.
 fn serves(alloc: Global) -> Option<bool> {
     let mut node = node_of(alloc)?;
     let mut ports = ports_of(alloc, FIRST_PATH)?;

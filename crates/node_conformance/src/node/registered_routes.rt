@@ -1,5 +1,5 @@
-//! Routes that are registered, and how they end. The packets of these dialogues, and the answers,
-//! were computed by a generator of test packets, from the formats.
+//! Routes that are registered, and how they expire. The packets and the answers in these dialogues
+//! were computed from the formats by a generator of test packets.
 
 use super::replies;
 
@@ -36,7 +36,7 @@ in 1 1001000 FOURTH
 > 1 NO_ROUTE_FOURTH
 ";
 
-/// The example of the manual of management: routes that are inherited, and routes that expire.
+/// The example of the management manual: routes that are inherited, and routes that expire.
 #[test]
 fn registered_routes(rt: HostRuntime) {
     replies(&rt, REGISTERED_ROUTES);
@@ -63,7 +63,7 @@ in 1 1001000 LIST
 > 1 NO_ROUTES
 ";
 
-/// A route is used until its deadline, and not for an event at the deadline.
+/// A route is used before its deadline, but not for an event at its deadline.
 #[test]
 fn route_expiry(rt: HostRuntime) {
     replies(&rt, ROUTE_EXPIRY);
@@ -99,8 +99,9 @@ in 1 1001000 LIST
 > 1 NO_ROUTES
 ";
 
-/// A route that has ended is gone before its face closes, and the list counts both. One that goes
-/// with its face counts no more than the closing.
+/// A route that expires at the moment at which its face closes is counted in the version of the
+/// list, and so is the closing. A route that is only removed with its face is not counted in
+/// addition to the closing.
 #[test]
 fn routes_end_before_the_event(rt: HostRuntime) {
     replies(&rt, CLOSED_AT_THE_DEADLINE);
@@ -132,8 +133,8 @@ in 1 1001000 LIST
 > 1 ROUTES_3
 ";
 
-/// A replay, or a register with a wrong tag, makes no route last longer, and does not count for the
-/// list's version. `rib/list` is unknown, but it is allowed, so that it counts.
+/// A replay, or a register with a wrong tag, does not extend any route, and is not counted in the
+/// version of the list. `rib/list` is an unknown command, but it is allowed, so it is counted.
 #[test]
 fn denied_registers_change_nothing(rt: HostRuntime) {
     replies(&rt, REFUSED_COMMANDS);

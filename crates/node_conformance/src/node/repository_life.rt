@@ -1,10 +1,10 @@
-//! What the repository asks for, stores and serves. The cache has no part in it.
+//! What the repository requests, stores and serves. The cache makes no difference to this.
 
 use super::replies_under;
 use std::process::Abort;
 use test_support::SAMPLE;
 
-/// Checks the answers with a cache of one Data, and with one of 1,000.
+/// Checks the answers with a cache of one Data, and with a cache of 1,000 Data.
 fn replies_with_each_cache(rt: &(impl Abort + AllocGlobal), dialogue: &str) {
     replies_under(rt, SAMPLE, 1, dialogue);
     replies_under(rt, SAMPLE, 1000, dialogue);
@@ -38,7 +38,8 @@ in 1 1000000 CHECK
 > 1 NOT_FOUND
 ";
 
-/// An insert asks for the Data, which is then stored, served and deleted, and missed after that.
+/// An insert requests a Data, which is then stored, served and deleted, and is not found
+/// afterwards.
 #[test]
 fn from_insert_to_delete(rt: HostRuntime) {
     replies_with_each_cache(&rt, FROM_INSERT_TO_DELETE);
@@ -63,7 +64,7 @@ in 1 1001101 CHECK_LATER
 > 1 STILL_NOT_FOUND
 ";
 
-/// At its deadline a want expires, and a Data that comes then is not stored.
+/// A want expires at its deadline, and a Data that comes then is not stored.
 #[test]
 fn an_expired_want_stores_nothing(rt: HostRuntime) {
     replies_with_each_cache(&rt, AN_EXPIRED_WANT_STORES_NOTHING);
@@ -97,7 +98,7 @@ in 1 1001203 CHECK_B_AGAIN
 > 1 B_STORED
 ";
 
-/// A cached Data is not stored until it comes again and is wanted.
+/// A cached Data is not stored until it comes again while the repository wants it.
 #[test]
 fn the_cache_fills_no_want(rt: HostRuntime) {
     replies_with_each_cache(&rt, THE_CACHE_FILLS_NO_WANT);

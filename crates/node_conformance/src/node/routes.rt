@@ -23,7 +23,7 @@ in 1 1000180 AGAIN
 > 1 D_A
 ";
 
-/// An Interest follows a route that a command set, and the Data comes back once.
+/// An Interest follows a route that a command has set, and the Data comes back once.
 #[test]
 fn a_route_and_back(rt: HostRuntime) {
     replies(&rt, A_ROUTE_AND_BACK);
@@ -63,8 +63,8 @@ in 1 1000000 LIST_2
 12 dropped NoSegment
 ";
 
-/// A route needs an open face, and the list of routes follows each allowed command and the closing
-/// of its face.
+/// A route needs an open face. The list of routes changes with each allowed command, and when the
+/// face closes.
 #[test]
 fn route_command_and_list(rt: HostRuntime) {
     replies(&rt, ROUTE_COMMAND_AND_LIST);
@@ -88,7 +88,7 @@ in 1 1000000 HOPS_1
 > 2 HOPS_0
 ";
 
-/// With one hop left an Interest goes to programs on this machine alone.
+/// An Interest with one hop left goes only to programs on this machine.
 #[test]
 fn last_hop(rt: HostRuntime) {
     replies(&rt, LAST_HOP);
@@ -114,7 +114,8 @@ in 1 1000000 HOPS_0
 7 dropped HopLimit
 ";
 
-/// With two it goes to the cheapest face. With none left it is dropped.
+/// An Interest with two hops left goes to the face with the least cost. An Interest with no hops
+/// left is dropped.
 #[test]
 fn two_hops(rt: HostRuntime) {
     replies(&rt, TWO_HOPS);
@@ -134,7 +135,7 @@ in 1 1000000 LOCAL_NAME
 > 1 LOCAL_NO_ROUTE
 ";
 
-/// Packets of other machines under `/localhost` are dropped.
+/// Packets under `/localhost` from other machines are dropped.
 #[test]
 fn localhost_stays_on_this_machine(rt: HostRuntime) {
     replies(&rt, LOCALHOST);
@@ -184,7 +185,7 @@ in 1 1000000 THIRD
 > 3 THIRD
 ";
 
-/// Multicast sends to each hop. Erased Data are no answer any more.
+/// Multicast sends to each next hop. Erased Data no longer answer Interests.
 #[test]
 fn strategy_and_cache(rt: HostRuntime) {
     replies(&rt, STRATEGY_AND_CACHE);

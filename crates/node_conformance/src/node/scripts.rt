@@ -2,7 +2,7 @@ use super::{outcome, parts, replies};
 use std::alloc::Global;
 use test_support::first_wrong;
 
-/// A script, `|` for each LF, and then its output and how it ends.
+/// Each row is a script, with `|` for each LF, followed by its output and by how it ends.
 const SCRIPTS: &str = "
  -> Ok(())
 |# a comment, in 1|| -> Ok(())
@@ -50,20 +50,20 @@ tick 1|# 2|in 1|tick 2 -> 1 passed|Err(BadLine(3))
 up 1 local 0|up 2 far 0|in 1|tick 7| -> 1 passed|2 passed|Err(BadLine(3))
 ";
 
-/// The output of a script and how it ends, with `|` for each LF in both.
+/// Returns the output of a script and how the script ends, with `|` for each LF in both.
 fn played(alloc: Global, script: &str) -> Option<String> {
     let script = script.replace(alloc, '|', "\n").ok()?;
     let came = outcome(alloc, parts(alloc)?, script.as_str())?;
     came.as_str().replace(alloc, '\n', "|").ok()
 }
 
-/// Whether a row's script has the result after its arrow.
+/// Returns whether a row's script has the result after the row's arrow.
 fn is_played(alloc: Global, row: &str) -> bool {
     let (script, wanted) = row.split_once(" -> ").unwrap_or((row, "no arrow"));
     played(alloc, script).as_deref() == Some(wanted)
 }
 
-/// The result of a line of this many octets and the text after it.
+/// Returns the result of a line of `len` octets followed by `rest`.
 fn played_line(alloc: Global, len: usize, rest: &str) -> Option<String> {
     let line = vec![in alloc; b'#'; len].ok()?;
     let mut script = String::from_utf8(line).ok()?;
@@ -71,7 +71,7 @@ fn played_line(alloc: Global, len: usize, rest: &str) -> Option<String> {
     played(alloc, script.as_str())
 }
 
-/// Whether a line of this many octets and the text after it have this result.
+/// Returns whether a line of `len` octets followed by `rest` has this result.
 fn line_comes_to(alloc: Global, len: usize, rest: &str, wanted: &str) -> bool {
     played_line(alloc, len, rest).as_deref() == Some(wanted)
 }

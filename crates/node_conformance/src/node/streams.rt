@@ -5,7 +5,7 @@ use std::io;
 use std::io::{ErrorKind, Read, Write};
 use std::process::Abort;
 
-/// Gives at most this many octets at a time, and then fails or ends.
+/// An input that delivers at most `size` octets at a time, and then fails or ends.
 #[derive(Drop)]
 struct Pieces<'a> {
     rest: &'a [u8],
@@ -26,7 +26,7 @@ impl Read for Pieces<'_> {
     }
 }
 
-/// Takes at most this many octets at a time, and fails when it is full.
+/// An output that accepts at most `size` octets at a time, and fails when it is full.
 #[derive(Drop)]
 pub struct Room {
     pub held: Vec<u8>,
@@ -50,7 +50,7 @@ impl Write for Room {
     }
 }
 
-/// Whether a script that is read in pieces has these answers, and fails or ends.
+/// Returns whether a script that is read in pieces has these answers, and then fails or ends.
 fn reads(alloc: Global, script: &str, size: usize, fails: bool, answers: &str) -> bool {
     let mut input = Pieces {
         rest: script.as_bytes(),
@@ -92,7 +92,7 @@ fn a_reader_that_fails(rt: HostRuntime) {
     check_pieces(&rt, script, true, answers);
 }
 
-/// Whether the answers to a script fill the room that is left, and then fail.
+/// Returns whether the answers to a script fill the room in the output, and writing then fails.
 fn writes(alloc: Global, script: &str, size: usize, left: usize, answers: &[u8]) -> bool {
     let mut input = script.as_bytes();
     let held = Vec::new(alloc);
@@ -109,7 +109,7 @@ fn writes(alloc: Global, script: &str, size: usize, left: usize, answers: &[u8])
     end == wanted && output.held.as_slice() == &answers[..len]
 }
 
-/// Checks a script whose answers have room for 0 to 40 octets.
+/// Checks a script whose output has room for 0 to 40 octets of answers.
 fn check_rooms(rt: &(impl Abort + AllocGlobal), script: &str, size: usize, answers: &[u8]) {
     for left in 0..41 {
         assert!(rt;

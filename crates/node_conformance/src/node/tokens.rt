@@ -1,6 +1,6 @@
-//! PIT tokens: what goes back to a face has the token of the Interest that it answers, and what
-//! goes on has none. The packets of these dialogues, and the answers, are those of other dialogues
-//! with tokens put around them.
+//! PIT tokens: a packet that is sent back to a face has the token of the Interest that it answers,
+//! and a packet that is forwarded has none. The packets and the answers in these dialogues are
+//! those of other dialogues, with tokens added.
 
 use super::replies;
 
@@ -31,8 +31,8 @@ in 2 1000000 NO_ROUTE_OF_7F
 > 1 TOKEN_NO_ROUTE
 ";
 
-/// A Nack goes back with the token of its Interest: where there is no route, for a loop, and where
-/// it came with another token.
+/// A Nack is sent back with the token of its Interest in each case: there is no route, the Interest
+/// loops, or a Nack with another token came back for it.
 #[test]
 fn token_on_nack(rt: HostRuntime) {
     replies(&rt, NO_ROUTE_FOR_A_TOKEN);
@@ -63,8 +63,8 @@ in 3 1000000 TOKEN_AGAIN
 > 3 D_A_OF_7F
 ";
 
-/// The Interest goes on without its token. The Data goes back with it to the face that gave it,
-/// from the cache too, and bare to the other.
+/// The Interest is forwarded without its token. The Data is sent back with the token to the face
+/// whose Interest had it, also from the cache, and without a token to the other face.
 #[test]
 fn token_on_data(rt: HostRuntime) {
     replies(&rt, DATA_FOR_A_TOKEN);
@@ -111,7 +111,7 @@ in 2 1000000 D_A
 > 1 D_A_OF_7F
 ";
 
-/// The token of a face's newest Interest counts, and no token where that has none.
+/// The token of a face's newest Interest counts; if that Interest has no token, none is sent.
 #[test]
 fn newer_interest_without_token(rt: HostRuntime) {
     replies(&rt, TOKEN_TAKEN_BACK);
@@ -159,8 +159,8 @@ in 1 1000000 TOKEN_INTEREST
 > 1 TOKEN_D_A
 ";
 
-/// Replies to commands, denied ones among them, lists and what the repository stores go back with
-/// the token. The repository's own Interest has none.
+/// Replies to commands, even to denied ones, and segments of lists, and objects of the repository
+/// go back with the token. The repository's own Interest has no token.
 #[test]
 fn tokens_on_replies(rt: HostRuntime) {
     replies(&rt, REPLIES_FOR_A_TOKEN);
@@ -207,7 +207,7 @@ in 1 1000000 AGAIN
 > 1 D_A
 ";
 
-/// Data goes on, and is cached, without the token that it came with.
+/// A Data is forwarded and cached without the token that it came with.
 #[test]
 fn tokens_of_data_are_ignored(rt: HostRuntime) {
     replies(&rt, DATA_WITH_A_TOKEN);

@@ -1,4 +1,4 @@
-//! A node on a UDP port of this machine, and the sockets that talk to it.
+//! A node at a UDP port of this machine, and the sockets that exchange packets with it.
 
 use super::octets::octets_of;
 use super::ports::node_of;
@@ -12,7 +12,7 @@ use std::alloc::Global;
 use std::cell::Cell;
 use std::net::{Ipv4Addr, Net, UdpSocket};
 
-/// A clock that always shows the moment for which the commands of dialogues are signed.
+/// A clock that always shows the moment for which the commands in dialogues are signed.
 #[derive(Drop)]
 pub struct Still;
 
@@ -24,7 +24,7 @@ impl Moments for Still {
     }
 }
 
-/// A clock that moves on by a millisecond whenever it is asked.
+/// A clock that advances by a millisecond each time it is read.
 #[derive(Drop)]
 pub struct Moving {
     pub last: u64,
@@ -55,18 +55,18 @@ impl<'a> Moments for Handed<'a> {
     }
 }
 
-/// A port, and a socket that hears it.
+/// Returns a port, and a socket that is bound to it.
 pub fn heard_port(rt: &impl Net) -> Option<(u16, UdpSocket)> {
     let socket = UdpSocket::bind(rt, (Ipv4Addr::LOCALHOST, 0)).ok()?;
     Some((socket.local_addr().ok()?.port(), socket))
 }
 
-/// A port of this machine that nobody hears.
+/// Returns a port of this machine that no socket is bound to.
 pub fn free_port(rt: &impl Net) -> Option<u16> {
     Some(heard_port(rt)?.0)
 }
 
-/// Whether the packet of a word is sent from a socket to a port.
+/// Returns whether the packet that a word stands for is sent from a socket to a port.
 fn sends(alloc: Global, socket: &UdpSocket, port: u16, word: &str) -> bool {
     let octets = octets_of(alloc, word);
     socket
@@ -74,7 +74,7 @@ fn sends(alloc: Global, socket: &UdpSocket, port: u16, word: &str) -> bool {
         .is_ok()
 }
 
-/// Whether a socket receives the packet of a word next.
+/// Returns whether the next packet that a socket receives is the one that a word stands for.
 fn hears(alloc: Global, socket: &UdpSocket, word: &str) -> bool {
     let Ok(mut buffer) = vec![in alloc; 0; 1000] else {
         return false;
@@ -85,7 +85,7 @@ fn hears(alloc: Global, socket: &UdpSocket, word: &str) -> bool {
     buffer.get(..len) == Some(octets_of(alloc, word).as_slice())
 }
 
-/// Whether this many turns pass, in which each send succeeds.
+/// Returns whether this many turns are served, and each send in them succeeds.
 fn passes<M: Moments>(alloc: Global, node: &mut Node, ports: &mut UdpPorts<M>, turns: u64) -> bool {
     serve(alloc, node, ports, turns)
         == Ok(Served {
@@ -96,12 +96,12 @@ fn passes<M: Moments>(alloc: Global, node: &mut Node, ports: &mut UdpPorts<M>, t
         })
 }
 
-/// Whether this is the text of the next arrival.
+/// Returns whether the next arrival has this verdict.
 fn says(alloc: Global, node: &mut Node, ports: &mut UdpPorts<Still>, verdict: Verdict) -> bool {
     serve_turn(node, ports, &mut Outbox::new(alloc)) == Ok(Turn::Done { verdict, failed: 0 })
 }
 
-/// Whether an Interest without a route comes back as a Nack.
+/// Returns whether an Interest without a route comes back as a Nack.
 fn comes_back(rt: &(impl AllocGlobal + Net)) -> Option<bool> {
     let alloc = rt.alloc();
     let listen = free_port(rt)?;
@@ -116,7 +116,8 @@ fn udp_first_path(rt: HostRuntime) {
     assert!(rt; comes_back(&rt) == Some(true));
 }
 
-/// Whether a command, an Interest and a Data go through a node between an operator and a producer.
+/// Returns whether a command, an Interest and a Data pass through a node between an operator and a
+/// producer.
 fn go_through(
     alloc: Global,
     node: &mut Node,
@@ -137,7 +138,7 @@ fn go_through(
         && hears(alloc, operator, "D_A")
 }
 
-/// Whether they go through a node that knows both ports, the operator's as Local.
+/// Returns whether `go_through` is true of a node that knows both ports, the operator's as Local.
 fn is_relay(rt: &(impl AllocGlobal + Net)) -> Option<bool> {
     let (first, operator) = heard_port(rt)?;
     let (second, producer) = heard_port(rt)?;
@@ -159,20 +160,21 @@ fn udp_route_and_back(rt: HostRuntime) {
     assert!(rt; is_relay(&rt) == Some(true));
 }
 
-/// Whether a turn is taken where something comes soon.
+/// Returns whether a turn is taken because something arrives soon.
 fn takes_soon(alloc: Global, node: &mut Node, ports: &mut UdpPorts<Still>) -> bool {
     let mut outbox = Outbox::new(alloc);
     serve_turn_soon(node, ports, &mut [0; FRAME_ROOM], &mut outbox).is_some()
 }
 
-/// Whether turns are taken soon while a datagram waits, and none before and after it.
+/// Returns whether turns are taken soon while a datagram waits, and none before or after that.
 fn are_taken_soon(alloc: Global, node: &mut Node, ports: &mut UdpPorts<Still>) -> bool {
     let opened = takes_soon(alloc, node, ports);
     let answered = takes_soon(alloc, node, ports);
     opened && answered && !takes_soon(alloc, node, ports)
 }
 
-/// Whether a port that is polled for a short time goes on, and then waits as before.
+/// Returns whether a port that is polled for a short time continues to work, and then waits as
+/// before.
 fn waits_for_a_short_time(rt: &(impl AllocGlobal + Net)) -> Option<bool> {
     let alloc = rt.alloc();
     let listen = free_port(rt)?;
@@ -190,7 +192,7 @@ fn udp_soon(rt: HostRuntime) {
     assert!(rt; waits_for_a_short_time(&rt) == Some(true));
 }
 
-/// The ports 1 to 64.
+/// Returns the ports 1 to 64.
 fn sixty_four_ports(alloc: Global) -> Option<Vec<u16>> {
     let mut ports = Vec::new(alloc);
     for port in 1..65 {
@@ -199,7 +201,8 @@ fn sixty_four_ports(alloc: Global) -> Option<Vec<u16>> {
     Some(ports)
 }
 
-/// Whether no face opens for a port while 64 are known, and its packet is dropped.
+/// Returns whether no face opens for a further port while 64 ports are known, and its packet is
+/// dropped.
 fn has_no_face_left(rt: &(impl AllocGlobal + Net)) -> Option<bool> {
     let alloc = rt.alloc();
     let peers = sixty_four_ports(alloc)?;
@@ -232,7 +235,7 @@ fn udp_faces_full(rt: HostRuntime) {
     assert!(rt; has_no_face_left(&rt) == Some(true));
 }
 
-/// Whether a datagram of 9,001 octets is too long for a packet.
+/// Returns whether a datagram of 9,001 octets is too long to be a packet.
 fn is_too_long(rt: &(impl AllocGlobal + Net)) -> Option<bool> {
     let alloc = rt.alloc();
     let octets = vec![in alloc; 5; 9_001].ok()?;
@@ -249,7 +252,7 @@ fn udp_too_long(rt: HostRuntime) {
     assert!(rt; is_too_long(&rt) == Some(true));
 }
 
-/// Whether a send to a face that no port has is a failure, and is counted.
+/// Returns whether a send to a face that belongs to no port fails, and is counted.
 fn counts_failures(rt: &impl Net) -> Option<bool> {
     let listen = free_port(rt)?;
     let mut ports = UdpPorts::bind(rt, listen, &[], 0, Still).ok()?;
@@ -261,7 +264,7 @@ fn udp_failures(rt: HostRuntime) {
     assert!(rt; counts_failures(&rt) == Some(true));
 }
 
-/// Whether a port that another socket has cannot be bound.
+/// Returns whether a port that another socket is bound to cannot be bound.
 fn is_taken(rt: &impl Net) -> Option<bool> {
     let (port, _socket) = heard_port(rt)?;
     Some(UdpPorts::bind(rt, port, &[], 0, Still).is_err())
@@ -272,7 +275,7 @@ fn udp_port_taken(rt: HostRuntime) {
     assert!(rt; is_taken(&rt) == Some(true));
 }
 
-/// Whether the next arrival opens this Far face at this moment.
+/// Returns whether the next arrival opens this Far face at this moment.
 pub fn brings_face<M: Moments>(ports: &mut UdpPorts<M>, opened: u64, at: u64) -> bool {
     matches!(
         ports.next(&mut [0; 100]),
@@ -280,7 +283,7 @@ pub fn brings_face<M: Moments>(ports: &mut UdpPorts<M>, opened: u64, at: u64) ->
     )
 }
 
-/// Whether the next arrival is a packet of this many octets on this face at this moment.
+/// Returns whether the next arrival is a packet of this many octets, on this face at this moment.
 pub fn brings_packet<M: Moments>(
     ports: &mut UdpPorts<M>,
     from: u64,
@@ -293,7 +296,8 @@ pub fn brings_packet<M: Moments>(
     )
 }
 
-/// Whether the next two arrivals, at these moments, open a face and bring this many octets on it.
+/// Returns whether the next two arrivals, at these moments, open a face and bring a packet of this
+/// many octets on it.
 pub fn opens<M: Moments>(
     ports: &mut UdpPorts<M>,
     face: u64,
@@ -304,7 +308,7 @@ pub fn opens<M: Moments>(
     brings_face(ports, face, opened) && brings_packet(ports, face, came, len)
 }
 
-/// Whether two ports open a face each, keep it, and get what is sent to it.
+/// Returns whether two ports each open a face, keep it, and receive what is sent to it.
 fn open_themselves(rt: &impl Net) -> Option<bool> {
     let listen = free_port(rt)?;
     let mut ports = UdpPorts::bind(rt, listen, &[], 0, Moving { last: 0 }).ok()?;
@@ -323,7 +327,7 @@ fn open_themselves(rt: &impl Net) -> Option<bool> {
     )
 }
 
-/// Whether these octets are what a socket hears next.
+/// Returns whether these octets are the next datagram that a socket receives.
 pub fn hears_octets(socket: &UdpSocket, octets: &[u8]) -> bool {
     let mut buffer = [0; 100];
     match receive_one(socket, &mut buffer) {
@@ -337,7 +341,8 @@ fn udp_ports_open_themselves(rt: HostRuntime) {
     assert!(rt; open_themselves(&rt) == Some(true));
 }
 
-/// Whether a datagram to another address of this machine is not heard: the next one is.
+/// Returns whether a datagram to another address of this machine is not received, while the next
+/// one is.
 fn hears_loopback_alone(rt: &impl Net) -> Option<bool> {
     let listen = free_port(rt)?;
     let mut ports = UdpPorts::bind(rt, listen, &[], 0, Moving { last: 0 }).ok()?;
@@ -353,7 +358,7 @@ fn udp_hears_loopback_alone(rt: HostRuntime) {
     assert!(rt; hears_loopback_alone(&rt) == Some(true));
 }
 
-/// Whether the next arrival closes this face at this moment.
+/// Returns whether the next arrival closes this face at this moment.
 fn brings_end<M: Moments>(ports: &mut UdpPorts<M>, closed: u64, at: u64) -> bool {
     matches!(
         ports.next(&mut [0; 100]),
@@ -361,7 +366,7 @@ fn brings_end<M: Moments>(ports: &mut UdpPorts<M>, closed: u64, at: u64) -> bool
     )
 }
 
-/// Whether a new client is answered in this many turns.
+/// Returns whether a new client is answered within this many turns.
 fn answers_client<M: Moments>(
     rt: &(impl AllocGlobal + Net),
     node: &mut Node,
@@ -376,8 +381,8 @@ fn answers_client<M: Moments>(
     }
 }
 
-/// How many clients are answered, one after the other, where each is silent for the whole time
-/// before the next one speaks.
+/// Returns how many clients are answered, one after the other, if each client is silent until its
+/// face closes before the next client sends a packet.
 fn answered_clients(rt: &(impl AllocGlobal + Net), moment: &Cell<u64>) -> Option<u64> {
     let listen = free_port(rt)?;
     let mut ports = UdpPorts::bind(rt, listen, &[], 0, Handed { moment, last: 0 }).ok()?;
@@ -394,13 +399,13 @@ fn answered_clients(rt: &(impl AllocGlobal + Net), moment: &Cell<u64>) -> Option
     Some(answered)
 }
 
-/// Each of 200 clients gets a face, which closes before the next one's opens.
+/// Each of 200 clients gets a face, which closes before the face of the next client opens.
 #[test]
 fn udp_many_clients(rt: HostRuntime) {
     assert!(rt; answered_clients(&rt, &Cell::new(0)) == Some(200));
 }
 
-/// Whether a peer keeps its face while it is silent, where a client's closes.
+/// Returns whether a silent peer keeps its face, while the face of a silent client closes.
 fn keeps_peer(rt: &impl Net, moment: &Cell<u64>) -> Option<bool> {
     let (peer, producer) = heard_port(rt)?;
     let listen = free_port(rt)?;
@@ -415,15 +420,15 @@ fn keeps_peer(rt: &impl Net, moment: &Cell<u64>) -> Option<bool> {
     Some(opened && kept && opens(&mut ports, 3, 86_400_000, 86_400_000, 3))
 }
 
-/// A peer that is silent for a day keeps its face. A client's closes, and the next has another
-/// number.
+/// A peer that is silent for a day keeps its face. The face of a silent client closes, and the next
+/// face has another number.
 #[test]
 fn udp_silent_peer(rt: HostRuntime) {
     assert!(rt; keeps_peer(&rt, &Cell::new(0)) == Some(true));
 }
 
-/// Whether a datagram that came in time is heard, where another face closes first and the time is
-/// then over.
+/// Returns whether a datagram that came in time is received, although another face closes first and
+/// the time is over by then.
 fn hears_what_waits(rt: &impl Net, moment: &Cell<u64>) -> Option<bool> {
     let listen = free_port(rt)?;
     let mut ports = UdpPorts::bind(rt, listen, &[], 0, Handed { moment, last: 0 }).ok()?;
@@ -440,13 +445,13 @@ fn hears_what_waits(rt: &impl Net, moment: &Cell<u64>) -> Option<bool> {
     Some(both && closed && brings_packet(&mut ports, 2, 1_001, 3))
 }
 
-/// What comes in time keeps its face while another one closes.
+/// A datagram that comes in time keeps its face open while another face closes.
 #[test]
 fn udp_waits_while_a_face_closes(rt: HostRuntime) {
     assert!(rt; hears_what_waits(&rt, &Cell::new(0)) == Some(true));
 }
 
-/// Whether this many faces open at this moment.
+/// Returns whether this many faces open at this moment.
 fn open_all<M: Moments>(ports: &mut UdpPorts<M>, faces: u64, at: u64) -> bool {
     for face in 0..faces {
         if !brings_face(ports, face.saturating_add(1), at) {
@@ -456,7 +461,8 @@ fn open_all<M: Moments>(ports: &mut UdpPorts<M>, faces: u64, at: u64) -> bool {
     true
 }
 
-/// What the 65th port brings where the 64th, a client, was silent for 9 seconds and for 10.
+/// Returns whether nothing can be sent to a 65th port while the 64th port, a client, was silent for
+/// 9,999 milliseconds, and whether the client's face closes to make room after 10,000 milliseconds.
 fn gives_way(
     ports: &mut UdpPorts<Handed<'_>>,
     moment: &Cell<u64>,
@@ -474,7 +480,7 @@ fn gives_way(
     Some(full && refused && closed && ports.send(66, b"").is_ok() && ports.send(64, b"").is_err())
 }
 
-/// Whether it is as it should be where 63 peers are known.
+/// Returns whether `gives_way` is true if 63 peers are known.
 fn is_room_made(rt: &(impl AllocGlobal + Net), moment: &Cell<u64>) -> Option<bool> {
     let mut peers = sixty_four_ports(rt.alloc())?;
     let _last = peers.pop();
@@ -490,22 +496,22 @@ fn is_room_made(rt: &(impl AllocGlobal + Net), moment: &Cell<u64>) -> Option<boo
     gives_way(&mut ports, moment, &client, &newcomer)
 }
 
-/// A port, and a socket that sends to another port and hears that alone.
+/// Returns a port, and a socket that sends to another port and receives from that port only.
 fn connected(rt: &impl Net, to: u16) -> Option<(u16, UdpSocket)> {
     let (port, socket) = heard_port(rt)?;
     socket.connect((Ipv4Addr::LOCALHOST, to)).ok()?;
     Some((port, socket))
 }
 
-/// A face that was silent for 10 seconds closes for the 65th port, and not one that was for 9,999
-/// milliseconds.
+/// A face that was silent for 10 seconds closes to make room for a 65th port, but a face that was
+/// silent for 9,999 milliseconds does not.
 #[test]
 fn udp_gives_way(rt: HostRuntime) {
     assert!(rt; is_room_made(&rt, &Cell::new(0)) == Some(true));
 }
 
-/// Whether an Interest goes to a producer while its face is open, and comes back once it has
-/// closed.
+/// Returns whether an Interest goes to a producer while the producer's face is open, and comes back
+/// as a Nack once that face has closed.
 fn goes_until_closed(
     alloc: Global,
     node: &mut Node,
@@ -528,7 +534,7 @@ fn goes_until_closed(
         && hears(alloc, operator, "NO_ROUTE")
 }
 
-/// Whether a route is removed with the face of a client that closes.
+/// Returns whether a route is removed when the face of its client closes.
 fn loses_route(rt: &(impl AllocGlobal + Net), moment: &Cell<u64>) -> Option<bool> {
     let (peer, operator) = heard_port(rt)?;
     let (_, producer) = heard_port(rt)?;

@@ -1,5 +1,5 @@
--- How a run of a script ends, by the octets left in a reader, and those in a writer, before and
--- after it, where they are known.
+-- The ends of a run of a script, described by the unread octets of the reader and the octets of the
+-- writer, before and after the run, if these octets are known.
 use Rattle.std.specs.Prelude.{◌≡◌, ℕ, Option, IfSome, List, ◌++◌}
 use Rattle.std.specs.Io.KnownBytes.{Appends, Consumes, Keeps, IsAtEnd}
 use Rattle.forwarder.specs.Event.{PlainEvent}
@@ -9,12 +9,12 @@ use Rattle.forwarder.specs.declared.node.NodeFault.TheVariants as node
 use Rattle.node_core.specs.declared.script.RunFault.{RunFault}
 use Rattle.node_core.specs.declared.script.RunFault.TheVariants as fault
 
--- first octets of these are appended to the known octets
+-- a prefix of these octets is appended to the known octets
 abbrev pub AppendsFront : Option (List ℕ) → Option (List ℕ) → List ℕ → Type 0
 AppendsFront old new octets =
     (front back : List ℕ) × (octets ≡ front ++ back) × Appends old new front
 
--- a fault of a run whose node's parts have no fault
+-- the fault of a run whose node has valid parts
 abbrev pub ComesWithGoodParts : RunFault → Type 0
 ComesWithGoodParts (fault.Node f) = f ≡ node.Memory
 ComesWithGoodParts (fault.BadLine n) = Unit {0}
@@ -22,15 +22,16 @@ ComesWithGoodParts fault.Read = Unit {0}
 ComesWithGoodParts fault.Write = Unit {0}
 ComesWithGoodParts fault.Memory = Unit {0}
 
--- all was read, and this node's answers to its events were written
+-- the whole script was read, and the node's answers to its events were written
 abbrev pub Ends : NodeState → Option (List ℕ) → Option (List ℕ) → Option (List ℕ)
     → Option (List ℕ) → Type 0
 Ends first unread left held holds =
     (events : List PlainEvent) × (text : List ℕ) × IsTextOfRun first events text
     × Appends held holds text × IfSome unread (λ script. IsScript script events) × IsAtEnd left
 
--- BadLine: the answers to the lines before it were written. Read: those to the whole lines that
--- were read. Write and Memory: first octets of the answers to some first lines. Node: nothing.
+-- What was written before the fault. BadLine: the answers to the lines before the bad line. Read:
+-- the answers to the whole lines that were read. Write and Memory: a prefix of the answers to the
+-- first lines. Node: nothing.
 abbrev pub Stops : NodeState → RunFault → Option (List ℕ) → Option (List ℕ) → Option (List ℕ)
     → Option (List ℕ) → Type 0
 Stops first (fault.BadLine n) unread left held holds =

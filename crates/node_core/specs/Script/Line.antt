@@ -17,7 +17,7 @@ use Rattle.forwarder.specs.Event.{PlainEvent, Packet, FaceUp, FaceDown, Tick, Ne
 abbrev pub Lacks : ℕ → List ℕ → Type 0
 Lacks octet text = AllByRecursion (λ o. o ≢ octet) text
 
--- words with single spaces between them
+-- words separated by single spaces
 abbrev pub words : List (List ℕ) → List ℕ
 words parts = join_with_byte 32 parts
 
@@ -25,23 +25,23 @@ abbrev pub scope_word : Scope → List ℕ
 scope_word Local = codes "local"
 scope_word Far = codes "far"
 
--- hexadecimal of either case, or a dash for no octets
+-- the word spells the octets in hexadecimal of either case; a dash stands for no octets
 abbrev pub HexSpells : List ℕ → List ℕ → Type 0
 HexSpells [] word = word ≡ codes "-"
 HexSpells (o ∷ octets) word = decode_of word ≡ Ok (o ∷ octets)
 
--- the octets of a rule file, and of a key file, in one word
+-- the word spells the octets of a rule file with these rules
 abbrev pub SpellsRules : List PlainRule → List ℕ → Type 0
 SpellsRules rules word = (octets : List ℕ) × HexSpells octets word × AreRules octets rules
 
 abbrev pub SpellsKeys : List NamedKey → List ℕ → Type 0
 SpellsKeys keys word = (octets : List ℕ) × HexSpells octets word × AreKeys octets keys
 
--- the numbers of a script
+-- the numbers of a line are below 2^64
 abbrev pub AreNumbers : ℕ → ℕ → Type 0
 AreNumbers face now = (face < 2 ^ 64) × (now < 2 ^ 64)
 
--- the words of an event
+-- the line spells the event
 abbrev pub LineSpells : PlainEvent → List ℕ → Type 0
 LineSpells (FaceUp face scope now) line =
     AreNumbers face now
@@ -56,11 +56,11 @@ LineSpells (NewRules rules keys now) line =
     (now < 2 ^ 64) × ((a b : List ℕ) × SpellsRules rules a × SpellsKeys keys b
     × (line ≡ words (codes "rules" ∷ decimal now ∷ a ∷ b ∷ [])))
 
--- the longest line, in octets and without the LF at its end
+-- the line has at most 20,000 octets, not counting its LF
 abbrev pub IsShort : List ℕ → Type 0
 IsShort line = length line ≤ 20000
 
--- an empty line, or a comment
+-- the line is empty or a comment
 abbrev pub SaysNothing : List ℕ → Type 0
 SaysNothing [] = Unit {0}
 SaysNothing (o ∷ line) = o ≡ 35
@@ -71,11 +71,11 @@ IsSkipped line = IsShort line × SaysNothing line
 abbrev pub IsEventLine : PlainEvent → List ℕ → Type 0
 IsEventLine event line = IsShort line × LineSpells event line
 
--- a line that is neither
+-- the line is neither skipped nor an event
 abbrev pub IsBadLine : List ℕ → Type 0
 IsBadLine line = (IsSkipped line → ⊥) × ((event : PlainEvent) → IsEventLine event line → ⊥)
 
--- the meaning of a line
+-- the meaning of the line
 abbrev pub LineIs : Line → List ℕ → Type 0
 LineIs said.Skipped line = IsSkipped line
 LineIs (said.Event event) line = IsEventLine (plain_owned event) line

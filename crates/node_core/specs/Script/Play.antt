@@ -1,4 +1,4 @@
--- A script as it is run: the effect of the lines that were read.
+-- Running a script: the effect of the lines that were read.
 use Rattle.std.specs.Prelude.{◌≡◌, ℕ, ◌+◌, ◌<◌, ◌≤◌, ◌^◌, Option, List, [], ◌∷◌, ◌++◌, length}
 use Rattle.std.specs.Io.KnownBytes.{Appends, Keeps}
 use Rattle.forwarder.specs.Event.{PlainEvent}
@@ -22,7 +22,7 @@ pub record Place : Type 0 where
 abbrev pub place_of : Player → Place
 place_of p = record { node = p.node; lines = p.lines; events = p.events }
 
--- a node before its first event: it agrees with the empty run of its own policy
+-- a node before its first event, which agrees with the empty run of its own policy
 pub record IsNew (node : NodeState) : Type 0 where
   pub now : node.policy.now ≡ 0
   pub stands : Stands node.policy Start node
@@ -33,19 +33,19 @@ pub record IsStart (place : Place) : Type 0 where
   pub lines : place.lines ≡ 0
   pub events : place.events ≡ 0
 
--- this many more lines and events can be counted
+-- `n` more lines and events can be counted
 abbrev pub HasRoom : Place → ℕ → Type 0
 HasRoom place n = (place.lines + n < 2 ^ 64) × (place.events + n < 2 ^ 64)
 
--- the place is at most this many lines and events further
+-- at most `n` lines and events lie between the two states
 abbrev pub IsNear : Place → ℕ → Place → Type 0
 IsNear from n to = (to.lines ≤ from.lines + n) × (to.events ≤ from.events + n)
 
--- less than a line, and not too long to become one
+-- an unfinished line that is not too long
 abbrev pub IsPending : List ℕ → Type 0
 IsPending line = Lacks 10 line × (length line ≤ 20000)
 
--- an event leads from one place to another, and its reply is this text
+-- the event leads from one state to the other, and its answer is this text
 pub record PlaysEvent (event : PlainEvent) (from to : Place) (text : List ℕ) : Type 0 where
   pub done_as : Outcome
   pub handled : IsOutcome from.node event done_as to.node
@@ -53,7 +53,7 @@ pub record PlaysEvent (event : PlainEvent) (from to : Place) (text : List ℕ) :
   pub lines : to.lines ≡ from.lines
   pub events : to.events ≡ from.events + 1
 
--- lines lead from one place to another, and the replies to their events are this text
+-- the lines lead from one state to the other, and the answers to their events are this text
 pub record Plays (lines : List (List ℕ)) (from to : Place) (text : List ℕ) : Type 0 where
   pub events : List PlainEvent
   pub outcomes : List Outcome
@@ -64,7 +64,7 @@ pub record Plays (lines : List (List ℕ)) (from to : Place) (text : List ℕ) :
   pub numbered : to.lines ≡ from.lines + length lines
   pub counted : to.events ≡ from.events + length outcomes
 
--- why a line was refused
+-- the possible faults of handling one line
 abbrev pub LineFails : RunFault → List ℕ → Place → Type 0
 LineFails (fault.BadLine n) line from = (n ≡ from.lines + 1) × IsBadLine line
 LineFails fault.Memory line from = Unit {0}
@@ -72,7 +72,7 @@ LineFails fault.Write line from = ⊥
 LineFails fault.Read line from = ⊥
 LineFails (fault.Node _) line from = ⊥
 
--- why a line was refused, and what was written of its reply
+-- the possible faults of running one line, and for each the part of the answer that was written
 abbrev pub LineStops : RunFault → List ℕ → Place → Option (List ℕ) → Option (List ℕ) → Type 0
 LineStops (fault.BadLine n) line from held holds =
     (n ≡ from.lines + 1) × IsBadLine line × Keeps held holds
@@ -82,7 +82,7 @@ LineStops fault.Memory line from held holds = Keeps held holds
 LineStops fault.Read line from held holds = ⊥
 LineStops (fault.Node _) line from held holds = ⊥
 
--- why octets cannot be added to a line
+-- the possible faults of appending octets to a line
 abbrev pub AddStops : RunFault → List ℕ → Place → Type 0
 AddStops (fault.BadLine n) line from = (n ≡ from.lines + 1) × (20000 < length line)
 AddStops fault.Memory line from = Unit {0}
@@ -90,13 +90,13 @@ AddStops fault.Write line from = ⊥
 AddStops fault.Read line from = ⊥
 AddStops (fault.Node _) line from = ⊥
 
--- after these lines comes a bad one, whatever follows the octets
+-- after these lines comes a bad line, whatever follows the stream
 abbrev pub TurnsBad : List ℕ → List (List ℕ) → Type 0
 TurnsBad stream lines = (more : List ℕ) → (line rest : List ℕ)
     × (ended (stream ++ more) ≡ joined lines ++ (ended line ++ rest)) × Lacks 10 line
     × IsBadLine line
 
--- why octets that continue from a place were refused, and what was written
+-- the possible faults of running octets from a state on, and for each the text that was written
 abbrev pub FeedStops : RunFault → List ℕ → Place → Option (List ℕ) → Option (List ℕ) → Type 0
 FeedStops (fault.BadLine n) stream from held holds =
     (lines : List (List ℕ)) × (to : Place) × (text : List ℕ) × Plays lines from to text

@@ -33,7 +33,7 @@ abbrev pub kind_name : Kind → List ℕ
 kind_name kinds.Data = codes "data"
 kind_name kinds.Interest = codes "interest"
 
--- Rules are printed as their ids.
+-- the text of a verdict; rules are printed as their ids
 abbrev pub verdict_text : List PlainRule → Verdict → List ℕ
 verdict_text rules Passed = codes "passed"
 verdict_text rules (Allowed rule status) =
@@ -53,15 +53,15 @@ abbrev pub hex_word : List ℕ → List ℕ
 hex_word [] = codes "-"
 hex_word (o ∷ octets) = encode_lower (o ∷ octets)
 
--- the line of a send
+-- the line of a packet that is sent
 abbrev pub send_text : Send → List ℕ
 send_text sent = codes "> " ++ (decimal sent.0 ++ (32 ∷ (hex_word sent.1 ++ (10 ∷ []))))
 
--- the line of an event, by its number
+-- the line of an event with its number
 abbrev pub numbered_line : ℕ → List ℕ → List ℕ
 numbered_line number said = decimal number ++ (32 ∷ (said ++ (10 ∷ [])))
 
--- the line of an event, and those of its sends
+-- the line of an event and the lines of the packets that are sent
 abbrev pub lines_text : ℕ → List ℕ → List Send → List ℕ
 lines_text number said sends = numbered_line number said ++ flat_map send_text sends
 
@@ -70,8 +70,9 @@ outcome_text rules number (Answered answer) =
     lines_text number (verdict_text rules answer.verdict) answer.sends
 outcome_text rules number NoMemory = lines_text number (codes "memory") []
 
--- The text of the replies to events, from this number on, where these rules are in force. The id in
--- the line of an event is that of the rule file by which it was decided.
+-- The text of the answers to events, numbered from `number` on, with these rules in force before
+-- the first event. The id in the line of an event is taken from the rule file that decided the
+-- event.
 abbrev pub outcomes_text : List PlainRule → ℕ → List PlainEvent → List Outcome → List ℕ
 outcomes_text rules number [] outcomes = []
 outcomes_text rules number (event ∷ events) [] = []
@@ -79,6 +80,6 @@ outcomes_text rules number (event ∷ events) (done_as ∷ outcomes) =
     outcome_text rules number done_as
     ++ outcomes_text (rules_after event rules) (number + 1) events outcomes
 
--- the text of a script's replies, by a node of these rules
+-- the text of the answers to a script, for a node with these rules
 abbrev pub script_text : List PlainRule → List PlainEvent → List Outcome → List ℕ
 script_text rules events outcomes = outcomes_text rules 1 events outcomes

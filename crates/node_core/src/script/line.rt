@@ -12,20 +12,21 @@ use info_rules::{Rules, RulesFaultKind};
 use ndn_tlv::Memory;
 use std::alloc::Global;
 
-/// The longest line, in octets and without the LF at its end.
+/// The greatest length of a line in octets, without its LF.
 pub const LONGEST_LINE: usize = 20_000;
 
 /// The meaning of a line of a script.
 #[derive(Drop)]
 pub enum Line {
-    /// Nothing: it is empty, or a comment.
+    /// An empty line or a comment.
     Skipped,
     Event(OwnedEvent),
-    /// It has more than 20,000 octets, or is not a line of a script.
+    /// A line that no script has: it has more than 20,000 octets, or it is neither skipped nor an
+    /// event.
     Bad,
 }
 
-/// Reads a line, without its LF.
+/// Reads a line without its LF.
 pub fn line_of(alloc: Global, line: &[u8]) -> Result<Line, Memory>
     ensures { IfOk result (λ said. LineIs said line.now) }
 {
@@ -149,7 +150,8 @@ fn new_rules(alloc: Global, text: &[u8]) -> Result<Option<OwnedEvent>, Memory>
     }
 }
 
-/// The rules of a word that gives the octets of a rule file without a fault.
+/// Reads a rule file whose octets the word spells. Returns `None` if the word does not spell octets
+/// or the rule file has a fault.
 fn rules_of(alloc: Global, word: &[u8]) -> Result<Option<Rules>, Memory>
     ensures found { IfOk result (λ read. IfSome read (λ rules. SpellsRules rules word.now)) }
     ensures none { IfOk result
@@ -167,7 +169,8 @@ fn rules_of(alloc: Global, word: &[u8]) -> Result<Option<Rules>, Memory>
     }
 }
 
-/// The keys of a word that gives the octets of a key file without a fault.
+/// Reads a key file whose octets the word spells. Returns `None` if the word does not spell octets
+/// or the key file has a fault.
 fn keys_of(alloc: Global, word: &[u8]) -> Result<Option<KeyBook>, Memory>
     ensures found { IfOk result (λ read. IfSome read (λ keys. SpellsKeys keys word.now)) }
     ensures none { IfOk result

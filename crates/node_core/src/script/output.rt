@@ -5,8 +5,9 @@ ghost use Rattle.node_core.specs.Script.Ending.{AppendsFront};
 use crate::script::RunFault;
 use std::io::{ErrorKind, Write};
 
-/// Writes all the octets, or some first ones and then returns `Write`: the writer failed, took no
-/// octets, or was called 4,294,967,295 times. An interrupted call is tried again.
+/// Writes all the octets. Returns `Write` if the writer fails, accepts no octets or was called
+/// 4,294,967,295 times; then a prefix of the octets may have been written. An interrupted call is
+/// tried again.
 pub fn put_all<W: Write>(writer: &mut W, octets: &[u8]) -> Result<(), RunFault>
     ensures done { OnOk result
         (Appends (W.contents writer.old) (W.contents writer.new) octets.now) }
@@ -25,7 +26,8 @@ pub fn put_all<W: Write>(writer: &mut W, octets: &[u8]) -> Result<(), RunFault>
     Err(RunFault::Write)
 }
 
-// The number of octets that one call took, 0 where it was interrupted.
+// Calls the writer once and returns the number of octets that it accepted, 0 if the call was
+// interrupted.
 fn put_some<W: Write>(writer: &mut W, octets: &[u8]) -> Result<usize, RunFault>
     ensures bound { IfOk result (λ count. count ≤ length octets.now) }
     ensures taken { IfOk result

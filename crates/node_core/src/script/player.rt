@@ -17,10 +17,10 @@ use forwarder::{Node, Outbox, OwnedEvent};
 use std::alloc::Global;
 use std::io::{Read, Write};
 
-/// The most octets that are read at once.
+/// The greatest number of octets in one read.
 pub const CHUNK: usize = 65_536;
 
-/// The state of running a script: the node, the answers that are not written yet, and the numbers
+/// The state of running a script: the node, the answers that are not yet written, and the numbers
 /// of lines and events so far.
 #[derive(Drop)]
 pub struct Player {
@@ -33,8 +33,7 @@ pub struct Player {
 }
 
 impl Player {
-    /// Runs the octets of the reader, from the start of a script on. The chunk is the buffer to
-    /// read into.
+    /// Runs a script from its start to the end of the reader. `chunk` is the buffer for reading.
     pub fn play<R: Read, W: Write>(
         &mut self,
         chunk: &mut [u8],
@@ -61,8 +60,8 @@ impl Player {
         Err(RunFault::Read)
     }
 
-    // Handles the lines that end in the chunk, writes their answers, and leaves the octets after
-    // them in `line`.
+    // Handles the lines that end in the chunk and writes their answers. Leaves the octets of the
+    // unfinished line in `line`.
     fn feed<W: Write>(
         &mut self,
         writer: &mut W,
@@ -88,7 +87,7 @@ impl Player {
         done
     }
 
-    // Handles the last line, which no LF ends, and writes its answer.
+    // Handles the last line, which has no LF, and writes its answer.
     fn end<W: Write>(&mut self, writer: &mut W, line: &[u8]) -> Result<(), RunFault>
         requires room { HasRoom (place_of self.old) 1 }
         requires whole { Lacks 10 line.now }
@@ -104,8 +103,8 @@ impl Player {
         put_all(writer, self.text.as_slice())
     }
 
-    // Handles the lines that end in the chunk, and leaves the octets after them in `line`. Their
-    // answers are appended to the text.
+    // Handles the lines that end in the chunk and appends their answers to the text. Leaves the
+    // octets of the unfinished line in `line`.
     fn gather(&mut self, line: &mut Vec<u8>, chunk: &[u8]) -> Result<(), RunFault>
         requires room { HasRoom (place_of self.old) (length chunk.now + 1) }
         requires pending { IsPending line.old.items }
@@ -128,7 +127,7 @@ impl Player {
         self.add(line, rest)
     }
 
-    // Appends to the line that is being read.
+    // Appends octets to the unfinished line.
     fn add(&self, line: &mut Vec<u8>, octets: &[u8]) -> Result<(), RunFault>
         requires room { HasRoom (place_of self.now) 1 }
         requires short { length line.old.items ≤ 20000 }
@@ -143,7 +142,7 @@ impl Player {
         line.extend_from_slice(octets).map_err(|_| RunFault::Memory)
     }
 
-    // Handles the line that ends with these octets. Its answer is appended to the text.
+    // Handles the line that ends with `octets`, and appends its answer to the text.
     fn end_line(&mut self, line: &mut Vec<u8>, octets: &[u8]) -> Result<(), RunFault>
         requires room { HasRoom (place_of self.old) 1 }
         requires pending { IsPending line.old.items }
@@ -167,7 +166,7 @@ impl Player {
         Ok(())
     }
 
-    // Handles a line. Its answer is appended to the text.
+    // Handles a line, and appends its answer to the text.
     fn answer_line(&mut self, line: &[u8]) -> Result<(), RunFault>
         requires room { HasRoom (place_of self.old) 1 }
         requires whole { Lacks 10 line.now }
@@ -191,7 +190,7 @@ impl Player {
         Ok(())
     }
 
-    // Hands the event to the node, and appends its answer to the text.
+    // Passes the event to the node, and appends its answer to the text.
     fn answer(&mut self, event: OwnedEvent) -> Result<(), RunFault>
         requires room { HasRoom (place_of self.old) 1 }
         ensures handled { OnOk result ((text : List ℕ)

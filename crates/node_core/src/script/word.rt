@@ -10,7 +10,8 @@ use ndn_tlv::Memory;
 use std::alloc::Global;
 use std::str;
 
-/// The octets before the first one of this value, and those after it.
+/// Splits the text at the first octet equal to `at`. Returns the octets before it and those after
+/// it.
 pub fn cut(text: &[u8], at: u8) -> Option<(&[u8], &[u8])>
     ensures found { IfSome result
         (λ parts. (text.now ≡ parts.0.now ++ (at ∷ parts.1.now)) × Lacks at parts.0.now) }
@@ -24,7 +25,8 @@ pub fn cut(text: &[u8], at: u8) -> Option<(&[u8], &[u8])>
     None
 }
 
-/// The octets before the first LF, and those after it. It is faster than `cut` where the LF is far.
+/// Splits the text at the first LF. Returns the octets before it and those after it. Faster than
+/// `cut` for long lines.
 pub fn cut_line(text: &[u8]) -> Option<(&[u8], &[u8])>
     ensures found { IfSome result
         (λ parts. (text.now ≡ parts.0.now ++ (10 ∷ parts.1.now)) × Lacks 10 parts.0.now) }
@@ -34,7 +36,8 @@ pub fn cut_line(text: &[u8]) -> Option<(&[u8], &[u8])>
     Some((&text[..at], &text[at + 1..]))
 }
 
-/// The words before the first two spaces, and the octets after them.
+/// Splits the text at its first two spaces. Returns the two words before them and the octets after
+/// them.
 pub fn three_words(text: &[u8]) -> Option<(&[u8], &[u8], &[u8])>
     ensures found { IfSome result (λ p. (text.now ≡ p.0.now ++ (32 ∷ (p.1.now ++ (32 ∷ p.2.now))))
         × Lacks 32 p.0.now × Lacks 32 p.1.now) }
@@ -46,7 +49,7 @@ pub fn three_words(text: &[u8]) -> Option<(&[u8], &[u8], &[u8])>
     Some((first, second, third))
 }
 
-/// The number below 2 ^ 64 that the word is the decimal text of, without leading zeros.
+/// Reads a decimal number below 2 ^ 64 without leading zeros.
 pub fn parse_decimal(word: &[u8]) -> Option<u64>
     ensures found { IfSome result (λ n. word.now ≡ decimal n) }
     ensures none { IfNone result ((n : ℕ) → n < 2 ^ 64 → word.now ≡ decimal n → ⊥) }
@@ -63,7 +66,7 @@ pub fn parse_decimal(word: &[u8]) -> Option<u64>
     text.parse::<u64>().ok()
 }
 
-/// The scope that the word names.
+/// Returns the scope that the word names.
 pub fn scope_of(word: &[u8]) -> Option<Scope>
     ensures found { IfSome result (λ scope. word.now ≡ scope_word scope) }
     ensures none { IfNone result ((scope : Scope) → word.now ≡ scope_word scope → ⊥) }
@@ -74,7 +77,7 @@ pub fn scope_of(word: &[u8]) -> Option<Scope>
     (word == b"far".as_slice()).then_some(Scope::Far)
 }
 
-/// The octets that the word gives in hexadecimal of either case; `-` gives no octets.
+/// Reads octets in hexadecimal of either case. The word `-` stands for no octets.
 pub fn octets_of(alloc: Global, word: &[u8]) -> Result<Option<Vec<u8>>, Memory>
     ensures found { IfOk result (λ read. IfSome read (λ octets. HexSpells octets.items word.now)) }
     ensures none { IfOk result
@@ -96,8 +99,9 @@ pub fn octets_of(alloc: Global, word: &[u8]) -> Result<Option<Vec<u8>>, Memory>
     Ok(None)
 }
 
-/// Whether all are digits. If so, the octets that they give, two digits each, replace the others.
-/// All digits are read in any case, so that the loop has no branch.
+/// Decodes two hexadecimal digits for each octet. Returns whether all `digits` are digits; if not,
+/// the content of `octets` is unspecified. The whole text is always processed, so that the loop has
+/// no branch.
 fn fill(octets: &mut [u8], digits: &[u8]) -> bool
     requires { length digits.now ≡ 2 * length octets.old }
     ensures found { IsTrue result → decode_pairs 0 digits.now ≡ Ok octets.new }
@@ -113,7 +117,7 @@ fn fill(octets: &mut [u8], digits: &[u8]) -> bool
     greatest < 16
 }
 
-/// The value of a digit of either case, or 255 where it is none.
+/// Returns the value of a hexadecimal digit of either case, or 255 if the octet is not a digit.
 #[inline(always)]
 fn value_of(digit: u8) -> u8
     ensures { MatchOption (hex_digit_value digit) (result ≡ 255)

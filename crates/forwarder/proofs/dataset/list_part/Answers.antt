@@ -13,7 +13,8 @@ use Rattle.forwarder.proofs.LeftRoutes.{left_twice}
 use Rattle.forwarder.proofs.ReplyLengths.{segment_at_len}
 use Rattle.forwarder.proofs.dataset.list_part.Goals as goal
 
--- once the routes that end by a moment are gone, the list of that moment is that of those left
+-- once the routes that are due have expired, the list at that moment is the list of the remaining
+-- routes
 made_of_left : (now number : ℕ) (routes : Routes) (choices : Choices) (kind : ListKind) (made : Result (Option (Vec ℕ Global × ℕ)) Memory) → kind ≡ RouteList
     → IfOk made (λ part. option_map (λ s. (s.0.items, s.1)) part ≡ segment_at (fib_text now routes) number)
     → IfOk made (λ part. (p : Policy) → p.now ≡ now → p.routes ≡ left_at now routes → p.choices ≡ choices
@@ -25,7 +26,7 @@ made_of_left now number routes choices kind (Ok part) is written = λ p at left 
     ∙ (λ i. fib_text (sym at i) (sym left i)) ∙ ap (dataset_text p) (sym is))
 made_of_left now number routes choices kind (Err memory) is written = tt
 
--- a segment is not long
+-- a segment has at most 4,096 octets
 short_part : (made : Result (Option (Vec ℕ Global × ℕ)) Memory) (text : List ℕ) (number : ℕ) → IfOk made (λ part. option_map (λ s. (s.0.items, s.1)) part ≡ segment_at text number)
     → IfOk made (λ part. IfSome part (λ s. length s.0.items ≤ 4096))
 short_part (Ok None) text number is = tt

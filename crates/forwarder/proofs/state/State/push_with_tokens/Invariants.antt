@@ -9,7 +9,7 @@ use Rattle.forwarder.specs.Replies.{Askers, faces_of, sent_to}
 use Rattle.forwarder.specs.declared.sends.TheConstants.{LINK_EXTRA}
 use Rattle.forwarder.proofs.state.State.push_with_tokens.Given as goal
 
--- the faces so far, each with its token, and the room for the others
+-- the sends to the faces before index `i`, each with its token, and the room for the other faces
 abbrev pub invariant-loop-i : goal.invariant-loop-i
 invariant-loop-i l = record {
   sends : (some : Askers) × (l.faces ≡ faces_of some ++ drop l.i l.faces)

@@ -75,7 +75,7 @@ receive_command-requires-clause-request c =
     request_by_name p c.args.arrived.now.face (plain_interest c.args.arrived.now.packet.now) (sym c.has_no_hops.ensures ∙ c.if-has_no_hops.false)
     (sym c.is_out_of_scope.ensures ∙ c.if-is_out_of_scope.false) ∙ sym (c.named_request.ensures p refl)
 
--- what is asked for by a name is not refused
+-- a request that is read off a name is not a refusal
 unrefused : (p : Policy) (face : ℕ) (i : PlainInterest) (r : NamedRequest) → request_of p face i ≡ request_named r → (reason : DropReason) → request_of p face i ≡ Refused reason → ⊥
 unrefused p face i (named.ForList asked) is reason e = cc (is, e)
 unrefused p face i named.ForTables is reason e = cc (is, e)

@@ -81,7 +81,7 @@ returns c = record {
   memory = tt;
 }
 
--- the place was given for what is still held
+-- the lookup returned the index of a Data that is still in the cache
 pub unreachable-requires : goal.unreachable-requires
 unreachable-requires c =
     let old = state_of c.args.self.now in
