@@ -1,4 +1,4 @@
-//! The client: its command lines, and how it handles datagrams.
+//! How the tests run command lines of the client and give it datagrams.
 
 use super::scene::Scene;
 use hmac_keys::KeyBook;
@@ -8,7 +8,7 @@ use ndn_client::{
 use std::alloc::Global;
 use test_support::{KEYS, typed};
 
-/// The text that a word of a row stands for.
+/// Returns the text that a word of a row stands for.
 fn spelled(word: &str) -> &str {
     match word {
         "$KEY" => "--keys F --key /ops/KEY/1",
@@ -17,7 +17,7 @@ fn spelled(word: &str) -> &str {
     }
 }
 
-/// The words of a command line.
+/// Returns the words of a command line.
 fn words_of<'a>(alloc: Global, line: &'a str) -> Option<Vec<&'a str>> {
     let mut words = Vec::new(alloc);
     words.push("ndn_tool").ok()?;
@@ -29,7 +29,7 @@ fn words_of<'a>(alloc: Global, line: &'a str) -> Option<Vec<&'a str>> {
     Some(words)
 }
 
-/// The exchange for a packet that is printed in hexadecimal.
+/// Returns the exchange for a packet that is printed in hexadecimal.
 fn printed_exchange(alloc: Global, text: &[u8]) -> Option<Exchange> {
     Some(Exchange {
         request: packet_in(alloc, text).ok()?,
@@ -40,7 +40,8 @@ fn printed_exchange(alloc: Global, text: &[u8]) -> Option<Exchange> {
     })
 }
 
-/// The exchange of a command line at a moment. A packet that it prints is sent from the port 6401.
+/// Returns the exchange of a command line at a moment. A packet that the command line prints is
+/// sent from port 6401.
 pub fn exchange_of(alloc: Global, line: &str, now: u64, book: &KeyBook) -> Option<Exchange> {
     let words = words_of(alloc, line)?;
     let job = parse_words(alloc, now, words.as_slice()).ok()?;
@@ -50,7 +51,8 @@ pub fn exchange_of(alloc: Global, line: &str, now: u64, book: &KeyBook) -> Optio
     }
 }
 
-/// The result of an exchange by these datagrams, the first of which that is an answer counts.
+/// Returns the result of an exchange that receives these datagrams; the first one that is an answer
+/// counts.
 pub fn heard(
     alloc: Global,
     exchange: &mut Exchange,
@@ -66,7 +68,7 @@ pub fn heard(
     Some(Progress::Ignored)
 }
 
-/// The result of the node's answers to an exchange's present request.
+/// Returns the result of an exchange when the node answers its present request.
 pub fn turn(
     alloc: Global,
     scene: &mut Scene,
@@ -77,7 +79,7 @@ pub fn turn(
     heard(alloc, exchange, &answers, book)
 }
 
-/// The final result of an exchange.
+/// Returns the final result of an exchange.
 pub fn played(
     alloc: Global,
     scene: &mut Scene,
@@ -112,7 +114,8 @@ fn word_of_outcome(outcome: Outcome) -> &'static str {
     }
 }
 
-/// A word for the outcome of an exchange, and the text printed. Without an answer it timed out.
+/// Returns a word for the outcome of an exchange, and the printed text. An exchange without an
+/// answer has timed out.
 pub fn end_of(alloc: Global, exchange: &Exchange, progress: Progress) -> (&'static str, Vec<u8>) {
     match progress {
         Progress::Done(text, outcome) => (word_of_outcome(outcome), text),
@@ -122,8 +125,8 @@ pub fn end_of(alloc: Global, exchange: &Exchange, progress: Progress) -> (&'stat
     }
 }
 
-/// Whether an exchange ended like a text: the word for its outcome, and after a space the end of
-/// the text printed, with signs for LF and tab.
+/// Returns whether an exchange ended as `text` says: the word for its outcome, then a space and the
+/// end of the printed text, with symbols for LF and tab.
 pub fn ends_as(
     alloc: Global,
     exchange: &Exchange,
@@ -136,7 +139,8 @@ pub fn ends_as(
     Some(word == wanted && printed.ends_with(lines.as_bytes()))
 }
 
-/// Whether a command line, a moment after the one before, ends as its row says.
+/// Returns whether a command line ends as its row says, when it runs a millisecond after the one
+/// before it.
 pub fn plays(alloc: Global, scene: &mut Scene, book: &KeyBook, row: &str) -> Option<bool> {
     let (line, wanted) = row.split_once(" => ").unwrap_or((row, "no end"));
     scene.now = scene.now.saturating_add(1);
@@ -145,7 +149,7 @@ pub fn plays(alloc: Global, scene: &mut Scene, book: &KeyBook, row: &str) -> Opt
     ends_as(alloc, &exchange, progress, wanted)
 }
 
-/// The first row that does not end as it says, with all rows run on one node in order.
+/// Runs all rows on one node, in order, and returns the first row that does not end as it says.
 fn first_misplayed<'a>(
     alloc: Global,
     scene: &mut Scene,
@@ -160,7 +164,8 @@ fn first_misplayed<'a>(
     None
 }
 
-/// The same on a new node under these rules.
+/// Runs all rows on a new node under these rules, and returns the first row that does not end as it
+/// says.
 pub fn misplayed<'a>(alloc: Global, rules: &str, rows: &'a str) -> Option<&'a str> {
     let Ok(book) = KeyBook::read(alloc, KEYS) else {
         return Some("no keys");

@@ -1,4 +1,4 @@
-//! Each command line that is sent, and each status.
+//! Each command line that sends requests, and each status.
 
 use super::client::misplayed;
 use test_support::SAMPLE;
@@ -18,14 +18,14 @@ route remove /lab --face 2 $KEY $NODE => done status 200 OK␊name /lab␊face 2
 peek /nowhere --to 6363 --nonce 01020304 => nack nack 150 NoRoute␊interest /nowhere␊nonce 01020304␊lifetime 4000␊
 ";
 
-/// What a user does first.
+/// The commands that a user runs first.
 #[test]
 fn ten_commands(rt: HostRuntime) {
     let row = misplayed(rt.alloc(), SAMPLE, TEN_COMMANDS);
     assert!(rt; row.is_none(), "{row:?}");
 }
 
-/// The other verbs, with options. A route that has expired is absent at the next command.
+/// The other verbs, with options. A route that has expired is gone at the next command.
 const OTHER_COMMANDS: &str = "
 route register /A --face 2 --cost 5 $KEY $NODE => done status 200 OK␊name /A␊face 2␊cost 5␊origin 0␊flags child-inherit␊
 route register /A/B --face 1 --flags 2 --expires 1 --origin 65 $KEY $NODE => done status 200 OK␊name /A/B␊face 1␊cost 0␊origin 65␊flags capture␊expires in 1 ms␊
@@ -74,7 +74,7 @@ route list --send 6363 => far
 send 062e0703080141150016031b010017205c439ab8938d3e9e250316cbe570d36f8786ba25bc6cc7b37607307c65e62270 --to 6363 => late
 ";
 
-/// Without rules no command is allowed.
+/// Without rules, no command is allowed.
 const NO_RULES: &str = "
 route add /A --face 2 $KEY $NODE => refused status 403 no rule␊
 repo insert /repo /A $KEY $NODE => refused status 403 no rule␊count 0␊

@@ -1,4 +1,4 @@
-//! Datagrams that do not answer a command: before the reply, after it, and in its place.
+//! Datagrams that do not answer a command: before the reply, after it, and instead of it.
 
 use super::client::{ends_as, exchange_of, heard};
 use super::scene::Scene;
@@ -7,9 +7,9 @@ use ndn_client::Exchange;
 use std::alloc::Global;
 use test_support::{KEYS, SAMPLE, first_wrong};
 
-/// The datagrams after a command was sent, and how it ends: `reply` is the node's reply to it,
-/// `forged` the same with a wrong signature, and `earlier` its reply to the command before, which
-/// comes too late.
+/// The datagrams that arrive after a command was sent, and how the command ends. `reply` is the
+/// node's reply to the command, `forged` is this reply with a wrong signature, and `earlier` is the
+/// node's reply to the previous command, which arrives too late.
 const HEARD: &str = "
 reply => done status 200 OK␊name /A␊face 2␊cost 5␊
 forged earlier reply => done status 200 OK␊name /A␊face 2␊cost 5␊
@@ -19,7 +19,7 @@ earlier => late
 earlier forged earlier => late
 ";
 
-/// A datagram of a word.
+/// Returns the datagram that a word stands for.
 fn datagram(alloc: Global, word: &str, reply: &[u8], earlier: &[u8]) -> Option<Vec<u8>> {
     let octets = if word == "earlier" { earlier } else { reply };
     let mut datagram = Vec::from_slice(alloc, octets).ok()?;
@@ -29,7 +29,7 @@ fn datagram(alloc: Global, word: &str, reply: &[u8], earlier: &[u8]) -> Option<V
     Some(datagram)
 }
 
-/// The datagrams of words.
+/// Returns the datagrams that the words stand for.
 fn datagrams(alloc: Global, words: &str, reply: &[u8], earlier: &[u8]) -> Option<Vec<Vec<u8>>> {
     let mut datagrams = Vec::new(alloc);
     for word in words.split(' ') {
@@ -38,7 +38,7 @@ fn datagrams(alloc: Global, words: &str, reply: &[u8], earlier: &[u8]) -> Option
     Some(datagrams)
 }
 
-/// The one reply of the node to a command line.
+/// Returns the only reply of the node to a command line.
 fn reply_to(alloc: Global, scene: &mut Scene, exchange: &Exchange) -> Option<Vec<u8>> {
     let mut replies = scene.answers(alloc, exchange.from, &exchange.request)?;
     if replies.len() == 1 {
@@ -48,14 +48,15 @@ fn reply_to(alloc: Global, scene: &mut Scene, exchange: &Exchange) -> Option<Vec
     }
 }
 
-/// The node's reply to a command on another name.
+/// Returns the node's reply to a command for another name.
 fn earlier_reply(alloc: Global, scene: &mut Scene, book: &KeyBook) -> Option<Vec<u8>> {
     let line = "route add /earlier --face 2 $KEY $NODE";
     let exchange = exchange_of(alloc, line, 1_000_000, book)?;
     reply_to(alloc, scene, &exchange)
 }
 
-/// Whether an exchange ends as a row says, with this reply and that to the command before.
+/// Returns whether an exchange ends as a row says, given its reply and the reply to the previous
+/// command.
 fn hears(
     alloc: Global,
     exchange: &mut Exchange,
@@ -70,8 +71,8 @@ fn hears(
     ends_as(alloc, exchange, progress, wanted)
 }
 
-/// The same for a new node, which gets another command before that of the line, and whose reply to
-/// this one has this many octets.
+/// Does the same as `hears` on a new node. The node gets another command before the one in `line`,
+/// and its reply to the command in `line` must have `len` octets.
 fn hears_on(
     alloc: Global,
     scene: &mut Scene,
@@ -87,7 +88,7 @@ fn hears_on(
     Some(heard && reply.len() == len)
 }
 
-/// The same with the sample keys and rules.
+/// Does the same as `hears_on`, with the sample keys and rules.
 fn hears_of(alloc: Global, line: &str, len: usize, row: &str) -> Option<bool> {
     let book = KeyBook::read(alloc, KEYS).ok()?;
     hears_on(
@@ -100,25 +101,26 @@ fn hears_of(alloc: Global, line: &str, len: usize, row: &str) -> Option<bool> {
     )
 }
 
-/// The same for a route for `/A`, whose name with its parameters has 85 octets in the reply.
+/// Does the same as `hears_of` for a route for `/A`; in the reply, the name and its parameters take
+/// 85 octets.
 fn is_heard(alloc: Global, row: &str) -> bool {
     hears_of(alloc, "route add /A --face 2 --cost 5 $KEY $NODE", 150, row) == Some(true)
 }
 
-/// Only the command's reply with the right signature ends it.
+/// A command ends only with its own reply that has the right signature.
 #[test]
 fn forged_and_earlier_replies(rt: HostRuntime) {
     assert!(rt; first_wrong(rt.alloc(), HEARD, is_heard) == 0);
 }
 
-/// The same for a command whose name replaces the sign `~`.
+/// The same datagrams for a command whose name replaces the character `~`.
 const LONG: &str = "
 reply => done status 200 OK␊name ~␊face 2␊cost 0␊
 forged earlier reply => done status 200 OK␊name ~␊face 2␊cost 0␊
 forged => late
 ";
 
-/// A name of 28 components of 280 octets.
+/// Returns a name of 28 components of 280 octets each.
 fn long_name(alloc: Global) -> Option<String> {
     let mut name = String::new(alloc);
     for _ in 0..28 {
@@ -130,8 +132,8 @@ fn long_name(alloc: Global) -> Option<String> {
     Some(name)
 }
 
-/// Whether a command for this name ends like this. Its reply has the name twice, in 7,956 octets
-/// each, and 151 other octets.
+/// Returns whether a command for this name ends as the row says. Its reply contains the name twice,
+/// in 7,956 octets each time, and 151 other octets.
 fn hears_name(alloc: Global, name: &str, row: &str) -> Option<bool> {
     let line = "route add ~ --face 2 $KEY $NODE"
         .replace(alloc, '~', name)

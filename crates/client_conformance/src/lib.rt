@@ -1,4 +1,4 @@
-//! Tests of the client against a node: a node in the same process gets the requests of a command
+//! Tests of the client against a node in the same process: the node gets the requests of a command
 //! line, and the client gets the node's packets. No sockets are opened.
 #![tactic(auto)]
 

@@ -7,10 +7,10 @@ use ndn_client::{Exchange, Progress};
 use std::alloc::Global;
 use test_support::{KEYS, SAMPLE};
 
-/// The letters before the number in a name: 47, so that a route has 64 octets in the list.
+/// The 47 letters before the number in a name, so that a route takes 64 octets in the list.
 const LETTERS: &str = "xxxxxxxxxxxxxxxxxxxxxxxxxxxxxxxxxxxxxxxxxxxxxxx";
 
-/// Whether the node takes 130 routes, which have 8,320 octets in the list.
+/// Returns whether the node accepts 130 routes, which take 8,320 octets in the list.
 fn adds_routes(alloc: Global, scene: &mut Scene, book: &KeyBook) -> Option<bool> {
     for number in 100..230 {
         let row = format!(in alloc;
@@ -23,7 +23,7 @@ fn adds_routes(alloc: Global, scene: &mut Scene, book: &KeyBook) -> Option<bool>
     Some(true)
 }
 
-/// The table of these routes.
+/// Returns the table of the 130 routes.
 fn table(alloc: Global) -> Option<String> {
     let mut table = String::from_str(alloc, "name\tface\tcost\n").ok()?;
     for number in 100..230 {
@@ -33,12 +33,12 @@ fn table(alloc: Global) -> Option<String> {
     Some(table)
 }
 
-/// Whether a segment other than the last one comes.
+/// Returns whether a segment arrives that is not the last one.
 fn goes_on(alloc: Global, scene: &mut Scene, exchange: &mut Exchange, book: &KeyBook) -> bool {
     matches!(turn(alloc, scene, exchange, book), Some(Progress::Next))
 }
 
-/// Whether a third segment ends the list, which is this table.
+/// Returns whether the third segment ends the list, and the list is the table of the 130 routes.
 fn ends_with_table(
     alloc: Global,
     scene: &mut Scene,
@@ -51,7 +51,8 @@ fn ends_with_table(
     Some(in_three && word == "done" && printed.as_slice() == table(alloc)?.as_bytes())
 }
 
-/// Whether no second segment comes if the list changes after the first.
+/// Returns whether the exchange ends without a second segment if the list changes after the first
+/// one.
 fn ends_with_change(
     alloc: Global,
     scene: &mut Scene,
@@ -64,7 +65,7 @@ fn ends_with_change(
     Some(changed && ends_as(alloc, exchange, progress, "changed")?)
 }
 
-/// Whether the request for a list ends like this.
+/// Returns whether the request for a list ends as the function `ends` says.
 fn lists(
     alloc: Global,
     scene: &mut Scene,
@@ -77,7 +78,7 @@ fn lists(
     ends(alloc, scene, &mut exchange, book)
 }
 
-/// Whether this holds for a new node.
+/// Returns whether `plays` returns true for a new node.
 fn is_right(alloc: Global, plays: fn(Global, &mut Scene, &KeyBook) -> Option<bool>) -> Option<bool>
     requires { IsAlwaysCallable plays }
 {
@@ -85,7 +86,8 @@ fn is_right(alloc: Global, plays: fn(Global, &mut Scene, &KeyBook) -> Option<boo
     plays(alloc, &mut Scene::new(alloc, SAMPLE)?, &book)
 }
 
-/// Whether a list of 130 routes comes, and comes again after a change has ended it.
+/// Returns whether a list of 130 routes is received, and is received again after a change has
+/// interrupted it.
 fn lists_routes(alloc: Global, scene: &mut Scene, book: &KeyBook) -> Option<bool> {
     let added = adds_routes(alloc, scene, book)?;
     let whole = lists(alloc, scene, book, ends_with_table)?;
@@ -99,7 +101,7 @@ fn routes_in_three_segments(rt: HostRuntime) {
     assert!(rt; is_right(rt.alloc(), lists_routes) == Some(true));
 }
 
-/// Whether a repository takes 64 wants and no more.
+/// Returns whether a repository accepts 64 wants and no more.
 fn takes_wants(alloc: Global, scene: &mut Scene, book: &KeyBook) -> Option<bool> {
     for number in 0..64 {
         let row = format!(in alloc;

@@ -8,25 +8,25 @@ use ndn_packets::{DataWriter, Frame, Sign, read_frame};
 use std::alloc::Global;
 use test_support::KEYS;
 
-/// The face of the port 6401, a program on the node's machine.
+/// The face of port 6401, for a program on the node's machine.
 const OPERATOR: u64 = 1;
 
 /// The face of a producer, which answers each Interest.
 const PRODUCER: u64 = 2;
 
-/// The face of a new port.
+/// The face of a port that the node does not know yet.
 const NEW_PORT: u64 = 3;
 
-/// A node with these three faces, and the time, which advances with each command.
+/// A node with these three faces, and the present moment, which advances with each command.
 #[derive(Drop)]
 pub struct Scene {
     node: Node,
     outbox: Outbox,
-    /// In milliseconds since 1970.
+    /// The present moment, in milliseconds since 1970.
     pub now: u64,
 }
 
-/// The parts of a node whose repository is at `/repo`.
+/// Returns the parts of a node whose repository is at `/repo`.
 fn parts_of(alloc: Global, rules: &str) -> Option<NodeParts> {
     Some(NodeParts {
         rules: Rules::read(alloc, &InfoTree::read(alloc, rules).ok()?).ok()?,
@@ -36,7 +36,7 @@ fn parts_of(alloc: Global, rules: &str) -> Option<NodeParts> {
     })
 }
 
-/// The Data of this name, with the Content `21.5 C`.
+/// Returns the Data with this name and the Content `21.5 C`.
 fn data_of(alloc: Global, name: Name<'_>) -> Option<Vec<u8>> {
     let writer = DataWriter {
         name,
@@ -50,7 +50,7 @@ fn data_of(alloc: Global, name: Name<'_>) -> Option<Vec<u8>> {
     Some(data)
 }
 
-/// What a producer answers to a packet.
+/// Returns the packet with which a producer answers a packet.
 fn produced(alloc: Global, packet: &[u8]) -> Option<Vec<u8>> {
     match read_frame(packet) {
         Ok(Frame::Interest(asked)) => data_of(alloc, asked.name),
@@ -59,7 +59,7 @@ fn produced(alloc: Global, packet: &[u8]) -> Option<Vec<u8>> {
 }
 
 impl Scene {
-    /// A node under these rules, at its first moment.
+    /// Returns a node under these rules, at its first moment.
     pub fn new(alloc: Global, rules: &str) -> Option<Scene> {
         let node = Node::new(alloc, parts_of(alloc, rules)?).ok()?;
         let mut scene = Scene {
@@ -87,7 +87,7 @@ impl Scene {
         self.node.step(event, &mut self.outbox).is_ok()
     }
 
-    /// The packets in the outbox for a face.
+    /// Returns the packets in the outbox that go to a face.
     fn sent_to(&self, alloc: Global, face: u64) -> Option<Vec<Vec<u8>>> {
         let mut packets = Vec::new(alloc);
         for i in 0..self.outbox.len() {
@@ -99,7 +99,7 @@ impl Scene {
         Some(packets)
     }
 
-    /// The producer answers each Interest that the node sends it.
+    /// Lets the producer answer each Interest that the node sends to it.
     fn produce(&mut self, alloc: Global) -> Option<bool> {
         for interest in &self.sent_to(alloc, PRODUCER)? {
             self.receive(PRODUCER, &produced(alloc, interest)?);
@@ -107,8 +107,9 @@ impl Scene {
         Some(true)
     }
 
-    /// The packets that the node sends to a client for a packet, those for the producer's Data
-    /// included. The client is at the port 6401 if it names a port of its own.
+    /// Returns the packets that the node sends to a client in answer to a packet, including those
+    /// that it sends after the producer's Data. If `from` is a port, the client is at port 6401,
+    /// and otherwise at the new port.
     pub fn answers(
         &mut self,
         alloc: Global,

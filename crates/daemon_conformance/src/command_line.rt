@@ -1,4 +1,4 @@
-//! The command lines, the files and the faults of the program `ndn_node`.
+//! Tests of the command lines, the files and the faults of the program `ndn_node`.
 
 use hmac_keys::KeyFault;
 use info_rules::{RulesFault, RulesFaultKind};
@@ -9,13 +9,13 @@ use std::io::{ErrorKind, Read, Write, repeat};
 use std::net::{IpAddr, Ipv4Addr, SocketAddr};
 use std::process::Abort;
 
-/// What a command asks for.
+/// Returns the request of a command line.
 fn asked(alloc: Global, command: &str) -> Result<Request, Fault> {
     let words: Vec<&str> = command.split(' ').collect(alloc)?;
     request_of(alloc, words.as_slice())
 }
 
-/// The status and the text that a command ends with, unless it runs a node.
+/// Returns the exit status and the text that a command ends with, unless it runs a node.
 fn ending(alloc: Global, command: &str) -> Option<(u8, String)> {
     match asked(alloc, command) {
         Ok(Request::Script(_) | Request::Udp(_, _)) => None,
@@ -24,8 +24,8 @@ fn ending(alloc: Global, command: &str) -> Option<(u8, String)> {
     }
 }
 
-/// Whether a command ends with this status and with a text that has this part and one LF at its
-/// end.
+/// Returns whether a command ends with this exit status and with a text that contains `part` and
+/// has one LF at its end.
 fn ends_with(alloc: Global, command: &str, status: u8, part: &str) -> bool {
     ending(alloc, command).is_some_and(|(ended, text)| {
         let text = text.as_str();
@@ -33,7 +33,7 @@ fn ends_with(alloc: Global, command: &str, status: u8, part: &str) -> bool {
     })
 }
 
-/// Checks rows of a command, ` => `, and a part of the text that it ends with.
+/// Checks rows. Each row is a command, ` => `, and a part of the text that the command ends with.
 fn check_parts(rt: &(impl Abort + AllocGlobal), status: u8, rows: &str) {
     assert!(rt; rows.contains(" => "), "there are no rows");
     for row in rows.lines() {
@@ -120,7 +120,7 @@ ndn_node udp --listen 1 --turns 1 -- 7 => error: unexpected argument '--' found
 ndn_node script 7 => error: unexpected argument '7' found
 ";
 
-/// A command with this many peers, ports from 1 on.
+/// Returns a command with this many peers. The peers' ports are numbered from 1 on.
 fn command_of_peers(alloc: Global, peers: u16) -> Option<String> {
     let mut command = String::from_str(alloc, "ndn_node udp --listen 6363 --turns 1").ok()?;
     for port in 0..peers {
@@ -129,12 +129,12 @@ fn command_of_peers(alloc: Global, peers: u16) -> Option<String> {
     Some(command)
 }
 
-/// Whether a command with this many peers runs a node.
+/// Returns whether a command with this many peers runs a node.
 fn runs(alloc: Global, peers: u16) -> bool {
     command_of_peers(alloc, peers).is_some_and(|command| ending(alloc, command.as_str()).is_none())
 }
 
-/// Whether a command with this many peers is wrong.
+/// Returns whether a command with this many peers is refused.
 fn is_wrong(alloc: Global, peers: u16) -> bool {
     let part = "error: invalid value for PEERS: give at most 64 peers";
     command_of_peers(alloc, peers).is_some_and(|command| ends_with(
@@ -154,7 +154,7 @@ fn udp_command_lines(rt: HostRuntime) {
     assert!(rt; is_wrong(rt.alloc(), 65));
 }
 
-/// What the options of a node on a port are.
+/// Shows the options of a node on a port.
 fn udp_options_of(alloc: Global, command: &str) -> Option<String> {
     let Ok(Request::Udp(node, udp)) = asked(alloc, command) else {
         return None;
@@ -178,7 +178,7 @@ fn udp_options_of(alloc: Global, command: &str) -> Option<String> {
     Some(text)
 }
 
-/// Whether the options of a node on a port say that it prints no answers.
+/// Returns whether the options of a node on a port are quiet, so that no answers are printed.
 fn is_quiet(alloc: Global, command: &str) -> bool {
     matches!(asked(alloc, command), Ok(Request::Udp(_, udp)) if udp.quiet)
 }
@@ -225,7 +225,7 @@ fn command_lines(rt: HostRuntime) {
     check_parts(&rt, 2, COMMAND_LINES);
 }
 
-/// What the options of a command line are.
+/// Shows the options of a command line.
 fn options_of(alloc: Global, command: &str) -> Option<String> {
     let Ok(Request::Script(options)) = asked(alloc, command) else {
         return None;
@@ -249,7 +249,7 @@ fn options(rt: HostRuntime) {
     assert!(rt; given.as_deref() == Some("r k /a/b 65536"));
 }
 
-/// The status and the text of a file that is refused.
+/// Returns the exit status and the text for a file that is refused.
 fn refused<T: Drop>(alloc: Global, read: Result<T, Fault>) -> Option<String> {
     let fault = read.err()?;
     format!(in alloc; "{} {fault}", fault.exit_status()).ok()
@@ -288,18 +288,19 @@ fn key_files(rt: HostRuntime) {
     assert!(rt; refused_keys(alloc, b"\xff").as_deref() == Some(binary));
 }
 
-/// The refusal of a file of this many octets, each a semicolon, and then a letter of two octets.
+/// Returns the refusal of a rule file of `count` semicolons and one letter of two octets.
 fn refused_comment(alloc: Global, count: u64) -> Option<String> {
     let file = repeat(b';').take(count).chain("é".as_bytes());
     refused(alloc, read_rule_file(alloc, "r", file))
 }
 
-/// The refusal of a key file of this many semicolons.
+/// Returns the refusal of a key file of `count` semicolons.
 fn refused_key_comment(alloc: Global, count: u64) -> Option<String> {
     refused(alloc, read_key_file(alloc, "k", repeat(b';').take(count)))
 }
 
-/// A file may have as many octets as its limit and no more; one that is too long may end anywhere.
+/// A file may have as many octets as its limit, but not more. A file that is too long may end
+/// inside a character.
 #[test]
 fn large_files(rt: HostRuntime) {
     let alloc = rt.alloc();
@@ -315,12 +316,12 @@ fn large_files(rt: HostRuntime) {
     assert!(rt; refused_key_comment(alloc, u64::MAX).as_deref() == Some(keys));
 }
 
-/// Whether a fault has this status and this text.
+/// Returns whether a fault has this exit status and this text.
 fn is_told(alloc: Global, fault: Fault, wanted: &str) -> bool {
     format!(in alloc; "{} {fault}", fault.exit_status()).is_ok_and(|told| told.as_str() == wanted)
 }
 
-/// Whether the fault of a file that may not be read names it and the cause.
+/// Returns whether the fault of a file that may not be read contains the file and the cause.
 fn unread_is_told(alloc: Global) -> Option<bool> {
     let fault = Fault::Unread {
         file: "rule file",

@@ -1,4 +1,4 @@
-//! Tests of what the program `ndn_node` does: its command line, its files, its log and its restart.
+//! Tests of the program `ndn_node`: its command line, its files, its log and its restart.
 #![tactic(auto)]
 
 #[cfg(test)]

@@ -1,4 +1,4 @@
-//! The log of a node on a port.
+//! Tests of the log of a node on a port.
 
 ghost use Rattle.std.specs.Prelude.{None};
 
@@ -11,7 +11,7 @@ use std::alloc::Global;
 use std::cell::Cell;
 use std::net::{Ipv4Addr, Net, UdpSocket};
 
-/// A clock that stands still.
+/// A clock that always shows the same time.
 #[derive(Drop)]
 struct Still;
 
@@ -23,13 +23,13 @@ impl Moments for Still {
     }
 }
 
-/// A port that no socket has.
+/// Returns a port that no socket uses.
 fn free_port(rt: &impl Net) -> Option<u16> {
     let socket = UdpSocket::bind(rt, (Ipv4Addr::LOCALHOST, 0)).ok()?;
     Some(socket.local_addr().ok()?.port())
 }
 
-/// A node without rules.
+/// Returns a node without rules.
 fn node_of(alloc: Global) -> Option<Node> {
     let parts = NodeParts {
         rules: read_rules(alloc, b"").ok()?,
@@ -40,8 +40,8 @@ fn node_of(alloc: Global) -> Option<Node> {
     Node::new(alloc, parts).ok()
 }
 
-/// Where lines go that begin and end so. It counts the times that they do, and nothing else is
-/// written.
+/// A sink that counts how often it is given lines that begin with `front` and end with `back`. Any
+/// other lines set the count to the greatest u64.
 #[derive(Drop)]
 struct Expected<'a> {
     front: &'static str,
@@ -61,7 +61,8 @@ impl<'a> LogSink for Expected<'a> {
     }
 }
 
-/// How often a node with this log wrote what was expected, where this came from a client.
+/// Sends octets to a node with this log, and lets the node take two turns. `expected` counts the
+/// lines that the log writes.
 fn written(
     rt: &(impl AllocGlobal + Net),
     octets: &[u8],
@@ -79,7 +80,7 @@ fn written(
     Some(served.is_ok())
 }
 
-/// A packet that is dropped has a line, and the face that opens for it has none.
+/// A dropped packet has a line. The face that opens for the packet has no line.
 #[test]
 fn log_of_what_is_dropped(rt: HostRuntime) {
     let held = Cell::new(0);
@@ -92,7 +93,7 @@ fn log_of_what_is_dropped(rt: HostRuntime) {
     assert!(rt; held.get() == 1);
 }
 
-/// An Interest that comes back as a Nack is plain forwarding, and has no line.
+/// An Interest that is answered by a Nack is plain forwarding and has no line.
 #[test]
 fn log_without_plain_forwarding(rt: HostRuntime) {
     let held = Cell::new(0);
@@ -106,7 +107,7 @@ fn log_without_plain_forwarding(rt: HostRuntime) {
     assert!(rt; held.get() == 0);
 }
 
-/// Where all is shown, the Interest has a line after that of its face.
+/// If the log shows all events, the Interest has a line after the line of its face.
 #[test]
 fn log_of_all(rt: HostRuntime) {
     let held = Cell::new(0);

@@ -1,4 +1,4 @@
-//! Ports that bring rules, and what comes first after a restart.
+//! Tests of ports that give new rules, and of the first events after a restart.
 
 use hmac_keys::KeyBook;
 use ndn_daemon::{Fault, Restart, RuleSource, WatchedPorts};
@@ -6,7 +6,7 @@ use node_core::{RunFault, read_rules};
 use node_ports::{Arrival, FileOctets, MemoryPorts, OwnedArrival, Ports, Renewal};
 use std::alloc::Global;
 
-/// A source that has rules once.
+/// A source that gives new rules once.
 #[derive(Drop)]
 struct Once {
     renewal: Option<Renewal>,
@@ -22,19 +22,19 @@ impl RuleSource for Once {
     }
 }
 
-/// The rules and keys of these octets of a rule file and of a key file.
+/// Returns the rules and keys in the octets of a rule file and of a key file.
 fn renewal_of(alloc: Global, rules: Vec<u8>, keys: Vec<u8>) -> Option<Renewal> {
     let read = read_rules(alloc, &rules).ok()?;
     let book = KeyBook::read_octets(alloc, &keys).ok()?;
     Some(Renewal::new(read, book, FileOctets { rules, keys }))
 }
 
-/// No rules and no keys.
+/// Returns a renewal without rules and keys.
 fn no_rules(alloc: Global) -> Option<Renewal> {
     renewal_of(alloc, Vec::new(alloc), Vec::new(alloc))
 }
 
-/// A port at which a packet of three octets comes at these moments.
+/// Returns ports that give a packet of three octets at each of these times.
 fn packets_at(alloc: Global, moments: &[u64]) -> Option<MemoryPorts> {
     let mut arrivals = Vec::new(alloc);
     for now in moments {
@@ -48,7 +48,7 @@ fn packets_at(alloc: Global, moments: &[u64]) -> Option<MemoryPorts> {
     Some(MemoryPorts::new(alloc, arrivals))
 }
 
-/// Whether the next arrival is a packet of this moment, with its octets.
+/// Returns whether the next arrival is a packet at the time `at`, with its octets.
 fn brings_packet<P: Ports>(ports: &mut P, at: u64) -> bool {
     let mut buffer = [0; 16];
     let Ok(Arrival::Packet { face: 1, now, len }) = ports.next(&mut buffer) else {
@@ -57,18 +57,18 @@ fn brings_packet<P: Ports>(ports: &mut P, at: u64) -> bool {
     now == at && len == 3 && buffer[0] == 5 && buffer[1] == 3 && buffer[2] == 255
 }
 
-/// Whether the next arrival is of new rules at this moment.
+/// Returns whether the next arrival is new rules at the time `at`.
 fn brings_rules<P: Ports>(ports: &mut P, at: u64) -> bool {
     matches!(ports.next(&mut [0; 16]), Ok(Arrival::NewRules { now, .. }) if now == at)
 }
 
-/// Whether the next arrival closes this face at this moment.
+/// Returns whether the next arrival is the closing of this face at the time `at`.
 fn closes<P: Ports>(ports: &mut P, closed: u64, at: u64) -> bool {
     matches!(ports.next(&mut [0; 16]), Ok(Arrival::FaceDown { face, now }) if face == closed && now == at)
 }
 
-/// A source is asked a second after the start, and its rules come before what arrived, which comes
-/// unchanged after them.
+/// Returns whether the source is checked one second after the start, and its rules are given before
+/// the packet that arrived, which is then given unchanged.
 fn rules_come_first(alloc: Global) -> Option<bool> {
     let renewal = no_rules(alloc)?;
     let source = Once {
@@ -88,7 +88,8 @@ fn new_rules_come_first(rt: HostRuntime) {
     assert!(rt; rules_come_first(rt.alloc()) == Some(true));
 }
 
-/// After a restart rules come, and faces close, at the last moment of the journal.
+/// Returns whether, after a restart, new rules come first and faces close, at the last time of the
+/// journal.
 fn restart_comes_first(alloc: Global) -> Option<bool> {
     let mut closing = Vec::new(alloc);
     closing.push(7).ok()?;

@@ -32,7 +32,7 @@ use Rattle.ndn_requests.specs.Parameters.{command_name, IsTooLong}
 
 -- ---- the key
 
--- signed with the key of this name
+-- a signature with the key of this name
 abbrev pub IsHmac : List Field → List NamedKey → Sign → Type 0
 IsHmac name book Digest = ⊥
 IsHmac name book (Hmac key_name key) = (components key_name ≡ name) × IsAmong (name, key.now) book
@@ -44,11 +44,11 @@ abbrev pub LacksChosen : Option (List Field) → List NamedKey → Type 0
 LacksChosen None book = ⊥
 LacksChosen (Some name) book = LacksKey name book
 
--- the only fault of a choice of keys
+-- the only fault that choosing a key can have
 abbrev pub IsNoKey : Option (List Field) → List NamedKey → ToolFault → Type 0
 IsNoKey key book why = (why ≡ fault.NoKey) × LacksChosen key book
 
--- without a key an Interest is not signed, and a Data with DigestSha256
+-- how an Interest is signed: not at all without a key name, otherwise with the named key
 abbrev pub SignsInterest : Option (List Field) → List NamedKey → Option Sign → Type 0
 SignsInterest None book sign = sign ≡ None
 SignsInterest (Some name) book None = ⊥
@@ -80,13 +80,13 @@ pub record AsksData (job : DataJob) (book : List NamedKey) (w : DataWriter) : Ty
   pub content : option_map (λ c. c.now) w.content ≡ option_map (λ c. c.items) job.content
   pub sign : SignsData job.key.key book w.sign
 
--- a command is signed, without a key by DigestSha256
+-- how a command is signed: with DigestSha256 without a key name, otherwise with the named key
 abbrev pub SignsCommand : Option (List Field) → List NamedKey → Option Sign → Type 0
 SignsCommand key book None = ⊥
 SignsCommand key book (Some sign) = SignsData key book sign
 
--- the parameters of the command are in its name; its ApplicationParameters are empty, as in any
--- signed Interest without parameters
+-- The Interest of a command. Its name contains the parameters of the command. Its
+-- ApplicationParameters are empty, as in any signed Interest without parameters.
 pub record AsksCommand (job : CommandJob) (book : List NamedKey) (w : InterestWriter)
     : Type 0 where
   pub name : components w.name ≡ command_name job.name job.parameters
@@ -102,7 +102,7 @@ pub record AsksCommand (job : CommandJob) (book : List NamedKey) (w : InterestWr
 
 -- ---- answers
 
--- the Interest that is asked for, and its line
+-- the Interest that the job asks for
 abbrev pub IsInterestPacket : InterestJob → List NamedKey → List ℕ → Type 0
 IsInterestPacket job book packet =
     (w : InterestWriter) × AsksInterest job book w × (interest_refusal w ≡ None)
@@ -112,7 +112,7 @@ abbrev pub IsInterestAnswer : InterestJob → List NamedKey → List ℕ → Typ
 IsInterestAnswer job book text =
     (packet : List ℕ) × IsInterestPacket job book packet × (text ≡ hex_line packet)
 
--- with a PIT token the link packet around it is printed
+-- the line with the Interest, inside a link packet if there is a PIT token
 abbrev pub IsLinkAnswer : LinkJob → List NamedKey → List ℕ → Type 0
 IsLinkAnswer job book text =
     (packet : List ℕ) × IsInterestPacket job.interest book packet
@@ -132,7 +132,7 @@ abbrev pub IsCommandAnswer : CommandJob → List NamedKey → List ℕ → Type 
 IsCommandAnswer job book text =
     (packet : List ℕ) × IsCommandPacket job book packet × (text ≡ hex_line packet)
 
--- the line of the tag of the octets under the key
+-- the line with the tag of the octets under the key
 abbrev pub IsTagAnswer : TagJob → List NamedKey → List ℕ → Type 0
 IsTagAnswer job book text =
     (key : List ℕ) × IsAmong (job.key, key) book × (text ≡ hex_line (Mac key job.octets.items))
@@ -141,13 +141,13 @@ IsTagAnswer job book text =
 abbrev pub IsShown : List ℕ → List ℕ → Type 0
 IsShown octets text = (frame : PlainFrame) × IsFrame octets frame × (text ≡ frame_lines frame)
 
--- the explanation of the frame and the PIT token beside it; with keys the signature is checked
+-- the explanation of the frame and its PIT token; the signature is checked if there are keys
 abbrev pub IsExplained : Option (List NamedKey) → List ℕ → List ℕ → Type 0
 IsExplained keys octets text =
     (framed : PlainFramed) × (check : Option TagCheck) × IsFramed octets framed
     × MayBeChecked framed.frame keys check × (text ≡ framed_explanation framed check)
 
--- the keys are used if a key file is named
+-- the keys, if a key file is named
 abbrev pub with_file : {A : Type 0} → Option A → List NamedKey → Option (List NamedKey)
 with_file None book = None
 with_file (Some path) book = Some book
@@ -155,7 +155,8 @@ with_file (Some path) book = Some book
 abbrev pub keys_given : ExplainJob → List NamedKey → Option (List NamedKey)
 keys_given job book = with_file job.keys book
 
--- nothing for packets of standard input, which are explained as they are read
+-- the explanation of a packet that is given; nothing for packets on standard input, which are
+-- explained as they are read
 abbrev pub IsPacketExplained : Option (List NamedKey) → Option (List ℕ) → List ℕ → Type 0
 IsPacketExplained keys None text = text ≡ []
 IsPacketExplained keys (Some octets) text = IsExplained keys octets text
@@ -164,7 +165,7 @@ abbrev pub IsExplainAnswer : ExplainJob → List NamedKey → List ℕ → Type 
 IsExplainAnswer job book text =
     IsPacketExplained (keys_given job book) (option_map (λ p. p.items) job.packet) text
 
--- the text of the help is the command-line parser's
+-- the text that is printed for a job; the command-line parser provides the text of the help
 abbrev pub IsAnswer : Job → List NamedKey → List ℕ → Type 0
 IsAnswer (job.Help help) book text = ⊤
 IsAnswer (job.Interest asked) book text = IsLinkAnswer asked book text
@@ -176,7 +177,7 @@ IsAnswer (job.Explain asked) book text = IsExplainAnswer asked book text
 IsAnswer (job.Send asked) book text = text ≡ []
 IsAnswer (job.Ask asked) book text = IsInterestAnswer asked.interest book text
 
--- ---- errors: each but Memory has its cause
+-- ---- errors: each error except Memory has a cause
 
 abbrev pub IsInterestRefusal : InterestJob → List NamedKey → ToolFault → Type 0
 IsInterestRefusal job book (fault.Usage usage) = ⊥

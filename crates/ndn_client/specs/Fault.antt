@@ -15,7 +15,8 @@ key_status (TwiceNamed line) = 1
 key_status TooMany = 1
 key_status KeyMemory = 3
 
--- 1 for a fault in the key file and for a request that was not done, 3 for an error of the system
+-- the exit status: 1 for a fault in the key file or a request that was not done, 3 for a system
+-- error
 abbrev pub status_of : Fault → ℕ
 status_of (fault.Tool why) = tool_status why
 status_of fault.NoKeyFile = 1
@@ -31,7 +32,7 @@ status_of (fault.Unbound port) = 3
 status_of (fault.Silent why) = 3
 status_of (fault.NotDone why) = 1
 
--- the message for standard error, with its LF
+-- the message for standard error, including its LF
 abbrev pub text_of : Fault → Option (List ℕ)
 text_of (fault.Tool why) = tool_text why
 text_of fault.NoKeyFile = Some (codes "key not found\ngive --keys\n")

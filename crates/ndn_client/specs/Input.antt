@@ -12,17 +12,17 @@ without_lf text =
     on_option (λ o. if o == 10 then take (length text - 1) text else text) text
     (slice_get text (length text - 1))
 
--- ---- its text
+-- ---- standard input as text
 
--- a text is these octets
+-- the text consists of these octets
 abbrev pub IsTextOf : {Z : Type 0} → List ℕ → String Z → Type 0
 IsTextOf octets text = string_bytes text ≡ octets
 
--- the same, of no more octets than the limit
+-- the text consists of these octets, and they are no more than the limit
 abbrev pub IsInput : {Z : Type 0} → ℕ → List ℕ → String Z → Type 0
 IsInput limit octets text = (length octets ≤ limit) × IsTextOf octets text
 
--- standard input cannot be read as a text, or memory was refused
+-- standard input cannot be read as text, or memory ran out
 abbrev pub IsUnreadInput : Fault → Type 0
 IsUnreadInput Input = ⊤
 IsUnreadInput (Tool why) = why ≡ Memory
@@ -32,6 +32,6 @@ abbrev pub IsWrongInput : Fault → Type 0
 IsWrongInput (Tool (Usage (BadValue place wanted))) = ⊤
 IsWrongInput why = ⊥
 
--- there are more octets than the limit, or they cannot be read as a text, or memory was refused
+-- there are more octets than the limit, or they cannot be read as text, or memory ran out
 abbrev pub IsInputFault : ℕ → List ℕ → Fault → Type 0
 IsInputFault limit octets why = ((limit < length octets) × IsWrongInput why) ⊎ IsUnreadInput why

@@ -1,4 +1,4 @@
--- Reading the octets of a key file, and the fault of one that is refused.
+-- Reading the octets of a key file, and why a key file is refused.
 use Rattle.std.specs.Prelude.{◌≡◌, ◌⊎◌, ◌<◌, ◌≤◌, ℕ, List, length, string_bytes, ⊤}
 use Rattle.std.specs.declared.io.ErrorKind.{ErrorKind}
 use Rattle.hmac_keys.specs.KeyFile.{NamedKey}
@@ -12,23 +12,23 @@ abbrev pub IsFileFault : List ℕ → Fault → Type 0
 IsFileFault octets (Keys why) = IsFaultOfOctets octets why
 IsFileFault octets why = ⊥
 
--- the keys of octets within the limit of a key file
+-- the keys in these octets, which are no more than a key file may have
 abbrev pub AreKeysOfFile : List ℕ → List NamedKey → Type 0
 AreKeysOfFile octets keys = (length octets ≤ MAX_KEY_FILE) × AreKeys octets keys
 
--- the key file at this path cannot be read, or memory was refused
+-- the key file at this path cannot be read, or memory ran out
 abbrev pub IsUnread : List ℕ → Fault → Type 0
 IsUnread path (Unread place kind) = string_bytes place ≡ path
 IsUnread path (Tool why) = why ≡ Memory
 IsUnread path why = ⊥
 
--- a file that cannot be read has this cause
+-- the fault of an unreadable file has this cause
 abbrev pub HasCause : ErrorKind → Fault → Type 0
 HasCause kind (Unread path cause) = cause ≡ kind
 HasCause kind why = ⊤
 
--- there are more octets than a key file may have, or they are refused as a key file, or the file
--- cannot be read
+-- the octets are more than a key file may have, or are refused as a key file, or the file cannot be
+-- read
 abbrev pub IsKeyFileFault : List ℕ → List ℕ → Fault → Type 0
 IsKeyFileFault path octets why =
     ((MAX_KEY_FILE < length octets) × (why ≡ LargeKeys))

@@ -1,4 +1,4 @@
--- What the program has to do for a job.
+-- What the program must do for a job.
 use Rattle.std.specs.Prelude.{◌≡◌, ℕ, List, [], Option, None, Some, Bool, true, false, is_none, if◌then◌else◌, Vec}
 use Rattle.std.specs.Option.{option_map}
 use Rattle.std.specs.Global.{Vec as Octets}
@@ -34,7 +34,7 @@ input_form (job.Explain asked) = if is_none asked.packet then Lines else Nothing
 input_form (job.Send asked) = if is_none asked.packet then Packet else Nothing
 input_form asked = Nothing
 
--- the ports that it is sent to and from
+-- the ports to which and from which the job is sent
 abbrev pub ports_of : Job → Ports
 ports_of (job.Command asked) = asked.stamp.ports
 ports_of (job.Ask asked) = asked.ports
@@ -52,7 +52,8 @@ abbrev pub IsExplained : Bool → ExplainJob → List NamedKey → List ℕ → 
 IsExplained true asked book input text = IsExplainedInput (keys_given asked book) input text
 IsExplained false asked book input text = IsAnswer (job.Explain asked) book text
 
--- the lines of standard input explained if there is no packet, and else the answer
+-- the text that is printed: the explained lines of standard input if no packet is given, and
+-- otherwise the answer
 abbrev pub IsPrinted : Job → List NamedKey → List ℕ → List ℕ → Type 0
 IsPrinted (job.Explain asked) book input text =
     IsExplained (is_none asked.packet) asked book input text
@@ -60,7 +61,7 @@ IsPrinted asked book input text = IsAnswer asked book text
 
 -- ---- what is sent
 
--- the octets of a packet, or those that the input spells
+-- the octets of a given packet, or the octets that standard input spells
 abbrev pub IsSentBy : {Z : Type 0} → Option (List ℕ) → List ℕ → Vec ℕ Z → Type 0
 IsSentBy (Some octets) input packet = packet.items ≡ octets
 IsSentBy None input packet = AreOctets (without_lf input) packet
@@ -76,7 +77,7 @@ IsRequest asked book input packet = packet.items ≡ []
 
 -- ---- plans
 
--- a job with a port to send to is an exchange with that port
+-- A job with a port to send to is an exchange with that port.
 pub record IsExchange (asked : Job) (book : List NamedKey) (input : List ℕ) (x : Exchange) : Type 0
   where
     pub request : IsRequest asked book input x.request
@@ -90,7 +91,7 @@ IsPlan asked book input (plan.Print text) =
     ((ports_of asked).to ≡ None) × IsPrinted asked book input text.items
 IsPlan asked book input (plan.Exchange x) = IsExchange asked book input x
 
--- ---- errors: each but Memory has its cause
+-- ---- errors: each error except Memory has a cause
 
 abbrev pub IsNotSentBy : Option (List ℕ) → List ℕ → ToolFault → Type 0
 IsNotSentBy (Some octets) input why = why ≡ tool.Memory
@@ -104,7 +105,7 @@ abbrev pub IsNoPlan : Job → List NamedKey → List ℕ → ToolFault → Type 
 IsNoPlan (job.Send asked) book input why = IsNotSent asked input why
 IsNoPlan asked book input why = IsRefusal asked book why
 
--- ---- no answer
+-- ---- requests without an answer
 
 abbrev pub silent_fault : View → Silence → Fault
 silent_fault Hexadecimal why = fault.Silent why

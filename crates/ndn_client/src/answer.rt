@@ -15,10 +15,10 @@ use ndn_packets::{DataWriter, Frame, Framed, InterestWriter, Sign, put_lp, read_
 use ndn_requests::command_name;
 use std::alloc::Global;
 
-/// The text to print for a job that is not sent, with the keys of its key file; empty for a packet
-/// to send as it is and for packets of standard input.
+/// Returns the text to print for a job that is not sent, given the keys of its key file. The text
+/// is empty for a packet to send unchanged, and for packets on standard input.
 ///
-/// Each error but `Memory` has its cause in the job or its keys; `Usage` is never returned.
+/// Each error except `Memory` has its cause in the job or its keys. `Usage` is never returned.
 pub fn text_of(alloc: Global, job: &Job, book: &KeyBook) -> Result<Vec<u8>, ToolFault>
     ensures { MatchResult result
         (λ text. IsAnswer job.now book.now text.items)
@@ -37,7 +37,8 @@ pub fn text_of(alloc: Global, job: &Job, book: &KeyBook) -> Result<Vec<u8>, Tool
     }
 }
 
-/// The line of an Interest, in a link packet if there is a PIT token (NDNLPv2, "PIT Token").
+/// Returns the line with an Interest, in a link packet if there is a PIT token (NDNLPv2, "PIT
+/// Token").
 fn link_text(alloc: Global, job: &LinkJob, book: &KeyBook) -> Result<Vec<u8>, ToolFault>
     ensures { MatchResult result
         (λ text. IsLinkAnswer job.now book.now text.items)
@@ -58,7 +59,7 @@ fn interest_text(alloc: Global, job: &InterestJob, book: &KeyBook) -> Result<Vec
     Ok(hex_line(alloc, &packet)?)
 }
 
-/// The packet of an Interest, with the keys of its key file.
+/// Returns the packet of an Interest, given the keys of its key file.
 pub fn interest_packet(
     alloc: Global,
     job: &InterestJob,
@@ -113,7 +114,7 @@ fn command_text(alloc: Global, job: &CommandJob, book: &KeyBook) -> Result<Vec<u
     Ok(hex_line(alloc, &packet)?)
 }
 
-/// The packet of a command, with the keys of its key file.
+/// Returns the packet of a command, given the keys of its key file.
 pub fn command_packet(alloc: Global, job: &CommandJob, book: &KeyBook) -> Result<Vec<u8>, ToolFault>
     ensures { MatchResult result
         (λ packet. IsCommandPacket job.now book.now packet.items)
@@ -129,7 +130,7 @@ pub fn command_packet(alloc: Global, job: &CommandJob, book: &KeyBook) -> Result
     }
 }
 
-/// The packet of a command whose Interest has this name before its digest.
+/// Returns the packet of a command. `name` is the name of its Interest, without the digest.
 fn named_command<'a>(
     alloc: Global,
     job: &'a CommandJob,
@@ -191,7 +192,7 @@ fn explain_text(alloc: Global, job: &ExplainJob, book: &KeyBook) -> Result<Vec<u
     }
 }
 
-/// The keys to check signatures with, if the job names a key file.
+/// Returns the keys for checking signatures, if the job names a key file.
 pub fn keys_given<'a>(job: &ExplainJob, book: &'a KeyBook) -> Option<&'a KeyBook>
     ensures { option_map (λ b. b.now) result ≡ keys_given job.now book.entry.now }
 {
@@ -201,7 +202,7 @@ pub fn keys_given<'a>(job: &ExplainJob, book: &'a KeyBook) -> Option<&'a KeyBook
     }
 }
 
-/// The explanation of a packet. With keys its signature is checked.
+/// Returns the explanation of a packet. Its signature is checked if there are keys.
 fn explained_text(
     alloc: Global,
     octets: &[u8],
@@ -218,7 +219,7 @@ fn explained_text(
     Ok(text)
 }
 
-/// The frame in the octets.
+/// Reads the frame in the octets.
 fn frame_of(octets: &[u8]) -> Result<Frame<'_>, ToolFault>
     ensures { MatchResult result
         (λ frame. IsFrame octets.now (plain_frame frame))
@@ -230,7 +231,7 @@ fn frame_of(octets: &[u8]) -> Result<Frame<'_>, ToolFault>
     }
 }
 
-/// The frame in the octets, and the PIT token beside it.
+/// Reads the frame in the octets, with its PIT token.
 fn framed_of(octets: &[u8]) -> Result<Framed<'_>, ToolFault>
     ensures { MatchResult result
         (λ framed. IsFramed octets.now (plain_framed framed))
@@ -242,7 +243,7 @@ fn framed_of(octets: &[u8]) -> Result<Framed<'_>, ToolFault>
     }
 }
 
-/// The signature of an Interest: with its key, or none.
+/// Returns how an Interest is signed: with its key, or not at all.
 fn interest_sign<'a>(
     key: &'a Option<NameBuf>,
     book: &'a KeyBook,
@@ -255,7 +256,7 @@ fn interest_sign<'a>(
     }
 }
 
-/// The signature of a Data or of a command: with its key, or by DigestSha256.
+/// Returns how a Data or a command is signed: with its key, or with DigestSha256.
 fn data_sign<'a>(key: &'a Option<NameBuf>, book: &'a KeyBook) -> Result<Sign<'a>, ToolFault>
     ensures { MatchResult result (SignsData key.now book.now) (IsNoKey key.now book.now) }
 {
@@ -265,7 +266,7 @@ fn data_sign<'a>(key: &'a Option<NameBuf>, book: &'a KeyBook) -> Result<Sign<'a>
     }
 }
 
-/// A signature with the key of this name.
+/// Returns a signature with the key of this name.
 fn hmac_of<'a>(name: &'a NameBuf, book: &'a KeyBook) -> Result<Sign<'a>, ToolFault>
     ensures { MatchResult result (IsHmac name.now book.now) (IsNoKey (Some name.now) book.now) }
 {

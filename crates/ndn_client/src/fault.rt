@@ -12,9 +12,9 @@ use std::io::ErrorKind;
 /// Why the program fails.
 #[derive(Debug, Drop)]
 pub enum Fault {
-    /// The job was not done.
+    /// The job was not carried out.
     Tool(ToolFault),
-    /// A key is named, and no key file.
+    /// A key is named, but no key file.
     NoKeyFile,
     /// An argument is not UTF-8.
     NotText,
@@ -24,9 +24,9 @@ pub enum Fault {
     LargeKeys,
     /// The key file cannot be read.
     Unread {
-        /// Where it was looked for.
+        /// The path of the key file.
         path: String,
-        /// Why it cannot be read.
+        /// Why the key file cannot be read.
         kind: ErrorKind,
     },
     /// The clock cannot be read.
@@ -37,14 +37,14 @@ pub enum Fault {
     Input,
     /// The packet cannot be sent.
     Send,
-    /// The port to send from cannot be bound.
+    /// The local port to send from cannot be bound.
     Unbound {
-        /// The port of 127.0.0.1.
+        /// The port on 127.0.0.1.
         port: u16,
     },
-    /// No answer came to a packet that was sent as it is.
+    /// A packet that was sent unchanged got no answer.
     Silent(Silence),
-    /// A request was sent, but was not done.
+    /// A request was sent, but it was not carried out.
     NotDone(Failure),
 }
 
@@ -52,9 +52,9 @@ impl Fault {
     ghost use Rattle.std.specs.Prelude.{◌≡◌};
     ghost use Rattle.ndn_client.specs.Fault.{status_of};
 
-    /// The exit status: that of the job's fault, or 1 for a bad key file and for a request that was
-    /// not done, 2 for a wrong command line, 3 if reading, writing, sending, receiving or memory
-    /// failed.
+    /// Returns the exit status: that of the job's fault; or 1 for a bad key file or a request that
+    /// was not done, 2 for a wrong command line, 3 if reading, writing, sending, receiving or
+    /// memory failed.
     pub fn exit_status(&self) -> u8
         ensures { result ≡ status_of self.now }
     {

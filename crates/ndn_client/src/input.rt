@@ -13,18 +13,18 @@ use std::alloc::Global;
 use std::io;
 use std::io::{BufRead, Read};
 
-/// The greatest length of a packet on standard input: the 65,507 octets of a UDP datagram in
-/// hexadecimal, and an LF.
+/// The greatest length of a packet on standard input, in octets: the 65,507 octets of a UDP
+/// datagram in hexadecimal, and an LF.
 const MAX_PACKET_INPUT: u32 = 131_015;
 
-/// The greatest length of a line of standard input, with its LF, in octets. A line of a script's
-/// answers with such a packet has at most 131,038.
+/// The greatest length of a line of standard input, in octets, including its LF. A line of a
+/// script's answers with a packet of the greatest length has at most 131,038 octets.
 const MAX_INPUT_LINE: u32 = 131_072;
 
-/// The text of standard input that has to be one packet. Refuses an input longer than a packet of
-/// 65,507 octets in hexadecimal with an LF, and reads at most one octet beyond that.
+/// Reads the text of standard input, which must be one packet. An input longer than a packet of
+/// 65,507 octets in hexadecimal, with an LF, is refused.
 pub fn read_packet_input<R: Read + Drop>(alloc: Global, reader: R) -> Result<String, Fault>
-    // Where it is known what the reader has.
+    // This holds if the octets of the reader are known.
     ensures { IfSome (R.remaining reader)
         (λ octets. MatchResult result (IsInput 131015 octets) (IsInputFault 131015 octets)) }
 {
@@ -38,11 +38,11 @@ pub fn read_packet_input<R: Read + Drop>(alloc: Global, reader: R) -> Result<Str
     }
 }
 
-/// The next line of standard input with its LF; an empty text at the end. Refuses a line of more
-/// than 131,072 octets, LF included, and reads at most one octet beyond that.
+/// Reads the next line of standard input, including its LF. At the end of the input the text is
+/// empty. A line of more than 131,072 octets, including its LF, is refused.
 pub fn read_input_line<R: BufRead>(alloc: Global, reader: &mut R) -> Result<String, Fault>
     ensures bound { IfOk result (λ line. string_len line ≤ 131072) }
-    // Where it is known what the reader has.
+    // This holds if the octets of the reader are known.
     ensures known { IfSome (R.remaining reader.old)
         (λ octets. MatchResult result (IsInput 131072 (take_through 10 octets))
         (IsInputFault 131072 (take_through 10 octets))) }
@@ -54,14 +54,14 @@ pub fn read_input_line<R: BufRead>(alloc: Global, reader: &mut R) -> Result<Stri
     }
 }
 
-/// The text of these octets, if they are UTF-8.
+/// Returns the octets as text, if they are UTF-8.
 fn text_of(octets: Vec<u8>) -> Result<String, Fault>
     ensures { MatchResult result (IsTextOf octets.items) IsUnreadInput }
 {
     String::from_utf8(octets).map_err(|_| Fault::Input)
 }
 
-/// The fault of standard input that cannot be read.
+/// Returns the fault for standard input that cannot be read.
 fn unread(error: &io::Error) -> Fault
     ensures { IsUnreadInput result }
 {
@@ -71,8 +71,8 @@ fn unread(error: &io::Error) -> Fault
     Fault::Input
 }
 
-/// The one packet that a text spells in hexadecimal of either case, with or without an LF at its
-/// end.
+/// Returns the packet that a text encodes in hexadecimal digits of either case, with or without an
+/// LF at the end.
 pub fn packet_in(alloc: Global, input: &[u8]) -> Result<Vec<u8>, ToolFault>
     ensures { ReadsInMemory (AreOctets (without_lf input.now)) result }
 {
@@ -83,7 +83,7 @@ pub fn packet_in(alloc: Global, input: &[u8]) -> Result<Vec<u8>, ToolFault>
     }
 }
 
-/// The text without the LF at its end, if there is one.
+/// Returns the text without an LF at its end.
 fn without_lf(text: &[u8]) -> &[u8]
     ensures { result.now ≡ without_lf text.now }
 {

@@ -13,17 +13,18 @@ use std::alloc::Global;
 use std::io;
 use std::io::{ErrorKind, Read};
 
-/// The keys of a key file. One that is not UTF-8 is reported as a bad line with the number 0.
+/// Reads the keys of a key file. If the file is not UTF-8, the fault is a bad line with the number
+/// 0.
 pub fn read_book(alloc: Global, octets: &[u8]) -> Result<KeyBook, Fault>
     ensures { MatchResult result (AreKeys octets.now) (IsFileFault octets.now) }
 {
     KeyBook::read_octets(alloc, octets).map_err(Fault::Keys)
 }
 
-/// The keys of an open key file, which has this path. A file of more than `MAX_KEY_FILE` octets is
-/// reported as too large, whatever it contains, and read no further than one octet beyond that.
+/// Reads the keys of an open key file at this path. A file of more than `MAX_KEY_FILE` octets is
+/// reported as too large, whatever it contains.
 pub fn read_key_file<R: Read + Drop>(alloc: Global, path: &str, file: R) -> Result<KeyBook, Fault>
-    // Where it is known what the file has.
+    // This holds if the octets of the file are known.
     ensures { IfSome (R.remaining file)
         (λ octets. MatchResult result (AreKeysOfFile octets) (IsKeyFileFault path.now octets)) }
 {
@@ -34,7 +35,7 @@ pub fn read_key_file<R: Read + Drop>(alloc: Global, path: &str, file: R) -> Resu
     }
 }
 
-/// The fault of a key file that cannot be opened or read.
+/// Returns the fault for a key file that cannot be opened or read.
 pub fn unread_keys(alloc: Global, path: &str, error: &io::Error) -> Fault
     ensures file { IsUnread path.now result }
     ensures cause { HasCause (error_kind error.now) result }

@@ -1,5 +1,5 @@
-//! What the client `ndn_tool` does for a job: it writes packets to print or to send, and explains
-//! packets.
+//! What the client `ndn_tool` does for a job: it writes packets, to print or to send them, and it
+//! explains packets.
 #![tactic(auto)]
 
 mod answer;

@@ -1,4 +1,4 @@
-//! What the program has to do for a job: print a text, or exchange datagrams.
+//! What the program must do for a job: print a text, or exchange datagrams.
 
 ghost use Rattle.std.specs.Prelude.{◌≡◌, MatchResult};
 ghost use Rattle.ndn_client.specs.Answer.{IsRefusal};
@@ -13,12 +13,12 @@ use ndn_jobs::{Job, Ports, SendJob, ToolFault};
 use ndn_requests::{Exchange, Failure, View};
 use std::alloc::Global;
 
-/// What the program has to do.
+/// What the program must do.
 #[derive(Drop)]
 pub enum Plan {
-    /// To print this text.
+    /// Print this text.
     Print(Vec<u8>),
-    /// To send a request, and to handle each datagram that is received.
+    /// Send a request, and handle each datagram that is received.
     Exchange(Exchange),
 }
 
@@ -29,11 +29,11 @@ pub enum InputForm {
     Nothing,
     /// One packet.
     Packet,
-    /// Lines, each of which is a job of its own.
+    /// Lines, each of which is a separate job.
     Lines,
 }
 
-/// What the job reads from standard input.
+/// Returns what the job reads from standard input.
 pub fn input_form(job: &Job) -> InputForm
     ensures { result ≡ input_form job.now }
 {
@@ -44,11 +44,11 @@ pub fn input_form(job: &Job) -> InputForm
     }
 }
 
-/// What the program has to do for a job, with the keys of its key file, and with the packet or the
+/// Returns what the program must do for a job, given the keys of its key file, and the packet or
 /// lines of standard input if the job reads them.
 ///
-/// Each error but `Memory` has its cause in the job or in the input; `Usage` is returned only for
-/// an input that is not one packet.
+/// Each error except `Memory` has its cause in the job or in the input. `Usage` is returned only
+/// for an input that is not one packet.
 pub fn plan_of(alloc: Global, job: &Job, book: &KeyBook, input: &str) -> Result<Plan, ToolFault>
     ensures { MatchResult result (IsPlan job.now book.now input.now)
         (IsNoPlan job.now book.now input.now) }
@@ -68,7 +68,7 @@ pub fn plan_of(alloc: Global, job: &Job, book: &KeyBook, input: &str) -> Result<
     }
 }
 
-/// The ports that the job is sent to and from.
+/// Returns the ports to which and from which the job is sent.
 fn ports_of(job: &Job) -> Ports
     ensures { result ≡ ports_of job.now }
 {
@@ -86,7 +86,7 @@ fn ports_of(job: &Job) -> Ports
     }
 }
 
-/// What is printed of the answer to the job's request.
+/// Returns what is printed of the answer to the job's request.
 fn view_of(job: &Job) -> View
     ensures { result ≡ view_of job.now }
 {
@@ -97,7 +97,7 @@ fn view_of(job: &Job) -> View
     }
 }
 
-/// What is printed for a job that is not sent.
+/// Returns what is printed for a job that is not sent.
 fn printed(alloc: Global, job: &Job, book: &KeyBook, input: &str) -> Result<Vec<u8>, ToolFault>
     ensures { MatchResult result (λ text. IsPrinted job.now book.now input.now text.items)
         (IsRefusal job.now book.now) }
@@ -112,7 +112,7 @@ fn printed(alloc: Global, job: &Job, book: &KeyBook, input: &str) -> Result<Vec<
     }
 }
 
-/// The request of a job that is sent.
+/// Returns the request of a job that is sent.
 fn request_of(alloc: Global, job: &Job, book: &KeyBook, input: &str) -> Result<Vec<u8>, ToolFault>
     ensures { MatchResult result (IsRequest job.now book.now input.now)
         (IsNoPlan job.now book.now input.now) }
@@ -125,7 +125,7 @@ fn request_of(alloc: Global, job: &Job, book: &KeyBook, input: &str) -> Result<V
     }
 }
 
-/// The packet of `send`, unchanged.
+/// Returns the packet of `send`, unchanged.
 fn sent_packet(alloc: Global, job: &SendJob, input: &str) -> Result<Vec<u8>, ToolFault>
     ensures { MatchResult result (IsSent job.now input.now)
         (IsNotSent job.now input.now) }
@@ -136,8 +136,8 @@ fn sent_packet(alloc: Global, job: &SendJob, input: &str) -> Result<Vec<u8>, Too
     }
 }
 
-/// The fault of a request without an answer; `is_closed` tells that no program listens. For a
-/// packet that is sent as it is, the exit status is that of a failure to receive.
+/// Returns the fault of a request without an answer. If `is_closed` is set, no program listens on
+/// the port. For a packet that is sent unchanged, the exit status is that of a failure to receive.
 pub fn fault_of_silence(exchange: &Exchange, is_closed: bool) -> Fault
     ensures { result ≡ fault_of_silence exchange.now is_closed }
 {

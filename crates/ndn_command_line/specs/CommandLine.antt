@@ -1,4 +1,4 @@
--- The command line that the program has, as `clap` reads commands.
+-- The command line of the program, as `clap` parses commands.
 use Rattle.std.specs.Prelude.{◌≡◌, ℕ, List, [], ◌∷◌, Option, None, Some, true, false, codes, bytes_eq, if◌then◌else◌}
 use Rattle.clap.specs.declared.builder.action.ArgAction.TheVariants.{SetTrue}
 use Rattle.clap.specs.declared.builder.arg.Arg.{Arg}
@@ -13,11 +13,11 @@ use Rattle.ndn_command_line.specs.declared.subcommand.Subcommand.TheVariants.{In
 
 -- ---- arguments
 
--- a positional argument, which is required
+-- a positional argument that is required
 abbrev pub a_positional : List ℕ → Rule
 a_positional id = record (new_rule id) { required = true }
 
--- a positional argument, which may be left out
+-- a positional argument that is optional
 abbrev pub an_optional_positional : List ℕ → Rule
 an_optional_positional id = new_rule id
 
@@ -32,7 +32,7 @@ a_required_option id = record (new_rule id) { long = Some id; value_names = 1; r
 abbrev pub a_flag : List ℕ → Rule
 a_flag id = record (new_rule id) { long = Some id; action = Some SetTrue }
 
--- an argument by its row
+-- the rule for an argument
 abbrev pub rule_for : Argument → Rule
 rule_for (Positional id help) = a_positional id.now
 rule_for (MaybePositional id help) = an_optional_positional id.now
@@ -42,12 +42,12 @@ rule_for (Flag id help) = a_flag id.now
 
 -- ---- commands
 
--- a command with more arguments, in order
+-- the command with more arguments, in order
 abbrev pub with_rules : App → List Rule → App
 with_rules app [] = app
 with_rules app (rule ∷ rules) = with_rules (with_rule app rule) rules
 
--- a command with more subcommands, in order
+-- the command with more subcommands, in order
 abbrev pub with_subcommands : App → List App → App
 with_subcommands app [] = app
 with_subcommands app (below ∷ more) = with_subcommands (with_subcommand app below.top) more
@@ -101,8 +101,7 @@ command_app = a_subcommand (codes "command") (
     ∷ an_option (codes "key")
     ∷ [])
 
--- a short form, with the options of its time, its Nonce, its key and the ports that it is sent to
--- and from
+-- the command with the options of a stamp: its time, Nonce, sequence number, key and ports
 abbrev pub stamped : App → App
 stamped app = with_rules app (
     an_option (codes "time")
@@ -183,7 +182,7 @@ peek_app = a_subcommand (codes "peek") (
     ∷ an_option (codes "from")
     ∷ [])
 
--- ---- the subcommands by their names
+-- ---- the subcommands by name
 
 abbrev pub app_for : Subcommand → App
 app_for Interest = interest_app
@@ -215,7 +214,7 @@ subcommand_named word =
     if bytes_eq word (codes "peek") then Some Peek else
     None)))))))))))
 
--- one of these is required, and none is named `help`
+-- the program's command: a subcommand is required, and none is named `help`
 unfoldable pub tool : App
 tool = record {
   top = record (new_shape (codes "ndn_tool")) {
@@ -231,12 +230,12 @@ tool = record {
       ∷ explain_app.top ∷ send_app.top ∷ peek_app.top ∷ [];
 }
 
--- ---- what is built
+-- ---- the commands that are built
 
--- a command that is parsed as this one, with no argument that its subcommands share
+-- the command is parsed as `app`, and has no arguments that its subcommands share
 abbrev pub HasApp : App → Command → Type 0
 HasApp app command = (app_of command ≡ app) × ((out-Command command).has_globals ≡ false)
 
--- an argument that is parsed by this rule
+-- the argument is parsed by this rule
 abbrev pub HasRule : Rule → Arg → Type 0
 HasRule rule arg = (rule_of arg ≡ rule) × (arg.global ≡ false)

@@ -1,4 +1,4 @@
-//! The arguments of subcommands, as tables.
+//! The arguments of the subcommands, as data.
 
 ghost use Rattle.std.specs.Prelude.{map, IfOk};
 ghost use Rattle.clap.specs.Simple.{App};
@@ -7,13 +7,13 @@ ghost use Rattle.ndn_command_line.specs.CommandLine.{HasApp, HasRule, a_position
 use clap::{Arg, ArgAction, Command};
 use std::alloc::{AllocError, Global};
 
-/// An argument: its id, the word for its value if it has one, and its help. The id of an option or
-/// a flag is its long name.
+/// An argument: its id, the word for its value if it has one, and its help text. The id of an
+/// option or a flag is its long name.
 #[derive(Clone, Copy)]
 pub enum Argument<'a> {
-    /// A positional argument, which is required.
+    /// A positional argument that is required.
     Positional(&'a str, &'a str),
-    /// A positional argument, which may be left out.
+    /// A positional argument that is optional.
     MaybePositional(&'a str, &'a str),
     /// An option with a value.
     Optional(&'a str, &'a str, &'a str),
@@ -23,7 +23,7 @@ pub enum Argument<'a> {
     Flag(&'a str, &'a str),
 }
 
-/// The command with these arguments added in order.
+/// Adds these arguments to a command, in order.
 pub fn with_arguments<'a>(
     alloc: Global,
     command: Command<'a>,
@@ -39,7 +39,7 @@ pub fn with_arguments<'a>(
     Ok(command)
 }
 
-/// The argument as `clap` has it.
+/// Returns the argument as `clap` represents it.
 fn built<'a>(alloc: Global, argument: Argument<'a>) -> Arg<'a>
     ensures { HasRule (rule_for argument.entry) result }
 {

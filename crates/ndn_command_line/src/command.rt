@@ -8,7 +8,7 @@ use crate::subcommand::{Subcommand, with_subcommands};
 use clap::Command;
 use std::alloc::{AllocError, Global};
 
-/// The command line of the program, with all its subcommands and the texts of its help.
+/// Returns the command line of the program, with all its subcommands and help texts.
 pub fn tool_command<'a>(alloc: Global) -> Result<Command<'a>, AllocError>
     ensures { IfOk result (HasApp tool) }
 {

@@ -1,4 +1,4 @@
-//! The texts of the help.
+//! The help texts.
 
 pub const VERSION: &str = "0.1.0";
 

@@ -1,4 +1,4 @@
-//! The command line of `ndn_tool`: its subcommands with their arguments, options and texts of help.
+//! The command line of `ndn_tool`: its subcommands with their arguments, options and help texts.
 #![tactic(auto)]
 
 mod argument;

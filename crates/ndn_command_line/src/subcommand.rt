@@ -1,4 +1,4 @@
-//! The subcommands, by their names, with their arguments and their help.
+//! The subcommands by name, with their arguments and their help texts.
 
 ghost use Rattle.std.specs.Prelude.{map, IfOk};
 ghost use Rattle.clap.specs.Simple.{App};
@@ -30,7 +30,7 @@ impl Subcommand {
     ghost use Rattle.std.specs.Prelude.{◌≡◌, IfOk};
     ghost use Rattle.ndn_command_line.specs.CommandLine.{HasApp, app_for, subcommand_named};
 
-    /// The subcommand of this name.
+    /// Returns the subcommand with this name.
     pub fn named(word: &str) -> Option<Subcommand>
         ensures { result ≡ subcommand_named word.now }
     {
@@ -51,7 +51,7 @@ impl Subcommand {
         }
     }
 
-    /// Its command line.
+    /// Returns the command line of the subcommand.
     fn command<'a>(self, alloc: Global) -> Result<Command<'a>, AllocError>
         ensures { IfOk result (HasApp (app_for self)) }
     {
@@ -72,7 +72,7 @@ impl Subcommand {
     }
 }
 
-/// The command with these subcommands added in order.
+/// Adds these subcommands to a command, in order.
 pub fn with_subcommands<'a>(
     alloc: Global,
     command: Command<'a>,
@@ -88,7 +88,7 @@ pub fn with_subcommands<'a>(
     Ok(command)
 }
 
-/// A subcommand of this name, with its texts of help and its arguments.
+/// Returns a subcommand with this name, these help texts and these arguments.
 fn described<'a>(
     alloc: Global,
     name: &'a str,
@@ -288,7 +288,7 @@ fn peek_command<'a>(alloc: Global) -> Result<Command<'a>, AllocError>
     described(alloc, "peek", about, help::PEEK, &arguments)
 }
 
-/// The command with the options of a stamp.
+/// Adds the options of a stamp to a command: time, Nonce, sequence number, key and ports.
 fn with_stamp<'a>(alloc: Global, command: Command<'a>) -> Result<Command<'a>, AllocError>
     ensures { (app : App) → HasApp app command.entry → IfOk result (HasApp (stamped app)) }
 {

@@ -1,4 +1,4 @@
--- A text spells one endpoint at most.
+-- A text spells at most one endpoint.
 use Rattle.std.proofs.Common.{◌≡◌, ℕ, ◌<◌, List, ◌∷◌, ◌++◌, length, get_or, length-append, codes, true, false, refl, ap, ◌∙◌, arith, rules, inl, inr}
 use Rattle.std.specs.Str.Parse.{IsNumeral}
 use Rattle.std.specs.Fmt.{digits}
@@ -23,7 +23,7 @@ localhost_spelled : codes "127.0.0.1" ≡ dotted_text 127 0 0 1
 unfolding digits
 localhost_spelled = refl
 
--- a port alone as the text of an address and a port
+-- a port alone, as the text of an address and a port
 localhost_text : (text : List ℕ) (a : SocketAddr) → IsPort text (socket_port a) → IsLocalhost a → IsSocketText (codes "127.0.0.1:" ++ text) a
 localhost_text text (V4 a) port here = (
   codes "127.0.0.1",
@@ -34,7 +34,7 @@ localhost_text text (V4 a) port here = (
 )
 localhost_text text (V6 a) port here = absurd here
 
--- digits are no address and port
+-- digits alone do not spell an address and a port
 not_digits : (text : List ℕ) (a : SocketAddr) → IsNumeral 10 text → IsSocketText text a → ⊥
 not_digits text (V4 a) digits h =
     let port = h.4 in
@@ -55,11 +55,11 @@ one_endpoint text a b (inl h) (inr k) = absurd (not_digits text b h.0.0 k.0)
 one_endpoint text a b (inr h) (inl k) = absurd (not_digits text a k.0.0 h.0)
 one_endpoint text a b (inr h) (inr k) = IsSocketText_unique text a b h.0 k.0
 
--- what is no port, and no address and port, is no endpoint
+-- a text that spells neither a port nor an address with a port spells no endpoint
 pub no_endpoint : (text : List ℕ) → ((n : ℕ) → IsPort text n → ⊥) → ((a : SocketAddr) → IsSocketText text a → 0 < socket_port a → ⊥) → (a : SocketAddr) → IsEndpoint text a → ⊥
 no_endpoint text no_port no_socket a (inl h) = no_port (socket_port a) h.0
 no_endpoint text no_port no_socket a (inr h) = no_socket a h.0 h.1
 
--- an address with the port 0
+-- an address with port 0 is no endpoint
 pub port_zero : (text : List ℕ) (a : SocketAddr) → IsSocketText text a → socket_port a ≡ 0 → (b : SocketAddr) → IsSocketText text b → 0 < socket_port b → ⊥
 port_zero text a h zero b k some = let same : socket_port a ≡ socket_port b = ap socket_port (IsSocketText_unique text a b h k) in absurd (omega (arith, same, zero, some))

@@ -1,4 +1,4 @@
--- Text that was gathered and is written later.
+-- Text that is buffered and written later.
 use Rattle.std.proofs.Common.{◌≡◌, ℕ, ◌<◌, List, [], ◌++◌, refl, sym, ap, subst, ◌∙◌, arith, append_assoc, append-nil}
 use Rattle.std.specs.Prelude.{Option, Result, Ok, Err, IfErr, OnErr, OnOk}
 use Rattle.std.specs.Io.KnownBytes.{Appends}
@@ -37,11 +37,11 @@ Writes-done a b c text gathered h k = subst (Appends a c) (sym h.1) (Appends-the
 pub Writes-cut : (a b c : Option (List ℕ)) (text gathered : List ℕ) → Writes a b text gathered → AppendsFront b c gathered → AppendsFront a c text
 Writes-cut a b c text gathered h k = subst (AppendsFront a c) (sym h.1) (AppendsFront-after a b c h.0 gathered h.2 k)
 
--- a front of a text is one of a longer text
+-- a prefix of a text is a prefix of a longer text
 pub AppendsFront-longer : (a b : Option (List ℕ)) (text more : List ℕ) → AppendsFront a b text → AppendsFront a b (text ++ more)
 AppendsFront-longer a b text more h = (h.0, h.1 ++ more, ap (λ (l : List ℕ). l ++ more) h.2 ∙ append_assoc h.0 h.1 more, h.3)
 
--- where the next turn is not taken, the turns stop
+-- if the next turn cannot be taken, the turns stop
 pub stops_turns : (old mid new : NodeState) (before between after : Shown) (turns number : ℕ) (a b c : Option (List ℕ)) (text gathered : List ℕ) (why : Fault)
     → Tells old mid before between number text → Writes a b text gathered → number < turns → StopsTurn mid new between after b c gathered why → StopsTurns old new before after turns a c why
 stops_turns old mid new before between after turns number a b c text gathered Unreceived told writes less h = (
@@ -64,7 +64,7 @@ stops_turns old mid new before between after turns number a b c text gathered (J
     (mid, between, number, text, told, h.0, less, Writes-cut a b c text gathered writes h.1)
 stops_turns old mid new before between after turns number a b c text gathered why told writes less h = absurd h
 
--- what follows from a writing that is done, and from one that stopped
+-- the consequences of a successful write
 pub done_then : {A B : Type 0} (r : Result (Unit {0}) Fault) → OnOk r A → (A → B) → OnOk r B
 done_then (Ok done) h then = then h
 done_then (Err why) h then = tt
@@ -73,7 +73,7 @@ pub cut_then : {A : Type 0} (P : Fault → Type 0) (r : Result (Unit {0}) Fault)
 cut_then P (Ok done) h is then = tt
 cut_then P (Err why) h is then = subst P (sym is) (then h)
 
--- what was written of text that was to be written, whatever became of it
+-- the part of the text that was written, whether or not the write succeeded
 pub front_of_writing : (r : Result (Unit {0}) Fault) (a b : Option (List ℕ)) (text : List ℕ) → OnOk r (Appends a b text) → OnErr r (AppendsFront a b text) → AppendsFront a b text
 front_of_writing (Ok done) a b text all cut = (text, [], sym (append-nil text), all)
 front_of_writing (Err why) a b text all cut = cut

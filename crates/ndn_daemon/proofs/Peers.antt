@@ -1,4 +1,4 @@
--- Peers that are read one after the other.
+-- Peers that are read one after another.
 use Rattle.std.proofs.Common.{◌≡◌, ◌≢◌, ℕ, ◌+◌, ◌<◌, ◌≤◌, List, [], ◌∷◌, ◌++◌, length, true, false, refl, sym, ap, subst, ◌∙◌, arith, below_more, length-append}
 use Rattle.std.specs.Prelude.{AllPairs, Option, None, Some, slice_index_or}
 use Rattle.std.specs.declared.net.socket_addr.SocketAddr.{SocketAddr}
@@ -17,13 +17,13 @@ some_item : (endpoints : List SocketAddr) → 0 < length endpoints → SocketAdd
 some_item [] some = absurd (omega (arith, some))
 some_item (endpoint ∷ endpoints) some = endpoint
 
--- the endpoints of the first texts
+-- the endpoints that the first `i` texts spell
 pub record SoFar (texts : List (List ℕ)) (i : ℕ) (endpoints : List SocketAddr) : Type 0 where
   pub many : length endpoints ≡ i
   pub spelled : (k : ℕ) (d : SocketAddr) → k < i → IsEndpoint (slice_index_or texts k []) (slice_index_or endpoints k d)
   pub different : AllPairs (λ a b. a ≢ b) endpoints
 
--- all texts and their endpoints
+-- the endpoints that all texts spell
 pub all_spelled : (texts : List (List ℕ)) (endpoints : List SocketAddr) → SoFar texts (length texts) endpoints → length texts ≤ MAX_FACES → AreEndpoints texts endpoints
 all_spelled texts endpoints so few = record {
   many = so.many;
@@ -35,7 +35,7 @@ all_spelled texts endpoints so few = record {
   different = so.different;
 }
 
--- a text at a place, and its endpoint
+-- the text at index `k` spells the endpoint at index `k`
 spelled_at : (texts : List (List ℕ)) (endpoints : List SocketAddr) → AreEndpoints texts endpoints → (k : ℕ) (d : SocketAddr) → k < length texts
     → IsEndpoint (slice_index_or texts k []) (slice_index_or endpoints k d)
 spelled_at texts endpoints are k d inside =
@@ -52,7 +52,7 @@ pub same_endpoint : (text : Option (List ℕ)) (a b : SocketAddr) → Has text I
 same_endpoint None a b first second = absurd first
 same_endpoint (Some text) a b first second = one_endpoint text a b first second
 
--- what else the options say is of the same endpoints
+-- the other options apply to the same endpoints
 pub same_suit : (texts : List (List ℕ)) (text : Option (List ℕ)) (a b held : List SocketAddr) (n m : SocketAddr) → AreEndpoints texts a → AreEndpoints texts b → held ≡ b → Has text IsEndpoint n
     → Has text IsEndpoint m → MayBePeersOf n a → MayBePeersOf m held
 same_suit texts text a b held n m first second holds heard spelled may =
@@ -64,11 +64,11 @@ pub same_local : (texts : List (List ℕ)) (a b held : List SocketAddr) (d : Soc
 same_local texts a b held d first second holds text local h = subst (λ ps. IsLocal text ps local) (same_endpoints d texts a b first second ∙ sym holds) h
 
 module _ (texts : List (List ℕ)) (i : ℕ) (text : List ℕ) (is : (d : List ℕ) → slice_index_or texts i d ≡ text) (inside : i < length texts) where
-  -- the endpoint that the text spells where all texts spell endpoints
+  -- the endpoint that this text spells, if all texts spell endpoints
   pub endpoint_at : (endpoints : List SocketAddr) → AreEndpoints texts endpoints → (e : SocketAddr) × IsEndpoint text e
   endpoint_at endpoints are = let d = some_item endpoints (omega (arith, are.many, inside)) in (slice_index_or endpoints i d, subst (λ t. IsEndpoint t (slice_index_or endpoints i d)) (is []) (spelled_at texts endpoints are i d inside))
 
-  -- an endpoint that was spelled before
+  -- if this endpoint was already spelled, the texts have no valid reading
   pub twice : (e : SocketAddr) (so_far : List SocketAddr) → SoFar texts i so_far → IsEndpoint text e
       → (k : ℕ) × (k < length so_far) × ((d : SocketAddr) → (socket.ghosts).eq (slice_index_or so_far k d) e ≡ true)
       → (endpoints : List SocketAddr) → AreEndpoints texts endpoints → ⊥
@@ -81,7 +81,7 @@ module _ (texts : List (List ℕ)) (i : ℕ) (text : List ℕ) (is : (d : List �
       one_endpoint text _ _ (subst (λ t. IsEndpoint t (slice_index_or endpoints i e)) (is []) (spelled_at texts endpoints are i e inside)) spells in
       are.different k i e below (omega (arith, are.many, inside)) (first ∙ sym second)
 
-  -- an endpoint that was not
+  -- one more endpoint, if it was not yet spelled
   pub pushed : (e : SocketAddr) (so_far : List SocketAddr) → SoFar texts i so_far → IsEndpoint text e
       → ((k : ℕ) (d : SocketAddr) → k < length so_far → (socket.ghosts).eq (slice_index_or so_far k d) e ≡ false)
       → SoFar texts (i + 1) (so_far ++ e ∷ [])

@@ -1,4 +1,4 @@
--- What a request that was read has.
+-- The properties of a request that was read.
 use Rattle.std.proofs.Common.{ℕ, List, Result, Ok, Err, IfOk, IfErr}
 use Rattle.clap.specs.Walk.{Row}
 use Rattle.ndn_daemon.specs.declared.command.Request.{Request}

@@ -1,11 +1,11 @@
--- What spells nothing where a part of it spells nothing.
+-- A text spells no value if a part of it spells no value.
 use Rattle.node_core.specs.declared.script.RunFault.TheVariants as run
 use Rattle.ndn_daemon.specs.declared.fault.Fault.{Fault}
 use Rattle.ndn_daemon.specs.declared.fault.Fault.TheVariants as fault
 use Rattle.ndn_daemon.specs.Options.{IsWrong, IsRefused}
 use Rattle.ndn_daemon.specs.UdpOptions.{IsBadValue}
 
--- a whole, of which each value has a part
+-- every value has such a part
 
 module _ {A B : Type 0} (Part : A → Type 0) (Whole : B → Type 0) (part : (y : B) → Whole y → (x : A) × Part x) where
   none_whole : ((x : A) → Part x → ⊥) → (y : B) → Whole y → ⊥
@@ -58,7 +58,7 @@ module _ {A B : Type 0} (Part : A → Type 0) (Whole : B → Type 0) (part : (y 
   wrong_in_memory fault.Unreceived h = h
   wrong_in_memory (fault.Journal why) h = h
 
--- a fault that names a value, where nothing is spelled
+-- the fault of a text that spells no value
 
 pub bad_value_wrong : {A : Type 0} (Spell : A → Type 0) → ((x : A) → Spell x → ⊥) → (why : Fault) → IsBadValue why → IsWrong Spell why
 bad_value_wrong Spell none (fault.CommandLine error) h = h

@@ -1,4 +1,4 @@
--- Turns of a node at a port, one after another, and what is printed of them.
+-- Consecutive turns of a node at a port, and the text that is printed.
 use Rattle.std.proofs.Common.{◌≡◌, ℕ, ◌+◌, List, [], ◌∷◌, ◌++◌, length, refl, sym, ap, subst, ◌∙◌, arith, append-nil}
 use Rattle.std.specs.Prelude.{Result, Ok, Err, IsOk, IfErr}
 use Rattle.info_rules.specs.Rule.{PlainRule}
@@ -49,7 +49,7 @@ Tells-more old mid new before between after number more text done_as h k =
           ∙ sym (ap (λ (es : List PlainEvent). script_text rules es s.0.outcomes) s.1 ∙ ap (script_text rules (h.serves.arrivals ++ (k.event ∷ []))) s.2);
     }
 
--- one turn more
+-- one more turn
 pub Tells-turn : (old mid new : NodeState) (before between after : Shown) (number : ℕ) (text : List ℕ) (sends : List Send) (rules : List PlainRule) (turn : Turn) → (turn ≡ End → ⊥) → (turn ≡ Unwritten → ⊥)
     → Tells old mid before between number text → IsTurn mid new between after sends turn → rules ≡ new.policy.rules
     → Tells old new before after (number + 1) (text ++ turn_text (number + 1) rules turn sends)
@@ -63,7 +63,7 @@ Tells-turn old mid new before between after number text sends rules Refused goes
 Tells-turn old mid new before between after number text sends rules Unwritten goes_on written h k shown = absurd (written refl)
 Tells-turn old mid new before between after number text sends rules End goes_on written h k shown = absurd (goes_on refl)
 
--- nothing more came
+-- no further event arrived
 same_shown : (before after : Shown) → EndsNext before after → after ≡ before
 same_shown before after e = λ i. record { failures = e.failures i; coming = Gives-none_same before.coming after.coming FRAME_ROOM e.coming i; taken = e.taken i; journal = e.journal i }
 
@@ -76,7 +76,7 @@ Tells-ended old mid new before between after number text sends turn is h k =
       Gives-none_left between.coming after.coming FRAME_ROOM e.0.coming,
     )
 
--- what is done has no fault
+-- a successful result has no fault
 pub no_fault : (r : Result (Unit {0}) Fault) (P : Fault → Type 0) → IsOk r → IfErr r P
 no_fault (Ok done) P h = tt
 no_fault (Err why) P h = let no : ⊥ = cc in absurd no

@@ -3,7 +3,7 @@ use Rattle.std.specs.Prelude.{ℕ, zero, suc, Bool, true, false, List, codes}
 use Rattle.info_rules.specs.declared.fault.RulesFaultKind.{RulesFaultKind}
 use Rattle.info_rules.specs.declared.fault.RulesFaultKind.TheVariants as rules
 
--- the text for a fault at this line; at line 0 the file is not UTF-8
+-- the text for a fault at this line; a Syntax fault at line 0 means that the file is not UTF-8
 unfoldable pub advice_on_rules : ℕ → RulesFaultKind → List ℕ
 advice_on_rules zero rules.Syntax = codes "the file is not UTF-8 text: write it in UTF-8 or ASCII"
 advice_on_rules (suc line) rules.Syntax =
@@ -25,7 +25,7 @@ advice_on_rules line rules.AnyAnchor =
     codes "a trust anchor of type any would allow packets without a rule: write rules in its place"
 advice_on_rules line rules.Memory = codes "out of memory"
 
--- memory ran out
+-- the fault is that memory ran out
 abbrev pub is_memory : RulesFaultKind → Bool
 is_memory rules.Memory = true
 is_memory kind = false

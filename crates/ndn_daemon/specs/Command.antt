@@ -1,4 +1,4 @@
--- The request of a subcommand, and the results for the errors of the command line parser.
+-- The requests of the subcommands, and the results for the errors of the command line parser.
 use Rattle.std.specs.Prelude.{◌≡◌, ◌≢◌, ◌≤◌, ℕ, List, Result, Ok, Err, codes, length, ⊤}
 use Rattle.clap.specs.Walk.{Row}
 use Rattle.clap.specs.declared.error.Error.{Error}
@@ -13,21 +13,22 @@ use Rattle.ndn_daemon.specs.declared.fault.Fault.TheVariants.{BadValue, CommandL
 use Rattle.ndn_daemon.specs.Options.{IsOptions}
 use Rattle.ndn_daemon.specs.UdpOptions.{IsUdpOptions}
 
--- help or the version was asked for, memory ran out, or the command line is wrong
+-- the result for an error of the parser: help or the version was asked for, memory ran out, or the
+-- command line is wrong
 abbrev pub reading_of : ErrorKind → Error → Result Request Fault
 reading_of DisplayHelp error = Ok (Help error)
 reading_of DisplayVersion error = Ok (Help error)
 reading_of OutOfMemory error = Err (Script Memory)
 reading_of kind error = Err (CommandLine error)
 
--- the request of the subcommand of this name with these options
+-- the request of the subcommand `name` with these options
 abbrev pub IsRequest : List ℕ → List Row → Request → Type 0
 IsRequest name rows (Help error) = ⊥
 IsRequest name rows (RunScript node) = (name ≢ codes "udp") × IsOptions rows node
 IsRequest name rows (Udp node options) =
     (name ≡ codes "udp") × IsOptions rows node × IsUdpOptions rows options
 
--- help, or the request of some subcommand with some options
+-- the request asks for help, or it runs a subcommand with its options
 abbrev pub IsAsked : Request → Type 0
 IsAsked (Help error) = ⊤
 IsAsked (RunScript node) =
@@ -35,7 +36,7 @@ IsAsked (RunScript node) =
 IsAsked (Udp node options) =
     (name : List ℕ) × (rows : List Row) × IsRequest name rows (Udp node options)
 
--- the command line is wrong, a value is not allowed, or memory ran out
+-- the fault of a command line: it is wrong, a value is not allowed, or memory ran out
 abbrev pub IsFaultOfWords : Fault → Type 0
 IsFaultOfWords (CommandLine error) = ⊤
 IsFaultOfWords (BadValue place wanted) = ⊤

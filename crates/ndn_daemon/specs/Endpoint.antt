@@ -1,4 +1,4 @@
--- Addresses with a port, and which of them may be peers of a node.
+-- Addresses with a port, and the endpoints that may be peers of a node.
 use Rattle.std.specs.Prelude.{◌≡◌, ◌≢◌, ◌⊎◌, ℕ, ◌<◌, ◌≤◌, ◌^◌, List, [], ◌∷◌, Some, All, AllPairs, length, slice_get}
 use Rattle.std.specs.Str.Parse.{IsNumeral, digits_value}
 use Rattle.std.specs.Net.Addr.{IsLoopbackV4, IsLoopbackV6, IsUnspecifiedV4, IsUnspecifiedV6, MatchIp, ipv4_octets, is_ipv4}
@@ -7,7 +7,7 @@ use Rattle.std.specs.Net.Socket.{socket_ip, socket_port}
 use Rattle.std.specs.declared.net.socket_addr.SocketAddr.{SocketAddr}
 use Rattle.pit_fib.specs.declared.face_set.TheConstants.{MAX_FACES}
 
--- decimal digits of a port from 1 to 65535; leading zeros are allowed
+-- the text spells a port from 1 to 65535 in decimal digits; leading zeros are allowed
 abbrev pub IsPort : List ℕ → ℕ → Type 0
 IsPort text n = IsNumeral 10 text × (digits_value 10 text ≡ n) × (0 < n) × (n < 2 ^ 16)
 
@@ -16,29 +16,31 @@ abbrev pub IsLocalhost : SocketAddr → Type 0
 IsLocalhost endpoint =
     MatchIp (socket_ip endpoint) (λ ip. ipv4_octets ip ≡ 127 ∷ 0 ∷ 0 ∷ 1 ∷ []) (λ ip. ⊥)
 
--- a port of 127.0.0.1, or an address and a port, where the port is not 0
+-- the text spells a port, which means that port of 127.0.0.1, or an address with a port; port 0 is
+-- not allowed
 abbrev pub IsEndpoint : List ℕ → SocketAddr → Type 0
 IsEndpoint text endpoint =
     (IsPort text (socket_port endpoint) × IsLocalhost endpoint)
     ⊎ (IsSocketText text endpoint × (0 < socket_port endpoint))
 
--- a loopback address, which only this machine can send to or from: one of 127.0.0.0/8, or ::1
+-- the address is a loopback address, with which other machines cannot communicate: 127.0.0.0/8 or
+-- ::1
 abbrev pub IsLoopback : SocketAddr → Type 0
 IsLoopback endpoint = MatchIp (socket_ip endpoint) IsLoopbackV4 IsLoopbackV6
 
--- The unspecified address, 0.0.0.0 or ::. A node that listens on it listens on all addresses of its
--- machine.
+-- The address is the unspecified address, 0.0.0.0 or ::. A node that listens on it listens on all
+-- addresses of its machine.
 abbrev pub IsUnspecified : SocketAddr → Type 0
 IsUnspecified endpoint = MatchIp (socket_ip endpoint) IsUnspecifiedV4 IsUnspecifiedV6
 
--- A peer is the node itself: it has the node's port, and the node's address in any scope, or, if
--- the node listens on the unspecified address, a loopback address.
+-- The peer is the node itself: it has the node's port and the node's address, in any scope. If the
+-- node listens on the unspecified address, a loopback address also counts as the node's address.
 abbrev pub IsItself : SocketAddr → SocketAddr → Type 0
 IsItself listen peer =
     (socket_port peer ≡ socket_port listen)
     × ((socket_ip peer ≡ socket_ip listen) ⊎ (IsUnspecified listen × IsLoopback peer))
 
--- the endpoints that these texts spell, in their order: at most 64, all different
+-- the texts spell these endpoints in order; they are at most 64 and all different
 pub record AreEndpoints (texts : List (List ℕ)) (endpoints : List SocketAddr) : Type 0 where
   pub many : length endpoints ≡ length texts
   pub spelled : (place : ℕ) (text : List ℕ) (endpoint : SocketAddr)
@@ -47,7 +49,8 @@ pub record AreEndpoints (texts : List (List ℕ)) (endpoints : List SocketAddr) 
   pub few : length texts ≤ MAX_FACES
   pub different : AllPairs (λ a b. a ≢ b) endpoints
 
--- none is the node itself or unspecified, and all are of the node's family, IPv4 or IPv6
+-- no peer is the node itself or has the unspecified address, and all are of the node's address
+-- family
 pub record MayBePeersOf (listen : SocketAddr) (peers : List SocketAddr) : Type 0 where
   pub others : All (λ peer. ¬ (IsItself listen peer)) peers
   pub specified : All (λ peer. ¬ (IsUnspecified peer)) peers

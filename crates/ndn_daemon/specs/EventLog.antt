@@ -12,17 +12,17 @@ use Rattle.ndn_log.specs.declared.entry.Came.TheVariants.{Packet, Opened, Closed
 abbrev pub is_left_out : Bool → Came → Result Verdict Memory → Bool
 is_left_out shows_all came outcome = not shows_all && is_plain came outcome
 
--- the line of this moment with these words was appended, or nothing
+-- the line with this time and these words was appended, or nothing
 abbrev pub MayLog : List ℕ → List ℕ → ℕ → List ℕ → Type 0
 MayLog old new moment words = IsLogged old new moment words ⊎ (new ≡ old)
 
--- the number of faces that closed without a line, after what arrived
+-- the number of faces that closed without a line, after this event
 abbrev pub closed_with : Bool → Came → ℕ → ℕ
 closed_with true (Closed face) count = one_more count
 closed_with left_out came count = count
 
--- A count that is not 0 is reported by a line with these words, and is then 0; or it is not
--- reported, and unchanged.
+-- Either the count is not 0, a line with these words was appended, and the count is now 0; or
+-- nothing was appended, and the count is unchanged.
 abbrev pub SaysCount : List ℕ → List ℕ → ℕ → List ℕ → ℕ → ℕ → Type 0
 SaysCount old new moment words count left =
     ((0 < count) × IsLogged old new moment words × (left ≡ 0)) ⊎ ((new ≡ old) × (left ≡ count))

@@ -20,8 +20,8 @@ abbrev pub rules_status : RulesFaultKind → ℕ
 rules_status kinds.Memory = 3
 rules_status kind = 1
 
--- 1 for a fault in a file or in the script, 2 for a wrong command line, 3 if reading, writing, a
--- lock, the port or memory failed
+-- the exit status: 1 for a fault in a file or in the script, 2 for a wrong command line, 3 if
+-- reading, writing, a lock, the port or memory failed
 abbrev pub status_of : Fault → ℕ
 status_of (CommandLine error) = 2
 status_of (BadValue place wanted) = 2
@@ -47,7 +47,7 @@ status_of (Journal (journal.BadLine line)) = 1
 status_of (Journal journal.Unwritten) = 3
 status_of (Journal journal.LongRules) = 1
 
--- the line and the kind of a fault, and below it the text that explains it
+-- the text for a fault: its line and kind, followed by the text that explains it
 abbrev pub rules_fault_text : ℕ → RulesFaultKind → List ℕ
 rules_fault_text line kind =
     if is_memory kind then codes "error: out of memory\n"
@@ -78,7 +78,7 @@ journal_fault_text journal.Unwritten =
 journal_fault_text journal.LongRules =
     codes "journal:0: TooLong\n  the rule file and the key file have more than 9985 octets together\n"
 
--- the message for standard error with its LF; for a wrong command line it is the parser's
+-- the message for standard error with its LF; the message for a wrong command line is the parser's
 abbrev pub text_of : Fault → Option (List ℕ)
 text_of (CommandLine error) = None
 text_of (BadValue place wanted) = Some (

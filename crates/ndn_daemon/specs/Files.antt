@@ -1,4 +1,4 @@
--- How the octets of a rule file and of a key file are read, and their faults.
+-- Reading the octets of rule files and key files, and their faults.
 use Rattle.std.specs.Prelude.{◌≡◌, ◌⊎◌, ◌<◌, ◌≤◌, ℕ, List, codes, length, string_bytes, ⊤}
 use Rattle.std.specs.declared.io.ErrorKind.{ErrorKind}
 use Rattle.hmac_keys.specs.KeyFile.{NamedKey}
@@ -22,29 +22,30 @@ IsKeyFault octets why = ⊥
 
 -- ---- files
 
--- this file, at this path, cannot be read, or memory ran out
+-- the file of this kind at this path cannot be read, or memory ran out
 abbrev pub IsUnread : List ℕ → List ℕ → Fault → Type 0
 IsUnread file path (Unread which place kind) = (which.now ≡ file) × (string_bytes place ≡ path)
 IsUnread file path (Script why) = why ≡ Memory
 IsUnread file path why = ⊥
 
--- a file that cannot be read has this cause
+-- this is the reason why the file cannot be read
 abbrev pub HasCause : ErrorKind → Fault → Type 0
 HasCause kind (Unread file path cause) = cause ≡ kind
 HasCause kind why = ⊤
 
--- a rule file has too many octets, or its octets have this fault, or the file cannot be read
+-- the fault of a rule file: it has too many octets, or its octets have a fault, or it cannot be
+-- read
 abbrev pub IsRuleFileFault : List ℕ → List ℕ → Fault → Type 0
 IsRuleFileFault path octets why =
     ((65536 < length octets) × (why ≡ Rules (record { line = 0; kind = TooLarge })))
     ⊎ ((length octets ≤ 65536) × IsRuleFault octets why)
     ⊎ IsUnread (codes "rule file") path why
 
--- the keys of these octets, which are not too many for a key file
+-- the keys of a key file that does not have too many octets
 abbrev pub AreKeysOfFile : List ℕ → List NamedKey → Type 0
 AreKeysOfFile octets keys = (length octets ≤ MAX_KEY_FILE) × AreKeys octets keys
 
--- a key file has too many octets, or its octets have this fault, or the file cannot be read
+-- the fault of a key file: it has too many octets, or its octets have a fault, or it cannot be read
 abbrev pub IsKeyFileFault : List ℕ → List ℕ → Fault → Type 0
 IsKeyFileFault path octets why =
     ((MAX_KEY_FILE < length octets) × (why ≡ LargeKeys))

@@ -1,4 +1,4 @@
--- What a log shows of an arrival, and of its outcome.
+-- What a log shows of an arrival and of its outcome.
 use Rattle.std.specs.Prelude.{◌≡◌, ℕ, List, take, Option, None, Some, Result, Ok, Err}
 use Rattle.ndn_tlv.specs.declared.memory.Memory.{Memory}
 use Rattle.forwarder.specs.declared.verdict.Verdict.{Verdict}
@@ -19,7 +19,7 @@ seen_in (arrival.FaceDown face now) = Some (Closed face)
 seen_in (arrival.Tick now) = Some Tick
 seen_in (arrival.NewRules renewal now) = Some NewRules
 
--- an arrival with its octets, which begin a buffer
+-- the arrival with its octets, with which the buffer begins
 abbrev pub IsCameOf : Seen → List ℕ → Came → Type 0
 IsCameOf (Packet face len) buffer (came.Packet f octets) =
     (f ≡ face) × (octets.now ≡ take len buffer)
@@ -36,7 +36,7 @@ face_of (came.Closed face) = Some face
 face_of came.Tick = None
 face_of came.NewRules = None
 
--- the outcome of an event; none if the ports ended, or the node has to end
+-- the outcome of an event, or None if the ports ended or the node must stop
 abbrev pub IsOutcomeOf : Turn → Option (Result Verdict Memory) → Type 0
 IsOutcomeOf (Done verdict failed) outcome = outcome ≡ Some (Ok verdict)
 IsOutcomeOf Refused outcome = (refused : Memory) × (outcome ≡ Some (Err refused))

@@ -10,24 +10,24 @@ use Rattle.ndn_daemon.specs.declared.fault.Fault.{Fault}
 use Rattle.ndn_daemon.specs.declared.fault.Fault.TheVariants.{BadValue, Script}
 use Rattle.ndn_daemon.specs.declared.options.Options.{Options}
 
--- the rows of the options that were found
+-- the options that the parser found, as rows
 abbrev pub rows_in : ArgMatches → List Row
 rows_in options = rows_of (found_of options)
 
--- the value of an option, if it is there
+-- the value of an option, if it is present
 abbrev pub value_at : List Row → List ℕ → Option (List ℕ)
 value_at rows id = first_of id rows
 
--- the text that is given, or this default
+-- the given text, or the default if none is given
 abbrev pub given_or : List ℕ → Option (List ℕ) → List ℕ
 given_or text None = text
 given_or text (Some given) = given
 
--- decimal digits of a number below 2^32; leading zeros are allowed
+-- the text spells a number below 2^32 in decimal digits; leading zeros are allowed
 abbrev pub IsCapacity : List ℕ → ℕ → Type 0
 IsCapacity text n = IsNumeral 10 text × (digits_value 10 text ≡ n) × (n < 2 ^ 32)
 
--- the path of an option, if it is given
+-- the path is the given one, if one is given
 abbrev pub MayBePath : {Z : Type 0} → Option (List ℕ) → Option (String Z) → Type 0
 MayBePath None None = ⊤
 MayBePath (Some given) (Some path) = string_bytes path ≡ given
@@ -40,22 +40,23 @@ pub record IsOptions (rows : List Row) (options : Options) : Type 0 where
   pub repo : ReadsAs (given_or (codes "/repo") (value_at rows (codes "repo"))) options.repo
   pub cache : IsCapacity (given_or (codes "1024") (value_at rows (codes "cache"))) options.cache
 
--- the fault of a text that spells no value
+-- the fault of a text that spells no valid value
 abbrev pub IsWrong : {A : Type 0} → (A → Type 0) → Fault → Type 0
 IsWrong {A} Spell (BadValue place wanted) = (x : A) → Spell x → ⊥
 IsWrong Spell why = ⊥
 
--- the same, or memory ran out
+-- the fault of a text that spells no valid value, or of memory that ran out
 abbrev pub IsRefused : {A : Type 0} → (A → Type 0) → Fault → Type 0
 IsRefused Spell (Script Memory) = ⊤
 IsRefused Spell why = IsWrong Spell why
 
--- the value that a text spells, or the fault if it spells none
+-- the value that the text spells, or the fault of a text that spells no valid value
 abbrev pub Reads : {A : Type 0} → (A → Type 0) → Result A Fault → Type 0
 Reads Spell (Ok value) = Spell value
 Reads Spell (Err fault) = IsWrong Spell fault
 
--- the same, or memory ran out
+-- the value that the text spells, or the fault of a text that spells no valid value, or of memory
+-- that ran out
 abbrev pub ReadsInMemory : {A : Type 0} → (A → Type 0) → Result A Fault → Type 0
 ReadsInMemory Spell (Ok value) = Spell value
 ReadsInMemory Spell (Err fault) = IsRefused Spell fault

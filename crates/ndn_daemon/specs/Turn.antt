@@ -20,7 +20,7 @@ use Rattle.ndn_daemon.specs.declared.fault.Fault.{Fault}
 use Rattle.ndn_daemon.specs.declared.fault.Fault.TheVariants.{Script, Unbound, Unreceived, Journal}
 use Rattle.ndn_daemon.specs.declared.fault.JournalFault.TheVariants as journal
 
--- the line of the verdict, as a script prints it for an event, and a line for each packet sent
+-- the line with the verdict, in the format of scripts, and one line for each packet that is sent
 abbrev pub turn_text : ℕ → List PlainRule → Turn → List Send → List ℕ
 turn_text number rules (Done verdict failed) sends =
     numbered_line number (verdict_text rules (verdict_of verdict)) ++ flat_map send_text sends
@@ -29,7 +29,7 @@ turn_text number rules Refused sends =
 turn_text number rules Unwritten sends = []
 turn_text number rules End sends = []
 
--- this number of events had outcomes, and a script prints this text for them
+-- `events` events had outcomes, and `text` is the text that a script prints for them
 pub record Tells (old new : NodeState) (before after : Shown) (events : ℕ) (text : List ℕ)
     : Type 0 where
   pub refused : ℕ
@@ -37,16 +37,16 @@ pub record Tells (old new : NodeState) (before after : Shown) (events : ℕ) (te
   pub serves : Serves old new before after events refused failed
   pub text_is : text ≡ script_text old.policy.rules serves.arrivals serves.outcomes
 
--- each turn had an event, or after fewer events none was left to come, and the text was written
+-- each turn had an event, or the events ended before the last turn; the text of all was written
 abbrev pub TakesTurns : NodeState → NodeState → Shown → Shown → ℕ → Option (List ℕ)
     → Option (List ℕ) → Type 0
 TakesTurns old new before after turns held holds =
     (events : ℕ) × (ended : Bool) × (text : List ℕ) × Tells old new before after events text
     × EndsAfter turns ended events after.coming × Appends held holds text
 
--- Unreceived: the call for the next arrival failed, after the text of the events before was
--- written. Write and Memory: a beginning of the text of the events was written. Journal: the event
--- after some events is not in the journal, and a beginning of their text was written.
+-- Unreceived: the text of the earlier events was written, and then the call for the next arrival
+-- failed. Write and Memory: a prefix of the text of the events was written. Journal: an event is
+-- not in the journal, and a prefix of the text of the earlier events was written.
 abbrev pub StopsTurns : NodeState → NodeState → Shown → Shown → ℕ → Option (List ℕ)
     → Option (List ℕ) → Fault → Type 0
 StopsTurns old new before after turns held holds Unreceived =
@@ -64,14 +64,14 @@ StopsTurns old new before after turns held holds (Journal journal.Unwritten) =
     × AppendsFront held holds text
 StopsTurns old new before after turns held holds why = ⊥
 
--- a beginning of the buffered text was written, and this is left of it
+-- a prefix of the buffered text was written, and `left` is the remaining text
 abbrev pub Writes : Option (List ℕ) → Option (List ℕ) → List ℕ → List ℕ → Type 0
 Writes held holds gathered left =
     (front : List ℕ) × (gathered ≡ front ++ left) × Appends held holds front
 
 -- Unreceived: the buffered text was written, and then the call for the next arrival failed. Write:
--- a beginning of the text was written, and no turn was taken. Journal: an event was answered that
--- is not in the journal, and a beginning of the text was written.
+-- a prefix of the buffered text was written, and no turn was taken. Journal: an event was answered
+-- but is not in the journal, and a prefix of the buffered text was written.
 abbrev pub StopsTurn : NodeState → NodeState → Shown → Shown → Option (List ℕ) → Option (List ℕ)
     → List ℕ → Fault → Type 0
 StopsTurn old new before after held holds gathered Unreceived =
@@ -82,24 +82,24 @@ StopsTurn old new before after held holds gathered (Journal journal.Unwritten) =
     FailsToWrite old new before after × AppendsFront held holds gathered
 StopsTurn old new before after held holds gathered why = ⊥
 
--- the same turns with nothing printed
+-- the turns were taken, and nothing was printed
 abbrev pub TakesQuietTurns : NodeState → NodeState → Shown → Shown → ℕ → Type 0
 TakesQuietTurns old new before after turns =
     (events refused failed : ℕ) × (ended : Bool) × Serves old new before after events refused failed
     × EndsAfter turns ended events after.coming
 
--- the fault of the program for this fault of serving
+-- the program's fault for this fault of serving
 abbrev pub fault_of : ServeFault → Fault
 fault_of (serve.Next events) = Unreceived
 fault_of (serve.Journal events) = Journal journal.Unwritten
 
--- the call for the next arrival failed, or an event is not in the journal, after some events
+-- after some events, the call for the next arrival failed, or an event is not in the journal
 abbrev pub StopsQuietTurns : NodeState → NodeState → Shown → Shown → ℕ → Fault → Type 0
 StopsQuietTurns old new before after turns why =
     (stop : ServeFault) × StopsServing old new before after turns stop × (why ≡ fault_of stop)
 
--- why a node stops before its last turn: nothing can be received, an answer cannot be written,
--- memory to print it ran out, or an event is not in the journal
+-- why a node stops before its last turn: no datagram can be received, an answer cannot be written,
+-- memory for printing it ran out, or an event is not in the journal
 abbrev pub EndsTurns : Fault → Type 0
 EndsTurns Unreceived = ⊤
 EndsTurns (Script Write) = ⊤
@@ -107,13 +107,13 @@ EndsTurns (Script Memory) = ⊤
 EndsTurns (Journal journal.Unwritten) = ⊤
 EndsTurns why = ⊥
 
--- why a node with valid parts takes no turns at this address and port: these cannot be bound, or
+-- why a node with valid parts takes no turns on this endpoint: the endpoint cannot be bound, or
 -- memory ran out
 abbrev pub HasNoTurns : SocketAddr → Fault → Type 0
 HasNoTurns endpoint (Unbound other) = other ≡ endpoint
 HasNoTurns endpoint (Script (Node why)) = why ≡ NodeMemory
 HasNoTurns endpoint why = ⊥
 
--- why a node with valid parts stops at this address and port
+-- why a node with valid parts stops on this endpoint
 abbrev pub StopsAt : SocketAddr → Fault → Type 0
 StopsAt endpoint why = HasNoTurns endpoint why ⊎ EndsTurns why

@@ -12,7 +12,7 @@ use Rattle.ndn_daemon.specs.declared.udp_options.UdpOptions.{UdpOptions}
 use Rattle.ndn_daemon.specs.Endpoint.{AreEndpoints, IsEndpoint, IsLoopback, MayBePeersOf}
 use Rattle.ndn_daemon.specs.Options.{MayBePath, given_or, value_at}
 
--- the values of an argument, none if it is absent
+-- the values of an argument, or no values if it is absent
 abbrev pub values_or_none : Option (List (List ℕ)) → List (List ℕ)
 values_or_none None = []
 values_or_none (Some values) = values
@@ -20,36 +20,38 @@ values_or_none (Some values) = values
 abbrev pub values_at : List Row → List ℕ → List (List ℕ)
 values_at rows id = values_or_none (all_of id rows)
 
--- the value that the parser has for a flag
+-- the value that the parser gives a flag
 abbrev pub flag_at : List Row → List ℕ → Option (List ℕ)
 flag_at rows id = one_of id rows
 
--- the parser has "true" for a flag that is there, and "false" for one that is not
+-- the flag's value is "true" if the flag is present, and "false" if it is not
 abbrev pub IsFlag : Option (List ℕ) → Bool → Type 0
 IsFlag said b =
     (said ≡ Some (codes "true") → b ≡ true)
     × (said ≡ Some (codes "false") → b ≡ false)
     × (said ≡ None → b ≡ false)
 
--- decimal digits of a number below 2^64; leading zeros are allowed
+-- the text spells a number below 2^64 in decimal digits; leading zeros are allowed
 abbrev pub IsNumber : List ℕ → ℕ → Type 0
 IsNumber text n = IsNumeral 10 text × (digits_value 10 text ≡ n) × (n < 2 ^ 64)
 
--- the same, of seconds from 1 to 2^32 - 1
+-- the text spells a number of seconds from 1 to 2^32 - 1 in decimal digits; leading zeros are
+-- allowed
 abbrev pub IsSeconds : List ℕ → ℕ → Type 0
 IsSeconds text n = IsNumeral 10 text × (digits_value 10 text ≡ n) × (0 < n) × (n < 2 ^ 32)
 
--- the value is there, and spells this value
+-- the option is present, and its text spells `x`
 abbrev pub Has : {A : Type 0} → Option (List ℕ) → (List ℕ → A → Type 0) → A → Type 0
 Has None Spells x = ⊥
 Has (Some value) Spells x = Spells value x
 
--- how many peers are Local: no more than there are, and those are on this machine
+-- the text spells the number of Local peers; it is at most the number of peers, and the Local
+-- peers, which are the first ones, have loopback addresses
 abbrev pub IsLocal : List ℕ → List SocketAddr → ℕ → Type 0
 IsLocal text peers local =
     IsNumber text local × (local ≤ length peers) × All IsLoopback (take local peers)
 
--- the parser has "events" for `--log` without a value, and the word may be written as well
+-- the log level; `--log` without a value means "events", which may also be written
 abbrev pub IsLog : Option (List ℕ) → LogLevel → Type 0
 IsLog None level = level ≡ levels.None
 IsLog (Some text) levels.None = ⊥
@@ -70,8 +72,8 @@ pub record IsUdpOptions (rows : List Row) (options : UdpOptions) : Type 0 where
   pub journal : MayBePath (value_at rows (codes "journal")) options.journal
   pub quiet : IsFlag (flag_at rows (codes "quiet")) options.quiet
 
--- The ports of these options, at this moment: the peers' faces are still to be opened, others close
--- after the idle time, and strangers are accepted with `--open` or at a loopback address.
+-- The ports for these options at the time `told`: no peer's face is opened yet, the other faces
+-- close after the idle time, and strangers are accepted with `--open` or on a loopback address.
 pub record ArePortsOf (options : UdpOptions) (told : ℕ) (ports : UdpState) : Type 0 where
   pub is_open : IsTrue ports.accepts_strangers ↔ (IsTrue options.«open» ⊎ IsLoopback options.listen)
   pub is : ports ≡ record (closes_after (options.idle * 1000)
@@ -79,7 +81,7 @@ pub record ArePortsOf (options : UdpOptions) (told : ℕ) (ports : UdpState) : T
         accepts_strangers = ports.accepts_strangers;
       }
 
--- the fault of a wrong value
+-- the fault says that a value is not allowed
 abbrev pub IsBadValue : Fault → Type 0
 IsBadValue (BadValue place wanted) = ⊤
 IsBadValue why = ⊥

@@ -13,12 +13,12 @@ use node_core::RunFault;
 use std::alloc::{AllocError, Global};
 use std::convert::AsStr;
 
-/// The request of a command line.
+/// The request that a command line makes.
 #[derive(Debug, Drop)]
 pub enum Request {
     /// The help text or the version, for standard output.
     Help(Error),
-    /// Run the script on standard input.
+    /// Run the script that is on standard input.
     Script(Options),
     /// Run a node on a port.
     Udp(Options, UdpOptions),
@@ -129,7 +129,7 @@ const AFTER: &str =
 Exit status: 0 at the end, 1 for a fault in a file or a script, 2 for a wrong command line, 3 if a
 file, the port, input, output or memory fails.";
 
-/// Reads the arguments of a command line, the first of which is the program's name.
+/// Reads the arguments of a command line. The first argument is the program's name.
 pub fn request_of<S: AsStr>(alloc: Global, arguments: &[S]) -> Result<Request, Fault>
     ensures asked { IfOk result IsAsked }
     ensures few { IfOk result HasFewPeers }
@@ -140,7 +140,7 @@ pub fn request_of<S: AsStr>(alloc: Global, arguments: &[S]) -> Result<Request, F
         Ok(matches) => matches,
         Err(error) => return answer_to(error),
     };
-    // The parser accepts a `--`, but this program does not.
+    // The parser accepts the argument `--`, but this program does not.
     if has_dashes(arguments) {
         return answer_to(command.error(
             ErrorKind::UnknownArgument,
@@ -153,7 +153,7 @@ pub fn request_of<S: AsStr>(alloc: Global, arguments: &[S]) -> Result<Request, F
     }
 }
 
-/// The request of the subcommand of this name with these options.
+/// Returns the request of the subcommand `name` with these options.
 fn named_request(alloc: Global, name: &str, found: &ArgMatches<'_>) -> Result<Request, Fault>
     ensures { ReadsInMemory (IsRequest name.now (rows_in found.now)) result }
 {
@@ -165,7 +165,7 @@ fn named_request(alloc: Global, name: &str, found: &ArgMatches<'_>) -> Result<Re
     }
 }
 
-/// Whether an argument is `--`.
+/// Returns whether one of the arguments is `--`.
 fn has_dashes<S: AsStr>(arguments: &[S]) -> bool {
     arguments.iter().any(|argument| argument.as_str() == "--")
 }
@@ -247,7 +247,7 @@ fn udp_command<'a>(alloc: Global) -> Result<Command<'a>, AllocError> {
     with_node(alloc, command)?.arg(peers(alloc))
 }
 
-/// The command with the options of a node.
+/// Adds the options of a node to the command.
 fn with_node<'a>(alloc: Global, command: Command<'a>) -> Result<Command<'a>, AllocError> {
     command
         .arg(option(
@@ -271,14 +271,14 @@ fn with_node<'a>(alloc: Global, command: Command<'a>) -> Result<Command<'a>, All
         ))
 }
 
-/// The argument for the addresses and ports of the peers.
+/// Returns the argument for the addresses and ports of the peers.
 fn peers<'a>(alloc: Global) -> Arg<'a> {
     Arg::new(alloc, "PEERS").num_args(0..).help(
         "The peers, written as --listen, which are faces 1, 2 and so on",
     )
 }
 
-/// The option for what is logged; without a value, events.
+/// Returns the option that selects what is logged. Without a value it means `events`.
 fn log_option<'a>(alloc: Global) -> Arg<'a> {
     option(
         alloc,
@@ -290,17 +290,17 @@ fn log_option<'a>(alloc: Global) -> Arg<'a> {
     .default_missing_value("events")
 }
 
-/// A required option with a value.
+/// Returns a required option with a value.
 fn required_option<'a>(alloc: Global, id: &'a str, value: &'a str, help: &'a str) -> Arg<'a> {
     option(alloc, id, value, help).required(true)
 }
 
-/// An option with a value.
+/// Returns an option with a value.
 fn option<'a>(alloc: Global, id: &'a str, value: &'a str, help: &'a str) -> Arg<'a> {
     Arg::new(alloc, id).long(id).value_name(value).help(help)
 }
 
-/// An option without a value.
+/// Returns an option without a value.
 fn flag<'a>(alloc: Global, id: &'a str, help: &'a str) -> Arg<'a> {
     Arg::new(alloc, id)
         .long(id)

@@ -1,4 +1,4 @@
-//! A journal in a file of the system.
+//! A journal in a file of the operating system.
 ghost use Rattle.std.specs.Prelude.{None};
 
 use crate::fault::{Fault, JournalFault};
@@ -12,18 +12,19 @@ use std::io::{BufReader, ErrorKind, Write};
 use std::os::unix::fs::OpenOptionsExt;
 use std::rt::Files;
 
-/// The mode of a journal that is created: its owner alone may read and write it, since it contains
-/// the octets of key files.
+/// The permissions of a new journal: only its owner may read and write it, since it contains the
+/// octets of key files.
 const OWNER_ALONE: u32 = 0o600;
 
-/// A journal in a file of the system, which is locked so that one program at a time uses it.
+/// A journal in a file of the operating system. The file is locked, so that only one program uses
+/// it at a time.
 #[derive(Drop)]
 pub struct DiskJournal {
     file: File,
 }
 
 impl DiskJournal {
-    /// Opens and locks the journal at this path, and creates it if there is none.
+    /// Opens and locks the journal at this path. Creates the journal if it does not exist.
     pub fn open<R: AllocGlobal + Files<File = File>>(
         rt: &R,
         path: &str,
@@ -34,15 +35,15 @@ impl DiskJournal {
         }
     }
 
-    /// Hands the events of the journal to a node. If a crash cut the last line short, it is removed
-    /// from the file.
+    /// Replays the events of the journal on a node. If a crash cut the last line short, that line
+    /// is removed from the file.
     pub fn replay(
         &mut self,
         alloc: Global,
         path: &str,
         node: &mut Node,
     ) -> Result<Replayed, Fault> {
-        // A copy of the handle, which has the same lock.
+        // The cloned handle shares the lock.
         let done = match self.file.try_clone() {
             Ok(file) => replay_file(alloc, path, file, node)?,
             Err(error) => return Err(unread_journal(alloc, path, &error)),
@@ -56,7 +57,7 @@ impl DiskJournal {
     }
 }
 
-/// Hands the events of a journal in this file to a node.
+/// Replays the events of a journal in this file on a node.
 fn replay_file(alloc: Global, path: &str, file: File, node: &mut Node) -> Result<Replayed, Fault> {
     let mut reader = match BufReader::new(alloc, file) {
         Ok(reader) => reader,
@@ -74,7 +75,7 @@ fn replay_file(alloc: Global, path: &str, file: File, node: &mut Node) -> Result
 }
 
 impl JournalFile for DiskJournal {
-    // No contract says what a file of the system has.
+    // The content of a file of the operating system is not known to the contracts.
     ghost synced = { λ _. None };
 
     fn append(&mut self, octets: &[u8]) -> Result<(), FileFault> {
@@ -88,8 +89,8 @@ impl JournalFile for DiskJournal {
     }
 }
 
-/// Opens a file to read it and to append to it, and creates it if there is none. Its folder is
-/// synchronized before it is used, so that a new file survives a crash.
+/// Opens a file for reading and appending. Creates the file if it does not exist. The directory is
+/// synchronized to disk first, so that a new file survives a crash.
 fn open_to_append<R: Files<File = File>>(rt: &R, path: &str) -> io::Result<File> {
     let mut options = OpenOptions::new();
     options
@@ -102,7 +103,7 @@ fn open_to_append<R: Files<File = File>>(rt: &R, path: &str) -> io::Result<File>
     Ok(file)
 }
 
-/// The folder of a file.
+/// Returns the directory of a file.
 fn folder_of(path: &str) -> &str {
     match path.rsplit_once('/') {
         Some(("", _)) => "/",
@@ -111,7 +112,7 @@ fn folder_of(path: &str) -> &str {
     }
 }
 
-/// Locks the file. Fails if another program has locked it.
+/// Locks the file. Fails if another program holds the lock.
 fn locked(alloc: Global, path: &str, file: File) -> Result<DiskJournal, Fault> {
     match file.try_lock() {
         Ok(()) => Ok(DiskJournal { file }),

@@ -13,21 +13,21 @@ use node_core::Verdict;
 use std::alloc::Global;
 use std::net::SocketAddr;
 
-/// The most text that is buffered before it is written, in octets, besides one line.
+/// The greatest length of buffered text before it is written, in octets, not counting one line.
 const MOST_GATHERED: usize = 65_536;
 
-/// How long a line is buffered at most while events arrive, in milliseconds.
+/// The greatest time that a line stays buffered while events arrive, in milliseconds.
 const WAIT_MILLISECONDS: u64 = 1_000;
 
-/// The time after which the counts are reported again, in milliseconds.
+/// The time between two reports of a count, in milliseconds.
 const COUNT_MILLISECONDS: u64 = 60_000;
 
-/// Where the lines of a log are written.
+/// A destination for the lines of a log.
 pub trait LogSink: Drop {
-    // The lines that it was given, if it stores them.
+    // The lines that the sink was given, if it stores them.
     ghost given: { Self → Option (List ℕ) };
 
-    /// Takes whole lines. Lines that cannot be written are lost, without a fault.
+    /// Writes whole lines. Lines that cannot be written are lost without a fault.
     fn take(&mut self, lines: &[u8])
         ensures { Appends (given self.old) (given self.new) lines.now };
 }
@@ -39,14 +39,14 @@ pub struct StandardError<'a, R> {
 }
 
 impl<'a, R: Eprint> StandardError<'a, R> {
-    /// Standard error of this program.
+    /// Returns the standard error of this program.
     pub fn new(rt: &'a R) -> StandardError<'a, R> {
         StandardError { rt }
     }
 }
 
 impl<'a, R: Eprint> LogSink for StandardError<'a, R> {
-    // The lines that it was given are not known.
+    // The lines that were written to standard error are not known to the contracts.
     ghost given = { λ _. None };
 
     fn take(&mut self, lines: &[u8]) {
@@ -56,28 +56,28 @@ impl<'a, R: Eprint> LogSink for StandardError<'a, R> {
     }
 }
 
-/// The lines of a log that are not written yet, and the counts that are not reported yet. A line
-/// for which memory runs out is left out.
+/// A log: the lines that are not yet written, and the counts that are not yet reported. A line is
+/// left out if memory runs out for it.
 #[derive(Drop)]
 pub struct EventLog<S: LogSink> {
     alloc: Global,
     sink: S,
     shows_all: bool,
     text: Vec<u8>,
-    // Lines of sends that failed, which follow the line of their event.
+    // Lines about failed sends, which follow the line of their event.
     later: Vec<u8>,
-    // The moment of the first line that is not written yet.
+    // The time of the first line that is not yet written.
     since: u64,
-    // The number of faces that closed and are not reported yet.
+    // The number of closed faces that are not yet reported.
     closed: u64,
-    // The number of datagrams of strangers that were reported.
+    // The number of datagrams from strangers at the last report.
     strangers: u64,
-    // The moment of the last report of a count.
+    // The time of the last report of a count.
     counted: u64,
 }
 
 impl<S: LogSink> EventLog<S> {
-    /// A log without lines, which shows all events or leaves out plain ones.
+    /// Returns a log without lines. If `shows_all` is not set, it leaves out plain events.
     pub fn new(alloc: Global, sink: S, shows_all: bool) -> EventLog<S>
         ensures text { result.text.items ≡ [] }
         ensures later { result.later.items ≡ [] }
@@ -98,15 +98,15 @@ impl<S: LogSink> EventLog<S> {
         }
     }
 
-    /// Whether no lines are left to be written.
+    /// Returns whether no lines are waiting to be written.
     pub fn is_empty(&self) -> bool
         ensures { IsTrue result ↔ (self.now.text.items ≡ []) }
     {
         self.text.is_empty()
     }
 
-    /// Appends the line of an event, unless it is left out. A face that closes is counted if its
-    /// line is left out.
+    /// Appends the line of an event, unless the event is left out. A face that closes without a
+    /// line is counted.
     pub fn put_event(&mut self, entry: &Entry<'_>, outcome: &Result<Verdict, Memory>, rules: &Rules)
         ensures left_out { is_left_out self.old.shows_all entry.now.came outcome.now ≡ true
             → self.new.text.items ≡ self.old.text.items }
@@ -127,7 +127,7 @@ impl<S: LogSink> EventLog<S> {
         let _put = put_event(self.alloc, &mut self.text, entry, outcome, rules);
     }
 
-    /// Counts what arrived, if it is a face that closed.
+    /// Counts the event if it is the closing of a face.
     fn count_closed(&mut self, came: &Came<'_>)
         ensures { self.new ≡ record self.old {
           closed = closed_with true came.now self.old.closed;
@@ -138,7 +138,7 @@ impl<S: LogSink> EventLog<S> {
         }
     }
 
-    /// Stores the line of a failed send, to follow the line of its event.
+    /// Stores the line of a failed send until the line of its event is appended.
     pub fn put_failed_send(
         &mut self,
         moment: u64,
@@ -167,8 +167,9 @@ impl<S: LogSink> EventLog<S> {
         self.later.clear();
     }
 
-    /// Appends lines with the counts of closed faces and of datagrams of strangers, if the last
-    /// report is a minute old. `strangers` is the number of such datagrams in all.
+    /// Appends lines with the counts of closed faces and of datagrams from strangers, if the last
+    /// report is at least a minute old. `strangers` is the total number of datagrams from
+    /// strangers.
     pub fn put_counts(&mut self, moment: u64, strangers: u64)
         ensures others { self.new ≡ record self.old {
           text = self.new.text;
@@ -182,7 +183,8 @@ impl<S: LogSink> EventLog<S> {
         }
     }
 
-    /// As `put_counts`, however old the last report is.
+    /// Appends lines with the counts of closed faces and of datagrams from strangers, however long
+    /// ago the last report was. `strangers` is the total number of datagrams from strangers.
     pub fn put_counts_now(&mut self, moment: u64, strangers: u64)
         ensures others { self.new ≡ record self.old {
           text = self.new.text;
@@ -243,7 +245,7 @@ impl<S: LogSink> EventLog<S> {
         }
     }
 
-    /// Writes all lines.
+    /// Writes all lines to the sink.
     pub fn write_out(&mut self)
         ensures written { Appends (S.given self.old.sink) (S.given self.new.sink)
             self.old.text.items }
@@ -260,7 +262,7 @@ impl<S: LogSink> EventLog<S> {
         self.text.clear();
     }
 
-    /// Sets the moment of the first line that follows, if no lines are left to be written.
+    /// Sets the time of the next line to `moment`, if no lines are waiting to be written.
     pub fn begin(&mut self, moment: u64)
         ensures first { self.old.text.items ≡ [] → self.new.since ≡ moment }
         ensures others { self.new ≡ record self.old { since = self.new.since } }
@@ -270,7 +272,8 @@ impl<S: LogSink> EventLog<S> {
         }
     }
 
-    /// Writes all lines if there is much text, or if the first line is a second old at this moment.
+    /// Writes all lines if they have at least `MOST_GATHERED` octets, or if the first line is at
+    /// least a second old.
     pub fn write_old(&mut self, moment: u64)
         ensures { (self.new ≡ self.old) ⊎ ((self.new.text.items ≡ [])
             × Appends (S.given self.old.sink) (S.given self.new.sink) self.old.text.items) }

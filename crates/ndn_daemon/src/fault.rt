@@ -9,16 +9,16 @@ use std::fmt;
 use std::io::ErrorKind;
 use std::net::SocketAddr;
 
-/// Why the program could not do what was asked.
+/// Why the program could not do what the command line asked for.
 #[derive(Debug, Drop)]
 pub enum Fault {
     /// The command line is wrong.
     CommandLine(clap::Error),
     /// The value of an option is not allowed.
     BadValue {
-        /// The option, as it is written on the command line.
+        /// The option, as written on the command line.
         place: &'static str,
-        /// What to give there.
+        /// The values that are allowed.
         wanted: &'static str,
     },
     /// An argument is not UTF-8.
@@ -27,25 +27,25 @@ pub enum Fault {
     Unread {
         /// The kind of file.
         file: &'static str,
-        /// Its path.
+        /// The path of the file.
         path: String,
-        /// Why it cannot be read.
+        /// Why the file cannot be read.
         kind: ErrorKind,
     },
     /// The file is not a rule file.
     Rules(RulesFault),
     /// The file is not a key file.
     Keys(KeyFault),
-    /// The key file has too many octets.
+    /// The key file has more octets than allowed.
     LargeKeys,
-    /// The script could not run to its end, or a node could not be made.
+    /// The script could not be run to its end, or a node could not be created.
     Script(RunFault),
     /// This address and port cannot be bound.
     Unbound {
         /// The address and the port.
         endpoint: SocketAddr,
     },
-    /// Nothing can be received from the port.
+    /// No datagram can be received from the port.
     Unreceived,
     /// The journal cannot be used.
     Journal(JournalFault),
@@ -54,13 +54,13 @@ pub enum Fault {
 /// Why a journal cannot be used.
 #[derive(Clone, Copy, Debug, PartialEq, Eq)]
 pub enum JournalFault {
-    /// Another program has locked it.
+    /// Another program holds the lock of the journal.
     Locked,
-    /// This line, counted from 1, is not a line of a script.
+    /// The line with this number, counted from 1, is not a line of a script.
     BadLine(u64),
-    /// An event cannot be written to it.
+    /// An event cannot be written to the journal.
     Unwritten,
-    /// The rule file and the key file together are too long for a line.
+    /// The rule file and the key file together are too long for one line of the journal.
     LongRules,
 }
 
@@ -68,8 +68,8 @@ impl Fault {
     ghost use Rattle.std.specs.Prelude.{◌≡◌};
     ghost use Rattle.ndn_daemon.specs.Fault.{status_of};
 
-    /// The exit status: 1 for a fault in a file or in the script, 2 for a wrong command line, 3 if
-    /// reading, writing or memory failed.
+    /// Returns the exit status: 1 for a fault in a file or in the script, 2 for a wrong command
+    /// line, 3 if reading, writing, a lock, the port or memory failed.
     pub fn exit_status(&self) -> u8
         ensures { result ≡ status_of self.now }
     {

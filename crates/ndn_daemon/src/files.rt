@@ -1,4 +1,4 @@
-//! The rule file, the key file and the journal.
+//! Reads the rule file and the key file, and reports files that cannot be read.
 ghost use Rattle.std.specs.Prelude.{IfOk, IfSome, MatchResult, codes};
 ghost use Rattle.std.specs.IoError.{error_kind};
 ghost use Rattle.hmac_keys.specs.KeyReading.{AreKeys};
@@ -17,7 +17,7 @@ use std::io::{ErrorKind, Read};
 /// The greatest length of a rule file, in octets.
 const MAX_RULE_FILE: u32 = 65_536;
 
-/// Parses a rule file. Octets that are not UTF-8 have a Syntax fault at line 0.
+/// Parses a rule file. Octets that are not UTF-8 are reported as a Syntax fault at line 0.
 pub fn read_rules(alloc: Global, octets: &[u8]) -> Result<Rules, Fault>
     ensures { MatchResult result (AreRules octets.now) (IsRuleFault octets.now) }
 {
@@ -31,15 +31,15 @@ pub fn read_keys(alloc: Global, octets: &[u8]) -> Result<KeyBook, Fault>
     KeyBook::read_octets(alloc, octets).map_err(Fault::Keys)
 }
 
-/// Reads an open rule file at this path, and returns its rules and its octets. A file of more than
-/// 65,536 octets has a TooLarge fault at line 0, also if it is not UTF-8, and no more than 65,537
-/// octets of it are read.
+/// Reads an open rule file, and returns its rules and its octets. `path` is its path. A file of
+/// more than 65,536 octets has a TooLarge fault at line 0, even if it is not UTF-8. At most 65,537
+/// octets of the file are read.
 pub fn read_rule_file<R: Read + Drop>(
     alloc: Global,
     path: &str,
     file: R,
 ) -> Result<(Rules, Vec<u8>), Fault>
-    // If the content of the file is known.
+    // The result, if the content of the file is known.
     ensures known { IfSome (R.remaining file) (λ octets. MatchResult result
         (λ read. AreRules octets read.0) (IsRuleFileFault path.now octets)) }
     ensures rules { IfOk result (λ read. AreRules read.1.items read.0) }
@@ -57,14 +57,15 @@ pub fn read_rule_file<R: Read + Drop>(
     }
 }
 
-/// Reads an open key file at this path, and returns its keys and its octets. A file of more than
-/// `MAX_KEY_FILE` octets is too large, whatever its content, and only one octet more is read of it.
+/// Reads an open key file, and returns its keys and its octets. `path` is its path. A file of more
+/// than `MAX_KEY_FILE` octets is too large, whatever its content. At most `MAX_KEY_FILE + 1` octets
+/// of the file are read.
 pub fn read_key_file<R: Read + Drop>(
     alloc: Global,
     path: &str,
     file: R,
 ) -> Result<(KeyBook, Vec<u8>), Fault>
-    // If the content of the file is known.
+    // The result, if the content of the file is known.
     ensures known { IfSome (R.remaining file) (λ octets. MatchResult result
         (λ read. AreKeysOfFile octets read.0) (IsKeyFileFault path.now octets)) }
     ensures keys { IfOk result (λ read. AreKeys read.1.items read.0) }
@@ -79,7 +80,7 @@ pub fn read_key_file<R: Read + Drop>(
     }
 }
 
-/// The fault of a rule file that cannot be opened or read.
+/// Returns the fault of a rule file that cannot be opened or read.
 pub fn unread_rules(alloc: Global, path: &str, error: &io::Error) -> Fault
     ensures file { IsUnread (codes "rule file") path.now result }
     ensures cause { HasCause (error_kind error.now) result }
@@ -87,7 +88,7 @@ pub fn unread_rules(alloc: Global, path: &str, error: &io::Error) -> Fault
     unread(alloc, "rule file", path, error.kind())
 }
 
-/// The fault of a key file that cannot be opened or read.
+/// Returns the fault of a key file that cannot be opened or read.
 pub fn unread_keys(alloc: Global, path: &str, error: &io::Error) -> Fault
     ensures file { IsUnread (codes "key file") path.now result }
     ensures cause { HasCause (error_kind error.now) result }
@@ -95,7 +96,7 @@ pub fn unread_keys(alloc: Global, path: &str, error: &io::Error) -> Fault
     unread(alloc, "key file", path, error.kind())
 }
 
-/// The fault of a journal that cannot be opened, read or cut.
+/// Returns the fault of a journal that cannot be opened, read or truncated.
 pub fn unread_journal(alloc: Global, path: &str, error: &io::Error) -> Fault
     ensures file { IsUnread (codes "journal") path.now result }
     ensures cause { HasCause (error_kind error.now) result }
@@ -103,7 +104,7 @@ pub fn unread_journal(alloc: Global, path: &str, error: &io::Error) -> Fault
     unread(alloc, "journal", path, error.kind())
 }
 
-/// The fault of a file that cannot be opened or read, for this cause.
+/// Returns the fault of a file that cannot be opened or read for this reason.
 fn unread(alloc: Global, file: &'static str, path: &str, kind: ErrorKind) -> Fault
     ensures file { IsUnread file.now path.now result }
     ensures cause { HasCause kind result }

@@ -1,4 +1,4 @@
-//! What the program `ndn_node` does: its command line, its files, and a node on a port.
+//! The program `ndn_node`: its command line, its files, and a node on a port.
 #![tactic(auto)]
 
 mod advice;

@@ -1,4 +1,4 @@
-//! Ports with a log of the arrivals and their outcomes.
+//! Ports with a log of arrivals and their outcomes.
 ghost use Rattle.std.specs.Prelude.{◌≡◌, ◌∷◌, [], None, length, IfOk, IfSome, OnErr, OnOk};
 ghost use Rattle.node_ports.specs.Ports.{Gives, LiesWithin, Takes, arrived, one_more};
 ghost use Rattle.ndn_daemon.specs.LoggedPorts.{IsCameOf, IsOutcomeOf, face_of, seen_in};
@@ -15,10 +15,10 @@ use std::net::SocketAddr;
 
 /// Ports that know the endpoints of their faces.
 pub trait HasEndpoints {
-    /// The endpoint of a face, if it has one.
+    /// Returns the endpoint of a face, if the face has one.
     fn endpoint_of(&self, face: u64) -> Option<SocketAddr>;
 
-    /// The number of datagrams of strangers that were dropped.
+    /// Returns the number of dropped datagrams from strangers.
     fn strangers(&self) -> u64;
 }
 
@@ -42,7 +42,7 @@ impl<P: Ports + HasEndpoints + Drop, F: JournalFile + Drop> HasEndpoints for Jou
     }
 }
 
-/// What arrived, without its octets.
+/// An arrival without its octets.
 #[derive(Clone, Copy)]
 enum Seen {
     Packet { face: u64, len: usize },
@@ -52,22 +52,24 @@ enum Seen {
     NewRules,
 }
 
-/// Ports with a log. They give and take what the underlying ports do. Lines are written before the
-/// ports wait, if nothing arrives soon, and after a second while packets arrive.
+/// Ports with a log. They give and take the same as the underlying ports. Log lines are written
+/// before the ports wait, that is, when nothing arrives soon, and every second while packets
+/// arrive.
 #[derive(Drop)]
 pub struct LoggedPorts<P: Ports + HasEndpoints + Drop, S: LogSink> {
     ports: P,
     log: EventLog<S>,
-    // The last arrival, and its moment.
+    // The last arrival and its time.
     seen: Option<Seen>,
     moment: u64,
-    // The last face that was opened, or the number given in place of one, and its endpoint.
+    // The number of the last face that was opened, or the number that was given instead of a new
+    // face, and its endpoint.
     opened: u64,
     endpoint: Option<SocketAddr>,
 }
 
 impl<P: Ports + HasEndpoints + Drop, S: LogSink> LoggedPorts<P, S> {
-    /// These ports with this log.
+    /// Returns these ports with this log.
     pub fn new(ports: P, log: EventLog<S>) -> LoggedPorts<P, S>
         ensures { result.ports ≡ ports }
     {
@@ -81,7 +83,7 @@ impl<P: Ports + HasEndpoints + Drop, S: LogSink> LoggedPorts<P, S> {
         }
     }
 
-    /// Writes the rest of the log, with the counts.
+    /// Writes the remaining lines of the log and the counts.
     pub fn finish(&mut self)
         ensures { self.new.ports ≡ self.old.ports }
     {
@@ -104,7 +106,7 @@ impl<P: Ports + HasEndpoints + Drop, S: LogSink> LoggedPorts<P, S> {
         }
     }
 
-    /// The endpoint of a face, if it is known.
+    /// Returns the endpoint of a face, if it is known.
     fn endpoint_of(&self, face: u64) -> Option<SocketAddr> {
         match self.ports.endpoint_of(face) {
             Some(endpoint) => Some(endpoint),
@@ -113,7 +115,7 @@ impl<P: Ports + HasEndpoints + Drop, S: LogSink> LoggedPorts<P, S> {
         }
     }
 
-    /// Logs the outcome of an arrival, whose octets begin the buffer.
+    /// Logs the outcome of an arrival. `octets` begins with the arrival's octets.
     fn put_event(&mut self, seen: Seen, turn: &Turn, octets: &[u8], rules: &Rules)
         ensures { self.new.ports ≡ self.old.ports }
     {
@@ -219,7 +221,7 @@ fn seen_in(arrival: &Arrival) -> Option<Seen>
     }
 }
 
-/// An arrival with its octets, which begin a buffer.
+/// Returns an arrival with its octets. `octets` begins with the arrival's octets.
 fn came_of(seen: Seen, octets: &[u8]) -> Came<'_>
     ensures { IsCameOf seen octets.now result }
 {
@@ -246,7 +248,7 @@ fn face_of(came: &Came<'_>) -> Option<u64>
     }
 }
 
-/// The outcome of an event; none if the ports ended, or the node has to end.
+/// Returns the outcome of an event, or `None` if the ports ended or the node must stop.
 fn outcome_of(turn: &Turn) -> Option<Result<Verdict, Memory>>
     ensures { IsOutcomeOf turn.now result }
 {

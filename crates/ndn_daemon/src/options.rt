@@ -1,4 +1,4 @@
-//! The values of the options, or their defaults.
+//! The values of the options and their defaults.
 ghost use Rattle.std.specs.Prelude.{◌≡◌, option_map};
 ghost use Rattle.ndn_names.specs.ReadsAs.{ReadsAs};
 ghost use Rattle.ndn_daemon.specs.Options.{IsCapacity, IsOptions, MayBePath, Reads, ReadsInMemory, given_or, rows_in, value_at};
@@ -12,18 +12,18 @@ use std::alloc::Global;
 /// The options of a node.
 #[derive(Debug, Drop)]
 pub struct Options {
-    /// The path of the rule file. Without one, no rule allows anything.
+    /// The path of the rule file. Without a rule file, nothing is allowed.
     pub rules: Option<String>,
-    /// The path of the key file. Without one, there are no keys.
+    /// The path of the key file. Without a key file, there are no keys.
     pub keys: Option<String>,
     /// The repository's prefix.
     pub repo: NameBuf,
-    /// The capacity of the cache, in Data.
+    /// The capacity of the cache, as a number of Data.
     pub cache: u32,
 }
 
 impl Options {
-    /// The options that the parser found.
+    /// Reads the options from the parsed command line.
     pub fn read(alloc: Global, found: &ArgMatches<'_>) -> Result<Options, Fault>
         ensures { ReadsInMemory (IsOptions (rows_in found.now)) result }
     {
@@ -36,14 +36,14 @@ impl Options {
     }
 }
 
-/// The value of an option, if it is there.
+/// Returns the value of an option, if it is present.
 pub fn value<'a>(found: &ArgMatches<'a>, id: &str) -> Option<&'a str>
     ensures { option_map (λ value. value.now) result ≡ value_at (rows_in found.now) id.now }
 {
     found.get_str(id)
 }
 
-/// The path of an option, if it is given.
+/// Returns a copy of the path, if one is given.
 pub fn path_of(alloc: Global, path: Option<&str>) -> Result<Option<String>, Fault>
     ensures { ReadsInMemory (MayBePath (option_map (λ path. path.now) path.entry)) result }
 {
@@ -53,7 +53,7 @@ pub fn path_of(alloc: Global, path: Option<&str>) -> Result<Option<String>, Faul
     }
 }
 
-/// The text that is given, or this default.
+/// Returns the given text, or the default `text` if none is given.
 pub fn given_or<'a>(text: &'a str, given: Option<&'a str>) -> &'a str
     ensures { result.now ≡ given_or text.entry.now (option_map (λ given. given.now) given.entry) }
 {
@@ -63,7 +63,7 @@ pub fn given_or<'a>(text: &'a str, given: Option<&'a str>) -> &'a str
     }
 }
 
-/// The name with this URI.
+/// Reads the name that the URI spells.
 fn repo_of(alloc: Global, uri: &str) -> Result<NameBuf, Fault>
     ensures { ReadsInMemory (ReadsAs uri.now) result }
 {
@@ -79,11 +79,11 @@ fn repo_of(alloc: Global, uri: &str) -> Result<NameBuf, Fault>
     }
 }
 
-/// The number below 2^32 that this text spells in decimal digits, with leading zeros allowed.
+/// Reads a number below 2^32 in decimal digits. Leading zeros are allowed.
 fn cache_of(digits: &str) -> Result<u32, Fault>
     ensures { Reads (IsCapacity digits.now) result }
 {
-    // The parser of numbers would accept a sign.
+    // `parse` would accept a sign.
     if !digits.starts_with('+')
         && let Ok(capacity) = digits.parse::<u32>()
     {

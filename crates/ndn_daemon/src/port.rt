@@ -31,7 +31,8 @@ use std::net::Net;
 use std::rt::Files;
 use std::time::{Clock, SystemTime};
 
-/// The most text that is buffered before it is written, in octets, besides that of one turn.
+/// The greatest length of buffered text before it is written, in octets, not counting the text of
+/// one turn.
 const MOST_GATHERED: usize = 65_536;
 
 /// The machine's clock.
@@ -42,7 +43,7 @@ pub struct MachineClock<'a, R> {
 }
 
 impl<'a, R: Clock> MachineClock<'a, R> {
-    /// The clock, not read yet.
+    /// Returns the clock. It has not been read yet.
     pub fn new(rt: &'a R) -> MachineClock<'a, R> {
         MachineClock { rt, last: 0 }
     }
@@ -51,7 +52,7 @@ impl<'a, R: Clock> MachineClock<'a, R> {
 impl<'a, R: Clock> Moments for MachineClock<'a, R> {
     ghost last = { λ clock. clock.last };
 
-    // If the clock cannot be read, it returns the last moment again.
+    // If the clock cannot be read, the last time is returned again.
     fn now(&mut self) -> u64 {
         if let Some(now) = milliseconds(self.rt) {
             self.last = now;
@@ -60,17 +61,18 @@ impl<'a, R: Clock> Moments for MachineClock<'a, R> {
     }
 }
 
-/// The time of the clock, in milliseconds since 1970.
+/// Returns the time of the clock in milliseconds since 1970.
 fn milliseconds<R: Clock>(rt: &R) -> Option<u64> {
     let now = SystemTime::now(rt).ok()?;
     let duration = now.duration_since(SystemTime::UNIX_EPOCH).ok()?;
     u64::try_from(duration.as_millis()).ok()
 }
 
-/// Runs a node on its port for its turns. It writes the answers to standard output, unless it is
-/// quiet, and its log, if there is one, to standard error. Its rules and keys are replaced when
-/// their source has new ones. Wrong parts are reported before the port is bound. With a journal the
-/// node begins with the state that the journal restores, and with the rules and keys of the source.
+/// Runs a node on its port for the requested number of turns. The answers are written to standard
+/// output unless the node is quiet. The log, if there is one, is written to standard error. The
+/// node's rules and keys are replaced whenever their source has new ones. Invalid parts are
+/// reported before the port is bound. With a journal, the node starts with the state that the
+/// journal restores, and with the source's rules and keys.
 pub fn run_on_port<
     R: AllocGlobal + Eprint + Files<File = File> + Net + Print,
     M: Moments,
@@ -80,8 +82,8 @@ pub fn run_on_port<
     ensures parts { MatchOption (parts_fault parts.repo parts.cache)
         (options.now.journal ≡ None → IfErr result (StopsAt options.now.listen))
         (λ fault. result ≡ Err (Fault.Script (RunFault.Node fault))) }
-    // With valid parts, no turns and no journal, it fails only if the endpoint cannot be bound or
-    // memory runs out.
+    // With valid parts, no turns and no journal, the only faults are that the endpoint cannot be
+    // bound and that memory runs out.
     ensures none { options.now.turns ≡ 0 → options.now.journal ≡ None
         → parts_fault parts.repo parts.cache ≡ None → IfErr result (HasNoTurns options.now.listen) }
 {
@@ -97,7 +99,7 @@ pub fn run_on_port<
     take_as_begun(rt, &mut node, ports, source, options)
 }
 
-/// Lets a node take the turns of the options, with a journal if they name one.
+/// Lets a node take the requested turns, with a journal if the options name one.
 fn take_as_begun<
     R: AllocGlobal + Eprint + Files<File = File> + Print,
     P: Ports + HasEndpoints + Drop,
@@ -119,8 +121,8 @@ fn take_as_begun<
     }
 }
 
-/// Lets a node take the turns of the options, after it has replayed the journal at this path, which
-/// it then appends to.
+/// Replays the journal at this path on a node, and then lets the node take the requested turns and
+/// append to the journal.
 fn take_journalled<
     R: AllocGlobal + Eprint + Files<File = File> + Print,
     P: Ports + HasEndpoints + Drop,
@@ -146,7 +148,7 @@ fn take_journalled<
     )
 }
 
-/// Hands the events of a journal to a node, and returns the first events after the restart.
+/// Replays the events of a journal on a node, and returns the first events after the restart.
 fn restart_of<R: AllocGlobal + Eprint, S: RuleSource>(
     rt: &R,
     node: &mut Node,
@@ -158,7 +160,7 @@ fn restart_of<R: AllocGlobal + Eprint, S: RuleSource>(
     let renewal = source.current()?;
     let replayed = journal.replay(rt.alloc(), path, node)?;
     if replayed.cut > 0 {
-        // The line has been removed, even if standard error cannot be written.
+        // The line was already removed, even if standard error cannot be written.
         let _printed = eprintln!(rt;
             "journal: the last line was cut short and is taken off: {} octets",
             replayed.cut
@@ -171,8 +173,8 @@ fn restart_of<R: AllocGlobal + Eprint, S: RuleSource>(
     })
 }
 
-/// The open faces that are not the peers'. Such a face was opened for an endpoint that the node
-/// does not know any more, or for a peer with another scope.
+/// Returns the open faces that do not belong to peers. Such a face was opened for an endpoint that
+/// the node no longer knows, or for a peer with another scope.
 fn unknown_faces(alloc: Global, node: &Node, options: &UdpOptions) -> Result<Vec<u64>, AllocError> {
     let mut unknown = Vec::new(alloc);
     for i in 0..MAX_FACES {
@@ -186,13 +188,13 @@ fn unknown_faces(alloc: Global, node: &Node, options: &UdpOptions) -> Result<Vec
     Ok(unknown)
 }
 
-/// Whether a face has the number and the scope of a peer's.
+/// Returns whether the face has the number and the scope of a peer's face.
 fn is_of_peer(face: u64, scope: Scope, options: &UdpOptions) -> bool {
     let is_local = scope == Scope::Local;
     0 < face && face <= options.peers.len() as u64 && is_local == (face <= options.local)
 }
 
-/// The ports of the options; none if the endpoint cannot be bound.
+/// Binds the ports that the options describe. Returns `None` if the endpoint cannot be bound.
 fn bound_ports<M: Moments>(rt: &impl Net, moments: M, options: &UdpOptions) -> Option<UdpPorts<M>>
     requires { length options.now.peers.items ≤ MAX_FACES }
     ensures { IfSome result (ArePortsOf options.now (M.last moments)) }
@@ -207,7 +209,7 @@ fn bound_ports<M: Moments>(rt: &impl Net, moments: M, options: &UdpOptions) -> O
     Some(ports)
 }
 
-/// Lets a node take the turns of the options, with a log if they ask for one.
+/// Lets a node take the requested turns, with a log if the options ask for one.
 fn take_logged<P: Ports + HasEndpoints + Drop, S: LogSink, W: Write>(
     alloc: Global,
     node: &mut Node,
@@ -238,7 +240,7 @@ fn take_logged<P: Ports + HasEndpoints + Drop, S: LogSink, W: Write>(
     done
 }
 
-/// Lets a node take the turns of the options. A quiet node writes nothing.
+/// Lets a node take the requested turns. A quiet node writes no answers.
 fn take_as_asked<P: Ports, W: Write>(
     alloc: Global,
     node: &mut Node,
@@ -269,7 +271,7 @@ fn take_as_asked<P: Ports, W: Write>(
     }
 }
 
-/// Lets a node take this number of turns at a port, fewer if the port ends, and prints nothing.
+/// Lets a node take this number of turns, or fewer if the port ends. Writes no answers.
 fn take_quiet_turns<P: Ports>(
     alloc: Global,
     node: &mut Node,
@@ -296,8 +298,8 @@ fn take_quiet_turns<P: Ports>(
     }
 }
 
-/// Lets a node take this number of turns at a port, fewer if the port ends, and writes their text:
-/// when there is much of it, before the node waits if nothing arrives soon, and at the end.
+/// Lets a node take this number of turns, or fewer if the port ends, and writes their text. The
+/// text is written when the buffer is long, before the node waits for an arrival, and at the end.
 fn take_turns<P: Ports, W: Write>(
     alloc: Global,
     node: &mut Node,
@@ -338,7 +340,8 @@ fn take_turns<P: Ports, W: Write>(
 }
 
 /// Lets a node take its next turn. If nothing arrives soon, the buffered text is written before the
-/// node waits. If an event could not be journalled, as much of the text is written as can be.
+/// node waits. If an event could not be journalled, as much of the buffered text as possible is
+/// written.
 fn take_turn<P: Ports, W: Write>(
     node: &mut Node,
     ports: &mut P,
@@ -370,7 +373,7 @@ fn take_turn<P: Ports, W: Write>(
     Ok(turn)
 }
 
-/// As `take_turn`, but it also returns a turn whose event could not be journalled.
+/// Does the same as `take_turn`, but also returns a turn whose event could not be journalled.
 fn next_turn<P: Ports, W: Write>(
     node: &mut Node,
     ports: &mut P,
@@ -403,7 +406,7 @@ fn next_turn<P: Ports, W: Write>(
     }
 }
 
-/// The next turn, if text is buffered and something arrives soon.
+/// Takes the next turn, if text is buffered and something arrives soon.
 fn turn_soon<P: Ports>(
     node: &mut Node,
     ports: &mut P,
@@ -448,7 +451,7 @@ fn write_out<W: Write>(writer: &mut W, text: &mut Vec<u8>) -> Result<(), Fault>
     Ok(())
 }
 
-/// Writes the buffered text if it is long.
+/// Writes the buffered text if it has at least `MOST_GATHERED` octets.
 fn write_long<W: Write>(writer: &mut W, text: &mut Vec<u8>) -> Result<(), Fault>
     ensures done { OnOk result (Writes (W.contents writer.old) (W.contents writer.new)
         text.old.items text.new.items) }
@@ -462,22 +465,22 @@ fn write_long<W: Write>(writer: &mut W, text: &mut Vec<u8>) -> Result<(), Fault>
     write_out(writer, text)
 }
 
-/// Whether the event of a turn could not be journalled.
+/// Returns whether the event of the turn could not be journalled.
 fn is_unwritten(turn: &Turn) -> bool
     ensures { IsTrue result ↔ (turn.now ≡ Turn.Unwritten) }
 {
     matches!(turn, Turn::Unwritten)
 }
 
-/// Whether the port ended.
+/// Returns whether the port has ended.
 fn is_end(turn: &Turn) -> bool
     ensures { IsTrue result ↔ (turn.now ≡ Turn.End) }
 {
     matches!(turn, Turn::End)
 }
 
-/// Appends the text of a turn, in the format of a script's answers. The end has no text. If memory
-/// runs out, nothing is appended.
+/// Appends the text of a turn, in the format of a script's answers. A turn at the port's end has no
+/// text. If memory runs out, nothing is appended.
 fn put_turn(
     text: &mut Vec<u8>,
     number: u64,
@@ -489,7 +492,7 @@ fn put_turn(
         (text.new.items ≡ text.old.items ++ turn_text number rules.now turn.now outbox.now) }
     ensures err { OnErr result (text.new.items ≡ text.old.items) }
     ensures fault { IfErr result (λ fault. fault ≡ Fault.Script RunFault.Memory) }
-    // With enough capacity it does not run out of memory.
+    // If the spare capacity is enough, memory does not run out.
     ensures room { vec_len text.old + length (turn_text number rules.now turn.now outbox.now)
         ≤ vec_capacity text.old → IsOk result }
 {

@@ -16,19 +16,19 @@ use std::fs::File;
 use std::rt::Files;
 use std::time::SystemTime;
 
-/// The most octets that a rule file and a key file may have together to fit into a line of a
+/// The greatest total number of octets in a rule file and a key file that fit into one line of a
 /// journal.
 const MOST_JOURNALLED: usize = 9_985;
 
-/// What shows that a file has changed.
+/// The properties of a file from which a change is detected.
 #[derive(Clone, Copy, PartialEq, Eq)]
 struct Stamp {
     modified: SystemTime,
     len: u64,
 }
 
-/// The files at these paths, with their stamps at the last check. Without a path there are no
-/// rules, or no keys.
+/// The files at these paths, with their stamps at the last check. Without a path of a rule file
+/// there are no rules, and without a path of a key file there are no keys.
 #[derive(Drop)]
 pub struct RuleFiles<'a, R> {
     rt: &'a R,
@@ -36,12 +36,12 @@ pub struct RuleFiles<'a, R> {
     keys: Option<String>,
     rules_stamp: Option<Stamp>,
     keys_stamp: Option<Stamp>,
-    // Whether the files have to fit into a line of a journal.
+    // Whether the files must fit into one line of a journal.
     are_journalled: bool,
 }
 
 impl<'a, R: AllocGlobal + Files> RuleFiles<'a, R> {
-    /// The files at these paths, with their present stamps.
+    /// Returns the files at these paths with their present stamps.
     pub fn new(rt: &'a R, rules: Option<String>, keys: Option<String>) -> RuleFiles<'a, R> {
         let mut files = RuleFiles {
             rt,
@@ -55,12 +55,12 @@ impl<'a, R: AllocGlobal + Files> RuleFiles<'a, R> {
         files
     }
 
-    /// From now on, the files have to fit into a line of a journal.
+    /// From now on, the files must fit into one line of a journal.
     pub fn journal(&mut self) {
         self.are_journalled = true;
     }
 
-    /// Reads the rules and the keys of the files.
+    /// Reads the rules and the keys from the files.
     pub fn read(&self) -> Result<Renewal, Fault> {
         let (rules, rule_octets) = self.read_rules()?;
         let (keys, key_octets) = self.read_keys()?;
@@ -104,9 +104,8 @@ impl<'a, R: AllocGlobal + Files> RuleFiles<'a, R> {
         }
     }
 
-    /// Checks the files, and returns whether one has changed since the last check. A file that is
-    /// replaced while it is read has changed at the next check, since each is checked before it is
-    /// read.
+    /// Returns whether a file has changed since the last check. A file that is replaced while it is
+    /// read counts as changed at the next check, since each file is checked before it is read.
     fn look(&mut self) -> bool {
         let rules = stamp_of(self.rt, &self.rules);
         let keys = stamp_of(self.rt, &self.keys);
@@ -118,7 +117,8 @@ impl<'a, R: AllocGlobal + Files> RuleFiles<'a, R> {
 }
 
 impl<'a, R: AllocGlobal + Eprint + Files> RuleSource for RuleFiles<'a, R> {
-    /// Rules and keys, if a file has changed. A fault in a file is reported on standard error.
+    /// Reads the rules and the keys if a file has changed. A fault in a file is reported on
+    /// standard error.
     fn renewed(&mut self) -> Option<Renewal> {
         if !self.look() {
             return None;
@@ -126,7 +126,7 @@ impl<'a, R: AllocGlobal + Eprint + Files> RuleSource for RuleFiles<'a, R> {
         match self.read() {
             Ok(read) => Some(read),
             Err(fault) => {
-                // The rules in force stay, even if standard error cannot be written.
+                // The rules in force remain, even if standard error cannot be written.
                 let _printed = self.rt.eprint(fault);
                 None
             }
@@ -139,7 +139,8 @@ impl<'a, R: AllocGlobal + Eprint + Files> RuleSource for RuleFiles<'a, R> {
     }
 }
 
-/// The present stamp of a file; none if there is no path, or the file cannot be checked.
+/// Returns the present stamp of a file, or `None` if there is no path or the file cannot be
+/// checked.
 fn stamp_of<R: Files>(rt: &R, path: &Option<String>) -> Option<Stamp> {
     let path = path.as_ref()?;
     let metadata = fs::metadata(rt, path.as_str()).ok()?;
@@ -150,7 +151,7 @@ fn stamp_of<R: Files>(rt: &R, path: &Option<String>) -> Option<Stamp> {
     })
 }
 
-/// The rules and the octets of the file at this path.
+/// Reads the rule file at this path. Returns its rules and its octets.
 fn rules_at<R: AllocGlobal + Files>(rt: &R, path: &str) -> Result<(Rules, Vec<u8>), Fault>
     ensures { IfOk result (λ read. AreRules read.1.items read.0) }
 {
@@ -160,7 +161,7 @@ fn rules_at<R: AllocGlobal + Files>(rt: &R, path: &str) -> Result<(Rules, Vec<u8
     }
 }
 
-/// The keys and the octets of the file at this path.
+/// Reads the key file at this path. Returns its keys and its octets.
 fn keys_at<R: AllocGlobal + Files>(rt: &R, path: &str) -> Result<(KeyBook, Vec<u8>), Fault>
     ensures { IfOk result (λ read. AreKeys read.1.items read.0) }
 {

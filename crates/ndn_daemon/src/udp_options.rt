@@ -11,12 +11,12 @@ use node_core::{MAX_FACES, RunFault};
 use std::alloc::Global;
 use std::net::{IpAddr, Ipv4Addr, SocketAddr};
 
-/// What is logged on standard error.
+/// The events that are logged on standard error.
 #[derive(Clone, Copy, Debug, PartialEq, Eq)]
 pub enum LogLevel {
-    /// Nothing.
+    /// No events.
     None,
-    /// What an operator has to know.
+    /// Events that an operator must know about.
     Events,
     /// Every event.
     All,
@@ -27,27 +27,28 @@ pub enum LogLevel {
 pub struct UdpOptions {
     /// The address and the port that the node listens on.
     pub listen: SocketAddr,
-    /// The number of turns that it takes.
+    /// The number of turns that the node takes.
     pub turns: u64,
-    /// The addresses and ports of the peers: at most 64, all different, of the node's family, none
-    /// of them the node's own or unspecified.
+    /// The addresses and ports of the peers: at most 64, all different, of the same address family
+    /// as `listen`. None is the node's own or has the unspecified address.
     pub peers: Vec<SocketAddr>,
-    /// How many of the first peers are Local, at most all. These are on this machine.
+    /// The number of Local peers, at most the number of peers. They are the first peers and are on
+    /// this machine.
     pub local: u64,
-    /// The idle time after which a face that is not a peer's closes, in seconds, at least 1.
+    /// The idle time in seconds after which a face that is not a peer's closes. At least 1.
     pub idle: u32,
-    /// Whether datagrams of strangers are accepted wherever the node listens.
+    /// Whether datagrams from strangers are accepted even if `listen` is not a loopback address.
     pub open: bool,
-    /// What is logged.
+    /// The events that are logged.
     pub log: LogLevel,
-    /// The path of the journal. Without one, the node stores nothing for the next start.
+    /// The path of the journal. Without a journal, the node stores nothing for the next start.
     pub journal: Option<String>,
-    /// Whether no answers are printed.
+    /// Whether answers are not printed.
     pub quiet: bool,
 }
 
 impl UdpOptions {
-    /// The options that the parser found.
+    /// Reads the options from the parsed command line.
     pub fn read(alloc: Global, found: &ArgMatches<'_>) -> Result<UdpOptions, Fault>
         ensures { ReadsInMemory (IsUdpOptions (rows_in found.now)) result }
     {
@@ -72,8 +73,9 @@ impl UdpOptions {
         })
     }
 
-    /// Whether a datagram of an endpoint that is not a peer is accepted: with `--open`, or if the
-    /// node listens on a loopback address, which only this machine can send to.
+    /// Returns whether datagrams from endpoints that are not peers are accepted. They are accepted
+    /// with `--open`, and if the node listens on a loopback address, to which only this machine can
+    /// send.
     pub fn accepts_strangers(&self) -> bool
         ensures { IsTrue result ↔ (IsTrue self.now.«open» ⊎ IsLoopback self.now.listen) }
     {
@@ -99,7 +101,7 @@ fn required_number(found: &ArgMatches<'_>) -> Result<u64, Fault>
     }
 }
 
-/// Whether a flag is there.
+/// Returns whether a flag is present.
 fn flag(found: &ArgMatches<'_>, id: &str) -> bool
     ensures { IsFlag (flag_at (rows_in found.now) id.now) result }
 {
@@ -116,7 +118,7 @@ fn given_peers(alloc: Global, found: &ArgMatches<'_>) -> Result<Vec<SocketAddr>,
     }
 }
 
-/// The peers' addresses and ports, in their order.
+/// Reads the addresses and ports of the peers, in order.
 fn peers_of(alloc: Global, texts: &[&str]) -> Result<Vec<SocketAddr>, Fault>
     ensures { ReadsInMemory
         (λ peers. AreEndpoints (map (λ text. text.now) texts.now) peers.items) result }
@@ -143,7 +145,7 @@ fn peers_of(alloc: Global, texts: &[&str]) -> Result<Vec<SocketAddr>, Fault>
     Ok(peers)
 }
 
-/// Checks that a node that listens there may have these peers.
+/// Checks that a node that listens on `listen` may have these peers.
 fn check_peers(listen: &SocketAddr, peers: &[SocketAddr]) -> Result<(), Fault>
     ensures { Reads (λ _. MayBePeersOf listen.now peers.now) result }
 {
@@ -169,7 +171,8 @@ fn check_peers(listen: &SocketAddr, peers: &[SocketAddr]) -> Result<(), Fault>
     Ok(())
 }
 
-/// Whether a peer is the node itself, which listens there, so that its datagrams would come back.
+/// Returns whether the peer is the node itself, which listens on `listen`. The node would receive
+/// its own datagrams.
 fn is_itself(listen: &SocketAddr, peer: &SocketAddr) -> bool
     ensures { IsTrue result ↔ IsItself listen.now peer.now }
 {
@@ -177,7 +180,8 @@ fn is_itself(listen: &SocketAddr, peer: &SocketAddr) -> bool
         && (peer.ip() == listen.ip() || (is_unspecified(listen) && is_loopback(peer)))
 }
 
-/// How many of these peers are Local. A Local peer may send commands, so these are on this machine.
+/// Reads the number of Local peers. These are the first peers, and they must be on this machine,
+/// since a Local peer may send commands.
 fn local_of(digits: &str, peers: &[SocketAddr]) -> Result<u64, Fault>
     ensures { Reads (IsLocal digits.now peers.now) result }
 {
@@ -197,22 +201,21 @@ fn local_of(digits: &str, peers: &[SocketAddr]) -> Result<u64, Fault>
     Ok(local)
 }
 
-/// Whether this is a loopback address, which no other machine can send from or to.
+/// Returns whether the address is a loopback address, with which other machines cannot communicate.
 fn is_loopback(endpoint: &SocketAddr) -> bool
     ensures { IsTrue result ↔ IsLoopback endpoint.now }
 {
     endpoint.ip().is_loopback()
 }
 
-/// Whether this is the unspecified address, 0.0.0.0 or ::.
+/// Returns whether the address is unspecified: 0.0.0.0 or ::.
 fn is_unspecified(endpoint: &SocketAddr) -> bool
     ensures { IsTrue result ↔ IsUnspecified endpoint.now }
 {
     endpoint.ip().is_unspecified()
 }
 
-/// The number of seconds from 1 to 2^32 - 1 that this text spells in decimal digits, with leading
-/// zeros allowed.
+/// Reads a number of seconds from 1 to 2^32 - 1 in decimal digits. Leading zeros are allowed.
 fn seconds_of(digits: &str) -> Result<u32, Fault>
     ensures { Reads (IsSeconds digits.now) result }
 {
@@ -228,7 +231,7 @@ fn seconds_of(digits: &str) -> Result<u32, Fault>
     })
 }
 
-/// What is logged if `--log` has this value, or is absent.
+/// Returns the log level for the value of `--log`, or for its absence.
 fn log_of(level: Option<&str>) -> Result<LogLevel, Fault>
     ensures { Reads (IsLog (option_map (λ level. level.now) level.entry)) result }
 {
@@ -247,7 +250,7 @@ fn log_of(level: Option<&str>) -> Result<LogLevel, Fault>
     }
 }
 
-/// The address and port that this text spells. A port alone is one of 127.0.0.1.
+/// Reads an address and a port. A port alone means that port of 127.0.0.1.
 fn endpoint_of(place: &'static str, text: &str) -> Result<SocketAddr, Fault>
     ensures { Reads (IsEndpoint text.now) result }
 {
@@ -263,11 +266,11 @@ fn endpoint_of(place: &'static str, text: &str) -> Result<SocketAddr, Fault>
     Ok(endpoint)
 }
 
-/// The port from 1 to 65535 that this text spells in decimal digits, with leading zeros allowed.
+/// Reads a port from 1 to 65535 in decimal digits. Leading zeros are allowed.
 fn port_of(digits: &str) -> Option<u16>
     ensures { MatchOption result ((n : ℕ) → IsPort digits.now n → ⊥) (IsPort digits.now) }
 {
-    // The parser of numbers would accept a sign.
+    // `parse` would accept a sign.
     if !digits.starts_with('+')
         && let Ok(port) = digits.parse::<u16>()
         && port > 0
@@ -277,7 +280,7 @@ fn port_of(digits: &str) -> Option<u16>
     None
 }
 
-/// The number below 2^64 that this text spells in decimal digits, with leading zeros allowed.
+/// Reads a number below 2^64 in decimal digits. Leading zeros are allowed.
 fn number_of(place: &'static str, digits: &str) -> Result<u64, Fault>
     ensures { Reads (IsNumber digits.now) result }
 {

@@ -1,4 +1,4 @@
-//! Ports that also give new rules and keys, which replace those in force.
+//! Ports that also give new rules and keys.
 ghost use Rattle.std.specs.Prelude.{◌≡◌, ◌∷◌, [], None, length, IfOk, IfSome, OnErr, OnOk};
 ghost use Rattle.node_ports.specs.Ports.{Gives, LiesWithin, Takes, arrived, one_more};
 
@@ -9,36 +9,37 @@ use node_core::Verdict;
 use node_ports::{Arrival, FRAME_ROOM, PortFault, Ports, Renewal};
 use std::net::SocketAddr;
 
-/// The least time between two questions to the source of rules, in milliseconds.
+/// The least time between two checks of the source of rules, in milliseconds.
 const LOOK_MILLISECONDS: u64 = 1000;
 
 /// A source of new rules and keys.
 pub trait RuleSource: Drop {
-    /// Rules and keys that replace those in force, if there are new ones.
+    /// Returns rules and keys that replace those in force, if there are new ones.
     fn renewed(&mut self) -> Option<Renewal>;
 
-    /// The present rules and keys, for a node that has a journal from now on.
+    /// Returns the present rules and keys, for a node that has a journal from now on.
     fn current(&mut self) -> Result<Renewal, Fault>;
 }
 
-/// The first events after a node has replayed a journal.
+/// The first events of a node after it has replayed a journal.
 #[derive(Drop)]
 pub struct Restart {
-    /// The last moment of the journal, which is that of these events.
+    /// The last time in the journal, which is also the time of these events.
     pub now: u64,
-    /// The rules and keys of the files.
+    /// The rules and keys that were read from the files.
     pub renewal: Option<Renewal>,
-    /// The open faces to be closed, of endpoints that are not known any more.
+    /// The open faces of endpoints that are no longer known. They are to be closed.
     pub closing: Vec<u64>,
 }
 
-/// Ports with a source of rules. It is asked when something has arrived, at most once a second. New
-/// rules are given before the arrival, which is given unchanged in the next turn.
+/// Ports with a source of rules. When something has arrived, the source is checked, at most once a
+/// second. New rules are given before the arrival, and the arrival is given unchanged in the next
+/// turn.
 #[derive(Drop)]
 pub struct WatchedPorts<P: Ports + Drop, S: RuleSource> {
     ports: P,
     source: S,
-    // The moment at which the source was last asked.
+    // The time when the source was last checked.
     asked: u64,
     // The arrival that waits for the next turn, and its octets.
     held: Option<Arrival>,
@@ -47,7 +48,7 @@ pub struct WatchedPorts<P: Ports + Drop, S: RuleSource> {
 }
 
 impl<P: Ports + Drop, S: RuleSource> WatchedPorts<P, S> {
-    /// These ports, with a source of rules that was asked at this moment.
+    /// Returns these ports with a source of rules that was last checked at the time `asked`.
     pub fn new(ports: P, source: S, asked: u64) -> WatchedPorts<P, S> {
         WatchedPorts {
             ports,
@@ -59,7 +60,7 @@ impl<P: Ports + Drop, S: RuleSource> WatchedPorts<P, S> {
         }
     }
 
-    /// These ports, with a source of rules that was not asked yet, after a restart.
+    /// Returns these ports after a restart, with a source of rules that has not been checked.
     pub fn after(restart: Restart, ports: P, source: S) -> WatchedPorts<P, S>
         ensures { result.ports ≡ ports }
     {
@@ -73,7 +74,7 @@ impl<P: Ports + Drop, S: RuleSource> WatchedPorts<P, S> {
         }
     }
 
-    /// The next of the first events after a restart.
+    /// Returns the next of the first events after a restart.
     fn first(&mut self) -> Option<Arrival>
         ensures ports { self.new.ports ≡ self.old.ports }
         ensures fits { IfSome result (LiesWithin 0) }
@@ -87,7 +88,7 @@ impl<P: Ports + Drop, S: RuleSource> WatchedPorts<P, S> {
         Some(Arrival::FaceDown { face, now })
     }
 
-    /// New rules and keys at this moment, if the source may be asked again and has any.
+    /// Returns new rules and keys, if the source may be checked again at `now` and has new ones.
     fn renewed(&mut self, now: u64) -> Option<Renewal>
         ensures { self.new.ports ≡ self.old.ports }
     {
@@ -110,8 +111,8 @@ impl<P: Ports + Drop, S: RuleSource> WatchedPorts<P, S> {
         self.held = Some(arrival);
     }
 
-    /// New rules and keys at the moment of an arrival, which is then stored for the next turn; or
-    /// the arrival.
+    /// Returns new rules and keys, if the source has them, and stores the arrival for the next
+    /// turn. Otherwise returns the arrival.
     fn renewed_first(&mut self, arrival: Arrival, buffer: &[u8]) -> Arrival
         requires { LiesWithin (length buffer.now) arrival }
         ensures ports { self.new.ports ≡ self.old.ports }
@@ -127,8 +128,8 @@ impl<P: Ports + Drop, S: RuleSource> WatchedPorts<P, S> {
         Arrival::NewRules { renewal, now }
     }
 
-    /// Gives a stored arrival, with the octets of a packet at the front of the buffer. Octets that
-    /// do not fit are cut off.
+    /// Gives the stored arrival. Copies the octets of a packet to the start of the buffer; octets
+    /// that do not fit are dropped.
     fn give_held(&self, arrival: Arrival, buffer: &mut [u8]) -> Arrival
         ensures { LiesWithin (length buffer.new) result }
     {
@@ -146,7 +147,7 @@ impl<P: Ports + Drop, S: RuleSource> WatchedPorts<P, S> {
 impl<P: Ports + Drop, S: RuleSource> Ports for WatchedPorts<P, S> {
     ghost failures = { λ w. P.failures w.ports };
 
-    // The events to come are not known, since new rules may come at any turn.
+    // The events to come are not known, since new rules may come in any turn.
     ghost coming = { λ w. None };
 
     ghost taken = { λ w. P.taken w.ports };
@@ -207,7 +208,7 @@ impl<P: Ports + HasEndpoints + Drop, S: RuleSource> HasEndpoints for WatchedPort
     }
 }
 
-/// The moment of an arrival; none at the end.
+/// Returns the time of an arrival, or `None` at the end.
 pub fn moment_of(arrival: &Arrival) -> Option<u64> {
     match arrival {
         Arrival::End => None,

@@ -1,4 +1,4 @@
--- What is said of the lines of a text.
+-- What is printed for the lines of a text.
 use Rattle.std.proofs.Common.{◌≡◌, ◌≢◌, ◌⊎◌, ℕ, List, [], ◌∷◌, ◌++◌, length, arith, Option, None, Some, Result, Ok, true, refl, sym, ap₂, ◌∙◌, inl, inr, subst}
 use Rattle.hex.specs.Hex.{decode_of, is_hex_digit}
 use Rattle.hex.specs.declared.error.FromHexError.{FromHexError}
@@ -8,7 +8,7 @@ use Rattle.hmac_keys.specs.KeyFile.{NamedKey, lines_of}
 use Rattle.hmac_keys.specs.KeyReading.{at_last_space}
 use Rattle.ndn_explain.specs.Input.{is_send, parts_of, repeated, IsExplainedPacket, IsExplainedPart, IsExplainedLine, AreExplained, IsExplainedInput}
 
--- no octets are one empty line, and no digits
+-- an empty text is one empty line
 no_lines : lines_of [] ≡ [] ∷ []
 unfolding lines_of
 no_lines = refl
@@ -20,7 +20,7 @@ no_digits = let found = decode_of-digits [] refl (All-nil (λ (o : ℕ). is_hex_
     by [] e = e
     by (o ∷ octets) e = let len = (decode_of-ok [] (o ∷ octets) e).2 in absurd (omega (arith, len))
 
--- of no octets nothing
+-- for an empty text nothing is printed
 pub said_nothing : (keys : Option (List NamedKey)) → IsExplainedInput keys [] []
 said_nothing keys =
     subst (λ (lines : List (List ℕ)). AreExplained keys lines []) (sym no_lines)
@@ -36,7 +36,7 @@ nothing_said keys more h =
     let first = subst (λ (r : Result (List ℕ) FromHexError). IsExplainedPart keys [] [] r line.0) no_digits line.2 in
     line.4 ∙ ap₂ (λ (a b : List ℕ). a ++ b) first line.3
 
--- the first line of a text, and what follows it
+-- the first line of a text, and the text after it
 abbrev pub BeginsWith : List ℕ → List ℕ → List ℕ → Type 0
 BeginsWith text line after = (lines_of text ≡ line ∷ lines_of after) ⊎ ((lines_of text ≡ line ∷ []) × (after ≡ []))
 
@@ -47,7 +47,7 @@ line_said keys text line after first more (inr e) h others =
     let none = nothing_said keys more (subst (λ (t : List ℕ). IsExplainedInput keys t more) e.1 others) in
     subst (λ (lines : List (List ℕ)). AreExplained keys lines (first ++ more)) (sym e.0) (first, more, h, none, refl)
 
--- octets that there are
+-- the text printed for octets that are not empty
 pub octets_said : (keys : Option (List NamedKey)) (text head octets words : List ℕ) → octets ≢ [] → IsExplainedPacket keys octets words → IsExplainedPart keys text head (Ok octets) (repeated head ++ words)
 octets_said keys text head [] words some h = absurd (some refl)
 octets_said keys text head (o ∷ octets) words some h = (words, h, refl)
@@ -55,7 +55,7 @@ octets_said keys text head (o ∷ octets) words some h = (words, h, refl)
 pub no_octets_said : (keys : Option (List NamedKey)) (text head octets : List ℕ) → octets ≡ [] → IsExplainedPart keys text head (Ok octets) (repeated text)
 no_octets_said keys text head octets e = subst (λ (o : List ℕ). IsExplainedPart keys text head (Ok o) (repeated text)) (sym e) refl
 
--- the parts of a line
+-- the text before a packet in a line, and the digits of the packet
 pub parts_found : (line head digits : List ℕ) → is_send line ≡ true → at_last_space line ≡ Some (head, digits) → (head, digits) ≡ parts_of line
 parts_found line head digits s e = rw (s, e) refl
 

@@ -1,5 +1,5 @@
--- The entries of a list of routes or of strategies, as lines of text (NFD Management, "FIB Dataset"
--- and "Strategy Choice Dataset").
+-- The entries of a dataset of routes or of strategies, as lines of text (NFD Management, "FIB
+-- Dataset" and "Strategy Choice Dataset").
 use Rattle.std.specs.Prelude.{◌≡◌, ℕ, List, [], ◌++◌, flat_map, ◌==◌, bytes_eq, codes, Option, None, Some, Result, Ok, Err, if◌then◌else◌}
 use Rattle.ndn_tlv.specs.declared.fault.TlvFault.{TlvFault}
 use Rattle.ndn_tlv.specs.Element.{Field}
@@ -16,8 +16,8 @@ use Rattle.ndn_explain.specs.Show.{line}
 
 -- ---- layouts
 
--- the text before the name of a route, its face, its cost, the name of a choice, its strategy:
--- words in lines, tabs in a table
+-- The text before each value: the name of a route, its face, its cost, the name of a strategy
+-- choice, its strategy. In lines this text is a word, in a table it is a tab.
 pub record Labels : Type 0 where
   pub route : List ℕ
   pub face : List ℕ
@@ -41,7 +41,7 @@ labels_of Table = record {
   strategy = codes "\t";
 }
 
--- the texts of a layout
+-- The text before each value, in a layout.
 pub record AreLabels (l : Labels) (texts : Texts) : Type 0 where
   pub route : texts.route.now ≡ l.route
   pub face : texts.face.now ≡ l.face
@@ -51,7 +51,8 @@ pub record AreLabels (l : Labels) (texts : Texts) : Type 0 where
 
 -- ---- entries
 
--- the two strategies by their last words, any other by its URI
+-- the last component of the URI for the two strategies of this profile, the whole URI for any other
+-- strategy
 abbrev pub short_strategy : List ℕ → List ℕ
 short_strategy uri =
     if bytes_eq uri (codes "/localhost/nfd/strategy/best-route") then codes "best-route" else (
@@ -79,7 +80,7 @@ hop_line layout name (Ok e) =
     if e.0 == NEXT_HOP
     then (labels_of layout).route ++ line (name ++ hop_words layout (elements_of e.1)) else []
 
--- a missing name is a dash
+-- the name of an entry, or a dash if it is missing
 abbrev pub entry_name : Option (List ℕ) → List ℕ
 entry_name None = codes "-"
 entry_name (Some value) = name_text value

@@ -1,6 +1,6 @@
 -- The explanation of a packet for debugging, as lines of text: the lines of `show`, the fields of
 -- its SignatureInfo (NDN Packet Format 0.3, "Signature"), whether the signature is right, and the
--- segment, the command, the reply or the entries of a list that the packet carries.
+-- segment, the command, the reply or the dataset entries that the packet carries.
 use Rattle.std.specs.Prelude.{ℕ, List, [], ◌∷◌, ◌++◌, codes, Option, None, Some, ◌==◌, if◌then◌else◌}
 use Rattle.std.specs.List.{list_all}
 use Rattle.std.specs.Option.{option_map}
@@ -16,7 +16,7 @@ use Rattle.ndn_explain.specs.Segment.{segment_lines}
 use Rattle.ndn_explain.specs.declared.tag_check.TagCheck.{TagCheck}
 use Rattle.ndn_explain.specs.TagCheck.{check_lines}
 
--- the URI of the key's name, or the other kind of the KeyLocator
+-- the URI of the key's name, or a word for another kind of KeyLocator
 abbrev pub locator_text : PlainLocator → Option (List ℕ)
 locator_text Missing = None
 locator_text (KeyName name) = Some (uri_of name)
@@ -29,7 +29,7 @@ info_lines info =
     ++ (optional_line (codes "time") (option_map decimal info.time)
     ++ optional_line (codes "seq") (option_map decimal info.seq))
 
--- none for an unsigned packet
+-- the lines of the SignatureInfo, none for an unsigned packet
 abbrev pub signer_lines : Option PlainSignature → List ℕ
 signer_lines None = []
 signer_lines (Some signature) = info_lines signature.info
@@ -40,7 +40,7 @@ signature_of (AData whole d) = Some d.signature
 signature_of (ANack reason whole i) = i.signature
 signature_of Idle = None
 
--- a text of one line
+-- the line of a Content that is one line of text
 abbrev pub text_lines : List ℕ → List ℕ
 text_lines [] = []
 text_lines (o ∷ content) =
@@ -51,7 +51,7 @@ content_lines None = []
 content_lines (Some content) =
     reply_lines content ++ (dataset_lines Lines content ++ text_lines content)
 
--- for a Data with these octets
+-- the lines of a Data with the octets `whole`
 abbrev pub data_meaning : List ℕ → PlainData → List ℕ
 data_meaning whole d = segment_lines d.name whole ++ content_lines d.content
 
@@ -68,7 +68,7 @@ reason_word reason =
     if reason == DUPLICATE then codes " Duplicate" else (
     if reason == NO_ROUTE then codes " NoRoute" else []))
 
--- the lines of `show`, with the reason's name
+-- the lines of `show`, with the name of a Nack's reason
 abbrev pub named_frame_lines : PlainFrame → List ℕ
 named_frame_lines (AnInterest whole i) = frame_lines (AnInterest whole i)
 named_frame_lines (AData whole d) = frame_lines (AData whole d)
@@ -81,7 +81,7 @@ explanation frame check =
     named_frame_lines frame
     ++ (signer_lines (signature_of frame) ++ (check_lines check ++ meaning frame))
 
--- the PIT token beside a frame (NDNLPv2, "PIT Token"), and the explanation of the frame
+-- the line of the PIT token (NDNLPv2, "PIT Token"), and the explanation of the frame
 abbrev pub framed_explanation : PlainFramed → Option TagCheck → List ℕ
 framed_explanation framed check =
     optional_line (codes "token") (option_map hex_or_dash framed.token)

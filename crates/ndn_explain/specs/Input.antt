@@ -1,4 +1,5 @@
--- Explaining a text line by line: a packet by its explanation, any other line as it is.
+-- Explaining a text line by line: a packet is replaced by its explanation, and any other line stays
+-- as it is.
 use Rattle.std.specs.Prelude.{◌≡◌, ◌⊎◌, ℕ, List, [], ◌∷◌, ◌++◌, codes, Option, Result, Ok, Err, Bool, false, ◌==◌, if◌then◌else◌}
 use Rattle.hex.specs.declared.error.FromHexError.{FromHexError}
 use Rattle.hex.specs.Hex.{decode_of}
@@ -15,23 +16,24 @@ use Rattle.ndn_explain.specs.Show.{line, named_line}
 use Rattle.ndn_explain.specs.TagCheck.{MayBeChecked}
 use Rattle.ndn_explain.specs.Explain.{framed_explanation}
 
--- `>` begins a packet that is sent, in a script's answers
+-- in a script's answers, a line that begins with `>` contains a packet that was sent
 abbrev pub is_send : List ℕ → Bool
 is_send [] = false
 is_send (o ∷ line) = o == 62
 
--- the text before a packet, and its digits: those of a send follow its last space
+-- the text before a packet in a line, and the packet's digits, which follow the last space in a
+-- line that begins with `>`
 abbrev pub parts_of : List ℕ → List ℕ × List ℕ
 parts_of text =
     if is_send text then on_option (λ parts. parts) ([], text) (at_last_space text)
     else ([], text)
 
--- a line as it is; nothing for an empty one
+-- the line unchanged, or nothing for an empty line
 abbrev pub repeated : List ℕ → List ℕ
 repeated [] = []
 repeated (o ∷ text) = line (o ∷ text)
 
--- the explanation of a packet, or why the octets are none
+-- the explanation of a packet, or why the octets are not a packet
 abbrev pub IsExplainedPacket : Option (List NamedKey) → List ℕ → List ℕ → Type 0
 IsExplainedPacket keys octets said =
     ((framed : PlainFramed) × (check : Option TagCheck) × IsFramed octets framed
@@ -39,7 +41,7 @@ IsExplainedPacket keys octets said =
     ⊎ ((why : PacketFault) × FaultOf octets why
     × (said ≡ named_line (codes "malformed") (packet_name why)))
 
--- a line by its octets, or a line without a packet
+-- the text printed for a line: explained if the line has octets, otherwise the line itself
 abbrev pub IsExplainedPart : Option (List NamedKey) → List ℕ → List ℕ
     → Result (List ℕ) FromHexError → List ℕ → Type 0
 IsExplainedPart keys text head (Err why) said = said ≡ repeated text
@@ -57,6 +59,6 @@ AreExplained keys (text ∷ texts) said =
     (first : List ℕ) × (others : List ℕ) × IsExplainedLine keys text first
     × AreExplained keys texts others × (said ≡ first ++ others)
 
--- for all lines of a text, which LFs separate
+-- the text printed for all lines of a text, which are separated by LF
 abbrev pub IsExplainedInput : Option (List NamedKey) → List ℕ → List ℕ → Type 0
 IsExplainedInput keys text said = AreExplained keys (lines_of text) said

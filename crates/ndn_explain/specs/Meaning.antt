@@ -1,5 +1,5 @@
 -- What a command asks for and what a reply answers, as lines of text (NFD Management, "Control
--- Command"; the elements of a repository are this profile's).
+-- Command"; the elements for a repository are specific to this profile).
 use Rattle.std.specs.Prelude.{ℕ, ◌-◌, ◌/◌, ◌%◌, List, [], ◌++◌, length, take, Bool, true, false, is_some, nat_le, ◌==◌, ◌&&◌, codes, Option, None, Some, slice_get, if◌then◌else◌}
 use Rattle.std.specs.Option.{option_map}
 use Rattle.std.specs.List.{list_all}
@@ -19,7 +19,7 @@ use Rattle.ndn_explain.specs.Show.{named_line, flag_line, optional_line, hex_or_
 
 -- ---- fields
 
--- a value of the wrong form
+-- the text for a malformed value
 abbrev pub bad_text : List ℕ → List ℕ
 bad_text value = codes "bad " ++ hex_or_dash value
 
@@ -29,7 +29,7 @@ number_text value = on_result decimal (λ _. bad_text value) (nni_at value)
 abbrev pub name_text : List ℕ → List ℕ
 name_text value = on_result uri_of (λ _. bad_text value) (name_at value)
 
--- a Strategy has one Name
+-- the text of a Strategy, which must be one Name
 abbrev pub held_name : List ℕ → Option (List ℕ) → List ℕ
 held_name value None = bad_text value
 held_name value (Some name) = name_text name
@@ -37,21 +37,21 @@ held_name value (Some name) = name_text name
 abbrev pub strategy_text : List ℕ → List ℕ
 strategy_text value = held_name value (single NAME (elements_of value))
 
--- the flags of a route (NFD Management, "RIB Management")
+-- the words for the flags of a route (NFD Management, "RIB Management")
 abbrev pub words_of_flags : Bool → Bool → List ℕ
 words_of_flags false false = codes "none"
 words_of_flags true false = codes "child-inherit"
 words_of_flags false true = codes "capture"
 words_of_flags true true = codes "child-inherit capture"
 
--- child-inherit is 1 and capture is 2; other bits have no effect
+-- child-inherit is the bit 1 and capture the bit 2; other bits have no effect
 abbrev pub flags_word : ℕ → List ℕ
 flags_word flags = words_of_flags (flags % 2 == 1) (flags / 2 % 2 == 1)
 
 abbrev pub flags_text : List ℕ → List ℕ
 flags_text value = on_result flags_word (λ _. bad_text value) (nni_at value)
 
--- in milliseconds
+-- the text of a period in milliseconds
 abbrev pub period_word : ℕ → List ℕ
 period_word period = codes "in " ++ (decimal period ++ codes " ms")
 
@@ -65,7 +65,7 @@ form_text Strategy value = strategy_text value
 form_text Flags value = flags_text value
 form_text Period value = period_text value
 
--- a field that is present, by its form
+-- the line of a field, in its form, if the field is present
 abbrev pub field_line : List ℕ → Form → ℕ → Elements → List ℕ
 field_line label form kind es = optional_line label (option_map (form_text form) (first_of kind es))
 
@@ -74,7 +74,7 @@ hop_lines es =
     field_line (codes "face") Number FACE_ID es
     ++ field_line (codes "cost") Number COST es
 
--- for a registered route
+-- the lines of a registered route
 abbrev pub route_lines : Elements → List ℕ
 route_lines es =
     field_line (codes "origin") Number ORIGIN es
@@ -101,7 +101,7 @@ abbrev pub or_else : {X : Type 0} → Option X → Option X → Option X
 or_else None other = other
 or_else (Some x) other = Some x
 
--- the fields of parameters, which are one element
+-- the fields in a command's parameters, if the value is one element
 abbrev pub parameters_of : List ℕ → Option (List ℕ)
 parameters_of value =
     or_else (single CONTROL_PARAMETERS (elements_of value))
@@ -115,7 +115,8 @@ abbrev pub generic_parameters : Option Field → Option (List ℕ)
 generic_parameters None = None
 generic_parameters (Some c) = if c.0 == GENERIC then parameters_of c.1 else None
 
--- the parameters precede the digest of the Interest's own ApplicationParameters
+-- the fields in a command's parameters; the parameters come before the digest of the Interest's
+-- ApplicationParameters
 abbrev pub parameters_in : List Field → Option (List ℕ)
 parameters_in name =
     if has_kind PARAMETERS_SHA256_DIGEST (slice_get name (length name - 1))
@@ -127,13 +128,14 @@ asked_lines name (Some fields) =
     named_line (codes "command") (uri_of (take (length name - 2) name))
     ++ field_lines (elements_of fields)
 
--- for an Interest of this name, if it is a command
+-- the lines of an Interest with this name, if it is a command
 abbrev pub command_lines : List Field → List ℕ
 command_lines name = asked_lines name (parameters_in name)
 
 -- ---- replies
 
--- a text of one line as it is, and any other in hexadecimal
+-- an octet is printable if it is from 32 to 126; a text with any other octet is shown in
+-- hexadecimal
 abbrev pub is_printable : ℕ → Bool
 is_printable octet = nat_le 32 octet && nat_le octet 126
 
@@ -141,7 +143,7 @@ abbrev pub status_text : Option (List ℕ) → List ℕ
 status_text None = codes "-"
 status_text (Some text) = if list_all is_printable text then text else hex_or_dash text
 
--- the code and the text
+-- the words of a status: its code and its text
 abbrev pub status_words : Option (List ℕ) → Option (List ℕ) → List ℕ
 status_words None text = []
 status_words (Some code) text =
@@ -160,7 +162,7 @@ node_reply_lines es = status_line STATUS_CODE es ++ body_lines (first_of CONTROL
 abbrev pub repository_reply_lines : Elements → List ℕ
 repository_reply_lines es = status_line REPO_STATUS_CODE es ++ field_lines es
 
--- for a Data with this Content, if it is a reply
+-- the lines of a Data with this Content, if it is a reply
 abbrev pub or_repository : Option (List ℕ) → Option (List ℕ) → List ℕ
 or_repository (Some fields) other = node_reply_lines (elements_of fields)
 or_repository None (Some fields) = repository_reply_lines (elements_of fields)

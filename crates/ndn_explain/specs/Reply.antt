@@ -1,5 +1,5 @@
--- Replies of any length, as nodes write them: the reply to a command of 8,800 octets is longer, and
--- readers of packets refuse it.
+-- Replies of any length, as nodes write them. The reply to a command of 8,800 octets is longer than
+-- a packet may be, so readers of packets refuse it.
 use Rattle.std.specs.Prelude.{ℕ, List, bytes_eq, Option, None, Some, if◌then◌else◌, unwrap_or, [], option_and_then}
 use Rattle.ndn_tlv.specs.Element.{Field}
 use Rattle.ndn_tlv.specs.Reading.{elements_of}
@@ -9,20 +9,20 @@ use Rattle.ndn_packets.specs.declared.types.TheConstants.{DATA, CONTENT, SIGNATU
 use Rattle.ndn_packets.specs.Packet.{PlainData}
 use Rattle.ndn_packets.specs.Writing.{info_asked, reply_text}
 
--- a field of the Data that the octets are
+-- the value of a field, if the octets are a Data
 abbrev pub data_field : ℕ → List ℕ → Option (List ℕ)
 data_field kind octets =
     option_and_then (λ fields. first_of kind (elements_of fields))
     (single DATA (elements_of octets))
 
--- the Content, if the octets are what a node writes as the reply of this name with it
+-- the Content, if the octets are the reply with this name and this Content as a node writes it
 abbrev pub written_content : List Field → List ℕ → Option (List ℕ)
 written_content name octets =
     option_and_then
     (λ content. if bytes_eq octets (reply_text name content) then Some content else None)
     (data_field CONTENT octets)
 
--- the reply with this Content, with the signature value in the octets
+-- the reply with this name and Content, and the signature value in the octets
 abbrev pub written_data : List Field → List ℕ → List ℕ → PlainData
 written_data name content octets = record {
   name = name;

@@ -1,5 +1,5 @@
--- Which segment a Data is, and which is the last one (NDN Packet Format 0.3, "Data Packet",
--- "MetaInfo"; NDN Naming Conventions, "Segment").
+-- The segment number of a Data, and the number of the last segment (NDN Packet Format 0.3, "Data
+-- Packet", "MetaInfo"; NDN Naming Conventions, "Segment").
 use Rattle.std.specs.Prelude.{ℕ, ◌-◌, List, [], ◌++◌, length, codes, Option, None, Some, ◌==◌, if◌then◌else◌, slice_get, option_and_then}
 use Rattle.std.specs.Result.{result_ok}
 use Rattle.std.specs.Fmt.{decimal}
@@ -13,16 +13,16 @@ use Rattle.ndn_explain.specs.Show.{named_line}
 abbrev pub number_in : List ℕ → Option ℕ
 number_in value = result_ok (nni_at value)
 
--- the number of a segment component
+-- the number in a segment component
 abbrev pub number_of : Option Field → Option ℕ
 number_of None = None
 number_of (Some c) = if c.0 == SEGMENT then number_in c.1 else None
 
--- the number of the last component, if it is a segment
+-- the number in the last component of a name, if that is a segment component
 abbrev pub segment_of : List Field → Option ℕ
 segment_of name = number_of (slice_get name (length name - 1))
 
--- the last segment, which the FinalBlockId in a Data's MetaInfo gives as a component
+-- the number of the last segment, from the component in the FinalBlockId of a Data's MetaInfo
 abbrev pub last_segment : List ℕ → Option ℕ
 last_segment whole =
     option_and_then (λ component. number_in component)
@@ -36,6 +36,6 @@ segment_line (Some segment) (Some last) =
     named_line (codes "segment") (decimal segment ++ (codes " last " ++ decimal last))
 segment_line segment last = []
 
--- for a Data of this name and these octets, if it is a segment and names the last one
+-- the line of a Data with this name and these octets, if it is a segment and gives the last segment
 abbrev pub segment_lines : List Field → List ℕ → List ℕ
 segment_lines name whole = segment_line (segment_of name) (last_segment whole)

@@ -1,4 +1,4 @@
--- What a packet holds, as lines of text.
+-- The fields of a packet, as lines of text.
 use Rattle.std.specs.Prelude.{ℕ, List, [], ◌∷◌, ◌++◌, codes, Option, None, Some, Bool, if◌then◌else◌}
 use Rattle.std.specs.Option.{option_map}
 use Rattle.std.specs.Fmt.{decimal}
@@ -9,29 +9,29 @@ use Rattle.ndn_packets.specs.Packet.{PlainSignature, PlainInterest, PlainData, P
 abbrev pub line : List ℕ → List ℕ
 line text = text ++ codes "\n"
 
--- octets in lower-case hexadecimal, on a line
+-- the line with octets in lower-case hexadecimal
 abbrev pub hex_line : List ℕ → List ℕ
 hex_line octets = encode_lower octets ++ codes "\n"
 
--- a label, a space and a value
+-- the line with a label, a space and a value
 abbrev pub named_line : List ℕ → List ℕ → List ℕ
 named_line label value = label ++ (codes " " ++ line value)
 
--- a label alone, if the flag is set
+-- the line with a label alone, if the flag is set
 abbrev pub flag_line : List ℕ → Bool → List ℕ
 flag_line label holds = if holds then line label else []
 
--- an absent value has no line
+-- the line with a label and a value, if there is a value
 abbrev pub optional_line : List ℕ → Option (List ℕ) → List ℕ
 optional_line label None = []
 optional_line label (Some value) = named_line label value
 
--- hexadecimal in lower case, or a dash for no octets
+-- octets in lower-case hexadecimal, or a dash for no octets
 abbrev pub hex_or_dash : List ℕ → List ℕ
 hex_or_dash [] = codes "-"
 hex_or_dash (o ∷ octets) = encode_lower (o ∷ octets)
 
--- the type of the signature and its value
+-- the line with the type and the value of a signature
 abbrev pub signature_line : PlainSignature → List ℕ
 signature_line s =
     named_line (codes "signature") (decimal s.info.kind ++ (codes " " ++ hex_or_dash s.value))

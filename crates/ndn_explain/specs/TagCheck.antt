@@ -1,5 +1,5 @@
--- Whether a packet's signature value is right for the octets that the signature covers (NDN Packet
--- Format 0.3, "Signature"), and the line that reports it.
+-- Whether a packet's signature value is right for the covered octets (NDN Packet Format 0.3,
+-- "Signature"), and the line that says so.
 use Rattle.std.specs.Prelude.{◌≡◌, ◌≢◌, ◌⊎◌, ℕ, List, [], ◌++◌, codes, Option, None, Some}
 use Rattle.sha2.specs.Sha256.{sha256}
 use Rattle.ndn_tlv.specs.Element.{Field}
@@ -13,29 +13,30 @@ use Rattle.ndn_explain.specs.declared.tag_check.TagCheck.{TagCheck}
 use Rattle.ndn_explain.specs.declared.tag_check.TagCheck.TheVariants.{Right, Wrong, UnknownKey, Unchecked}
 use Rattle.ndn_explain.specs.Show.{line}
 
--- the signed octets, one part after the other
+-- the covered octets: the first part followed by the second
 abbrev pub parts_of : Parts → List ℕ
 parts_of parts = parts.first.now ++ parts.second.now
 
--- a value compared with the right one
+-- the result of comparing a value with the right one
 abbrev pub IsValueCheck : List ℕ → List ℕ → TagCheck → Type 0
 IsValueCheck value right Right = value ≡ right
 IsValueCheck value right Wrong = value ≢ right
 IsValueCheck value right UnknownKey = ⊥
 IsValueCheck value right Unchecked = ⊥
 
--- an HMAC under the key of this name
+-- the result of checking an HMAC under the key with this name
 abbrev pub IsNamedCheck : List Field → List NamedKey → List ℕ → List ℕ → TagCheck → Type 0
 IsNamedCheck name book value octets UnknownKey = (key : List ℕ) → IsAmong (name, key) book → ⊥
 IsNamedCheck name book value octets check =
     (key : List ℕ) × IsAmong (name, key) book × IsValueCheck value (Mac key octets) check
 
--- a KeyLocator without a Name gives no key
+-- the result of checking an HMAC under the key that a KeyLocator names; the key is unknown if the
+-- KeyLocator is not a Name
 abbrev pub IsLocatorCheck : PlainLocator → List NamedKey → List ℕ → List ℕ → TagCheck → Type 0
 IsLocatorCheck (KeyName name) book value octets check = IsNamedCheck name book value octets check
 IsLocatorCheck locator book value octets check = check ≡ UnknownKey
 
--- a signature over these octets: a digest, an HMAC, or one of another type
+-- the result of checking a signature over these octets: a digest, an HMAC, or another type
 abbrev pub IsKindCheck : PlainSignature → List NamedKey → List ℕ → TagCheck → Type 0
 IsKindCheck s book octets check =
     ((s.info.kind ≡ DIGEST_SHA256) × IsValueCheck s.value (sha256 octets) check)
@@ -43,19 +44,20 @@ IsKindCheck s book octets check =
     × IsLocatorCheck s.info.locator book s.value octets check)
     ⊎ ((s.info.kind ≢ DIGEST_SHA256) × (s.info.kind ≢ HMAC_WITH_SHA256) × (check ≡ Unchecked)))
 
--- the same; without covered octets nothing is checked
+-- the result of checking a signature over the covered octets; without covered octets nothing is
+-- checked
 abbrev pub IsPartsCheck : PlainSignature → List NamedKey → Option (List ℕ) → TagCheck → Type 0
 IsPartsCheck s book None check = check ≡ Unchecked
 IsPartsCheck s book (Some octets) check = IsKindCheck s book octets check
 
--- the octets that a packet's signature covers, if any
+-- the octets that a packet's signature covers, or `None` if it covers none
 abbrev pub AreCovered : PlainFrame → Option (List ℕ) → Type 0
 AreCovered packet None = (first second : List ℕ) → Covered packet first second → ⊥
 AreCovered packet (Some octets) =
     (first : List ℕ) × (second : List ℕ) × Covered packet first second
     × (octets ≡ first ++ second)
 
--- an unsigned packet is not checked
+-- the result of checking a packet's signature, or `None` for an unsigned packet
 abbrev pub IsSignedCheck : PlainFrame → Option PlainSignature → List NamedKey
     → Option TagCheck → Type 0
 IsSignedCheck packet None book check = check ≡ None
@@ -63,7 +65,7 @@ IsSignedCheck packet (Some s) book None = ⊥
 IsSignedCheck packet (Some s) book (Some check) =
     (octets : Option (List ℕ)) × AreCovered packet octets × IsPartsCheck s book octets check
 
--- a packet checked with the keys of a book; for a Nack, its Interest
+-- the result of checking a packet with the keys of a book; for a Nack, its Interest is checked
 abbrev pub IsTagCheck : PlainFrame → List NamedKey → Option TagCheck → Type 0
 IsTagCheck (AnInterest whole i) book check =
     IsSignedCheck (AnInterest whole i) i.signature book check
@@ -73,12 +75,12 @@ IsTagCheck (ANack reason whole i) book check =
     IsSignedCheck (AnInterest whole i) i.signature book check
 IsTagCheck Idle book check = check ≡ None
 
--- the same with optional keys; without them nothing is checked
+-- the result of checking a packet if keys are given; without keys nothing is checked
 abbrev pub MayBeChecked : PlainFrame → Option (List NamedKey) → Option TagCheck → Type 0
 MayBeChecked frame None check = check ≡ None
 MayBeChecked frame (Some book) check = IsTagCheck frame book check
 
--- ---- the line
+-- ---- the line of a check
 
 abbrev pub check_words : TagCheck → List ℕ
 check_words Right = codes "tag right"

@@ -1,4 +1,4 @@
-//! The entries of a list of routes or of strategies, as lines of text or as rows of a table.
+//! The entries of a dataset of routes or of strategies, as lines of text or as rows of a table.
 
 ghost use Rattle.std.specs.Prelude.{◌≡◌, ◌++◌, OnOk, Ok, flat_map};
 ghost use Rattle.std.specs.Option.{option_map};
@@ -12,7 +12,7 @@ use ndn_packets::types::NAME;
 use ndn_tlv::{Memory, first_element, first_field};
 use std::alloc::Global;
 
-/// How the entries of a list are laid out.
+/// How the entries of a dataset are laid out.
 #[derive(Clone, Copy, Debug, PartialEq, Eq)]
 pub enum Layout {
     /// Lines with a word before each value.
@@ -31,8 +31,8 @@ struct Labels {
     strategy: &'static str,
 }
 
-/// Appends the lines of the entries in a content; nothing if it has none. After
-/// `Memory` some of them may have been appended.
+/// Appends the lines of all entries in a Content, or nothing if it has no entries. On `Memory`,
+/// some of the lines may have been appended.
 pub fn put_entries(
     alloc: Global,
     text: &mut Vec<u8>,
@@ -52,7 +52,7 @@ pub fn put_entries(
     Ok(())
 }
 
-/// Appends the lines of an element that is an entry; nothing for another one.
+/// Appends the lines of an element if it is an entry, and nothing otherwise.
 fn put_entry(
     alloc: Global,
     text: &mut Vec<u8>,
@@ -107,7 +107,8 @@ fn put_choice(
     Ok(())
 }
 
-/// The word for one of the two strategies, or the URI of another one.
+/// Returns the word for one of the two strategies of this profile, or the URI of any other
+/// strategy.
 fn short_strategy(uri: &[u8]) -> &[u8]
     ensures { result.now ≡ short_strategy uri.now }
 {
@@ -120,7 +121,7 @@ fn short_strategy(uri: &[u8]) -> &[u8]
     uri
 }
 
-/// Appends a line for each next hop of an entry of this name.
+/// Appends a line for each next hop of an entry with this name.
 fn put_hops(
     alloc: Global,
     text: &mut Vec<u8>,
@@ -142,7 +143,7 @@ fn put_hops(
     Ok(())
 }
 
-/// Appends the line of an element that is a next hop; nothing for another one.
+/// Appends the line of an element if it is a next hop, and nothing otherwise.
 fn put_hop(
     alloc: Global,
     text: &mut Vec<u8>,

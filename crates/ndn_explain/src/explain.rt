@@ -32,8 +32,9 @@ pub fn check_of(frame: &Frame<'_>, keys: Option<&KeyBook>) -> Option<TagCheck>
     }
 }
 
-/// Appends the line of the PIT token beside a frame, in hexadecimal, if there is one (NDNLPv2, "PIT
-/// Token"), and what `put_explanation` appends. After `Memory` some of it may have been appended.
+/// Appends the line of the PIT token in hexadecimal, if the frame has a token (NDNLPv2, "PIT
+/// Token"), and then the explanation of the frame. On `Memory`, some of the text may have been
+/// appended.
 pub fn put_framed_explanation(
     alloc: Global,
     text: &mut Vec<u8>,
@@ -47,8 +48,8 @@ pub fn put_framed_explanation(
     put_explanation(alloc, text, &framed.frame, check)
 }
 
-/// Appends the lines of `show`, those of the SignatureInfo and of the check of the signature, and
-/// those of a segment, a command, a reply or a list. After `Memory` some of them may have been
+/// Appends the lines of `show`, those of the SignatureInfo and of the signature check, and those of
+/// a segment, a command, a reply or a dataset. On `Memory`, some of the lines may have been
 /// appended.
 pub fn put_explanation(
     alloc: Global,
@@ -65,7 +66,7 @@ pub fn put_explanation(
     put_meaning(alloc, text, frame)
 }
 
-/// Appends the lines of `show`, with the name of the reason of a Nack.
+/// Appends the lines of `show`, with the name of a Nack's reason.
 fn put_named_frame(alloc: Global, text: &mut Vec<u8>, frame: &Frame<'_>) -> Result<(), Memory>
     ensures { OnOk result (text.new.items
         ≡ text.old.items ++ named_frame_lines (plain_frame frame.now)) }
@@ -86,7 +87,7 @@ fn put_reason(text: &mut Vec<u8>, reason: u64) -> Result<(), Memory>
     writeln!(text, "nack {reason}{}", reason_word(reason)).map_err(|_| Memory)
 }
 
-/// The name of the reason of a Nack, after a space; nothing for a reason without a name.
+/// Returns a space and the name of a Nack's reason, or an empty text for a reason without a name.
 fn reason_word(reason: u64) -> &'static str
     ensures { result.now ≡ reason_word reason }
 {
@@ -119,7 +120,7 @@ fn check_words(check: TagCheck) -> &'static str
     }
 }
 
-/// Appends the lines of the segment, the command, the reply or the list that the packet carries.
+/// Appends the lines of the segment, the command, the reply or the dataset that the packet carries.
 fn put_meaning(alloc: Global, text: &mut Vec<u8>, frame: &Frame<'_>) -> Result<(), Memory>
     ensures { OnOk result (text.new.items ≡ text.old.items ++ meaning (plain_frame frame.now)) }
 {
@@ -142,7 +143,7 @@ fn put_data_meaning(alloc: Global, text: &mut Vec<u8>, packet: &Data<'_>) -> Res
     }
 }
 
-/// Appends the lines of a reply, of the entries of a list, or of a text.
+/// Appends the lines of a Content that is a reply, the entries of a dataset, or a text.
 pub fn put_content(alloc: Global, text: &mut Vec<u8>, content: &[u8]) -> Result<(), Memory>
     ensures { OnOk result (text.new.items
         ≡ text.old.items ++ content_lines (Some content.now)) }
@@ -152,7 +153,7 @@ pub fn put_content(alloc: Global, text: &mut Vec<u8>, content: &[u8]) -> Result<
     put_text(text, content)
 }
 
-/// Appends a content if it is a text of one line.
+/// Appends the line of a Content that is one line of text.
 fn put_text(text: &mut Vec<u8>, content: &[u8]) -> Result<(), Memory>
     ensures { OnOk result (text.new.items ≡ text.old.items ++ text_lines content.now) }
 {

@@ -15,10 +15,11 @@ use ndn_packets::{PacketFault, read_lp};
 use ndn_tlv::Memory;
 use std::alloc::Global;
 
-/// Explains a text line by line and appends the result: a packet by its explanation, and a line
-/// without a packet as it is, empty lines left out. A packet is one or more octets in hexadecimal,
-/// alone on its line, or after the last space of a line that begins with `>`. With keys its
-/// signature is checked. After `Memory` some lines may have been appended.
+/// Explains a text line by line and appends the result. A packet is replaced by its explanation. A
+/// line without a packet stays as it is, and empty lines are omitted. A packet is one or more
+/// octets in hexadecimal, alone on its line, or after the last space of a line that begins with
+/// `>`. Its signature is checked if there are keys. On `Memory`, some of the lines may have been
+/// appended.
 pub fn put_input(
     alloc: Global,
     text: &mut Vec<u8>,
@@ -52,7 +53,7 @@ fn put_line(
     put_digits(alloc, text, line, head, digits, keys)
 }
 
-/// Explains a line with these digits after this head.
+/// Explains the line that consists of the text `head` and these digits.
 fn put_digits(
     alloc: Global,
     text: &mut Vec<u8>,
@@ -73,7 +74,7 @@ fn put_digits(
     }
 }
 
-/// Explains a line with these octets, or repeats it if there are none.
+/// Explains the line with these octets, or repeats the line if there are none.
 fn put_octets(
     alloc: Global,
     text: &mut Vec<u8>,
@@ -94,7 +95,7 @@ fn put_octets(
     put_packet(alloc, text, octets, keys)
 }
 
-/// The text before a packet in a line, and the packet's digits.
+/// Returns the text before a packet in a line, and the packet's digits.
 fn parts_of(line: &str) -> (&str, &str)
     ensures { (result.0.now, result.1.now) ≡ parts_of line.now }
 {
@@ -107,14 +108,14 @@ fn parts_of(line: &str) -> (&str, &str)
     }
 }
 
-/// Whether the line begins like a sent packet in a script's answers.
+/// Returns whether the line begins like a sent packet in a script's answers.
 fn is_send(line: &str) -> bool
     ensures { result ≡ is_send line.now }
 {
     line.starts_with('>')
 }
 
-/// Appends a line as it is, unless it is empty.
+/// Appends the line unchanged, unless it is empty.
 fn put_repeated(text: &mut Vec<u8>, line: &str) -> Result<(), Memory>
     ensures { OnOk result (text.new.items ≡ text.old.items ++ repeated line.now) }
 {
@@ -125,7 +126,7 @@ fn put_repeated(text: &mut Vec<u8>, line: &str) -> Result<(), Memory>
     }
 }
 
-/// Explains the octets of a packet, or says why they are none.
+/// Appends the explanation of a packet, or why the octets are not a packet.
 fn put_packet(
     alloc: Global,
     text: &mut Vec<u8>,
@@ -144,7 +145,7 @@ fn put_packet(
     }
 }
 
-/// Appends why octets are no packet.
+/// Appends why the octets are not a packet.
 fn put_malformed(text: &mut Vec<u8>, fault: PacketFault) -> Result<(), Memory>
     ensures { OnOk result (text.new.items ≡ text.old.items
         ++ named_line (codes "malformed") (packet_name fault)) }

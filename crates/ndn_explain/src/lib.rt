@@ -1,4 +1,4 @@
-//! Explanations of packets as lines of text: fields, commands, replies, lists and signatures.
+//! Explanations of packets as lines of text: fields, commands, replies, datasets and signatures.
 #![tactic(auto)]
 
 mod dataset;

@@ -22,14 +22,14 @@ use ndn_tlv::{Memory, first_field, nni_of, single_element};
 use std::alloc::Global;
 use std::io::Write;
 
-/// What the value of a field is.
+/// The form of a field's value.
 #[derive(Clone, Copy, Debug, PartialEq, Eq)]
 pub enum Form {
     /// A NonNegativeInteger.
     Number,
     /// The components of a name.
     Name,
-    /// One Name element, as in a Strategy.
+    /// One Name element, as in the Strategy field.
     Strategy,
     /// A NonNegativeInteger whose bits are the flags of a route.
     Flags,
@@ -37,7 +37,7 @@ pub enum Form {
     Period,
 }
 
-/// Appends the lines of a command of this name; nothing for the name of another Interest.
+/// Appends the lines of a command with this name, or nothing if the name is not that of a command.
 pub fn put_command(alloc: Global, text: &mut Vec<u8>, name: Name<'_>) -> Result<(), Memory>
     ensures { OnOk result (text.new.items
         ≡ text.old.items ++ command_lines (components name.entry)) }
@@ -54,7 +54,7 @@ pub fn put_command(alloc: Global, text: &mut Vec<u8>, name: Name<'_>) -> Result<
     put_fields(alloc, text, fields)
 }
 
-/// The fields of a command of this name; `None` for the name of another Interest.
+/// Returns the fields of a command with this name, or `None` if the name is not that of a command.
 pub fn parameters_in<'a>(name: Name<'a>) -> Option<&'a [u8]>
     ensures { option_map (λ v. v.now) result ≡ parameters_in (components name.entry) }
 {
@@ -69,7 +69,7 @@ pub fn parameters_in<'a>(name: Name<'a>) -> Option<&'a [u8]>
     parameters_of(component.value)
 }
 
-/// The fields of parameters, which are one element.
+/// Returns the fields in a command's parameters, if the value is one element.
 fn parameters_of(value: &[u8]) -> Option<&[u8]>
     ensures { option_map (λ v. v.now) result ≡ parameters_of value.now }
 {
@@ -79,7 +79,7 @@ fn parameters_of(value: &[u8]) -> Option<&[u8]>
     }
 }
 
-/// Appends the lines of a reply with this content; nothing for another content.
+/// Appends the lines of a reply with this Content, or nothing if the Content is not a reply.
 pub fn put_reply(alloc: Global, text: &mut Vec<u8>, content: &[u8]) -> Result<(), Memory>
     ensures { OnOk result (text.new.items ≡ text.old.items ++ reply_lines content.now) }
 {
@@ -111,7 +111,7 @@ fn put_repository_reply(alloc: Global, text: &mut Vec<u8>, fields: &[u8]) -> Res
     put_fields(alloc, text, fields)
 }
 
-/// Appends the line of the status, whose code is the field of this type.
+/// Appends the line of the status. The status code is the field of type `kind`.
 fn put_status(alloc: Global, text: &mut Vec<u8>, fields: &[u8], kind: u32) -> Result<(), Memory>
     ensures { OnOk result (text.new.items
         ≡ text.old.items ++ status_line kind (elements_of fields.now)) }
@@ -127,7 +127,7 @@ fn put_status(alloc: Global, text: &mut Vec<u8>, fields: &[u8], kind: u32) -> Re
     Ok(())
 }
 
-/// Appends the text of a status in one line, or a dash if it is missing.
+/// Appends the text of a status on one line, or a dash if there is no text.
 fn put_status_text(alloc: Global, text: &mut Vec<u8>, status: Option<&[u8]>) -> Result<(), Memory>
     ensures { OnOk result (text.new.items ≡ text.old.items
         ++ status_text (option_map (λ s. s.now) status.entry)) }
@@ -140,7 +140,7 @@ fn put_status_text(alloc: Global, text: &mut Vec<u8>, status: Option<&[u8]>) -> 
     Ok(())
 }
 
-/// Whether all octets are printable ASCII.
+/// Returns whether all octets are printable ASCII.
 pub fn is_one_line(octets: &[u8]) -> bool
     ensures { result ≡ list_all is_printable octets.now }
 {
@@ -227,7 +227,7 @@ fn put_field(
     Ok(())
 }
 
-/// Appends the text of a value of this form.
+/// Appends the text of a value in this form.
 pub fn put_form(alloc: Global, text: &mut Vec<u8>, form: Form, value: &[u8]) -> Result<(), Memory>
     ensures { OnOk result (text.new.items ≡ text.old.items ++ form_text form value.now) }
 {
@@ -261,7 +261,7 @@ fn put_flags_text(alloc: Global, text: &mut Vec<u8>, value: &[u8]) -> Result<(),
     }
 }
 
-/// The names of a route's flags.
+/// Returns the names of a route's flags.
 fn flags_word(flags: u64) -> &'static str
     ensures { result.now ≡ flags_word flags }
 {
@@ -297,7 +297,7 @@ fn put_name_text(alloc: Global, text: &mut Vec<u8>, value: &[u8]) -> Result<(), 
     }
 }
 
-/// Appends the text for a value of the wrong form.
+/// Appends the text for a malformed value.
 fn put_bad(alloc: Global, text: &mut Vec<u8>, value: &[u8]) -> Result<(), Memory>
     ensures { OnOk result (text.new.items ≡ text.old.items ++ bad_text value.now) }
 {

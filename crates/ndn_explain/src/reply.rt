@@ -15,8 +15,8 @@ use ndn_packets::{DIGEST_SHA256, Locator, Signature, put_reply};
 use ndn_tlv::{Memory, first_field, single_element};
 use std::alloc::Global;
 
-/// The Content of a reply to the command of this name, if the octets are what a node writes with
-/// it, of any length: a Data without MetaInfo, signed with DigestSha256.
+/// Returns the Content of a reply to the command with this name, if the octets are that reply as a
+/// node writes it: a Data of any length without MetaInfo, signed with DigestSha256.
 pub fn written_content<'a>(
     alloc: Global,
     name: Name<'_>,
@@ -37,8 +37,8 @@ pub fn written_content<'a>(
     }
 }
 
-/// Appends the lines of `explain` of a reply of this name and Content, as these octets, of any
-/// length. After `Memory` some of them may have been appended.
+/// Appends the lines of `explain` for a reply of any length with this name, Content and octets. On
+/// `Memory`, some of the lines may have been appended.
 pub fn put_written(
     alloc: Global,
     text: &mut Vec<u8>,
@@ -62,7 +62,7 @@ pub fn put_written(
     put_content(alloc, text, content)
 }
 
-/// A field of the Data in the octets.
+/// Returns the value of a field, if the octets are a Data.
 fn data_field(octets: &[u8], kind: u32) -> Option<&[u8]>
     ensures { option_map (λ v. v.now) result ≡ data_field kind octets.now }
 {

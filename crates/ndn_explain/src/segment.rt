@@ -1,4 +1,4 @@
-//! Which segment a Data is, and which is the last one, as a line of text.
+//! The segment number of a Data, and the number of the last segment, as a line of text.
 
 ghost use Rattle.std.specs.Prelude.{◌≡◌, ◌++◌, OnOk, Some};
 ghost use Rattle.ndn_names.specs.View.{components};
@@ -10,8 +10,8 @@ use ndn_packets::types::{DATA, FINAL_BLOCK_ID, META_INFO};
 use ndn_tlv::{Memory, first_field, nni_of, single_element};
 use std::io::Write;
 
-/// Appends the line of a segment, for a Data with this name and these received octets; nothing for
-/// another Data.
+/// Appends the segment line of a Data with this name and these received octets, if it is a segment
+/// and gives the last segment; otherwise appends nothing.
 pub fn put_segment(text: &mut Vec<u8>, name: Name<'_>, whole: &[u8]) -> Result<(), Memory>
     ensures { OnOk result (text.new.items ≡ text.old.items
         ++ segment_lines (components name.entry) whole.now) }
@@ -29,7 +29,7 @@ fn put_numbers(text: &mut Vec<u8>, segment: u64, last: u64) -> Result<(), Memory
     writeln!(text, "segment {segment} last {last}").map_err(|_| Memory)
 }
 
-/// The number of the last component, if it is a segment.
+/// Returns the number in the last component, if that is a segment component.
 pub fn segment_of(name: Name<'_>) -> Option<u64>
     ensures { result ≡ segment_of (components name.entry) }
 {
@@ -40,7 +40,7 @@ pub fn segment_of(name: Name<'_>) -> Option<u64>
     number_in(last.value)
 }
 
-/// The last segment, which the FinalBlockId of the MetaInfo gives as a component.
+/// Returns the number of the last segment, from the component in the FinalBlockId of the MetaInfo.
 pub fn last_segment(whole: &[u8]) -> Option<u64>
     ensures { result ≡ last_segment whole.now }
 {

@@ -1,4 +1,4 @@
-//! What a packet holds, as lines of text.
+//! The fields of a packet, as lines of text.
 ghost use Rattle.std.specs.Prelude.{◌≡◌, ◌++◌, OnOk, IfOk, option_map, codes};
 ghost use Rattle.std.specs.Fmt.{decimal};
 ghost use Rattle.ndn_names.specs.View.{components};
@@ -13,7 +13,7 @@ use ndn_tlv::Memory;
 use std::alloc::Global;
 use std::io::Write;
 
-/// Appends the lines of a frame's fields. After `Memory` some of them may have been appended.
+/// Appends the lines of a frame's fields. On `Memory`, some of the lines may have been appended.
 pub fn put_frame(alloc: Global, text: &mut Vec<u8>, frame: &Frame<'_>) -> Result<(), Memory>
     ensures { OnOk result (text.new.items ≡ text.old.items ++ frame_lines (plain_frame frame.now)) }
 {
@@ -66,7 +66,7 @@ fn put_numbers(alloc: Global, text: &mut Vec<u8>, interest: &Interest<'_>) -> Re
     put_hops(text, interest.hop_limit)
 }
 
-/// Appends the lines of the parameters and of the signature.
+/// Appends the lines of an Interest's parameters and signature.
 fn put_parameters(alloc: Global, text: &mut Vec<u8>, interest: &Interest<'_>) -> Result<(), Memory>
     ensures { OnOk result (text.new.items ≡ text.old.items
         ++ parameter_lines (plain_interest interest.now)) }
@@ -88,7 +88,7 @@ fn put_hops(text: &mut Vec<u8>, hops: Option<u8>) -> Result<(), Memory>
     }
 }
 
-/// Appends the lines of a Data of these fields.
+/// Appends the lines of a Data with these fields.
 pub fn put_data(
     alloc: Global,
     text: &mut Vec<u8>,
@@ -207,7 +207,7 @@ pub fn put_label(text: &mut Vec<u8>, label: &str) -> Result<(), Memory>
     Ok(())
 }
 
-/// A line of hexadecimal.
+/// Returns a line with the octets in hexadecimal.
 pub fn hex_line(alloc: Global, octets: &[u8]) -> Result<Vec<u8>, Memory>
     ensures { IfOk result (λ text. text.items ≡ hex_line octets.now) }
 {

@@ -1,4 +1,4 @@
-//! Whether the signature of a packet is right.
+//! Checking the signature of a packet.
 
 ghost use Rattle.std.specs.Prelude.{◌≡◌, ◌++◌, option_map};
 ghost use Rattle.sha2.specs.Sha256.{sha256};
@@ -14,13 +14,13 @@ use sha2::{Digest, Sha256};
 /// The result of checking a signature's value.
 #[derive(Clone, Copy, Debug, PartialEq, Eq)]
 pub enum TagCheck {
-    /// It is the right one for the octets that the signature covers.
+    /// The value is right for the octets that the signature covers.
     Right,
-    /// It is not the right one.
+    /// The value is not right for the octets that the signature covers.
     Wrong,
     /// The KeyLocator names no key of the key file.
     UnknownKey,
-    /// The signature is of another type, or no octets are covered.
+    /// The signature is of another type, or covers no octets.
     Unchecked,
 }
 
@@ -85,7 +85,7 @@ fn check_hmac(signature: Signature<'_>, parts: Parts<'_>, book: &KeyBook) -> Tag
     }
 }
 
-/// SHA-256 of the covered octets.
+/// Returns SHA-256 of the covered octets.
 fn digest_of(parts: Parts<'_>) -> [u8; 32]
     ensures { result ≡ sha256 (parts_of parts.entry) }
 {

@@ -1,4 +1,4 @@
--- Which job a subcommand has.
+-- Which job a subcommand asks for.
 use Rattle.std.proofs.Common.{◌≡◌, ℕ, List, Vec, Global, true, false}
 use Rattle.clap.specs.Walk.{Row}
 use Rattle.ndn_jobs.specs.declared.job.LinkJob.{LinkJob}
@@ -128,7 +128,7 @@ module _ (now : ℕ) (words name : List ℕ) (rows : List Row) where
   a_peek (Send job) h = absurd h
   a_peek (Ask job) h = (job, h)
 
-  -- by whether the verb is `list`
+  -- the cases in which the verb is `list`, and in which it is not
 
   pub a_list : is_list rows ≡ true → (job : Job) → IsListedJob now words name rows job → (x : AskJob) × IsListJob now words name rows x
   a_list said (Help error) h = absurd h

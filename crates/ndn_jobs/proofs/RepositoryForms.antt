@@ -1,4 +1,4 @@
--- A prefix that leaves no room for a verb.
+-- A repository's prefix that has no room for a verb.
 use Rattle.std.proofs.Common.{◌≡◌, ◌≢◌, ◌⊎◌, ◌≤◌, ℕ, List, [], ◌∷◌, ◌++◌, length, Bool, true, false, refl, Option, Some, Ok, Err, sym, ap, subst, ◌∙◌, arith, inl, inr, codes}
 use Rattle.std.specs.Prelude.{nat_lt, if◌then◌else◌}
 use Rattle.std.proofs.lemmas.List.{length-append}
@@ -13,7 +13,7 @@ use Rattle.ndn_names.proofs.PathReading.{text_again}
 use Rattle.ndn_jobs.specs.Options.{value_at, Has}
 use Rattle.ndn_jobs.specs.RepositoryForm.{IsRepositoryName}
 
--- a text reads as one name
+-- a text spells at most one name
 same_name : (said : Option (List ℕ)) (a b : List Field) → Has said ReadsAs a → Has said ReadsAs b → a ≡ b
 same_name said a b h k =
     let words : Some h.0 ≡ Some k.0 = sym h.1 ∙ k.1 in

@@ -1,4 +1,4 @@
--- What a short form's verb and its command say of the whole line.
+-- What the verb of a short form, and its command, mean for the whole command line.
 use Rattle.std.proofs.Common.{◌≡◌, ℕ, List, Option, None, Some, Result, Ok, Err, sym, ap, subst, ◌∙◌}
 use Rattle.clap.specs.Walk.{Row}
 use Rattle.ndn_jobs.specs.declared.job.CommandJob.{CommandJob}
@@ -9,7 +9,7 @@ use Rattle.ndn_jobs.specs.Options.{Has}
 use Rattle.ndn_jobs.specs.ShortForm.{IsVerb, IsFormJob, action_of}
 use Rattle.ndn_jobs.proofs.Spelling.{refused_part}
 
--- a verb has one form
+-- a verb names at most one action
 same_form : (subcommand : List ℕ) (said : Option (List ℕ)) (f g : Action) → Has said (IsVerb subcommand) f → Has said (IsVerb subcommand) g → g ≡ f
 same_form subcommand said f g a b =
     let words : Some a.0 ≡ Some b.0 = sym a.1 ∙ b.1 in
@@ -25,7 +25,7 @@ short_read now words subcommand rows said form has (Err why) h =
     refused_part (IsFormJob form now words rows) (λ job. (f : Action) × Has said (IsVerb subcommand) f × IsFormJob f now words rows job)
     (λ job s. (job, subst (λ (f : Action). IsFormJob f now words rows job) (same_form subcommand said form s.0 has s.1) s.2)) why h
 
--- a verb that has no form
+-- a verb that names no action
 pub no_verb : (subcommand : List ℕ) (said : Option (List ℕ)) (verb : List ℕ) → said ≡ Some verb → action_of subcommand verb ≡ None → (form : Action) → Has said (IsVerb subcommand) form → ⊥
 no_verb subcommand said verb is none form h =
     let words : Some h.0 ≡ Some verb = sym h.1 ∙ is in

@@ -1,4 +1,4 @@
--- What spells nothing where a part of it spells nothing.
+-- A command line spells no whole value if a part of it spells no value.
 use Rattle.std.proofs.Common.{◌≡◌, ℕ, List, Option, None, Some, Result, Ok, Err, sym, subst, ◌∙◌}
 use Rattle.ndn_jobs.specs.declared.fault.Usage.TheVariants.{CommandLine, BadValue}
 use Rattle.ndn_jobs.specs.declared.fault.ToolFault.{ToolFault}
@@ -6,7 +6,7 @@ use Rattle.ndn_jobs.specs.declared.fault.ToolFault.TheVariants as fault
 use Rattle.ndn_jobs.specs.Value.{IsUsage, IsWrong, IsRefused, ReadsInMemory}
 use Rattle.ndn_jobs.specs.Options.{Has, MayHave}
 
--- a whole, of which each value has a part
+-- a whole in which each value has a part
 
 module _ {A B : Type 0} (Part : A → Type 0) (Whole : B → Type 0) (part : (y : B) → Whole y → (x : A) × Part x) where
   none_whole : ((x : A) → Part x → ⊥) → (y : B) → Whole y → ⊥
@@ -36,7 +36,7 @@ module _ {A B : Type 0} (Part : A → Type 0) (Whole : B → Type 0) (part : (y 
   wrong_in_memory (fault.Packet why) h = h
   wrong_in_memory fault.Memory h = absurd h
 
--- a fault of usage, where nothing is spelled
+-- the fault BadValue is right if no value is spelled
 
 module _ {A : Type 0} (Spell : A → Type 0) (none : (x : A) → Spell x → ⊥) where
   pub usage_wrong : (why : ToolFault) → IsUsage why → IsWrong Spell why
@@ -55,11 +55,11 @@ module _ {A : Type 0} (Spell : A → Type 0) (none : (x : A) → Spell x → ⊥
   usage_refused (fault.Packet why) h = h
   usage_refused fault.Memory h = absurd h
 
--- the value of an option, which is not there
+-- an option that is not given spells no value
 pub lacks : {A : Type 0} (Spells : List ℕ → A → Type 0) (said : Option (List ℕ)) → said ≡ None → (x : A) → Has said Spells x → ⊥
 lacks Spells said e x h = let both : None ≡ Some h.0 = sym e ∙ h.1 in absurd cc
 
--- the value of an option, which is there
+-- an option that is given with this value
 
 module _ {A : Type 0} (Spells : List ℕ → A → Type 0) (said : Option (List ℕ)) (value : List ℕ) (there : Some value ≡ said) where
   same : (w : List ℕ) → said ≡ Some w → w ≡ value

@@ -1,4 +1,4 @@
--- Interests that are sent, and what is printed of the answer: `route list`, `strategy list`,
+-- Interests that are sent, and what is printed of their answers: `route list`, `strategy list`,
 -- `peek`.
 use Rattle.std.specs.Prelude.{◌≡◌, ℕ, List, Option, None, Some, Bool, true, false, is_none, ◌&&◌, codes, bytes_eq, if◌then◌else◌}
 use Rattle.clap.specs.Walk.{Row}
@@ -14,7 +14,7 @@ use Rattle.ndn_jobs.specs.Value.{IsNumber, IsNonce}
 use Rattle.ndn_jobs.specs.Options.{value_at, flag_at, Has, MayHave, HasOr, IsFlag, IsPorts}
 use Rattle.ndn_jobs.specs.Nonce.{nonce_of}
 
--- an unsigned Interest; without an option for it the Nonce is made of the time and the words
+-- an unsigned Interest; if no Nonce is given, it is computed from the time and the words
 pub record IsPlainInterest (now : ℕ) (words : List ℕ) (rows : List Row) (i : InterestJob)
     : Type 0 where
   pub nonce : HasOr (nonce_of now words) (value_at rows (codes "nonce")) IsNonce i.nonce
@@ -34,11 +34,11 @@ is_word word (Some said) = bytes_eq said word
 abbrev pub is_list : List Row → Bool
 is_list rows = is_word (codes "list") (value_at rows (codes "VERB"))
 
--- the option is not given
+-- whether the option is not given
 abbrev pub lacks : List Row → List ℕ → Bool
 lacks rows id = is_none (value_at rows id)
 
--- of the options of its subcommand, a list takes only the Nonce and the ports
+-- whether the only options given are those that `list` takes: the Nonce and the ports
 abbrev pub is_alone : List Row → Bool
 is_alone rows =
     lacks rows (codes "PREFIX") && lacks rows (codes "face") && lacks rows (codes "cost")
@@ -46,11 +46,11 @@ is_alone rows =
     && lacks rows (codes "STRATEGY") && lacks rows (codes "time") && lacks rows (codes "seq")
     && lacks rows (codes "keys") && lacks rows (codes "key")
 
--- the list of the subcommand of this name
+-- the list that belongs to the subcommand with this name
 abbrev pub list_of : List ℕ → NodeList
 list_of subcommand = if bytes_eq subcommand (codes "route") then Routes else Strategies
 
--- the Interest for the first segment, whatever its version
+-- the Interest for the first segment of a list, whatever the list's version
 pub record IsListJob (now : ℕ) (words subcommand : List ℕ) (rows : List Row) (job : AskJob)
     : Type 0 where
   pub alone : is_alone rows ≡ true

@@ -1,4 +1,4 @@
--- What the arguments of a command line ask for, and which are refused.
+-- What the arguments of a command line ask for, and which arguments are refused.
 use Rattle.std.specs.Prelude.{◌≡◌, ◌⊎◌, ℕ, true, false, List, [], drop, Option, None, Some, Result, Ok, Err, ⊤}
 use Rattle.clap.specs.Walk.{Row}
 use Rattle.clap.specs.Words.{kind_of}
@@ -23,7 +23,8 @@ use Rattle.ndn_jobs.specs.Ask.{is_list, IsListJob, IsPeekJob}
 use Rattle.ndn_jobs.specs.Nonce.{words_of}
 use Rattle.ndn_command_line.specs.CommandLine.{subcommand_named, tool}
 
--- a request for help or the version, a lack of memory, or a wrong command line
+-- what a parser error means: a request for help or for the version, no memory, or a wrong command
+-- line
 abbrev pub reading_of : ErrorKind → Error → Result Job ToolFault
 reading_of DisplayHelp error = Ok (Help error)
 reading_of DisplayVersion error = Ok (Help error)
@@ -32,7 +33,7 @@ reading_of kind error = Err (Usage (CommandLine error))
 
 -- ---- jobs
 
--- a subcommand whose verb may be `list`
+-- the job of a subcommand whose verb may be `list`
 abbrev pub IsListedJob : ℕ → List ℕ → List ℕ → List Row → Job → Type 0
 IsListedJob now words name rows (Command job) =
     (is_list rows ≡ false) × IsShortJob now words name rows job
@@ -40,8 +41,8 @@ IsListedJob now words name rows (Ask job) =
     (is_list rows ≡ true) × IsListJob now words name rows job
 IsListedJob now words name rows job = ⊥
 
--- what the options of a subcommand with this name ask for at this time and in these words; `route`,
--- `strategy`, `cache` and `repo` are short forms of `command`
+-- the job that the options of a subcommand with this name ask for, at this time and with these
+-- words; `route`, `strategy`, `cache` and `repo` are short forms of `command`
 abbrev pub IsJobFor : Subcommand → ℕ → List ℕ → List ℕ → List Row → Job → Type 0
 IsJobFor sub.Interest now words name rows (Interest job) = IsLinkJob rows job
 IsJobFor sub.Data now words name rows (Data job) = IsDataJob rows job
@@ -61,37 +62,37 @@ abbrev pub IsFoundJob : Option Subcommand → ℕ → List ℕ → List ℕ → 
 IsFoundJob None now words name rows job = ⊥
 IsFoundJob (Some subcommand) now words name rows job = IsJobFor subcommand now words name rows job
 
--- the same for the subcommand of this name, if there is one
+-- the job of the subcommand with this name, if there is such a subcommand
 abbrev pub IsNamedJob : ℕ → List ℕ → List ℕ → List Row → Job → Type 0
 IsNamedJob now words name rows job = IsFoundJob (subcommand_named name) now words name rows job
 
--- the same for the subcommand that was found, if any
+-- the job of the subcommand that was found, if one was found
 abbrev pub IsJob : ℕ → List ℕ → Option (List ℕ × List Row) → Job → Type 0
 IsJob now words None job = ⊥
 IsJob now words (Some used) job = IsNamedJob now words used.0 used.1 job
 
 -- ---- command lines
 
--- the faults of a command line; the list is empty if there are none
+-- the faults of a command line; the list is empty if the command line has none
 abbrev pub faults : List (List ℕ) → Kinds
 faults arguments = fault_of tool arguments
 
--- the job of the subcommand of these arguments, the first of which is the program's name
+-- the job of the subcommand in these arguments, the first of which is the program's name
 abbrev pub IsJobOf : ℕ → List (List ℕ) → Job → Type 0
 IsJobOf now arguments job =
     IsJob now (words_of (drop 1 arguments)) (subcommand_of tool arguments) job
 
--- a text that the arguments ask for: help, or the version
+-- the arguments ask for a text: for help, or for the version
 abbrev pub IsText : ErrorKind → Type 0
 IsText kind = (kind ≡ DisplayHelp) ⊎ (kind ≡ DisplayVersion)
 
--- such a text, or else the job of their subcommand
+-- the arguments ask for help or the version, or for the job of their subcommand
 abbrev pub Asks : ℕ → List (List ℕ) → Job → Type 0
 Asks now arguments (Help error) =
     IsText (kind_of error) × IsAmong (kind_of error) (faults arguments)
 Asks now arguments job = (faults arguments ≡ []) × IsJobOf now arguments job
 
--- arguments that are wrong, or that spell no job
+-- the arguments are wrong, or spell no job
 abbrev pub IsWrongLine : ℕ → List (List ℕ) → WrongUsage → Type 0
 IsWrongLine now arguments (CommandLine error) =
     IsAmong (kind_of error) (faults arguments) × (IsText (kind_of error) → ⊥)

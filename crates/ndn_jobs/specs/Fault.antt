@@ -8,13 +8,13 @@ use Rattle.ndn_jobs.specs.declared.fault.Usage.TheVariants.{CommandLine, BadValu
 use Rattle.ndn_jobs.specs.declared.fault.ToolFault.{ToolFault}
 use Rattle.ndn_jobs.specs.declared.fault.ToolFault.TheVariants as tool
 
--- a packet that cannot be written, or a lack of memory
+-- the fault of a packet that cannot be written: it has a bad name or is too long, or memory ran out
 abbrev pub fault_of_write : WriteFault → ToolFault
 fault_of_write BadName = tool.Write BadName
 fault_of_write TooLong = tool.Write TooLong
 fault_of_write WriteMemory = tool.Memory
 
--- 2 for a wrong command line, 3 for memory, else 1
+-- the exit status: 2 for a wrong command line, 3 if memory ran out, and otherwise 1
 abbrev pub tool_status : ToolFault → ℕ
 tool_status (tool.Usage usage) = 2
 tool_status tool.NoKey = 1
@@ -27,7 +27,7 @@ tool_status tool.Memory = 3
 abbrev pub out_of_memory : List ℕ
 out_of_memory = codes "error: out of memory\n"
 
--- the message of a wrong command line is the parser's
+-- the message for a bad value; the message for any other wrong command line is the parser's
 abbrev pub usage_text : Usage → Option (List ℕ)
 usage_text (CommandLine error) = None
 usage_text (BadValue place wanted) =

@@ -1,4 +1,4 @@
--- What the options of a subcommand spell, by the values parsed for them.
+-- What the options of a subcommand spell, given the values that were parsed for them.
 use Rattle.std.specs.Prelude.{◌≡◌, ℕ, List, Option, None, Some, Bool, true, false, is_some, is_none, ◌&&◌, codes, bytes_eq, if◌then◌else◌, unwrap_or, String, Vec, string_bytes}
 use Rattle.clap.specs.declared.parser.matches.ArgMatches.{ArgMatches}
 use Rattle.clap.specs.Matches.{found_of}
@@ -18,7 +18,7 @@ use Rattle.ndn_jobs.specs.declared.job.ExplainJob.{ExplainJob}
 use Rattle.ndn_jobs.specs.declared.job.SendJob.{SendJob}
 use Rattle.ndn_jobs.specs.Value.{IsNumber, IsHops, IsPort, AreOctets, IsPacket, IsNonce, IsTokenText}
 
--- the parsed values, option by option
+-- the parsed values of all options
 abbrev pub rows_in : ArgMatches → List Row
 rows_in options = rows_of (found_of options)
 
@@ -30,20 +30,20 @@ value_at rows id = first_of id rows
 abbrev pub flag_at : List Row → List ℕ → Option (List ℕ)
 flag_at rows id = one_of id rows
 
--- a path is the value itself
+-- the value of a path option is the path itself
 abbrev pub IsPath : {Z : Type 0} → List ℕ → String Z → Type 0
 IsPath value path = string_bytes path ≡ value
 
--- the value is given and spells this
+-- the option is given, and its value spells `x`
 abbrev pub Has : {A : Type 0} → Option (List ℕ) → (List ℕ → A → Type 0) → A → Type 0
 Has value Spells x = (w : List ℕ) × (value ≡ Some w) × Spells w x
 
--- the same, or there is neither
+-- either the option is given and spells the value, or there is neither an option nor a value
 abbrev pub MayHave : {A : Type 0} → Option (List ℕ) → (List ℕ → A → Type 0) → Option A → Type 0
 MayHave value Spells None = value ≡ None
 MayHave value Spells (Some x) = Has value Spells x
 
--- the value that is spelled, or this default
+-- the value that the option spells or, if the option is not given, the default `other`
 abbrev pub HasOr : {A : Type 0} → A → Option (List ℕ) → (List ℕ → A → Type 0) → A → Type 0
 HasOr {A} other value Spells x =
     (given : Option A) × MayHave value Spells given × (x ≡ unwrap_or given other)
@@ -54,7 +54,7 @@ IsFlag said b =
     × (said ≡ Some (codes "false") → b ≡ false)
     × (said ≡ None → b ≡ false)
 
--- the short words for the two strategies stand for their names
+-- the words `best-route` and `multicast` stand for the names of these strategies
 abbrev pub strategy_uri : List ℕ → List ℕ
 strategy_uri word =
     if bytes_eq word (codes "best-route") then codes "/localhost/nfd/strategy/best-route" else (
@@ -68,13 +68,13 @@ pub record IsKeyChoice (rows : List Row) (choice : KeyChoice) : Type 0 where
   pub keys : MayHave (value_at rows (codes "keys")) IsPath choice.keys
   pub key : MayHave (value_at rows (codes "key")) ReadsAs choice.key
 
--- the ports that a packet is sent to and from; a port to send from needs one to send to
+-- the ports that a packet is sent to and from; a port to send from requires a port to send to
 pub record IsPorts (target source : Option (List ℕ)) (ports : Ports) : Type 0 where
   pub to : MayHave target IsPort ports.to
   pub from : MayHave source IsPort ports.from
   pub pair : is_none ports.to && is_some ports.from ≡ false
 
--- the packet is not sent
+-- neither port is given, so the packet is not sent
 abbrev pub AreNoPorts : Ports → Type 0
 AreNoPorts ports = (ports.to ≡ None) × (ports.from ≡ None)
 
@@ -100,7 +100,7 @@ pub record IsDataJob (rows : List Row) (job : DataJob) : Type 0 where
   pub freshness : MayHave (value_at rows (codes "freshness")) IsNumber job.freshness
   pub key : IsKeyChoice rows job.key
 
--- the parameters of `command`
+-- the parameters that the options of `command` spell
 pub record AreParameters (rows : List Row) (p : Parameters) : Type 0 where
   pub name : Has (value_at rows (codes "name")) ReadsAs p.name
   pub face : MayHave (value_at rows (codes "face")) IsNumber p.face
@@ -139,6 +139,6 @@ pub record IsSendJob (rows : List Row) (job : SendJob) : Type 0 where
   pub to : Has (value_at rows (codes "to")) IsPort job.to
   pub from : MayHave (value_at rows (codes "from")) IsPort job.from
 
--- the octets to show
+-- the octets that `show` is given
 abbrev pub IsShowJob : {Z : Type 0} → List Row → Vec ℕ Z → Type 0
 IsShowJob rows octets = Has (value_at rows (codes "HEX")) AreOctets octets

@@ -15,11 +15,11 @@ is_repository_verb word =
     bytes_eq word (codes "insert") || bytes_eq word (codes "delete")
     || bytes_eq word (codes "check")
 
--- a word that is a verb
+-- the word is a verb of a repository
 abbrev pub IsRepositoryVerb : List ℕ → List ℕ → Type 0
 IsRepositoryVerb word verb = (verb ≡ word) × (is_repository_verb word ≡ true)
 
--- the verb is one component after the repository's prefix
+-- the name of the command: the repository's prefix, and the verb as one component after it
 pub record IsRepositoryName (rows : List Row) (name : List Field) : Type 0 where
   pub verb : List ℕ
   pub prefix : List Field
@@ -40,7 +40,7 @@ pub record AreRepositoryParameters (rows : List Row) (p : Parameters) : Type 0 w
   pub can_be_prefix : IsFlag (flag_at rows (codes "can-be-prefix")) p.can_be_prefix
   pub lifetime : MayHave (value_at rows (codes "lifetime")) IsNumber p.lifetime
 
--- the command that the options of `repo` ask for, at this time and in these words
+-- the command that the options of `repo` ask for, at this time and with these words
 pub record IsRepositoryJob (now : ℕ) (words : List ℕ) (rows : List Row) (job : CommandJob)
     : Type 0 where
   pub name : IsRepositoryName rows job.name

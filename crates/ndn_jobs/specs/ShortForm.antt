@@ -1,4 +1,5 @@
--- The short forms of commands: the action that each stands for, and what its options spell.
+-- The short forms of commands: the action that each short form stands for, and what its options
+-- spell.
 use Rattle.std.specs.Prelude.{◌≡◌, ℕ, List, Option, None, Some, Bool, true, false, is_some, is_none, ◌&&◌, ◌||◌, codes, find, bytes_eq}
 use Rattle.clap.specs.Walk.{Row}
 use Rattle.ndn_names.specs.ReadsAs.{ReadsAs}
@@ -14,13 +15,13 @@ use Rattle.ndn_jobs.specs.Value.{IsNumber, IsNonce}
 use Rattle.ndn_jobs.specs.Options.{value_at, Has, MayHave, HasOr, IsKeyChoice, IsPorts, SpellsStrategy}
 use Rattle.ndn_jobs.specs.Nonce.{nonce_of}
 
--- ---- the forms
+-- ---- the words of the short forms
 
--- the words of a form
+-- whether the subcommand and the verb are these two words
 abbrev pub words_are : List ℕ → List ℕ → List ℕ → List ℕ → Bool
 words_are subcommand verb first second = bytes_eq subcommand first && bytes_eq verb second
 
--- these two words name the action
+-- whether the subcommand and the verb name the action
 abbrev pub is_named : List ℕ → List ℕ → Action → Bool
 is_named subcommand verb AddNexthop = words_are subcommand verb (codes "route") (codes "add")
 is_named subcommand verb RemoveNexthop = words_are subcommand verb (codes "route") (codes "remove")
@@ -35,15 +36,16 @@ is_named subcommand verb EraseCache = words_are subcommand verb (codes "cache") 
 abbrev pub action_of : List ℕ → List ℕ → Option Action
 action_of subcommand verb = find (is_named subcommand verb) actions
 
--- the verb of an action of this subcommand
+-- the verb of the subcommand names this action
 abbrev pub IsVerb : List ℕ → List ℕ → Action → Type 0
 IsVerb subcommand verb action = action_of subcommand verb ≡ Some action
 
--- an option is absent unless the command takes the field of this type
+-- whether an option may be given as it is: it is absent, or the command takes the field of this
+-- type
 abbrev pub may_give : Action → ℕ → Option (List ℕ) → Bool
 may_give action kind value = takes kind (row_of action) || is_none value
 
--- a command on routes needs a face
+-- whether the options suit a command on routes, which needs a face
 abbrev pub fits_route : Action → List Row → Bool
 fits_route action rows =
     is_some (value_at rows (codes "face"))
@@ -52,7 +54,8 @@ fits_route action rows =
     && may_give action FLAGS (value_at rows (codes "flags"))
     && may_give action EXPIRATION_PERIOD (value_at rows (codes "expires"))
 
--- the options suit the verb: it takes all that are given, and what it needs is given
+-- whether the options suit the verb: the verb takes all options that are given, and all that it
+-- needs are given
 abbrev pub fits : Action → List Row → Bool
 fits AddNexthop rows = fits_route AddNexthop rows
 fits RemoveNexthop rows = fits_route RemoveNexthop rows
@@ -62,7 +65,7 @@ fits SetStrategy rows = is_some (value_at rows (codes "STRATEGY"))
 fits UnsetStrategy rows = is_none (value_at rows (codes "STRATEGY"))
 fits EraseCache rows = true
 
--- ---- what options spell
+-- ---- what the options spell
 
 pub record AreShortParameters (rows : List Row) (p : Parameters) : Type 0 where
   pub name : Has (value_at rows (codes "PREFIX")) ReadsAs p.name
@@ -76,7 +79,8 @@ pub record AreShortParameters (rows : List Row) (p : Parameters) : Type 0 where
   pub can_be_prefix : p.can_be_prefix ≡ false
   pub lifetime : p.lifetime ≡ None
 
--- without options the time is the present, and the Nonce is made of the time and the words
+-- the time is `now` if it is not given, and the Nonce, if it is not given, is computed from the
+-- time and the words
 pub record IsShortStamp (now : ℕ) (words : List ℕ) (rows : List Row) (stamp : Stamp)
     : Type 0 where
   pub time : HasOr now (value_at rows (codes "time")) IsNumber stamp.time
@@ -92,7 +96,7 @@ pub record IsFormJob (action : Action) (now : ℕ) (words : List ℕ) (rows : Li
   pub parameters : AreShortParameters rows job.parameters
   pub stamp : IsShortStamp now words rows job.stamp
 
--- what the options of the subcommand of this name ask for
+-- the command that the options of the subcommand with this name ask for
 abbrev pub IsShortJob : ℕ → List ℕ → List ℕ → List Row → CommandJob → Type 0
 IsShortJob now words subcommand rows job =
     (action : Action) × Has (value_at rows (codes "VERB")) (IsVerb subcommand) action

@@ -16,10 +16,10 @@ use ndn_command_line::{Subcommand, tool_command};
 use std::alloc::Global;
 use std::convert::AsStr;
 
-/// Reads the arguments of a command line, the first of which is the program's name, at a time in
-/// milliseconds since 1970.
+/// Reads the arguments of a command line as a job, at a time in milliseconds since 1970. The first
+/// argument is the program's name.
 ///
-/// Returns `Usage` for a wrong command line, and else no error but `Memory`.
+/// Returns `Usage` for a wrong command line. The only other error is `Memory`.
 pub fn parse_words<S: AsStr>(alloc: Global, now: u64, arguments: &[S]) -> Result<Job, ToolFault>
     ensures { MatchResult result
         (Asks now (map S.text arguments.now))
@@ -33,7 +33,7 @@ pub fn parse_words<S: AsStr>(alloc: Global, now: u64, arguments: &[S]) -> Result
     }
 }
 
-/// The arguments after the program's name.
+/// Returns the arguments after the program's name.
 fn after_program<S: AsStr>(arguments: &[S]) -> &[S]
     ensures { map S.text result.now ≡ drop 1 (map S.text arguments.now) }
 {
@@ -54,7 +54,7 @@ fn answer_to(error: Error) -> Result<Job, ToolFault>
     }
 }
 
-/// The job of the subcommand that was found.
+/// Returns the job of the subcommand that was found.
 fn job_of(alloc: Global, matches: &ArgMatches<'_>, now: u64, words: &[u8]) -> Result<Job, ToolFault>
     ensures { ReadsInMemory (IsJob now words.now (subcommand_rows_of matches.now)) result }
 {
@@ -64,14 +64,14 @@ fn job_of(alloc: Global, matches: &ArgMatches<'_>, now: u64, words: &[u8]) -> Re
     }
 }
 
-/// The name of the subcommand that was found, and its options.
+/// Returns the name of the subcommand that was found, and its options.
 fn used<'a, 'm>(matches: &'m ArgMatches<'a>) -> Option<(&'a str, &'m ArgMatches<'a>)>
     ensures { option_map (λ p. (p.0.now, rows_in p.1.now)) result ≡ subcommand_rows_of matches.now }
 {
     matches.subcommand()
 }
 
-/// The job that the options of the subcommand of this name ask for.
+/// Returns the job that the options of the subcommand with this name ask for.
 fn named_job(
     alloc: Global,
     name: &str,
@@ -87,7 +87,7 @@ fn named_job(
     }
 }
 
-/// The job that the options of a subcommand with this name ask for.
+/// Returns the job that the options of `subcommand` ask for, where `name` is the subcommand's name.
 fn job_for(
     alloc: Global,
     subcommand: Subcommand,
@@ -118,7 +118,8 @@ fn job_for(
     }
 }
 
-/// The list, or the command of a short form, that the options of a subcommand ask for.
+/// Returns the job that the options of a subcommand ask for: a list if the verb is `list`, and
+/// otherwise the command of a short form.
 fn listed_job(
     alloc: Global,
     name: &str,

@@ -1,4 +1,4 @@
-//! Why a job was not done: its message and its exit status.
+//! Why a job was not done, with a message and an exit status for each reason.
 
 ghost use Rattle.std.specs.Prelude.{◌≡◌};
 
@@ -10,13 +10,13 @@ use std::fmt;
 /// What is wrong with a command line.
 #[derive(Debug, Drop)]
 pub enum Usage {
-    /// The arguments are not a command line.
+    /// The arguments cannot be parsed as a command line.
     CommandLine(clap::Error),
     /// An option or argument has an invalid value.
     BadValue {
-        /// The option or argument, as the help names it.
+        /// The name of the option or argument, as in the help.
         place: &'static str,
-        /// What to give there.
+        /// What kind of value to give instead.
         wanted: &'static str,
     },
 }
@@ -40,8 +40,8 @@ impl ToolFault {
     ghost use Rattle.std.specs.Prelude.{◌≡◌};
     ghost use Rattle.ndn_jobs.specs.Fault.{tool_status};
 
-    /// The exit status: 1 for a missing key or a bad packet, 2 for a wrong command line, 3 if out
-    /// of memory.
+    /// Returns the exit status: 1 for a missing key or a bad packet, 2 for a wrong command line, 3
+    /// if memory ran out.
     pub fn exit_status(&self) -> u8
         ensures { result ≡ tool_status self.now }
     {
@@ -55,7 +55,7 @@ impl ToolFault {
     }
 }
 
-/// The fault of an invalid value.
+/// Returns the fault of an invalid value.
 pub fn refusal(place: &'static str, wanted: &'static str) -> ToolFault
     ensures { result ≡ ToolFault.Usage (Usage.BadValue place.entry wanted.entry) }
 {

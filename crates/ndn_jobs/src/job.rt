@@ -22,41 +22,41 @@ use std::alloc::Global;
 /// What a command line asks for: a subcommand with its options.
 #[derive(Drop)]
 pub enum Job {
-    /// The help text.
+    /// Print the help text or the version.
     Help(Error),
-    /// To write an Interest.
+    /// Write an Interest.
     Interest(LinkJob),
-    /// To write a Data.
+    /// Write a Data.
     Data(DataJob),
-    /// To write a command.
+    /// Write a command.
     Command(CommandJob),
-    /// To compute the tag of octets.
+    /// Compute the tag of some octets.
     Tag(TagJob),
-    /// To show what a packet holds.
+    /// Show what a packet contains.
     Show(Vec<u8>),
-    /// To explain packets.
+    /// Explain packets.
     Explain(ExplainJob),
-    /// To send a packet, and to print the answer to it.
+    /// Send a packet, and print the answer to it.
     Send(SendJob),
-    /// To send an Interest, and to print what its answer contains.
+    /// Send an Interest, and print what its answer contains.
     Ask(AskJob),
 }
 
 /// The ports of 127.0.0.1 that a packet is sent to and from.
 #[derive(Clone, Copy, Debug)]
 pub struct Ports {
-    /// The port that it is sent to; without one it is printed.
+    /// The port that the packet is sent to. If there is none, the packet is printed.
     pub to: Option<u16>,
-    /// The port that it is sent from; without one it is a new one.
+    /// The port that the packet is sent from. If there is none, a new port is used.
     pub from: Option<u16>,
 }
 
-/// The key of a signature: the file that it is in, and its name.
+/// The key of a signature: the key file that has the key, and the key's name.
 #[derive(Drop)]
 pub struct KeyChoice {
-    /// The path of the key file, if there is one.
+    /// The path of the key file, if one is given.
     pub keys: Option<String>,
-    /// The name of the key, if there is one.
+    /// The name of the key, if one is given.
     pub key: Option<NameBuf>,
 }
 
@@ -66,7 +66,7 @@ pub struct InterestJob {
     pub name: NameBuf,
     pub can_be_prefix: bool,
     pub must_be_fresh: bool,
-    /// The value of the Nonce, 4 octets as they stand.
+    /// The 4 octets of the Nonce, in order.
     pub nonce: [u8; 4],
     /// The InterestLifetime in milliseconds.
     pub lifetime: Option<u64>,
@@ -78,15 +78,15 @@ pub struct InterestJob {
     pub time: Option<u64>,
     /// The SignatureSeqNum of a signed Interest.
     pub seq: Option<u64>,
-    /// The key of its signature; without one it is not signed.
+    /// The key of the signature. If there is none, the Interest is not signed.
     pub key: KeyChoice,
 }
 
-/// An Interest to write, and the PIT token that is put beside it.
+/// An Interest to write, and the PIT token that goes with it.
 #[derive(Drop)]
 pub struct LinkJob {
     pub interest: InterestJob,
-    /// The PIT token; without one there is no link packet around the Interest.
+    /// The PIT token. If there is none, the Interest is not put into a link packet.
     pub token: Option<Token>,
 }
 
@@ -98,14 +98,14 @@ pub struct DataJob {
     pub content: Option<Vec<u8>>,
     /// The FreshnessPeriod in milliseconds.
     pub freshness: Option<u64>,
-    /// The key of its signature; without one it is signed with DigestSha256.
+    /// The key of the signature. If there is none, the Data is signed with DigestSha256.
     pub key: KeyChoice,
 }
 
-/// A command to write: an Interest whose name ends with its parameters.
+/// A command to write: an Interest whose name ends with the parameters of the command.
 #[derive(Drop)]
 pub struct CommandJob {
-    /// The name of the command, which ends with its verb.
+    /// The name of the command, which ends with the command's verb.
     pub name: NameBuf,
     pub parameters: Parameters,
     pub stamp: Stamp,
@@ -114,18 +114,18 @@ pub struct CommandJob {
 /// What makes a command unique, who signs it, and where it is sent.
 #[derive(Drop)]
 pub struct Stamp {
-    /// The value of the Nonce, 4 octets as they stand.
+    /// The 4 octets of the Nonce, in order.
     pub nonce: [u8; 4],
     /// The SignatureTime, in milliseconds since 1970.
     pub time: u64,
     /// The SignatureSeqNum.
     pub seq: Option<u64>,
-    /// The key of the signature; without one it is DigestSha256.
+    /// The key of the signature. If there is none, the command is signed with DigestSha256.
     pub key: KeyChoice,
     pub ports: Ports,
 }
 
-/// Octets, and the key to compute their tag with.
+/// Some octets, and the key with which to compute their tag.
 #[derive(Drop)]
 pub struct TagJob {
     pub octets: Vec<u8>,
@@ -138,20 +138,21 @@ pub struct TagJob {
 /// Packets to explain.
 #[derive(Drop)]
 pub struct ExplainJob {
-    /// The packet; without one, those of standard input.
+    /// The packet. If there is none, the packets are read from standard input.
     pub packet: Option<Vec<u8>>,
-    /// The path of the key file to check signatures with; without one they are not checked.
+    /// The path of the key file for checking signatures. If there is none, signatures are not
+    /// checked.
     pub keys: Option<String>,
 }
 
 /// A packet to send.
 #[derive(Drop)]
 pub struct SendJob {
-    /// The packet; without one, that of standard input.
+    /// The packet. If there is none, the packet is read from standard input.
     pub packet: Option<Vec<u8>>,
-    /// The port of 127.0.0.1 that it is sent to.
+    /// The port of 127.0.0.1 that the packet is sent to.
     pub to: u16,
-    /// The port that it is sent from; without one it is a new one.
+    /// The port that the packet is sent from. If there is none, a new port is used.
     pub from: Option<u16>,
 }
 
@@ -167,7 +168,7 @@ impl Job {
     ghost use Rattle.std.specs.Prelude.{◌≡◌, option_map};
     ghost use Rattle.ndn_jobs.specs.Job.{key_file_of};
 
-    /// The path of the key file that the job names, if it names one.
+    /// Returns the path of the key file that the job names, if it names one.
     pub fn key_file(&self) -> Option<&str>
         ensures { option_map (λ path. path.now) result ≡ key_file_of self.now }
     {
@@ -186,7 +187,7 @@ impl InterestJob {
     ghost use Rattle.ndn_jobs.specs.Value.{ReadsInMemory};
     ghost use Rattle.ndn_jobs.specs.Options.{rows_in, IsInterestJob};
 
-    /// The Interest that the options of `interest` ask for, without the PIT token.
+    /// Returns the Interest that the options of `interest` ask for, without the PIT token.
     pub fn read(alloc: Global, options: &ArgMatches<'_>) -> Result<InterestJob, ToolFault>
         ensures { ReadsInMemory (IsInterestJob (rows_in options.now)) result }
     {
@@ -209,7 +210,7 @@ impl LinkJob {
     ghost use Rattle.ndn_jobs.specs.Value.{ReadsInMemory};
     ghost use Rattle.ndn_jobs.specs.Options.{rows_in, IsLinkJob};
 
-    /// The Interest and the PIT token that the options of `interest` ask for.
+    /// Returns the Interest and the PIT token that the options of `interest` ask for.
     pub fn read(alloc: Global, options: &ArgMatches<'_>) -> Result<LinkJob, ToolFault>
         ensures { ReadsInMemory (IsLinkJob (rows_in options.now)) result }
     {
@@ -224,7 +225,7 @@ impl DataJob {
     ghost use Rattle.ndn_jobs.specs.Value.{ReadsInMemory};
     ghost use Rattle.ndn_jobs.specs.Options.{rows_in, IsDataJob};
 
-    /// The Data that the options of `data` ask for.
+    /// Returns the Data that the options of `data` ask for.
     pub fn read(alloc: Global, options: &ArgMatches<'_>) -> Result<DataJob, ToolFault>
         ensures { ReadsInMemory (IsDataJob (rows_in options.now)) result }
     {
@@ -243,7 +244,7 @@ impl CommandJob {
     ghost use Rattle.ndn_jobs.specs.ShortForm.{IsFormJob, IsShortJob};
     ghost use Rattle.ndn_jobs.specs.RepositoryForm.{IsRepositoryJob};
 
-    /// The command that the options of `command` ask for.
+    /// Returns the command that the options of `command` ask for.
     pub fn read(alloc: Global, options: &ArgMatches<'_>) -> Result<CommandJob, ToolFault>
         ensures { ReadsInMemory (IsCommandJob (rows_in options.now)) result }
     {
@@ -254,8 +255,9 @@ impl CommandJob {
         })
     }
 
-    /// The command that a short form asks for: the subcommand of this name with these options.
-    /// Without these options the time is `now`, and the Nonce is made of the time and the words.
+    /// Returns the command that a short form asks for: the subcommand with this name and these
+    /// options. If the time is not given it is `now`, and if the Nonce is not given it is computed
+    /// from the time and the words.
     pub fn read_short(
         alloc: Global,
         subcommand: &str,
@@ -270,8 +272,8 @@ impl CommandJob {
         CommandJob::read_form(alloc, action, options, now, words)
     }
 
-    /// The command that the options of `repo` ask for. Without these options the time is `now`, and
-    /// the Nonce is made of the time and the words.
+    /// Returns the command that the options of `repo` ask for. If the time is not given it is
+    /// `now`, and if the Nonce is not given it is computed from the time and the words.
     pub fn read_repository(
         alloc: Global,
         options: &ArgMatches<'_>,
@@ -287,7 +289,7 @@ impl CommandJob {
         })
     }
 
-    /// The command of a short form.
+    /// Returns the command of a short form, given its action.
     fn read_form(
         alloc: Global,
         action: Action,
@@ -306,7 +308,7 @@ impl CommandJob {
     }
 }
 
-/// The parameters that the options of `command` spell.
+/// Returns the parameters that the options of `command` spell.
 fn parameters(alloc: Global, options: &ArgMatches<'_>) -> Result<Parameters, ToolFault>
     ensures { ReadsInMemory (AreParameters (rows_in options.now)) result }
 {
@@ -324,7 +326,7 @@ fn parameters(alloc: Global, options: &ArgMatches<'_>) -> Result<Parameters, Too
     })
 }
 
-/// The parameters that the options of a short form spell.
+/// Returns the parameters that the options of a short form spell.
 fn short_parameters(alloc: Global, options: &ArgMatches<'_>) -> Result<Parameters, ToolFault>
     ensures { ReadsInMemory (AreShortParameters (rows_in options.now)) result }
 {
@@ -342,7 +344,7 @@ fn short_parameters(alloc: Global, options: &ArgMatches<'_>) -> Result<Parameter
     })
 }
 
-/// The parameters that the options of `repo` spell.
+/// Returns the parameters that the options of `repo` spell.
 fn repository_parameters(alloc: Global, options: &ArgMatches<'_>) -> Result<Parameters, ToolFault>
     ensures { ReadsInMemory (AreRepositoryParameters (rows_in options.now)) result }
 {
@@ -365,7 +367,7 @@ impl Stamp {
     ghost use Rattle.ndn_jobs.specs.Options.{rows_in, IsStamp};
     ghost use Rattle.ndn_jobs.specs.ShortForm.{IsShortStamp};
 
-    /// The stamp that the options of `command` spell.
+    /// Returns the stamp that the options of `command` spell.
     fn read(alloc: Global, options: &ArgMatches<'_>) -> Result<Stamp, ToolFault>
         ensures { ReadsInMemory (IsStamp (rows_in options.now)) result }
     {
@@ -381,7 +383,7 @@ impl Stamp {
         })
     }
 
-    /// The stamp that the options of a short form spell.
+    /// Returns the stamp that the options of a short form spell.
     fn read_short(
         alloc: Global,
         options: &ArgMatches<'_>,
@@ -408,7 +410,7 @@ impl Ports {
     ghost use Rattle.ndn_jobs.specs.Value.{Reads};
     ghost use Rattle.ndn_jobs.specs.Options.{rows_in, value_at, IsPorts};
 
-    /// The ports that the option of this id and `from` spell.
+    /// Returns the ports that the options `id` and `from` spell.
     fn read(options: &ArgMatches<'_>, id: &'static str) -> Result<Ports, ToolFault>
         ensures { Reads (IsPorts (value_at (rows_in options.now) id.now)
             (value_at (rows_in options.now) (codes "from"))) result }
@@ -428,8 +430,8 @@ impl AskJob {
     ghost use Rattle.ndn_jobs.specs.Options.{rows_in};
     ghost use Rattle.ndn_jobs.specs.Ask.{IsListJob, IsPeekJob};
 
-    /// The list that `list` asks for, as a verb of the subcommand of this name. Without an option
-    /// for it the Nonce is made of the time and the words.
+    /// Returns the list that the verb `list` of the subcommand with this name asks for. If the
+    /// Nonce is not given, it is computed from the time and the words.
     pub fn read_list(
         alloc: Global,
         subcommand: &str,
@@ -470,8 +472,8 @@ impl AskJob {
         })
     }
 
-    /// The Interest that the options of `peek` ask for. Where they leave out the Nonce, it is made
-    /// of the time and the words.
+    /// Returns the Interest that the options of `peek` ask for. If the Nonce is not given, it is
+    /// computed from the time and the words.
     pub fn read_peek(
         alloc: Global,
         options: &ArgMatches<'_>,
@@ -510,7 +512,7 @@ fn view_of(raw: bool) -> View
     if raw { View::Content } else { View::Lines }
 }
 
-/// The list of the subcommand of this name.
+/// Returns the list that belongs to the subcommand with this name.
 fn list_of(subcommand: &str) -> NodeList
     ensures { result ≡ list_of subcommand.now }
 {
@@ -521,7 +523,7 @@ fn list_of(subcommand: &str) -> NodeList
     }
 }
 
-/// Whether the verb is `list`.
+/// Returns whether the verb is `list`.
 pub fn is_list(options: &ArgMatches<'_>) -> bool
     ensures { result ≡ is_list (rows_in options.now) }
 {
@@ -531,7 +533,7 @@ pub fn is_list(options: &ArgMatches<'_>) -> bool
     }
 }
 
-/// Whether no option is given that belongs to the commands of the subcommand.
+/// Returns whether no option is given that belongs only to the commands of the subcommand.
 fn is_alone(options: &ArgMatches<'_>) -> bool
     ensures { result ≡ is_alone (rows_in options.now) }
 {
@@ -558,7 +560,7 @@ impl TagJob {
     ghost use Rattle.ndn_jobs.specs.Value.{ReadsInMemory};
     ghost use Rattle.ndn_jobs.specs.Options.{rows_in, IsTagJob};
 
-    /// The octets and the key that the options of `tag` name.
+    /// Returns the octets and the key that the options of `tag` give.
     pub fn read(alloc: Global, options: &ArgMatches<'_>) -> Result<TagJob, ToolFault>
         ensures { ReadsInMemory (IsTagJob (rows_in options.now)) result }
     {
@@ -574,7 +576,7 @@ impl ExplainJob {
     ghost use Rattle.ndn_jobs.specs.Value.{ReadsInMemory};
     ghost use Rattle.ndn_jobs.specs.Options.{rows_in, IsExplainJob};
 
-    /// The packets and the key file that the options of `explain` name.
+    /// Returns the packets and the key file that the options of `explain` give.
     pub fn read(alloc: Global, options: &ArgMatches<'_>) -> Result<ExplainJob, ToolFault>
         ensures { ReadsInMemory (IsExplainJob (rows_in options.now)) result }
     {
@@ -589,7 +591,7 @@ impl SendJob {
     ghost use Rattle.ndn_jobs.specs.Value.{ReadsInMemory};
     ghost use Rattle.ndn_jobs.specs.Options.{rows_in, IsSendJob};
 
-    /// The packet and the port that the options of `send` name.
+    /// Returns the packet and the ports that the options of `send` give.
     pub fn read(alloc: Global, options: &ArgMatches<'_>) -> Result<SendJob, ToolFault>
         ensures { ReadsInMemory (IsSendJob (rows_in options.now)) result }
     {

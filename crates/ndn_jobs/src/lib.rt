@@ -1,4 +1,4 @@
-//! Reads the words of a command line as a job, or as a fault if they ask for none.
+//! Reads the words of a command line as a job, or returns a fault if they do not ask for one.
 #![tactic(auto)]
 
 mod command;

@@ -1,4 +1,4 @@
-//! The Nonce of a command whose options give none.
+//! The Nonce of a command if its options do not give one.
 
 ghost use Rattle.std.specs.Prelude.{◌≡◌, ◌++◌, flat_map, unwrap_or, IfOk, OnOk};
 ghost use Rattle.ndn_jobs.specs.Nonce.{nonce_of, spaced};
@@ -8,7 +8,7 @@ use std::alloc::{AllocError, Global};
 use std::convert::AsStr;
 use std::io::Write;
 
-/// The words of a command line as one text, a space before each.
+/// Returns the words of a command line as one text, with a space before each word.
 pub fn words_of<S: AsStr>(alloc: Global, words: &[S]) -> Result<Vec<u8>, AllocError>
     ensures { IfOk result
         (λ text. text.items ≡ flat_map (λ word. spaced (S.text word)) words.now) }
@@ -20,7 +20,7 @@ pub fn words_of<S: AsStr>(alloc: Global, words: &[S]) -> Result<Vec<u8>, AllocEr
     Ok(text)
 }
 
-/// Appends a space and a word. After an error some octets of them may have been appended.
+/// Appends a space and a word. If memory runs out, some of their octets may have been appended.
 fn put_spaced(text: &mut Vec<u8>, word: &str) -> Result<(), AllocError>
     ensures { OnOk result (text.new.items ≡ text.old.items ++ spaced word.now) }
 {
@@ -28,7 +28,8 @@ fn put_spaced(text: &mut Vec<u8>, word: &str) -> Result<(), AllocError>
     text.extend_from_slice(word.as_bytes())
 }
 
-/// The given Nonce, or one made of this time and these words.
+/// Returns the given Nonce or, if there is none, one that is computed from this time and these
+/// words.
 pub fn nonce_or(
     alloc: Global,
     given: Option<[u8; 4]>,
@@ -43,8 +44,8 @@ pub fn nonce_or(
     }
 }
 
-/// A Nonce made of a time and the words of a command: the first four octets of SHA-256 over the
-/// time in decimal digits and the words.
+/// Returns a Nonce that is computed from a time and the words of a command: the first four octets
+/// of SHA-256 over a text, which is the time in decimal digits and then the words.
 fn nonce_of(alloc: Global, time: u64, words: &[u8]) -> Result<[u8; 4], AllocError>
     ensures { IfOk result (λ nonce. nonce ≡ nonce_of time words.now) }
 {

@@ -1,4 +1,4 @@
-//! The options of a subcommand, by their ids.
+//! The values of a subcommand's options, found by the ids of the options.
 ghost use Rattle.std.specs.Prelude.{◌≡◌, Some, None, option_map, MatchResult};
 ghost use Rattle.ndn_names.specs.ReadsAs.{ReadsAs};
 ghost use Rattle.ndn_jobs.specs.Value.{IsNumber, IsHops, IsPort, AreOctets, IsPacket, IsNonce, IsTokenText, IsUsage, Reads, ReadsInMemory};
@@ -15,14 +15,14 @@ use clap::ArgMatches;
 use ndn_names::NameBuf;
 use std::alloc::Global;
 
-/// The value of an option, if it is given.
+/// Returns the value of an option, if the option is given.
 pub fn value<'a>(options: &ArgMatches<'a>, id: &str) -> Option<&'a str>
     ensures { option_map (λ value. value.now) result ≡ value_at (rows_in options.now) id.now }
 {
     options.get_str(id)
 }
 
-/// The value of a required option.
+/// Returns the value of a required option.
 pub fn required<'a>(options: &ArgMatches<'a>, id: &'static str) -> Result<&'a str, ToolFault>
     ensures { MatchResult result (λ value. value_at (rows_in options.now) id.now ≡ Some value.now)
         (λ fault. IsUsage fault × (value_at (rows_in options.now) id.now ≡ None)) }
@@ -36,7 +36,7 @@ pub fn required<'a>(options: &ArgMatches<'a>, id: &'static str) -> Result<&'a st
     }
 }
 
-/// The name that a required option spells.
+/// Returns the name that a required option spells.
 pub fn required_name(
     alloc: Global,
     options: &ArgMatches<'_>,
@@ -47,7 +47,7 @@ pub fn required_name(
     parse_name(alloc, id, required(options, id)?)
 }
 
-/// The octets that a required option spells.
+/// Returns the octets that a required option spells.
 pub fn required_octets(
     alloc: Global,
     options: &ArgMatches<'_>,
@@ -58,7 +58,7 @@ pub fn required_octets(
     parse_octets(alloc, id, required(options, id)?)
 }
 
-/// The packet that a required option spells, or none for a dash.
+/// Returns the packet that a required option spells, or `None` for a dash.
 pub fn packet(
     alloc: Global,
     options: &ArgMatches<'_>,
@@ -69,7 +69,7 @@ pub fn packet(
     parse_packet(alloc, id, required(options, id)?)
 }
 
-/// The path that a required option gives.
+/// Returns the path that a required option gives.
 pub fn required_path(
     alloc: Global,
     options: &ArgMatches<'_>,
@@ -80,35 +80,35 @@ pub fn required_path(
     Ok(String::from_str(alloc, required(options, id)?)?)
 }
 
-/// The value of the Nonce that a required option spells.
+/// Returns the 4 octets of the Nonce that a required option spells.
 pub fn required_nonce(options: &ArgMatches<'_>, id: &'static str) -> Result<[u8; 4], ToolFault>
     ensures { Reads (Has (value_at (rows_in options.now) id.now) IsNonce) result }
 {
     parse_nonce(id, required(options, id)?)
 }
 
-/// The number that a required option spells.
+/// Returns the number that a required option spells.
 pub fn required_number(options: &ArgMatches<'_>, id: &'static str) -> Result<u64, ToolFault>
     ensures { Reads (Has (value_at (rows_in options.now) id.now) IsNumber) result }
 {
     parse_number(id, required(options, id)?)
 }
 
-/// The port that a required option spells.
+/// Returns the port that a required option spells.
 pub fn required_port(options: &ArgMatches<'_>, id: &'static str) -> Result<u16, ToolFault>
     ensures { Reads (Has (value_at (rows_in options.now) id.now) IsPort) result }
 {
     parse_port(id, required(options, id)?)
 }
 
-/// Whether a flag is given.
+/// Returns whether a flag is given.
 pub fn flag(options: &ArgMatches<'_>, id: &'static str) -> bool
     ensures { IsFlag (flag_at (rows_in options.now) id.now) result }
 {
     options.get_flag(id)
 }
 
-/// The number that an option spells, if it is given.
+/// Returns the number that an option spells, if the option is given.
 pub fn number(options: &ArgMatches<'_>, id: &'static str) -> Result<Option<u64>, ToolFault>
     ensures { Reads (MayHave (value_at (rows_in options.now) id.now) IsNumber) result }
 {
@@ -118,7 +118,7 @@ pub fn number(options: &ArgMatches<'_>, id: &'static str) -> Result<Option<u64>,
     }
 }
 
-/// The number of hops that an option spells, if it is given.
+/// Returns the number of hops that an option spells, if the option is given.
 pub fn hops(options: &ArgMatches<'_>, id: &'static str) -> Result<Option<u8>, ToolFault>
     ensures { Reads (MayHave (value_at (rows_in options.now) id.now) IsHops) result }
 {
@@ -128,7 +128,7 @@ pub fn hops(options: &ArgMatches<'_>, id: &'static str) -> Result<Option<u8>, To
     }
 }
 
-/// The port that an option spells, if it is given.
+/// Returns the port that an option spells, if the option is given.
 pub fn port(options: &ArgMatches<'_>, id: &'static str) -> Result<Option<u16>, ToolFault>
     ensures { Reads (MayHave (value_at (rows_in options.now) id.now) IsPort) result }
 {
@@ -138,7 +138,7 @@ pub fn port(options: &ArgMatches<'_>, id: &'static str) -> Result<Option<u16>, T
     }
 }
 
-/// The octets that an option spells, if it is given.
+/// Returns the octets that an option spells, if the option is given.
 pub fn octets(
     alloc: Global,
     options: &ArgMatches<'_>,
@@ -152,7 +152,7 @@ pub fn octets(
     }
 }
 
-/// The PIT token that an option spells, if it is given.
+/// Returns the PIT token that an option spells, if the option is given.
 pub fn token(
     alloc: Global,
     options: &ArgMatches<'_>,
@@ -166,7 +166,7 @@ pub fn token(
     }
 }
 
-/// The name that an option spells, if it is given.
+/// Returns the name that an option spells, if the option is given.
 pub fn name(
     alloc: Global,
     options: &ArgMatches<'_>,
@@ -180,8 +180,8 @@ pub fn name(
     }
 }
 
-/// The name of a strategy that an option spells, if it is given: a URI, `best-route` or
-/// `multicast`.
+/// Returns the name of the strategy that an option spells, if the option is given. The option's
+/// value is a URI, `best-route` or `multicast`.
 pub fn strategy(
     alloc: Global,
     options: &ArgMatches<'_>,
@@ -196,7 +196,7 @@ pub fn strategy(
     }
 }
 
-/// The value of the Nonce that an option spells, if it is given.
+/// Returns the 4 octets of the Nonce that an option spells, if the option is given.
 pub fn nonce(options: &ArgMatches<'_>, id: &'static str) -> Result<Option<[u8; 4]>, ToolFault>
     ensures { Reads (MayHave (value_at (rows_in options.now) id.now) IsNonce) result }
 {
@@ -206,7 +206,7 @@ pub fn nonce(options: &ArgMatches<'_>, id: &'static str) -> Result<Option<[u8; 4
     }
 }
 
-/// The path that an option gives, if it is given.
+/// Returns the path in an option's value, if the option is given.
 pub fn path(
     alloc: Global,
     options: &ArgMatches<'_>,

@@ -12,7 +12,8 @@ use ndn_names::component_type::GENERIC;
 use ndn_names::{NameBuf, NameFault};
 use std::alloc::Global;
 
-/// The name of the command: the repository's prefix, and the verb as one component after it.
+/// Returns the name of the command: the repository's prefix, and the verb as one component after
+/// it.
 pub fn repository_name(alloc: Global, options: &ArgMatches<'_>) -> Result<NameBuf, ToolFault>
     ensures { ReadsInMemory (IsRepositoryName (rows_in options.now)) result }
 {
@@ -27,7 +28,7 @@ pub fn repository_name(alloc: Global, options: &ArgMatches<'_>) -> Result<NameBu
     }
 }
 
-/// The verb that the options spell.
+/// Returns the verb that the options spell.
 fn verb_in<'a>(options: &ArgMatches<'a>) -> Result<&'a str, ToolFault>
     ensures { let said = value_at (rows_in options.now) (codes "VERB") in MatchResult result
         (λ verb. Has said IsRepositoryVerb verb.now)

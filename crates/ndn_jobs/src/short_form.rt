@@ -1,4 +1,4 @@
-//! The short forms of commands: `route`, `strategy` and `cache` with their verbs.
+//! The short forms of commands: `route`, `strategy` and `cache`, each with its verbs.
 
 ghost use Rattle.std.specs.Prelude.{◌≡◌, codes, false, true, Some, MatchResult};
 ghost use Rattle.ndn_packets.specs.declared.command_types.TheConstants.{COST, ORIGIN, FLAGS, EXPIRATION_PERIOD};
@@ -12,7 +12,7 @@ use crate::options;
 use clap::ArgMatches;
 use mgmt_core::Action;
 
-/// The action of a subcommand and the verb among its options.
+/// Returns the action that a subcommand and the verb in its options name.
 pub fn action_in(subcommand: &str, options: &ArgMatches<'_>) -> Result<Action, ToolFault>
     ensures { Reads
         (Has (value_at (rows_in options.now) (codes "VERB")) (IsVerb subcommand.now)) result }
@@ -24,7 +24,7 @@ pub fn action_in(subcommand: &str, options: &ArgMatches<'_>) -> Result<Action, T
     }
 }
 
-/// The verbs of a subcommand, for messages.
+/// Returns the verbs of a subcommand, as they are listed in messages.
 fn verbs_of(subcommand: &str) -> &'static str {
     match subcommand {
         "route" => "add, remove, list, register or unregister",
@@ -33,7 +33,7 @@ fn verbs_of(subcommand: &str) -> &'static str {
     }
 }
 
-/// Whether these two words name the action.
+/// Returns whether the subcommand and the verb name the action.
 fn is_named(action: Action, subcommand: &str, verb: &str) -> bool
     ensures { result ≡ is_named subcommand.now verb.now action }
 {
@@ -48,7 +48,7 @@ fn is_named(action: Action, subcommand: &str, verb: &str) -> bool
     }
 }
 
-/// The action that these two words name.
+/// Returns the action that the subcommand and the verb name.
 fn action_of(subcommand: &str, verb: &str) -> Option<Action>
     ensures { result ≡ action_of subcommand.now verb.now }
 {
@@ -76,7 +76,8 @@ fn action_of(subcommand: &str, verb: &str) -> Option<Action>
     None
 }
 
-/// Refuses options that the verb does not take, and a command without what its verb needs.
+/// Checks that the verb takes all options that are given, and that all options that it needs are
+/// given.
 pub fn check_fit(action: Action, options: &ArgMatches<'_>) -> Result<(), ToolFault>
     ensures { MatchResult result (λ _. fits action (rows_in options.now) ≡ true)
         (λ why. IsUsage why × (fits action (rows_in options.now) ≡ false)) }
@@ -95,7 +96,7 @@ pub fn check_fit(action: Action, options: &ArgMatches<'_>) -> Result<(), ToolFau
     }
 }
 
-/// The same for a command on routes.
+/// Does the same check as `check_fit`, for a command on routes.
 fn check_route(action: Action, options: &ArgMatches<'_>) -> Result<(), ToolFault>
     ensures { MatchResult result (λ _. fits_route action (rows_in options.now) ≡ true)
         (λ why. IsUsage why × (fits_route action (rows_in options.now) ≡ false)) }
@@ -133,7 +134,7 @@ fn takes_origin(action: Action) -> bool
     matches!(action, Action::Register | Action::Unregister)
 }
 
-/// Whether the action takes flags and a period.
+/// Returns whether the action takes flags and an expiration period.
 fn is_register(action: Action) -> bool
     ensures flags { result ≡ takes FLAGS (row_of action) }
     ensures expires { result ≡ takes EXPIRATION_PERIOD (row_of action) }
@@ -141,7 +142,7 @@ fn is_register(action: Action) -> bool
     action == Action::Register
 }
 
-/// The URI of a strategy that a word stands for.
+/// Returns the URI of the strategy that a word stands for.
 pub fn strategy_uri(word: &str) -> &str
     ensures { result.now ≡ strategy_uri word.now }
 {

@@ -8,7 +8,7 @@ use std::marker::Model;
 /// The greatest length of a PIT token, in octets.
 const MAX_TOKEN: usize = 32;
 
-/// A PIT token, 1 to 32 octets (NDNLPv2, "PIT Token").
+/// A PIT token of 1 to 32 octets (NDNLPv2, "PIT Token").
 #[derive(Drop)]
 pub struct Token {
     octets: Vec<u8>,
@@ -29,7 +29,7 @@ impl Token {
     ghost use Rattle.std.specs.Prelude.{◌≡◌, MatchOption};
     ghost use Rattle.ndn_packets.specs.Link.{IsToken};
 
-    /// The token of these octets, if they are 1 to 32.
+    /// Returns the token with these octets, if there are 1 to 32 of them.
     pub fn new(octets: Vec<u8>) -> Option<Token>
         ensures { MatchOption result (IsToken octets.items → ⊥) (λ token. token ≡ octets.items) }
     {
@@ -39,7 +39,7 @@ impl Token {
         Some(Token { octets })
     }
 
-    /// Its octets.
+    /// Returns the octets of the token.
     pub fn octets(&self) -> &[u8]
         ensures value { result.now ≡ self.now }
         ensures sized { IsToken result.now }
@@ -48,7 +48,7 @@ impl Token {
     }
 }
 
-/// The octets of a token, where there is one.
+/// Returns the octets of a token, if there is a token.
 pub fn token_octets(token: &Option<Token>) -> Option<&[u8]>
     ensures value { option_map (λ o. o.now) result ≡ token.now }
     ensures sized { IfSome result (λ o. IsToken o.now) }

@@ -9,14 +9,14 @@ use hex::FromHexError;
 use ndn_names::{NameBuf, NameFault};
 use std::alloc::Global;
 
-/// The name whose URI is this text.
+/// Returns the name whose URI is this text.
 pub fn parse_name(alloc: Global, place: &'static str, text: &str) -> Result<NameBuf, ToolFault>
     ensures { ReadsInMemory (ReadsAs text.now) result }
 {
     parse_uri(alloc, place, text, "the URI of a name, such as /A/B")
 }
 
-/// The name of a strategy whose URI is this text.
+/// Returns the name of the strategy whose URI is this text.
 pub fn parse_strategy(alloc: Global, place: &'static str, text: &str) -> Result<NameBuf, ToolFault>
     ensures { ReadsInMemory (ReadsAs text.now) result }
 {
@@ -45,7 +45,8 @@ fn parse_uri(
     }
 }
 
-/// The octets that a text spells in hexadecimal of either case; an empty text has none.
+/// Returns the octets that a text spells in hexadecimal of either case. An empty text spells no
+/// octets.
 pub fn parse_octets(alloc: Global, place: &'static str, text: &str) -> Result<Vec<u8>, ToolFault>
     ensures { ReadsInMemory (AreOctets text.now) result }
 {
@@ -56,7 +57,7 @@ pub fn parse_octets(alloc: Global, place: &'static str, text: &str) -> Result<Ve
     }
 }
 
-/// The PIT token, 1 to 32 octets, that a text spells in hexadecimal of either case.
+/// Returns the PIT token of 1 to 32 octets that a text spells in hexadecimal of either case.
 pub fn parse_token(alloc: Global, place: &'static str, text: &str) -> Result<Token, ToolFault>
     ensures { ReadsInMemory (IsTokenText text.now) result }
 {
@@ -70,7 +71,7 @@ pub fn parse_token(alloc: Global, place: &'static str, text: &str) -> Result<Tok
     }
 }
 
-/// The packet that a text spells in hexadecimal, or none if the text is a dash.
+/// Returns the packet that a text spells in hexadecimal, or `None` if the text is a dash.
 pub fn parse_packet(
     alloc: Global,
     place: &'static str,
@@ -84,7 +85,7 @@ pub fn parse_packet(
     Ok(Some(parse_octets(alloc, place, text)?))
 }
 
-/// The value of a Nonce that a text spells.
+/// Returns the 4 octets of the Nonce that a text spells in hexadecimal.
 pub fn parse_nonce(place: &'static str, text: &str) -> Result<[u8; 4], ToolFault>
     ensures { Reads (IsNonce text.now) result }
 {
@@ -95,7 +96,7 @@ pub fn parse_nonce(place: &'static str, text: &str) -> Result<[u8; 4], ToolFault
     }
 }
 
-/// The number below 2^64 that a text spells in decimal digits, with leading zeros allowed.
+/// Returns the number below 2^64 that a text spells in decimal digits. Leading zeros are allowed.
 pub fn parse_number(place: &'static str, text: &str) -> Result<u64, ToolFault>
     ensures { Reads (IsNumber text.now) result }
 {
@@ -105,7 +106,7 @@ pub fn parse_number(place: &'static str, text: &str) -> Result<u64, ToolFault>
     }
 }
 
-/// The number of hops, from 0 to 255, that a text spells in decimal digits.
+/// Returns the number of hops, from 0 to 255, that a text spells in decimal digits.
 pub fn parse_hops(place: &'static str, text: &str) -> Result<u8, ToolFault>
     ensures { Reads (IsHops text.now) result }
 {
@@ -117,7 +118,7 @@ pub fn parse_hops(place: &'static str, text: &str) -> Result<u8, ToolFault>
     Err(bad_value(place, "a decimal number from 0 to 255"))
 }
 
-/// The port, from 1 to 65535, that a text spells in decimal digits.
+/// Returns the port, from 1 to 65535, that a text spells in decimal digits.
 pub fn parse_port(place: &'static str, text: &str) -> Result<u16, ToolFault>
     ensures { Reads (IsPort text.now) result }
 {
@@ -130,11 +131,12 @@ pub fn parse_port(place: &'static str, text: &str) -> Result<u16, ToolFault>
     Err(bad_value(place, "a port, a decimal number from 1 to 65535"))
 }
 
-/// The number that decimal digits spell, if there are any and it is below 2^64.
+/// Returns the number that a text of decimal digits spells, if it has any digits and the number is
+/// below 2^64.
 fn parse_digits(text: &str) -> Option<u64>
     ensures { MatchOption result ((n : ℕ) → IsNumber text.now n → ⊥) (IsNumber text.now) }
 {
-    // The parser of numbers would accept a sign.
+    // The standard parser of numbers would accept a sign.
     if text.starts_with('+') {
         return None;
     }

@@ -6,7 +6,7 @@ use Rattle.forwarder.specs.declared.verdict.Verdict.TheVariants.{Passed, Allowed
 use Rattle.ndn_log.specs.declared.entry.Came.{Came}
 use Rattle.ndn_log.specs.declared.entry.Came.TheVariants.{Packet, Opened, Closed, Tick, NewRules}
 
--- the octets that came; none if no packet came
+-- the octets that arrived; none if the event is not a packet
 abbrev pub octets_in : Came → List ℕ
 octets_in (Packet face octets) = octets.now
 octets_in (Opened face scope) = []
@@ -23,8 +23,8 @@ is_plain_outcome (Ok (NoRule kind)) = false
 is_plain_outcome (Ok (Dropped why)) = false
 is_plain_outcome (Err _) = false
 
--- what a log leaves out that does not show all events: events that passed and Data that were
--- allowed, except new rules
+-- the event is plain: it passed, or it is an allowed Data, and it does not bring new rules; a log
+-- that does not show all events leaves out plain ones
 abbrev pub is_plain : Came → Result Verdict Memory → Bool
 is_plain (Packet face octets) outcome = is_plain_outcome outcome
 is_plain (Opened face scope) outcome = is_plain_outcome outcome

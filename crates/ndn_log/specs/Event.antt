@@ -19,7 +19,7 @@ abbrev pub scope_word : code_scope.Scope → List ℕ
 scope_word Local = codes "local"
 scope_word Far = codes "far"
 
--- the face with its endpoint, and what happened on it, with the frame in the octets
+-- the face with its endpoint, and what happened on the face, with the packet that `frame` contains
 abbrev pub came_words : Option SocketAddr → Option PlainFrame → Came → List ℕ
 came_words endpoint frame (Packet face octets) =
     face_words face endpoint ++ (codes " " ++ packet_words frame)
@@ -29,7 +29,7 @@ came_words endpoint frame (Closed face) = face_words face endpoint ++ codes " cl
 came_words endpoint frame Tick = codes "tick"
 came_words endpoint frame NewRules = codes "rules replaced"
 
--- the octets of a dropped packet; nothing if no packet came
+-- the octets of a dropped packet; empty for other events
 abbrev pub end_words : Came → Result code.Verdict Memory → List ℕ
 end_words (Packet face octets) outcome = dropped_words octets.now outcome
 end_words (Opened face scope) outcome = []
@@ -37,7 +37,7 @@ end_words (Closed face) outcome = []
 end_words Tick outcome = []
 end_words NewRules outcome = []
 
--- what came, and the verdict on it by these rules
+-- what happened, and the verdict by these rules
 abbrev pub event_words : List PlainRule → Entry → Result code.Verdict Memory → List ℕ
 event_words rules entry outcome =
     let frame = frame_in (octets_in entry.came) in

@@ -1,4 +1,4 @@
--- Lines that no terminal acts on: printable ASCII, and a line feed at the end.
+-- Lines that cannot control a terminal: printable ASCII with a line feed at the end.
 use Rattle.std.specs.Prelude.{◌≡◌, ℕ, List, [], ◌∷◌, ◌++◌, flat_map, Bool, true, nat_le, ◌&&◌, codes, if◌then◌else◌}
 use Rattle.std.specs.List.{list_all}
 use Rattle.ndn_names.specs.Uri.{hexadecimal}
@@ -8,7 +8,7 @@ use Rattle.ndn_log.specs.Time.{IsTimeText}
 abbrev pub is_printable : ℕ → Bool
 is_printable octet = nat_le 32 octet && nat_le octet 126
 
--- any other octet as a percent sign and two hexadecimal digits
+-- the octet itself if it is printable, otherwise a percent sign and two hexadecimal digits
 abbrev pub shown : ℕ → List ℕ
 shown octet = if is_printable octet then octet ∷ [] else codes "%" ++ hexadecimal true octet
 
@@ -23,7 +23,7 @@ abbrev pub IsOneLine : List ℕ → Type 0
 IsOneLine line =
     (front : List ℕ) × (line ≡ front ++ codes "\n") × (list_all is_printable front ≡ true)
 
--- the line of a moment, in milliseconds since 1970, and of words after its time was appended
+-- a line with the time `moment`, in milliseconds since 1970, and these words was appended
 pub record IsLogged (old new : List ℕ) (moment : ℕ) (words : List ℕ) : Type 0 where
   pub time : List ℕ
   pub is_time : IsTimeText moment time

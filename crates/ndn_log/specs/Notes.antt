@@ -1,4 +1,4 @@
--- The texts of lines that are about no event.
+-- The texts of lines about things that are not events.
 use Rattle.std.specs.Prelude.{ℕ, List, ◌++◌, codes, Option}
 use Rattle.std.specs.declared.net.socket_addr.SocketAddr.{SocketAddr}
 use Rattle.ndn_log.specs.Words.{counted, face_words, octets_words}

@@ -8,11 +8,11 @@ use Rattle.ndn_packets.specs.declared.types.TheConstants.{CONGESTION, DUPLICATE,
 use Rattle.ndn_packets.specs.Packet.{PlainLocator, Missing, KeyName, Digest, Other, PlainSignature, PlainFrame, AnInterest, AData, ANack, Idle}
 use Rattle.ndn_packets.specs.FrameReading.{frame_at}
 
--- the frame in the octets, if there is one
+-- the frame in the octets, if they are a frame
 abbrev pub frame_in : List ℕ → Option PlainFrame
 frame_in octets = result_ok (frame_at octets)
 
--- the name of a Nack's reason (NDNLPv2, "Network Nack"), or the number of another one
+-- the name of a Nack's reason (NDNLPv2, "Network Nack"), or the number of a reason without a name
 abbrev pub nack_reason : ℕ → List ℕ
 nack_reason reason =
     if reason == CONGESTION then codes "Congestion" else (
@@ -28,7 +28,7 @@ frame_words (AData whole d) = codes "Data " ++ uri_of d.name
 frame_words (ANack reason whole i) = nack_words reason i.name
 frame_words Idle = codes "idle"
 
--- for octets without a packet the word alone
+-- the words for a packet; without a frame, the single word `packet`
 abbrev pub packet_words : Option PlainFrame → List ℕ
 packet_words None = codes "packet"
 packet_words (Some frame) = frame_words frame

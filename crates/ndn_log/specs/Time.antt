@@ -5,19 +5,20 @@ use Rattle.jiff.specs.Types.{DateTime}
 use Rattle.jiff.specs.Words.{civil_nanos, datetime_text}
 use Rattle.ndn_log.specs.declared.time.TheConstants.{LAST_DATED}
 
--- what a calendar and a clock at UTC show this many nanoseconds after 1970, with three digits of
--- the fraction of the second, as `2026-11-27T22:10:00.123Z`
+-- the date and time in UTC this many nanoseconds after 1970, with three digits of the fraction of a
+-- second, as in `2026-11-27T22:10:00.123Z`
 abbrev pub IsDateText : ℤ → List ℕ → Type 0
 IsDateText nanosecond text =
     (shown : DateTime) × (civil_nanos shown ≡ nanosecond)
     × (text ≡ datetime_text false 84 (Some 3) shown ++ codes "Z")
 
--- of a moment in milliseconds since 1970: its date and time, and the number where it has none
+-- the text of a time in milliseconds since 1970: a date and time, or the number if the time has no
+-- date
 pub record IsTimeText (moment : ℕ) (text : List ℕ) : Type 0 where
   pub dated : moment ≤ LAST_DATED → IsDateText (pos moment *ℤ pos 1_000_000) text
   pub undated : LAST_DATED < moment → text ≡ decimal moment
 
--- such a text was appended
+-- the text of a date and time was appended
 abbrev pub IsDatePut : ℤ → List ℕ → List ℕ → Type 0
 IsDatePut nanosecond old new = (text : List ℕ) × IsDateText nanosecond text × (new ≡ old ++ text)
 

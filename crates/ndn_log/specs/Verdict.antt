@@ -14,7 +14,7 @@ use Rattle.forwarder.specs.Verdict.{DropReason, NoFace, Malformed, Idle, HopLimi
 use Rattle.ndn_log.specs.Packet.{key_words}
 use Rattle.ndn_log.specs.Words.{octets_words}
 
--- why an event was dropped; for malformed octets with their fault
+-- the reason why an event was dropped; malformed octets are shown with their fault
 abbrev pub drop_words : DropReason → List ℕ
 drop_words NoFace = codes "NoFace"
 drop_words (Malformed fault) = codes "Malformed " ++ packet_name fault
@@ -29,12 +29,13 @@ drop_words BadFace = codes "BadFace"
 drop_words FaceOpen = codes "FaceOpen"
 drop_words FacesFull = codes "FacesFull"
 
--- the rule that denies a packet, and the reason
+-- the rule that denies a packet, and the reason of the denial
 abbrev pub denial_words : List PlainRule → ℕ → Reason → List ℕ
 denial_words rules rule reason =
     codes "denied by rule " ++ (id_of rules rule ++ (codes ", " ++ reason_name reason))
 
--- Rules are named by their ids. A denial ends with the key that the packet names.
+-- The words for a verdict. Rules are shown by their ids. A denial ends with the key that the packet
+-- names.
 abbrev pub verdict_words : List PlainRule → Option PlainFrame → Verdict → List ℕ
 verdict_words rules frame Passed = codes "passed"
 verdict_words rules frame (Allowed rule status) =
@@ -49,7 +50,7 @@ abbrev pub outcome_words : List PlainRule → Option PlainFrame → Result code.
 outcome_words rules frame (Ok verdict) = verdict_words rules frame (verdict_of verdict)
 outcome_words rules frame (Err _) = codes "out of memory"
 
--- the octets of a dropped packet; nothing if it was not dropped
+-- the octets of a dropped packet; empty for other packets
 abbrev pub dropped_words : List ℕ → Result code.Verdict Memory → List ℕ
 dropped_words octets (Ok outcomes.Passed) = []
 dropped_words octets (Ok (outcomes.Allowed rule status)) = []

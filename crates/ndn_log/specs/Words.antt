@@ -19,17 +19,17 @@ plural_of count = if count == 1 then [] else codes "s"
 abbrev pub counted : ℕ → List ℕ → List ℕ
 counted count noun = decimal count ++ (codes " " ++ (noun ++ plural_of count))
 
--- the first octets in hexadecimal, if there are any
+-- the first octets in hexadecimal, or nothing if there are no octets
 abbrev pub beginning_words : List ℕ → List ℕ
 beginning_words [] = []
 beginning_words (o ∷ octets) =
     codes " beginning " ++ encode_lower (take SHOWN_OCTETS (o ∷ octets))
 
--- a datagram of more than 9,000 octets is cut to 9,001
+-- a packet of more than 9,000 octets is truncated to 9,001, so there may be more octets
 abbrev pub more_words : ℕ → List ℕ
 more_words count = if count == CUT_OCTETS then codes " or more" else []
 
--- the number of octets, and the first 32
+-- the number of octets, and the first 32 octets
 abbrev pub octets_words : List ℕ → List ℕ
 octets_words octets =
     counted (length octets) (codes "octet")

@@ -7,10 +7,10 @@ use forwarder::{Scope, Verdict};
 use ndn_tlv::Memory;
 use std::net::SocketAddr;
 
-/// What came as one event of a node.
+/// What happened in one event of a node.
 #[derive(Clone, Copy, Debug)]
 pub enum Came<'a> {
-    /// Octets came on a face.
+    /// Octets arrived on a face.
     Packet { face: u64, octets: &'a [u8] },
     /// A face was opened.
     Opened { face: u64, scope: Scope },
@@ -25,15 +25,15 @@ pub enum Came<'a> {
 /// An event as a log shows it.
 #[derive(Clone, Copy, Debug)]
 pub struct Entry<'a> {
-    /// The moment, in milliseconds since 1970.
+    /// The time of the event in milliseconds since 1970.
     pub moment: u64,
-    /// The endpoint of the face, if known.
+    /// The endpoint of the face, if it is known.
     pub endpoint: Option<SocketAddr>,
     pub came: Came<'a>,
 }
 
-/// Whether a log that does not show all events leaves this one out: events that passed and Data
-/// that were allowed, except new rules.
+/// Returns whether the event is plain: it passed, or it is an allowed Data, and it does not bring
+/// new rules. A log that does not show all events leaves out plain ones.
 pub fn is_plain(entry: &Entry<'_>, outcome: &Result<Verdict, Memory>) -> bool
     ensures { result ≡ is_plain entry.now.came outcome.now }
 {
@@ -53,7 +53,7 @@ fn is_plain_outcome(outcome: &Result<Verdict, Memory>) -> bool
     }
 }
 
-/// The octets that came; none if no packet came.
+/// Returns the octets that arrived, or no octets if the event is not a packet.
 pub(crate) fn octets_in<'a>(entry: &Entry<'a>) -> &'a [u8]
     ensures { result.now ≡ octets_in entry.now.came }
 {

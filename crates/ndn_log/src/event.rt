@@ -16,9 +16,9 @@ use ndn_packets::Frame;
 use ndn_tlv::Memory;
 use std::alloc::Global;
 
-/// Appends the line of an event: its time, the face and the endpoint, what came with the packet's
-/// name, and the verdict by the rules in force, with the octets of a dropped packet. After `Memory`
-/// nothing has been appended.
+/// Appends the line of an event: its time, the face with its endpoint, what happened with the
+/// packet's name, the verdict by the rules in force, and the octets of a dropped packet. If memory
+/// runs out, nothing is appended.
 pub fn put_event(
     alloc: Global,
     text: &mut Vec<u8>,
@@ -28,7 +28,7 @@ pub fn put_event(
 ) -> Result<(), Memory>
     ensures ok { OnOk result (IsLogged text.old.items text.new.items entry.now.moment
         (event_words rules.now entry.now outcome.now)) }
-    // Safe to show on a terminal, whatever the packet and the rule file contain.
+    // The line is safe to show on a terminal, whatever the packet and the rule file contain.
     ensures one_line { OnOk result (IsOneLine (drop (vec_len text.old) text.new.items)) }
     ensures err { OnErr result (text.new.items ≡ text.old.items) }
 {
@@ -53,8 +53,8 @@ fn event_words(
     Ok(words)
 }
 
-/// Appends the octets of a dropped packet, or nothing. After `Memory` some of it may have been
-/// appended.
+/// Appends the octets of a dropped packet. Appends nothing for other events. If memory runs out,
+/// some of the text may be appended.
 fn put_end(
     alloc: Global,
     text: &mut Vec<u8>,
@@ -70,8 +70,8 @@ fn put_end(
     }
 }
 
-/// Appends what came, with the packet in its octets. After `Memory` some of it may have been
-/// appended.
+/// Appends what happened, with the packet that `frame` contains. If memory runs out, some of the
+/// text may be appended.
 fn put_came(text: &mut Vec<u8>, entry: &Entry<'_>, frame: &Option<Frame<'_>>) -> Result<(), Memory>
     ensures { OnOk result (text.new.items ≡ text.old.items ++ came_words entry.now.endpoint
         (option_map plain_frame frame.now) entry.now.came) }

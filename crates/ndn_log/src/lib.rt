@@ -1,4 +1,4 @@
-//! A log for operators: a line for each event of a node.
+//! A log for operators, with one line for each event of a node.
 #![tactic(auto)]
 
 mod entry;

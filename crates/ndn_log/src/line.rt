@@ -9,7 +9,8 @@ use std::alloc::Global;
 use std::fmt;
 use std::io::Write;
 
-/// An octet of a line. It is escaped unless it is printable ASCII, so that no terminal acts on it.
+/// An octet of a line. An octet that is not printable ASCII is shown escaped, so that it cannot
+/// control a terminal.
 #[derive(Clone, Copy)]
 struct Shown(u8);
 
@@ -26,7 +27,7 @@ impl fmt::Display for Shown {
     }
 }
 
-/// Octets of a line.
+/// The octets of a line.
 #[derive(Clone, Copy)]
 struct ShownText<'a>(&'a [u8]);
 
@@ -47,8 +48,8 @@ fn is_printable(octet: u8) -> bool
     32 <= octet && octet <= 126
 }
 
-/// Appends a line: the time of a moment, in milliseconds since 1970, and words. After `Memory`
-/// nothing has been appended.
+/// Appends a line with a time and words. `moment` is in milliseconds since 1970. If memory runs
+/// out, nothing is appended.
 pub fn put_line(alloc: Global, text: &mut Vec<u8>, moment: u64, words: &[u8]) -> Result<(), Memory>
     ensures ok { OnOk result (IsLogged text.old.items text.new.items moment words.now) }
     ensures one_line { OnOk result (IsOneLine (drop (vec_len text.old) text.new.items)) }
@@ -61,7 +62,7 @@ pub fn put_line(alloc: Global, text: &mut Vec<u8>, moment: u64, words: &[u8]) ->
     put_shown(alloc, text, &stamped)
 }
 
-/// Appends octets as a line. After `Memory` nothing has been appended.
+/// Appends octets as a line. If memory runs out, nothing is appended.
 fn put_shown(alloc: Global, text: &mut Vec<u8>, octets: &[u8]) -> Result<(), Memory>
     ensures ok { OnOk result (text.new.items ≡ text.old.items ++ line_of octets.now) }
     ensures one_line { OnOk result (IsOneLine (drop (vec_len text.old) text.new.items)) }
@@ -72,7 +73,7 @@ fn put_shown(alloc: Global, text: &mut Vec<u8>, octets: &[u8]) -> Result<(), Mem
     Ok(())
 }
 
-/// Octets as a line.
+/// Returns octets as a line.
 fn shown_line(alloc: Global, octets: &[u8]) -> Result<Vec<u8>, Memory>
     ensures text { IfOk result (λ line. line.items ≡ line_of octets.now) }
     ensures one_line { IfOk result (λ line. IsOneLine line.items) }

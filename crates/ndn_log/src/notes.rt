@@ -1,4 +1,4 @@
-//! Lines about what is no event.
+//! Lines about things that are not events.
 
 ghost use Rattle.std.specs.Prelude.{◌≡◌, ◌++◌, drop, vec_len, IfOk, OnErr, OnOk};
 ghost use Rattle.ndn_log.specs.Line.{IsLogged, IsOneLine};
@@ -11,8 +11,8 @@ use ndn_tlv::Memory;
 use std::alloc::Global;
 use std::net::SocketAddr;
 
-/// Appends a line about a failed send: the face, its endpoint if known, and the number of octets
-/// with the first 32 of them. After `Memory` nothing has been appended.
+/// Appends a line about a failed send: the face, its endpoint if known, the number of octets, and
+/// the first 32 octets. If memory runs out, nothing is appended.
 pub fn put_failed_send(
     alloc: Global,
     text: &mut Vec<u8>,
@@ -30,8 +30,8 @@ pub fn put_failed_send(
     put_line(alloc, text, moment, &words)
 }
 
-/// Appends a line with the number of faces that closed because nothing had come on them for too
-/// long. After `Memory` nothing has been appended.
+/// Appends a line with the number of faces that closed because they were idle for too long. If
+/// memory runs out, nothing is appended.
 pub fn put_closed_idle(
     alloc: Global,
     text: &mut Vec<u8>,
@@ -46,8 +46,8 @@ pub fn put_closed_idle(
     put_counted(alloc, text, moment, count, "face", " closed idle")
 }
 
-/// Appends a line with the number of dropped datagrams of strangers: endpoints that are no peers.
-/// After `Memory` nothing has been appended.
+/// Appends a line with the number of dropped datagrams from strangers, which are endpoints that are
+/// not peers. If memory runs out, nothing is appended.
 pub fn put_strangers(
     alloc: Global,
     text: &mut Vec<u8>,
@@ -62,8 +62,8 @@ pub fn put_strangers(
     put_counted(alloc, text, moment, count, "datagram", " of strangers")
 }
 
-/// Appends a line with a count of what the noun names, and a word after it. After `Memory`
-/// nothing has been appended.
+/// Appends a line with a count, its noun and one more text. If memory runs out, nothing is
+/// appended.
 fn put_counted(
     alloc: Global,
     text: &mut Vec<u8>,

@@ -12,15 +12,15 @@ use ndn_packets::{CONGESTION, DUPLICATE, Frame, Locator, NO_ROUTE, Signature, re
 use ndn_tlv::Memory;
 use std::io::Write;
 
-/// The frame in the octets, if there is one.
+/// Returns the frame in the octets, if they are a frame.
 pub fn frame_in(octets: &[u8]) -> Option<Frame<'_>>
     ensures { option_map plain_frame result ≡ frame_in octets.now }
 {
     read_frame(octets).ok()
 }
 
-/// Appends the kind of a packet and its name, or a word alone for octets without a packet. After
-/// `Memory` some of it may have been appended.
+/// Appends the kind of a packet and its name, or the single word `packet` if there is no frame. If
+/// memory runs out, some of the text may be appended.
 pub fn put_packet(text: &mut Vec<u8>, frame: &Option<Frame<'_>>) -> Result<(), Memory>
     ensures { OnOk result (text.new.items ≡ text.old.items
         ++ packet_words (option_map plain_frame frame.now)) }
@@ -57,8 +57,8 @@ fn put_nack(text: &mut Vec<u8>, reason: u64, name: Name<'_>) -> Result<(), Memor
     }
 }
 
-/// Appends the name of the key in a packet's KeyLocator, after a comma; nothing if it names none.
-/// After `Memory` some of it may have been appended.
+/// Appends a comma and the name of the key in the packet's KeyLocator. Appends nothing if the
+/// KeyLocator is not a name. If memory runs out, some of the text may be appended.
 pub fn put_key(text: &mut Vec<u8>, frame: &Option<Frame<'_>>) -> Result<(), Memory>
     ensures { OnOk result (text.new.items ≡ text.old.items
         ++ key_words (option_map plain_frame frame.now)) }

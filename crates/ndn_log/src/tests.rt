@@ -1,4 +1,4 @@
-//! Lines as people read them.
+//! Tests of log lines as operators read them.
 
 use super::*;
 use forwarder::{DropReason, Scope, Verdict};
@@ -7,10 +7,10 @@ use ndn_packets::PacketFault;
 use std::alloc::Global;
 use std::net::{Ipv4Addr, Ipv6Addr, SocketAddr, SocketAddrV4, SocketAddrV6};
 
-/// 2026-11-27T22:10:00.123Z in milliseconds since 1970.
+/// The time 2026-11-27T22:10:00.123Z in milliseconds since 1970.
 const MOMENT: u64 = 1_795_817_400_123;
 
-/// A Nack of reason 150 for the Interest `/a`.
+/// A Nack with reason 150 for the Interest `/a`.
 const NACK: &str = "6418fd032005fd03210196500d050b07030801610a0401020304";
 
 /// The Interest `/a`.
@@ -23,7 +23,7 @@ const DATA: &str = "06150703080161160a1b01041c05070308016b1702abcd";
 const BROKEN: &str =
     "0501ffffffffffffffffffffffffffffffffffffffffffffffffffffffffffffffffffffffffffff";
 
-/// One rule, whose id has letters beyond ASCII.
+/// One rule whose id contains letters that are not ASCII.
 const RULES: &str = "rule
 {
   id sonde-\u{e9}t\u{e9}
@@ -36,7 +36,7 @@ const RULES: &str = "rule
 }
 ";
 
-/// Whether this is the line of a packet on face 2, of 192.0.2.7:6363, with a verdict.
+/// Returns whether `line` is the line of a packet on face 2 from 192.0.2.7:6363 with this verdict.
 fn is_line(alloc: Global, packet: &str, verdict: Verdict, line: &str) -> bool {
     let Ok(octets) = hex::decode(alloc, packet) else {
         return false;
@@ -52,7 +52,7 @@ fn is_line(alloc: Global, packet: &str, verdict: Verdict, line: &str) -> bool {
     )
 }
 
-/// The same of what came at that endpoint.
+/// Returns whether `line` is the line of an event on face 2 at 192.0.2.7:6363 with this verdict.
 fn is_event_line(alloc: Global, came: Came<'_>, verdict: Verdict, line: &str) -> bool {
     shown(alloc, came, verdict).is_some_and(|text| text.as_slice() == line.as_bytes())
 }
@@ -70,8 +70,7 @@ fn shown(alloc: Global, came: Came<'_>, verdict: Verdict) -> Option<Vec<u8>> {
     Some(text)
 }
 
-/// Whether the line of a packet that is too long says that it may be longer than what is left of
-/// it.
+/// Returns whether the line of a truncated packet says that the packet may have been longer.
 fn says_more(alloc: Global) -> bool {
     let Ok(octets) = vec![in alloc; 5; 9_001] else {
         return false;
@@ -89,8 +88,8 @@ fn says_more(alloc: Global) -> bool {
     )
 }
 
-/// The lines of faces that closed at the last moment that has a date and at the next, of a failed
-/// send, and of a stranger.
+/// Returns four lines: closed faces at the last time that has a date, closed faces one millisecond
+/// later, a failed send, and a stranger's datagram.
 fn shown_notes(alloc: Global) -> Option<Vec<u8>> {
     let mut text = Vec::new(alloc);
     put_closed_idle(alloc, &mut text, 253_402_207_200_999, 1).ok()?;

@@ -1,4 +1,4 @@
-//! Moments in the form of RFC 3339.
+//! Times in the format of RFC 3339.
 
 ghost use Rattle.std.specs.Prelude.{◌≡◌, ◌<◌, ◌≤◌, ◌*ℤ◌, pos, OnOk, MatchOption};
 ghost use Rattle.ndn_log.specs.Time.{IsDatePut, IsTimePut};
@@ -8,13 +8,13 @@ use jiff::fmt::temporal::DateTimePrinter;
 use ndn_tlv::Memory;
 use std::io::Write;
 
-/// The last moment that has a date in each time zone, 9999-12-30T22:00:00.999Z, in milliseconds
+/// The last time that has a date in every time zone, 9999-12-30T22:00:00.999Z, in milliseconds
 /// since 1970.
 const LAST_DATED: u64 = 253_402_207_200_999;
 
-/// Appends the time of a moment, in milliseconds since 1970: at UTC with three digits of a fraction
-/// of the second (RFC 3339, "Internet Date/Time Format"), and after the last moment that has a date
-/// the number. After `Memory` some of it may have been appended.
+/// Appends a time. `moment` is in milliseconds since 1970. The time is in UTC with three digits of
+/// the fraction of a second (RFC 3339, "Internet Date/Time Format"). A time after the last one that
+/// has a date is appended as a number. If memory runs out, some of the text may be appended.
 pub fn put_time(text: &mut Vec<u8>, moment: u64) -> Result<(), Memory>
     ensures { OnOk result (IsTimePut moment text.old.items text.new.items) }
 {
@@ -24,7 +24,7 @@ pub fn put_time(text: &mut Vec<u8>, moment: u64) -> Result<(), Memory>
     }
 }
 
-/// The instant of a moment that has a date.
+/// Returns the timestamp for a time that has a date.
 fn time_of(moment: u64) -> Option<Timestamp>
     ensures { MatchOption result (LAST_DATED < moment)
         (λ time. (moment ≤ LAST_DATED) × (time.nanosecond ≡ pos moment *ℤ pos 1_000_000)) }

@@ -14,7 +14,7 @@ use ndn_tlv::Memory;
 use std::alloc::Global;
 use std::io::Write;
 
-/// Appends the verdict on an event with this frame. After `Memory` some of it may have been
+/// Appends the verdict on an event with this frame. If memory runs out, some of the text may be
 /// appended.
 pub fn put_outcome(
     text: &mut Vec<u8>,
@@ -31,8 +31,8 @@ pub fn put_outcome(
     }
 }
 
-/// Appends the octets of a dropped packet, after a comma; nothing if it was not dropped.
-/// After `Memory` some of it may have been appended.
+/// Appends a comma and the octets of a dropped packet. Appends nothing for other packets. If memory
+/// runs out, some of the text may be appended.
 pub fn put_dropped(
     alloc: Global,
     text: &mut Vec<u8>,

@@ -9,13 +9,14 @@ use std::alloc::Global;
 use std::io::Write;
 use std::net::SocketAddr;
 
-/// The number of octets of a packet that a line shows.
+/// The number of a packet's octets that a line shows.
 const SHOWN_OCTETS: usize = 32;
 
-/// The length that a longer packet is cut to: one octet more than a frame may have.
+/// The length in octets to which a longer packet is truncated: one octet more than a frame may
+/// have.
 const CUT_OCTETS: usize = MAX_FRAME + 1;
 
-/// Appends a word, or nothing.
+/// Appends a word. If memory runs out, nothing is appended.
 pub fn put_word(text: &mut Vec<u8>, word: &str) -> Result<(), Memory>
     ensures { OnOk result (text.new.items ≡ text.old.items ++ word.now) }
 {
@@ -23,7 +24,7 @@ pub fn put_word(text: &mut Vec<u8>, word: &str) -> Result<(), Memory>
     Ok(())
 }
 
-/// Appends a face, with its endpoint if known. After `Memory` some of it may have been
+/// Appends a face, with its endpoint if known. If memory runs out, some of the text may be
 /// appended.
 pub fn put_face(text: &mut Vec<u8>, face: u64, endpoint: Option<SocketAddr>) -> Result<(), Memory>
     ensures { OnOk result (text.new.items ≡ text.old.items ++ face_words face endpoint) }
@@ -34,7 +35,7 @@ pub fn put_face(text: &mut Vec<u8>, face: u64, endpoint: Option<SocketAddr>) -> 
     }
 }
 
-/// Appends a count with its noun. After `Memory` some of it may have been appended.
+/// Appends a count with its noun. If memory runs out, some of the text may be appended.
 pub fn put_count(text: &mut Vec<u8>, count: u64, noun: &str) -> Result<(), Memory>
     ensures { OnOk result (text.new.items ≡ text.old.items ++ counted count noun.now) }
 {
@@ -47,9 +48,9 @@ fn plural_of(count: u64) -> &'static str
     if count == 1 { "" } else { "s" }
 }
 
-/// Appends the number of octets, and the first 32 of them. Of 9,001 octets it says that there may
-/// be more, since a longer packet comes cut to that. After `Memory` some of it may have been
-/// appended.
+/// Appends the number of octets and the first 32 octets. For 9,001 octets, it adds that there may
+/// be more, since a longer packet is truncated to 9,001. If memory runs out, some of the text may
+/// be appended.
 pub fn put_octets(alloc: Global, text: &mut Vec<u8>, octets: &[u8]) -> Result<(), Memory>
     ensures { OnOk result (text.new.items ≡ text.old.items ++ octets_words octets.now) }
 {

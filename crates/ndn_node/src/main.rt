@@ -1,4 +1,4 @@
-//! A Named Data Networking node that runs scripts, or on a UDP port.
+//! A Named Data Networking node that runs scripts or serves a UDP port.
 #![tactic(auto)]
 
 ghost use Rattle.std.specs.Prelude.{◌≤◌, length};
@@ -50,13 +50,13 @@ fn arguments_of<R: Env + AllocGlobal>(rt: &R) -> Result<Vec<String>, Fault> {
     }
 }
 
-/// Runs the script on standard input, and writes the answers to standard output.
+/// Runs the script that is on standard input, and writes the answers to standard output.
 fn script<R: AllocGlobal + Files + Input + Print>(rt: &R, options: Options) -> Result<(), Fault> {
     let (parts, _files) = parts_of(rt, options)?;
     run_script(rt.alloc(), &mut rt.reader(), &mut io::writer(rt), parts).map_err(Fault::Script)
 }
 
-/// Runs the node on its port, and writes the answers to standard output, unless it is quiet.
+/// Runs the node on its port. Writes the answers to standard output, unless the node is quiet.
 fn udp<R: AllocGlobal + Clock + Eprint + Files<File = File> + Net + Print>(
     rt: &R,
     node: Options,
@@ -68,7 +68,7 @@ fn udp<R: AllocGlobal + Clock + Eprint + Files<File = File> + Net + Print>(
     run_on_port(rt, parts, MachineClock::new(rt), files, options)
 }
 
-/// The parts of a node, with the rules and keys of its files, and these files.
+/// Returns the parts of a node, with the rules and keys of its files, and the files themselves.
 fn parts_of<R: AllocGlobal + Files>(
     rt: &R,
     options: Options,

@@ -1,4 +1,4 @@
--- What is read of elements, fields, names and numbers that were written.
+-- How elements, fields, names and numbers are read after they were written.
 use Rattle.std.proofs.Common.{◌≡◌, ℕ, zero, suc, ◌+◌, ◌^◌, ◌<◌, ◌≤◌, true, false, List, [], ◌∷◌, ◌++◌, length, Option, None, Some, Ok, refl, sym, ap, ◌∙◌, append-nil, arith, length-append, zero-add}
 use Rattle.std.specs.Prelude.{slice_get, IfSome, ◌==◌}
 use Rattle.std.specs.List.{AllByRecursion}
@@ -18,7 +18,7 @@ use Rattle.ndn_requests.specs.Commands.{IsWhole, as_read, fields_read}
 
 -- ---- elements
 
--- the element in front is read, whatever follows
+-- the first element is read, whatever follows it
 pub front_read : (f : Field) (rest : List ℕ) → IsField f → elements_of (element f ++ rest) ≡ as_read f ∷ elements_of rest
 front_read f rest ok = elements_of-ok (element f ++ rest) f rest (element_again f rest ok)
 
@@ -28,7 +28,7 @@ all_read fields ok = elements_again fields ok
 pub one_read : (f : Field) → IsField f → elements_of (element f) ≡ as_read f ∷ []
 one_read f ok = ap elements_of (sym (append-nil (element f)) ∙ sym (flat_map-cons element f [])) ∙ all_read (f ∷ []) (ok, tt)
 
--- the fields of an element, where the whole has a length
+-- the length of an element's value is below 2^64 if the length of the whole element is
 pub value_fits : (kind : ℕ) (value : List ℕ) → length (element (kind, value)) < 2 ^ 64 → length value < 2 ^ 64
 value_fits kind value lt = omega (arith, lt, length-element kind value)
 
@@ -58,7 +58,7 @@ number_read n lt = shortest_again n lt
 pub name_read : (name : List Field) → IsWhole name → name_at (octets_of name) ≡ Ok name
 name_read name whole = name_again (octets_of name) name whole
 
--- ---- places in a list
+-- ---- indexes into a list
 
 pub at_right : {X : Type 0} (xs ys : List X) (i k : ℕ) → i ≡ length xs + k → slice_get (xs ++ ys) i ≡ slice_get ys k
 at_right [] ys i k is = ap (slice_get ys) (is ∙ zero-add k)
@@ -67,18 +67,18 @@ at_right (x ∷ xs) ys (suc i) k is = at_right xs ys i k (omega arith)
 
 -- ---- names
 
--- the parts of a list whose members all have a property
+-- a property of all members of a list is a property of all members of each of its parts
 pub part_right : {X : Type 0} (P : X → Type 0) (xs ys : List X) → AllByRecursion P (xs ++ ys) → AllByRecursion P ys
 part_right P [] ys all = all
 part_right P (x ∷ xs) ys all = part_right P xs ys all.1
 
--- the octets of the last component have a length
+-- the length of the last component's value is below 2^64
 pub last_fits : (name : List Field) (kind : ℕ) (value : List ℕ) → IsWhole (name ++ (kind, value) ∷ []) → length value < 2 ^ 64
 last_fits name kind value whole = (part_right IsField name ((kind, value) ∷ []) whole.0.0).0.2
 
--- ---- fields that fit
+-- ---- fields whose lengths are below 2^64
 
--- a type of elements
+-- the type of the field is a valid TLV type
 abbrev pub IsType : Field → Type 0
 IsType f = (1 ≤ f.0) × (f.0 < 2 ^ 32)
 
@@ -100,7 +100,7 @@ pub optional_of_all : (P : Field → Type 0) (kind : ℕ) (value : Option (List 
 optional_of_all P kind None rest all = tt
 optional_of_all P kind (Some v) rest all = all.0
 
--- the type of a literal
+-- a literal type is a valid TLV type
 pub is_type : (kind : ℕ) (value : List ℕ) → 1 ≤ kind → kind < 2 ^ 32 → IsType (kind, value)
 is_type kind value pos lt = (pos, lt)
 

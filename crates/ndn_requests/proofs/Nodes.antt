@@ -1,4 +1,4 @@
--- The node's reading of a command that was written.
+-- How the node reads a command that was written.
 use Rattle.std.proofs.Common.{◌≡◌, ℕ, ◌^◌, ◌<◌, Bool, true, false, eqb, List, [], ◌∷◌, ◌++◌, length, map, Option, None, Some, Ok, Err, refl, sym, ap, ap₂, ◌∙◌, inl, inr, eq-eqb, ne_eqb, lit<, lit≤}
 use Rattle.std.specs.Prelude.{is_some, unwrap_or, IfSome, if◌then◌else◌, not, ◌&&◌}
 use Rattle.std.specs.Option.{option_map}
@@ -21,7 +21,7 @@ use Rattle.ndn_requests.specs.Parameters.{command_name, parameters_element, node
 use Rattle.ndn_requests.specs.Commands.{AreValues, Fits64, IsWhole, fields_read, kinds, node_name, signed_name, suits, asked_of}
 use Rattle.ndn_requests.proofs.Back.{IsType, all_read, first_here, first_other, fields_fit, last_fits, last_here, last_other, name_read, number_read, one_read, optional_all, optional_of_all, part_right, value_fits}
 
--- ---- which fields there are
+-- ---- which fields are present
 
 passes : (known taken : Bool) → known ≡ true → not (known && not taken) ≡ taken
 passes true true e = refl
@@ -45,7 +45,7 @@ needs_same : (needs : List ℕ) (fields : List Field) → list_all (λ kind. is_
 needs_same [] fields = refl
 needs_same (kind ∷ needs) fields = ap₂ (λ (a b : Bool). a && b) (first_has kind fields) (needs_same needs fields)
 
--- ---- what the fields hold
+-- ---- the values of the fields
 
 optional_number : (n : Option ℕ) → Fits64 n → optional_of number_of (option_map shortest_nni n) ≡ Some n
 optional_number None fit = refl

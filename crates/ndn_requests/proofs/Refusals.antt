@@ -1,4 +1,4 @@
--- What the refusals of writers say of the packet that is asked for.
+-- What it means for a packet that its writer refuses to write it.
 use Rattle.std.proofs.Common.{◌≡◌, ℕ, List, Option, None, Some, Result, Ok, Err, IfErr, MatchOption, refl, ap}
 use Rattle.ndn_tlv.specs.Element.{Field}
 use Rattle.ndn_packets.specs.declared.fault.WriteFault.{WriteFault}
@@ -9,7 +9,8 @@ use Rattle.ndn_packets.specs.Writing.{interest_refusal}
 use Rattle.ndn_requests.specs.Lists.{next_name}
 use Rattle.ndn_requests.specs.Exchange.{AsksPlainly, IsNoRequest, IsNextRefusal}
 
--- the fault of a writer that has this cause to refuse, or none
+-- the fault that a writer returns is the cause of its refusal or, if there is no such cause,
+-- `Memory`
 abbrev pub IsToldBy : Option WriteFault → WriteFault → Type 0
 IsToldBy None why = why ≡ Memory
 IsToldBy (Some cause) why = cause ≡ why
@@ -19,7 +20,7 @@ pub answered_error : (refusal : Option WriteFault) (why : WriteFault) (r : Resul
 answered_error None why r e h = rw e at h
 answered_error (Some cause) why r e h = cc
 
--- there is nothing to refuse where the packet is written
+-- if a packet was written, there was no cause to refuse it
 pub none_told : (refusal : Option WriteFault) (r : Result Unit WriteFault) → r ≡ Ok tt
     → MatchOption refusal (IfErr r (λ fault. fault ≡ Memory)) (λ fault. r ≡ Err fault) → refusal ≡ None
 none_told None r e h = refl

@@ -1,4 +1,4 @@
--- What is printed, and judged, of replies that were written.
+-- What is printed for a reply that was written, and how such a reply is judged.
 use Rattle.std.proofs.Common.{◌≡◌, ℕ, ◌^◌, ◌<◌, ◌≤◌, Bool, true, false, List, [], ◌∷◌, ◌++◌, length, Option, None, Some, refl, ap, ◌∙◌, append_assoc, append-nil, arith, length-append, lit<, lit≤}
 use Rattle.std.specs.Prelude.{if◌then◌else◌, ◌==◌, ◌&&◌, ◌||◌, codes, option_and_then, is_some}
 use Rattle.std.specs.Option.{option_map}
@@ -29,7 +29,7 @@ use Rattle.ndn_requests.specs.Reply.{code_in, content_outcome, done_if, is_inser
 use Rattle.ndn_requests.specs.Shown.{fields_shown, flags_shown, node_shown, repository_shown, status_shown, strategy_shown}
 use Rattle.ndn_requests.proofs.Back.{IsType, all_read, first_here, first_other, fields_fit, front_read, last_here, last_other, name_read, number_read, one_read, optional_all, value_fits}
 
--- ---- texts of values
+-- ---- values as text
 
 number_is : (n : ℕ) → n < 2 ^ 64 → number_text (shortest_nni n) ≡ decimal n
 number_is n lt = rw (number_read n lt) refl
@@ -83,7 +83,7 @@ strategies_are : (strategy : Option StrategyId) → option_map (form_text Strate
 strategies_are None = refl
 strategies_are (Some s) = ap (λ t. Some t) (strategy_is s)
 
--- ---- the fields of a reply of the node
+-- ---- the fields in a reply of the node
 
 given_fits : (taken : Bool) (n : Option ℕ) → Fits64 n → Fits64 (if taken then n else None)
 given_fits true n fit = fit
@@ -93,7 +93,7 @@ face_fits : (is_own : Bool) (face other : ℕ) → face < 2 ^ 64 → other < 2 ^
 face_fits true face other a b = a
 face_fits false face other a b = b
 
--- the lines of fields, by what is read of each
+-- the lines of the fields, given the text that is read from each field
 lines : Option (List ℕ) → Option (List ℕ) → Option (List ℕ) → Option (List ℕ) → Option (List ℕ) → Option (List ℕ) → Option (List ℕ) → Option (List ℕ) → Bool → Option (List ℕ) → List ℕ
 lines name face cost origin flags expires strategy count flag lifetime =
     optional_line (codes "name") name
@@ -213,7 +213,7 @@ module _ (c : PlainCommand) (from : ℕ) where
       last_type None = tt
       last_type (Some v) = ((lit≤ tt, lit< tt), tt)
 
-  -- each number has 64 bits
+  -- each number is below 2^64
   record AreNumbers : Type 0 where
     face : Fits64 face_given
     origin : Fits64 origin_given

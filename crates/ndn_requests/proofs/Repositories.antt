@@ -1,4 +1,4 @@
--- A repository's reading of a command that was written.
+-- How a repository reads a command that was written.
 use Rattle.std.proofs.Common.{◌≡◌, ℕ, ◌+◌, ◌^◌, ◌<◌, Bool, true, false, eqb, List, [], ◌∷◌, ◌++◌, length, Option, None, Some, refl, ap, subst, ◌∙◌, append_assoc, arith, eq-eqb, length-append, lit<, lit≤}
 use Rattle.std.specs.Prelude.{slice_get, not, ◌-◌, IsTrue, if◌then◌else◌, is_some, unwrap_or}
 use Rattle.std.specs.List.{AllByRecursion, list_all}
@@ -92,7 +92,7 @@ repository_reads prefix verb p digest values other whole =
     ∙ (ap (λ (o : Option (List ℕ)). o >>= (λ parameters. command_of verb (elements_of parameters))) one
     ∙ (ap (command_of verb) (all_read (repository_fields p) all) ∙ held verb p.name p.can_be_prefix p.lifetime values.name values.lifetime))))
 
--- ---- whose command it is
+-- ---- whether a command is for the node or for a repository
 
 told : (of_node : Bool) (node repository value : List ℕ) → value ≡ (if of_node then element (104, node) else element (201, repository)) → length value < 2 ^ 64 → is_some (single 201 (elements_of value)) ≡ not of_node
 told true node repository value is fits =

@@ -1,4 +1,4 @@
--- How the node and a repository read the commands that are written here (NFD Management, "Control
+-- How the node and a repository read the commands that the client writes (NFD Management, "Control
 -- Command").
 use Rattle.std.specs.Prelude.{ℕ, ◌<◌, ◌^◌, List, [], ◌∷◌, ◌++◌, map, Bool, not, ◌&&◌, Option, IfSome, Result, Ok, codes, unwrap_or}
 use Rattle.std.specs.List.{list_all}
@@ -17,13 +17,13 @@ use Rattle.repo_core.specs.Reading.{RepoCommand}
 use Rattle.ndn_requests.specs.declared.parameters.Parameters.{Parameters}
 use Rattle.ndn_requests.specs.Parameters.{command_name, node_fields}
 
--- ---- values of the program's types
+-- ---- values of the client's types
 
--- the octets of these components are a Name's value
+-- the octets of these components are the value of a Name
 abbrev pub IsWhole : List Field → Type 0
 IsWhole name = IsNameValue (octets_of name) name
 
--- a number of 64 bits, if there is one
+-- the number, if there is one, is below 2^64
 abbrev pub Fits64 : Option ℕ → Type 0
 Fits64 n = IfSome n (λ n. n < 2 ^ 64)
 
@@ -38,7 +38,7 @@ pub record AreValues (p : Parameters) : Type 0 where
   pub count : Fits64 p.count
   pub lifetime : Fits64 p.lifetime
 
--- fields as they are read
+-- fields as they are read back
 abbrev pub as_read : Field → Result Field TlvFault
 as_read f = Ok f
 
@@ -47,28 +47,28 @@ fields_read fields = map as_read fields
 
 -- ---- the node's commands
 
--- `/localhost/nfd/MODULE/WORD`
+-- the name `/localhost/nfd/MODULE/WORD`
 abbrev pub node_path : List ℕ → List ℕ → List Field
 node_path part word =
     (GENERIC, codes "localhost") ∷ (GENERIC, codes "nfd") ∷ (GENERIC, part) ∷ (GENERIC, word) ∷ []
 
--- the name of the command of an action
+-- the name of the node's command for an action, without parameters
 abbrev pub node_name : Action → List Field
 node_name action = node_path (row_of action).part (row_of action).verb
 
--- the types of the fields that are written
+-- the types of the fields that are written for these parameters
 abbrev pub kinds : Parameters → List ℕ
 kinds p = map (λ (f : Field). f.0) (node_fields p)
 
--- the command takes each field that is present, each that it needs is present, and it takes this
--- name
+-- whether the parameters suit the command: the command takes the name and each field that is
+-- present, and each field that the command needs is present
 abbrev pub suits : Action → Parameters → Bool
 suits action p =
     list_all (λ kind. takes kind (row_of action)) (kinds p)
     && list_all (λ kind. has kind (kinds p)) (row_of action).needs
     && not (is_root p.name && not (row_of action).takes_root)
 
--- the command that parameters ask for
+-- the command that these parameters ask for
 abbrev pub asked_of : Action → Parameters → PlainCommand
 asked_of action p = record {
   action = action;
@@ -84,7 +84,7 @@ asked_of action p = record {
 
 -- ---- a repository's commands
 
--- the repository's prefix and the verb
+-- the name of a repository's command: the repository's prefix, and the verb
 abbrev pub repository_name : List Field → Verb → List Field
 repository_name prefix verb = prefix ++ (GENERIC, (verb_row verb).word) ∷ []
 
@@ -98,7 +98,8 @@ wanted_of verb p = record {
 
 -- ---- the name of a command's Interest
 
--- with the digest of the Interest's parameters after it
+-- the name of a command with its parameters, and with the parameters digest of the Interest after
+-- them
 abbrev pub signed_name : List Field → Parameters → List ℕ → List Field
 signed_name name p digest =
     command_name name p ++ (PARAMETERS_SHA256_DIGEST, digest) ∷ []

@@ -26,7 +26,7 @@ use Rattle.ndn_requests.specs.Lists.{place_of, next_name, table}
 
 -- ---- requests
 
--- an Interest of this name and Nonce, and nothing else
+-- the packet to write is an Interest with this name and Nonce, and with no other fields
 pub record AsksPlainly (asked : List Field) (own : List ℕ) (w : InterestWriter) : Type 0 where
   pub name : components w.name ≡ asked
   pub can_be_prefix : w.can_be_prefix ≡ false
@@ -42,7 +42,7 @@ IsRequest name nonce packet =
     (w : InterestWriter) × AsksPlainly name nonce w × (interest_refusal w ≡ None)
     × (packet ≡ interest_text w)
 
--- why such an Interest cannot be written
+-- why an Interest with this name and Nonce cannot be written
 abbrev pub IsNoRequest : List Field → List ℕ → WriteFault → Type 0
 IsNoRequest name nonce Memory = ⊤
 IsNoRequest name nonce why =
@@ -61,22 +61,23 @@ abbrev pub printed : View → List ℕ → List ℕ → List ℕ
 printed Content request datagram = content_in (frame_at datagram)
 printed view request datagram = explained_lines request datagram (frame_at datagram)
 
--- the exchange is over, with this text and this outcome
+-- the exchange is over, with this text to print and this outcome
 abbrev pub IsDone : List ℕ → Outcome → Progress → Type 0
 IsDone text outcome Ignored = ⊥
 IsDone text outcome Next = ⊥
 IsDone text outcome (Done said o) = (said.items ≡ text) × (o ≡ outcome)
 
--- ---- one answer
+-- ---- an exchange with one answer
 
 abbrev pub IsProgress : View → List ℕ → List ℕ → Option Outcome → Progress → Type 0
 IsProgress view request datagram None progress = progress ≡ Ignored
 IsProgress view request datagram (Some outcome) progress =
     IsDone (printed view request datagram) outcome progress
 
--- ---- segments
+-- ---- an exchange for the segments of a list
 
--- the next segment is requested, or the table is complete
+-- the next segment is requested, or the table is complete; the first argument tells whether there
+-- is a next segment
 abbrev pub IsStepped : Bool → Exchange → NodeList → ℕ → List ℕ → PlainData → Exchange → Progress
     → Type 0
 IsStepped true old list segment nonce d new progress =
@@ -86,14 +87,14 @@ IsStepped true old list segment nonce d new progress =
 IsStepped false old list segment nonce d new progress =
     IsDone (table list (old.contents.items ++ unwrap_or d.content [])) (Ok tt) progress
 
--- a Data that is the requested segment, or another one
+-- a Data that is the requested segment advances the exchange; any other Data is ignored
 abbrev pub IsPlaced : Option (ℕ × ℕ) → Exchange → NodeList → List ℕ → PlainData → Exchange
     → Progress → Type 0
 IsPlaced None old list nonce d new progress = (new ≡ old) × (progress ≡ Ignored)
 IsPlaced (Some place) old list nonce d new progress =
     IsStepped (nat_lt place.0 place.1) old list place.0 nonce d new progress
 
--- a datagram that answers the Interest for a segment
+-- a datagram arrived that answers the Interest for a segment
 abbrev pub IsListed : Exchange → NodeList → Turn → Result PlainFrame PacketFault → Exchange
     → Progress → Type 0
 IsListed old list turn (Ok (AData whole d)) new progress =
@@ -117,7 +118,8 @@ IsTurned None old list datagram new progress = (new ≡ old) × (progress ≡ Ig
 IsTurned (Some turn) old list datagram new progress =
     IsListed old list turn (frame_at datagram) new progress
 
--- a datagram by the outcome of the request
+-- the effect of a datagram on a list exchange, given the outcome that the datagram has for the
+-- request
 abbrev pub IsSegment : Option Outcome → Exchange → NodeList → List ℕ → Exchange → Progress → Type 0
 IsSegment None old list datagram new progress = (new ≡ old) × (progress ≡ Ignored)
 IsSegment (Some (Err failure)) old list datagram new progress =
@@ -126,7 +128,7 @@ IsSegment (Some (Err failure)) old list datagram new progress =
 IsSegment (Some (Ok done)) old list datagram new progress =
     IsTurned (turn_of (frame_at old.request.items)) old list datagram new progress
 
--- ---- all of it
+-- ---- any exchange
 
 abbrev pub IsTakenBy : View → Exchange → List NamedKey → List ℕ → Exchange → Progress → Type 0
 IsTakenBy Hexadecimal old book datagram new progress =
@@ -139,20 +141,21 @@ IsTakenBy view old book datagram new progress =
     × IsJudged old.request.items book datagram outcome
     × IsProgress view old.request.items datagram outcome progress
 
--- the effect of the datagram, and the exchange after it
+-- after this datagram, the exchange is `new`, and the effect of the datagram is `progress`
 abbrev pub IsTaken : Exchange → List NamedKey → List ℕ → Exchange → Progress → Type 0
 IsTaken old book datagram new progress = IsTakenBy old.view old book datagram new progress
 
--- The request for the next segment cannot be written.
+-- The Interest for the next segment cannot be written, or memory ran out.
 abbrev pub IsNextRefusal : WriteFault → Result PlainFrame PacketFault → Type 0
 IsNextRefusal Memory frame = ⊤
 IsNextRefusal why (Ok (AData whole d)) =
     (segment : ℕ) × (nonce : List ℕ) × IsNoRequest (next_name d.name segment) nonce why
 IsNextRefusal why frame = ⊥
 
--- ---- silence
+-- ---- no answer
 
--- Segments of a list have come, and the node has none of its version any more.
+-- Some segments of the list have been received. If no more come, the node no longer has this
+-- version of the list.
 abbrev pub has_begun : Exchange → Bool
 has_begun x = not (is_nil x.contents.items)
 

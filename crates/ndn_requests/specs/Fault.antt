@@ -1,4 +1,4 @@
--- The message for each reason why a request was not done, with its LF.
+-- The message for each reason why a request was not done. Each message ends with an LF.
 use Rattle.std.specs.Prelude.{ℕ, List, codes, Option, Some}
 use Rattle.ndn_requests.specs.declared.fault.Silence.{Silence}
 use Rattle.ndn_requests.specs.declared.fault.Silence.TheVariants.{Closed, Far, Late, Changed}

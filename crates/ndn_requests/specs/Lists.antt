@@ -1,4 +1,4 @@
--- The node's lists: their names, their segments, and the table that is printed of them (NFD
+-- The node's lists: their names, their segments, and the table that is printed for a list (NFD
 -- Management, "FIB Dataset", "Strategy Choice Dataset"; NDN Naming Conventions, "Segment").
 use Rattle.std.specs.Prelude.{ℕ, ◌+◌, ◌-◌, List, [], ◌∷◌, ◌++◌, length, take, codes, Option, None, Some, Bool, not, ◌==◌, ◌&&◌, if◌then◌else◌}
 use Rattle.ndn_tlv.specs.Number.{shortest_nni}
@@ -15,18 +15,19 @@ abbrev pub list_name : NodeList → List Field
 list_name Routes = node_path (codes "fib") (codes "list")
 list_name Strategies = node_path (codes "strategy-choice") (codes "list")
 
--- The number of a segment and that of the last one. An Interest with CanBePrefix asks for the first
--- segment, and only that one answers it.
+-- The number of a segment and the number of the last segment. An Interest with CanBePrefix asks for
+-- the first segment, and only that segment answers it.
 abbrev pub in_turn : Bool → Option ℕ → Option ℕ → Option (ℕ × ℕ)
 in_turn is_first (Some segment) (Some last) =
     if is_first && not (segment == 0) then None else Some (segment, last)
 in_turn is_first segment last = None
 
--- for a Data of this name and these octets
+-- the number of the segment in a Data with this name and these octets, and the number of the last
+-- segment
 abbrev pub place_of : Bool → List Field → List ℕ → Option (ℕ × ℕ)
 place_of is_first name whole = in_turn is_first (segment_of name) (last_segment whole)
 
--- the name of the segment after this one
+-- the name of the segment after the segment with this number
 abbrev pub next_name : List Field → ℕ → List Field
 next_name name segment =
     take (length name - 1) name ++ (SEGMENT, shortest_nni (segment + 1)) ∷ []
@@ -35,6 +36,6 @@ abbrev pub heading : NodeList → List ℕ
 heading Routes = codes "name\tface\tcost\n"
 heading Strategies = codes "name\tstrategy\n"
 
--- the table of all segments' contents, joined in order
+-- the table of a list, from the contents of all its segments, joined in order
 abbrev pub table : NodeList → List ℕ → List ℕ
 table list contents = heading list ++ dataset_lines Table contents

@@ -1,5 +1,5 @@
--- The parameters of a command, as the last component of its name (NFD Management, "Control
--- Command").
+-- The parameters of a command, which are the last component of the command's name (NFD Management,
+-- "Control Command").
 use Rattle.std.specs.Prelude.{◌≡◌, ◌≤◌, ℕ, List, [], ◌∷◌, ◌++◌, length, Bool, false, ◌==◌, ◌&&◌, Option, None, Some, codes, slice_get, bytes_eq, if◌then◌else◌, ⊤}
 use Rattle.std.specs.Option.{option_map}
 use Rattle.ndn_tlv.specs.Element.{Field, element}
@@ -12,7 +12,7 @@ use Rattle.ndn_packets.specs.declared.command_types.TheConstants.{CONTROL_PARAME
 use Rattle.ndn_packets.specs.declared.types.TheConstants.{NAME, INTEREST_LIFETIME, CAN_BE_PREFIX}
 use Rattle.ndn_requests.specs.declared.parameters.Parameters.{Parameters}
 
--- a GenericNameComponent of these octets
+-- whether the component is a GenericNameComponent with these octets
 abbrev pub is_generic : Option Field → List ℕ → Bool
 is_generic None value = false
 is_generic (Some c) value = c.0 == GENERIC && bytes_eq c.1 value
@@ -20,14 +20,14 @@ is_generic (Some c) value = c.0 == GENERIC && bytes_eq c.1 value
 abbrev pub is_generic_at : List Field → ℕ → List ℕ → Bool
 is_generic_at name at value = is_generic (slice_get name at) value
 
--- a name under `/localhost/nfd`
+-- whether the name is under `/localhost/nfd`
 abbrev pub is_of_node : List Field → Bool
 is_of_node name = is_generic_at name 0 (codes "localhost") && is_generic_at name 1 (codes "nfd")
 
 abbrev pub name_field : List Field → Field
 name_field name = (NAME, octets_of name)
 
--- a Strategy contains its name as an element
+-- the value of a Strategy field, which contains the strategy's name as an element
 abbrev pub strategy_value : Option (List Field) → Option (List ℕ)
 strategy_value strategy = option_map (λ name. element (name_field name)) strategy
 
@@ -38,7 +38,7 @@ fields_after_strategy p =
     ++ (number ORIGIN p.origin
     ++ number COUNT p.count))
 
--- the fields of a command of the node
+-- the fields of a command for the node
 abbrev pub node_fields : Parameters → List Field
 node_fields p =
     name_field p.name
@@ -47,25 +47,26 @@ node_fields p =
     ++ (optional STRATEGY (strategy_value p.strategy)
     ++ fields_after_strategy p)))
 
--- the fields of a command of a repository
+-- the fields of a command for a repository
 abbrev pub repository_fields : Parameters → List Field
 repository_fields p =
     name_field p.name
     ∷ (flag CAN_BE_PREFIX p.can_be_prefix
     ++ number INTEREST_LIFETIME p.lifetime)
 
--- the parameters of a command of this name: the node's if it is under `/localhost/nfd`
+-- the parameters of a command with this name: those of the node if the name is under
+-- `/localhost/nfd`, and otherwise those of a repository
 abbrev pub parameters_element : List Field → Parameters → List ℕ
 parameters_element name p =
     if is_of_node name
     then element (CONTROL_PARAMETERS, octets (node_fields p))
     else element (REPO_COMMAND_PARAMETER, octets (repository_fields p))
 
--- the name of the command's Interest, without its digest
+-- the name of the command's Interest, without the parameters digest
 abbrev pub command_name : List Field → Parameters → List Field
 command_name name p = name ++ (GENERIC, parameters_element name p) ∷ []
 
--- a name of 64 components has no room for the parameters
+-- the fault is that the name, of 64 components or more, has no room for the parameters
 abbrev pub IsTooLong : List Field → WriteFault → Type 0
 IsTooLong name why = (why ≡ TooLong) × (64 ≤ length name)
 

@@ -24,13 +24,13 @@ use Rattle.ndn_requests.specs.declared.fault.Silence.TheVariants.{Closed, Far, L
 use Rattle.ndn_requests.specs.declared.fault.Failure.{Failure}
 use Rattle.ndn_requests.specs.declared.fault.Failure.TheVariants.{Refused, NoStatus, Nack}
 
--- the outcome of a request: it was done, or why not
+-- the outcome of a request: the request was done, or the reason why not
 abbrev pub Outcome : Type 0
 Outcome = Result Unit Failure
 
 -- ---- statuses
 
--- the StatusCode in a Content that is one element of this type
+-- the StatusCode in a Content that is a single element of the type `response`
 abbrev pub code_in : ℕ → ℕ → List ℕ → Option ℕ
 code_in response kind content =
     option_and_then (λ value. result_ok (nni_at value))
@@ -41,7 +41,7 @@ abbrev pub is_word : List ℕ → Option Field → Bool
 is_word word None = false
 is_word word (Some c) = c.0 == GENERIC && bytes_eq c.1 word
 
--- the verb of a command precedes its parameters and their digest
+-- whether a command is an insert; the verb comes before the parameters and the digest
 abbrev pub is_insert : List Field → Bool
 is_insert name = is_word (codes "insert") (slice_get name (length name - 3))
 
@@ -49,25 +49,26 @@ abbrev pub has_repository_fields : Option Field → Bool
 has_repository_fields None = false
 has_repository_fields (Some c) = is_some (single REPO_COMMAND_PARAMETER (elements_of c.1))
 
--- a command is a repository's by the type of its parameters, which precede their digest
+-- whether a command is for a repository; the type of its parameters tells, which come before the
+-- digest
 abbrev pub is_of_repository : List Field → Bool
 is_of_repository name = has_repository_fields (slice_get name (length name - 2))
 
 abbrev pub done_if : Bool → Outcome
 done_if is_done = if is_done then Ok tt else Err Refused
 
--- for a command on routes, strategies or the cache
+-- the outcome of a command on routes, strategies or the cache, given the status in the reply
 abbrev pub node_outcome : Option ℕ → Outcome
 node_outcome None = Err NoStatus
 node_outcome (Some code) = done_if (code == 200)
 
--- for a repository's command: status 100 of an insert is success too, since the Data is pending
--- then
+-- the outcome of a command to a repository, given the status in the reply; status 100 in the reply
+-- to an insert is a success too, since the Data is then pending
 abbrev pub repository_outcome : List Field → Option ℕ → Outcome
 repository_outcome name None = Err NoStatus
 repository_outcome name (Some code) = done_if (code == 200 || (code == 100 && is_insert name))
 
--- by the type of reply that such a command has
+-- the outcome of a command with this name, given the Content of the reply
 abbrev pub content_outcome : List Field → List ℕ → Outcome
 content_outcome name content =
     if is_of_repository name
@@ -78,7 +79,7 @@ abbrev pub reply_outcome : List Field → Option (List ℕ) → Outcome
 reply_outcome name None = Err NoStatus
 reply_outcome name (Some content) = content_outcome name content
 
--- ---- answers
+-- ---- which datagrams are answers
 
 abbrev pub is_command : List Field → Bool
 is_command name = is_some (parameters_in name)
@@ -90,8 +91,9 @@ is_right check = false
 abbrev pub is_same_name : List Field → List Field → Bool
 is_same_name a b = bytes_eq (octets a) (octets b)
 
--- A Data that answers the Interest is accepted, and a plain Interest asks for no more. For a
--- command it needs the command's name and a right signature too.
+-- The outcome of a request, given a Data that answers its Interest. For a plain Interest, any such
+-- Data is accepted. For a command, the Data must also have the command's name and a right
+-- signature.
 abbrev pub data_outcome : PlainInterest → PlainData → Option TagCheck → Option Outcome
 data_outcome asked d check =
     if is_command asked.name
@@ -99,7 +101,7 @@ data_outcome asked d check =
     then Some (reply_outcome asked.name d.content) else None)
     else Some (Ok tt)
 
--- a Nack of the Interest has its name and its Nonce
+-- a Nack is for the request's Interest if it has the same name and the same Nonce
 abbrev pub is_same : PlainInterest → PlainInterest → Bool
 is_same asked i = is_same_name asked.name i.name && bytes_eq asked.nonce i.nonce
 
@@ -112,13 +114,15 @@ frame_outcome asked (ANack reason whole i) check =
 frame_outcome asked (AnInterest whole i) check = None
 frame_outcome asked Idle check = None
 
--- a reply of more than 8,800 octets is accepted if it is what a node writes, octet for octet
+-- the outcome of a command whose reply is too long to be read; the reply is accepted if it is,
+-- octet for octet, what a node writes
 abbrev pub written_outcome : List Field → Option (List ℕ) → Option Outcome
 written_outcome name None = None
 written_outcome name (Some content) =
     if is_command name then Some (content_outcome name content) else None
 
--- the signature is checked with the keys of a book
+-- the outcome of a request, given a received frame whose signature is checked with the keys of the
+-- book
 abbrev pub IsFrameJudged : PlainInterest → List NamedKey → PlainFrame → Option Outcome → Type 0
 IsFrameJudged asked book frame outcome =
     (check : Option TagCheck) × IsTagCheck frame book check
@@ -139,12 +143,12 @@ IsRequestJudged (Ok (ANack reason whole i)) book datagram outcome = outcome ≡ 
 IsRequestJudged (Ok Idle) book datagram outcome = outcome ≡ None
 IsRequestJudged (Err why) book datagram outcome = outcome ≡ None
 
--- The outcome of the request, which is an Interest, by the datagram; none if the datagram does not
--- answer it.
+-- The outcome of the request, which is an Interest, given a received datagram; None if the datagram
+-- does not answer the Interest.
 abbrev pub IsJudged : List ℕ → List NamedKey → List ℕ → Option Outcome → Type 0
 IsJudged request book datagram outcome = IsRequestJudged (frame_at request) book datagram outcome
 
--- ---- its lines
+-- ---- the lines that are printed for an answer
 
 abbrev pub written_lines : List Field → List ℕ → Option (List ℕ) → List ℕ
 written_lines name datagram None = []
@@ -159,14 +163,14 @@ long_lines (Ok (ANack reason whole i)) datagram = []
 long_lines (Ok Idle) datagram = []
 long_lines (Err why) datagram = []
 
--- those of `explain`, also for a reply of more than 8,800 octets
+-- the lines that `explain` prints for the datagram, also if it is a reply of more than 8,800 octets
 abbrev pub explained_lines : List ℕ → List ℕ → Result PlainFrame PacketFault → List ℕ
 explained_lines request datagram (Ok frame) = explanation frame None
 explained_lines request datagram (Err why) = long_lines (frame_at request) datagram
 
--- ---- silence
+-- ---- no answer
 
--- the name of an Interest is under `/localhost`
+-- whether the packet is an Interest whose name is under `/localhost`
 abbrev pub is_local : Result PlainFrame PacketFault → Bool
 is_local (Ok (AnInterest whole asked)) = is_word (codes "localhost") (slice_get asked.name 0)
 is_local (Ok (AData whole d)) = false
@@ -174,7 +178,7 @@ is_local (Ok (ANack reason whole i)) = false
 is_local (Ok Idle) = false
 is_local (Err why) = false
 
--- for a request from this port, or from a new one
+-- why no answer came to a request that was sent from the port `from`, or from a new port
 abbrev pub silence_of : List ℕ → Option ℕ → Bool → Silence
 silence_of request from is_closed =
     if is_closed then Closed else (

@@ -1,4 +1,4 @@
--- The lines that are printed for a reply that the node or a repository wrote (NFD Management,
+-- The lines that are printed for a reply that the node or a repository has written (NFD Management,
 -- "Control Command").
 use Rattle.std.specs.Prelude.{ℕ, List, [], ◌++◌, codes, Some, ◌==◌, if◌then◌else◌}
 use Rattle.std.specs.Option.{option_map}
@@ -14,7 +14,7 @@ use Rattle.mgmt_core.specs.Writing.{given}
 use Rattle.ndn_explain.specs.Show.{named_line, optional_line}
 use Rattle.ndn_explain.specs.Meaning.{period_word, status_text, words_of_flags}
 
--- a status and its text
+-- the line of a status and its text
 abbrev pub status_shown : ℕ → List ℕ → List ℕ
 status_shown status text =
     named_line (codes "status") (decimal status ++ (codes " " ++ status_text (Some text)))
@@ -22,12 +22,13 @@ status_shown status text =
 abbrev pub strategy_shown : StrategyId → List ℕ
 strategy_shown strategy = uri_of (strategy_name strategy)
 
--- the flags as the table of routes reads them
+-- the words for the flags, as the table of routes reads the flags
 abbrev pub flags_shown : PlainCommand → List ℕ
 flags_shown c =
     words_of_flags (is_child_inherit (route_asked c 0)) (is_capture (route_asked c 0))
 
--- the fields of the reply to a command from this face: those that the command takes
+-- the lines of the fields in the reply to a command from this face; the reply has the fields that
+-- the command takes
 abbrev pub fields_shown : PlainCommand → ℕ → List ℕ
 fields_shown c face =
     named_line (codes "name") (uri_of c.name)
@@ -41,12 +42,12 @@ fields_shown c face =
     (option_map strategy_shown (given c STRATEGY (strategy_asked c)))
     ++ optional_line (codes "count") (option_map decimal (given c COUNT c.count))))))))
 
--- for the node's reply, which has fields at status 200 only
+-- the lines of a reply of the node, which has fields only at status 200
 abbrev pub node_shown : PlainCommand → ℕ → ℕ → List ℕ → List ℕ
 node_shown c face status text =
     status_shown status text ++ (if status == OK then fields_shown c face else [])
 
--- for a repository's reply
+-- the lines of a reply of a repository
 abbrev pub repository_shown : ℕ → List ℕ → ℕ → List ℕ
 repository_shown status text count =
     status_shown status text ++ named_line (codes "count") (decimal count)

@@ -25,20 +25,20 @@ pub enum View {
     Hexadecimal,
     /// The lines of `explain`.
     Lines,
-    /// The Content alone, as it is; nothing for a Nack.
+    /// Only the Content, unchanged; nothing for a Nack.
     Content,
-    /// All segments of a list, as a table.
+    /// A table of all segments of a list.
     Table(NodeList),
 }
 
-/// A request to send, and what it has brought so far.
+/// A request to send, and what has been received for it so far.
 #[derive(Drop)]
 pub struct Exchange {
     /// The packet to send.
     pub request: Vec<u8>,
-    /// The port of 127.0.0.1 that it is sent to.
+    /// The port of 127.0.0.1 that the packet is sent to.
     pub to: u16,
-    /// The port that it is sent from; a new one if absent.
+    /// The port that the packet is sent from. If it is absent, a new port is used.
     pub from: Option<u16>,
     /// What is printed of the answer.
     pub view: View,
@@ -46,21 +46,21 @@ pub struct Exchange {
     pub contents: Vec<u8>,
 }
 
-/// The effect of a datagram.
+/// The effect of a received datagram.
 #[derive(Drop)]
 pub enum Progress {
-    /// It does not answer the request.
+    /// The datagram does not answer the request.
     Ignored,
-    /// It is a segment, and the request for the next one is to be sent.
+    /// The datagram is a segment, and the request for the next segment is to be sent.
     Next,
-    /// The exchange is over: the text to print, and the outcome of the request.
+    /// The exchange is over. Holds the text to print, and the outcome of the request.
     Done(Vec<u8>, Outcome),
 }
 
 /// Which segment a request asks for.
 #[derive(Clone, Copy)]
 struct Turn {
-    /// Whether it asks for the first segment, whatever the version.
+    /// Whether the request asks for the first segment, whatever the version of the list.
     is_first: bool,
     nonce: [u8; 4],
 }
@@ -79,8 +79,8 @@ impl Exchange {
     /// Handles a received datagram. After `Next`, `request` is the request for the next segment of
     /// the list.
     ///
-    /// Returns `BadName` or `TooLong` if that request cannot be written, and else no error but
-    /// `Memory`.
+    /// Returns `BadName` or `TooLong` if the request for the next segment cannot be written. The
+    /// only other error is `Memory`.
     pub fn take(
         &mut self,
         alloc: Global,
@@ -98,7 +98,7 @@ impl Exchange {
         }
     }
 
-    /// Handles a datagram of an exchange with one answer.
+    /// Handles a datagram in an exchange with one answer.
     fn answered(&self, alloc: Global, datagram: &[u8], book: &KeyBook) -> Result<Progress, Memory>
         ensures { IfOk result (λ progress. (outcome : Option Outcome)
             × IsJudged self.now.request.items book.now datagram.now outcome
@@ -110,7 +110,7 @@ impl Exchange {
         }
     }
 
-    /// What is printed of the answer.
+    /// Returns what is printed of the answer.
     fn printed(&self, alloc: Global, datagram: &[u8]) -> Result<Vec<u8>, Memory>
         ensures { IfOk result (λ text. text.items
             ≡ printed self.now.view self.now.request.items datagram.now) }
@@ -123,7 +123,7 @@ impl Exchange {
         Ok(text)
     }
 
-    /// Handles a datagram of an exchange for a list's segments.
+    /// Handles a datagram in an exchange for a list's segments.
     fn take_segment(
         &mut self,
         alloc: Global,
@@ -191,7 +191,8 @@ impl Exchange {
         }
     }
 
-    /// The next request, or the table of all segments.
+    /// Handles a segment: prepares the request for the next segment, or returns the table of all
+    /// segments if this is the last one.
     fn take_place(
         &mut self,
         alloc: Global,
@@ -216,7 +217,7 @@ impl Exchange {
         Ok(Progress::Next)
     }
 
-    /// Why no answer came; `is_closed` tells that no program listens.
+    /// Returns why no answer came; `is_closed` tells whether no program listens on the port.
     pub fn silence(&self, is_closed: bool) -> Silence
         ensures { result ≡ silence_in self.now is_closed }
     {
@@ -237,7 +238,7 @@ fn put_content(contents: &mut Vec<u8>, content: Option<&[u8]>) -> Result<(), Mem
     Ok(())
 }
 
-/// The Content of the Data in the datagram; empty if it is not a Data.
+/// Returns the Content of the Data in the datagram, or no octets if the datagram is not a Data.
 fn content_in(datagram: &[u8]) -> &[u8]
     ensures { result.now ≡ content_in (frame_at datagram.now) }
 {
@@ -247,7 +248,7 @@ fn content_in(datagram: &[u8]) -> &[u8]
     }
 }
 
-/// Which segment an Interest asks for, and its Nonce.
+/// Returns which segment an Interest asks for, and the Interest's Nonce.
 fn turn_of(request: &[u8]) -> Option<Turn>
     ensures { result ≡ turn_of (frame_at request.now) }
 {
@@ -260,8 +261,9 @@ fn turn_of(request: &[u8]) -> Option<Turn>
     }
 }
 
-/// The number of the segment in a Data, and that of the last one; `None` if it is not the segment
-/// that was asked for.
+/// Returns the number of the segment in a Data, and the number of the last segment. Returns `None`
+/// if the Data lacks one of these numbers, or if the first segment was asked for and this is
+/// another one.
 fn place_of(is_first: bool, packet: &Data<'_>) -> Option<(u64, u64)>
     ensures { result
         ≡ place_of is_first (components packet.now.name) packet.now.whole.now }
@@ -274,7 +276,7 @@ fn place_of(is_first: bool, packet: &Data<'_>) -> Option<(u64, u64)>
     Some((segment, last))
 }
 
-/// The name of the segment after this one.
+/// Returns the name of the segment after the segment with this number.
 fn next_name(alloc: Global, name: Name<'_>, segment: u64) -> Result<NameBuf, Memory>
     requires { segment + 1 < 2 ^ 64 }
     ensures { IfOk result (λ next. next ≡ next_name (components name.entry) segment) }
@@ -289,7 +291,7 @@ fn next_name(alloc: Global, name: Name<'_>, segment: u64) -> Result<NameBuf, Mem
     }
 }
 
-/// The Interest of this name and Nonce.
+/// Returns the Interest with this name and Nonce.
 fn request_for(alloc: Global, name: Name<'_>, nonce: [u8; 4]) -> Result<Vec<u8>, WriteFault>
     ensures { MatchResult result
         (λ packet. IsRequest (components name.entry) nonce packet.items)
@@ -312,7 +314,7 @@ fn request_for(alloc: Global, name: Name<'_>, nonce: [u8; 4]) -> Result<Vec<u8>,
     Ok(packet)
 }
 
-/// The table of a list, from the contents of all its segments.
+/// Returns the table of a list, from the contents of all its segments.
 fn table(alloc: Global, list: NodeList, contents: &[u8]) -> Result<Vec<u8>, Memory>
     ensures { IfOk result (λ text. text.items ≡ table list contents.now) }
 {

@@ -6,12 +6,12 @@ use std::fmt;
 pub enum Silence {
     /// No program listens on the port.
     Closed,
-    /// The name is under `/localhost`, and the packet was sent from a new port: a node accepts such
-    /// names from its Local peers only.
+    /// The name is under `/localhost`, and the packet was sent from a new port. A node accepts such
+    /// names only from its Local peers.
     Far,
     /// A program listens, but no answer came in time.
     Late,
-    /// No further segment of a list came.
+    /// The node sent no further segment of a list.
     Changed,
 }
 
@@ -20,7 +20,7 @@ pub enum Silence {
 pub enum Failure {
     /// The reply's status says that the command was not done.
     Refused,
-    /// The answer to a command has no status.
+    /// The answer to a command has no status code.
     NoStatus,
     /// A Nack came.
     Nack,

@@ -1,5 +1,5 @@
-//! Laws: nodes read what the client writes, and the client what they write. They do nothing at run
-//! time.
+//! Laws: the node and repositories read what the client writes, and the client reads what they
+//! write. The laws do nothing at run time.
 
 ghost use Rattle.std.specs.Prelude.{◌≡◌, ◌<◌, ◌^◌, ◌==◌, ◌&&◌, ◌||◌, ◌++◌, ℕ, List, Some, None, Ok, Err, length, not, true, false, if◌then◌else◌};
 ghost use Rattle.ndn_tlv.specs.Element.{Field};
@@ -19,7 +19,7 @@ ghost use Rattle.ndn_requests.specs.Reply.{content_outcome, done_if, is_insert, 
 ghost use Rattle.ndn_requests.specs.Shown.{node_shown, repository_shown};
 
 /// Law: the node reads the name of a command as exactly the command that was asked for, whatever
-/// digest follows. It answers 400 exactly if the parameters do not suit the command.
+/// digest follows the parameters. It answers 400 exactly if the parameters do not suit the command.
 pub fn nodes_read_what_is_asked()
     ensures { (action : Action) (p : Parameters) (digest : List ℕ) → AreValues p
         → IsWhole (command_name (node_name action) p)
@@ -28,7 +28,7 @@ pub fn nodes_read_what_is_asked()
 {}
 
 /// Law: a repository reads the name of a command as exactly the command that was asked for,
-/// whatever digest follows.
+/// whatever digest follows the parameters.
 pub fn repositories_read_what_is_asked()
     ensures { (prefix : List Field) (verb : Verb) (p : Parameters) (digest : List ℕ)
         → AreValues p → is_of_node (repository_name prefix verb) ≡ false
@@ -37,7 +37,8 @@ pub fn repositories_read_what_is_asked()
         ≡ Some (wanted_of verb p) }
 {}
 
-/// Law: for a reply that the node or a repository writes, exactly its fields are printed.
+/// Law: for a reply that the node or a repository writes, exactly the fields of the reply are
+/// printed.
 pub fn replies_are_explained()
     ensures node { (c : PlainCommand) (face status : ℕ) (text : List ℕ) → IsWhole c.name
         → face < 2 ^ 64 → c.face < 2 ^ 64 → c.origin < 2 ^ 64 → c.cost < 2 ^ 64
@@ -50,8 +51,8 @@ pub fn replies_are_explained()
         → reply_lines (repo_response status text count) ≡ repository_shown status text count }
 {}
 
-/// Law: a command counts as done exactly if the node or the repository answers 200, or 100 to a
-/// repository's insert.
+/// Law: a command counts as done exactly if the status of the node's or the repository's reply is
+/// 200, or is 100 for an insert to a repository.
 pub fn statuses_decide()
     ensures node { (name : List Field) (status : ℕ) (text body : List ℕ) → status < 2 ^ 64
         → is_of_repository name ≡ false → length (response status text body) < 2 ^ 64
@@ -62,7 +63,8 @@ pub fn statuses_decide()
         ≡ done_if (status == repo_code.OK || (status == repo_code.PENDING && is_insert name)) }
 {}
 
-/// Law: a command counts as a repository's exactly if its parameters were written as such.
+/// Law: a command counts as a command to a repository exactly if its parameters were written as
+/// those of a repository.
 pub fn commands_tell_whose_they_are()
     ensures { (name : List Field) (p : Parameters) (digest : List ℕ)
         → IsWhole (command_name name p)

@@ -1,4 +1,4 @@
-//! Names under `/localhost/nfd`: those of the node's commands and of its lists (NFD Management,
+//! Names under `/localhost/nfd`: the names of the node's commands and of its lists (NFD Management,
 //! "Control Command", "Status Dataset").
 
 ghost use Rattle.std.specs.Prelude.{◌≡◌, ◌++◌, [], ◌∷◌, IfOk, OnOk};
@@ -12,16 +12,16 @@ use ndn_names::component_type::GENERIC;
 use ndn_tlv::Memory;
 use std::alloc::Global;
 
-/// A list of the node.
+/// A list that the node publishes.
 #[derive(Clone, Copy, Debug, PartialEq, Eq)]
 pub enum NodeList {
-    /// The routes: the FIB with the costs of its next hops.
+    /// The list of routes: the FIB with the costs of its next hops.
     Routes,
-    /// The strategies by name prefix.
+    /// The list of strategies, by name prefix.
     Strategies,
 }
 
-/// The name of the node's command for an action, without its parameters.
+/// Returns the name of the node's command for an action, without parameters.
 pub fn action_name(alloc: Global, action: Action) -> Result<NameBuf, Memory>
     ensures { IfOk result (λ name. name ≡ node_name action) }
 {
@@ -53,7 +53,7 @@ fn verb_of(action: Action) -> &'static str
     }
 }
 
-/// The name of a list, without its version.
+/// Returns the name of a list, without a version.
 pub fn list_name(alloc: Global, list: NodeList) -> Result<NameBuf, Memory>
     ensures { IfOk result (λ name. name ≡ list_name list) }
 {
@@ -63,7 +63,7 @@ pub fn list_name(alloc: Global, list: NodeList) -> Result<NameBuf, Memory>
     }
 }
 
-/// `/localhost/nfd/MODULE/WORD`
+/// Returns the name `/localhost/nfd/MODULE/WORD`.
 fn node_path(alloc: Global, part: &str, word: &str) -> Result<NameBuf, Memory>
     ensures { IfOk result (λ name. name ≡ node_path part.now word.now) }
 {

@@ -1,5 +1,5 @@
-//! The parameters of a command, as the last component of its name (NFD Management, "Control
-//! Command").
+//! The parameters of a command, which are the last component of the command's name (NFD Management,
+//! "Control Command").
 
 ghost use Rattle.std.specs.Prelude.{◌≡◌, ◌++◌, ◌≤◌, [], ◌∷◌, IfOk, OnOk, MatchResult, length};
 ghost use Rattle.ndn_tlv.specs.Element.{element};
@@ -18,12 +18,13 @@ use ndn_packets::types::{CAN_BE_PREFIX, INTEREST_LIFETIME, NAME};
 use ndn_tlv::{Memory, put_element, put_flag, put_number_field};
 use std::alloc::Global;
 
-/// The parameters of a command. Fields that its kind of command does not have are left out.
+/// The parameters of a command for the node or for a repository. Fields that only the other kind of
+/// command has are not written.
 #[derive(Drop)]
 pub struct Parameters {
-    /// The Name that the command applies to.
+    /// The name that the command applies to.
     pub name: NameBuf,
-    /// The face of a next hop or route; 0 is the one that the command comes from.
+    /// The face of a next hop or route; 0 is the face that the command comes from.
     pub face: Option<u64>,
     /// The origin of a route.
     pub origin: Option<u64>,
@@ -37,16 +38,16 @@ pub struct Parameters {
     pub strategy: Option<NameBuf>,
     /// The greatest number of Data to erase.
     pub count: Option<u64>,
-    /// CanBePrefix: whether Data with longer names are included.
+    /// Whether Data with longer names are included (CanBePrefix).
     pub can_be_prefix: bool,
     /// The InterestLifetime in milliseconds.
     pub lifetime: Option<u64>,
 }
 
-/// The name of a command's Interest without its digest: the command's own name, and its parameters
-/// as the last component.
+/// Returns the name of a command's Interest without the parameters digest: the command's own name,
+/// with the parameters as the last component.
 ///
-/// Returns `TooLong` if the name has no room for them, and else no error but `Memory`.
+/// Returns `TooLong` if the name has no room for the parameters. The only other error is `Memory`.
 pub fn command_name(
     alloc: Global,
     name: &NameBuf,
@@ -70,7 +71,7 @@ pub fn command_name(
     }
 }
 
-/// The element of the parameters of a command of this name.
+/// Returns the element of the parameters of a command with this name.
 fn parameters_element(
     alloc: Global,
     name: &NameBuf,
@@ -90,14 +91,15 @@ fn parameters_element(
     Ok(text)
 }
 
-/// Whether the name is one of the node's own commands, under `/localhost/nfd`.
+/// Returns whether a command with this name is for the node itself: the name is under
+/// `/localhost/nfd`.
 fn is_of_node(name: Name<'_>) -> bool
     ensures { result ≡ is_of_node (components name.entry) }
 {
     is_generic_at(name, 0, b"localhost") && is_generic_at(name, 1, b"nfd")
 }
 
-/// Whether a component is a GenericNameComponent of these octets.
+/// Returns whether the component at index `at` is a GenericNameComponent with these octets.
 fn is_generic_at(name: Name<'_>, at: usize, octets: &[u8]) -> bool
     ensures { result ≡ is_generic_at (components name.entry) at octets.now }
 {
@@ -107,7 +109,7 @@ fn is_generic_at(name: Name<'_>, at: usize, octets: &[u8]) -> bool
     }
 }
 
-/// Appends the fields of a command of the node.
+/// Appends the fields of a command for the node.
 fn put_node_fields(alloc: Global, out: &mut Vec<u8>, parameters: &Parameters) -> Result<(), Memory>
     ensures { OnOk result (out.new.items ≡ out.old.items ++ octets (node_fields parameters.now)) }
 {
@@ -118,7 +120,7 @@ fn put_node_fields(alloc: Global, out: &mut Vec<u8>, parameters: &Parameters) ->
     put_fields_after_strategy(out, parameters)
 }
 
-/// Appends those of them that follow the strategy.
+/// Appends those fields of a command for the node that follow the strategy.
 fn put_fields_after_strategy(out: &mut Vec<u8>, parameters: &Parameters) -> Result<(), Memory>
     ensures { OnOk result (out.new.items
         ≡ out.old.items ++ octets (fields_after_strategy parameters.now)) }
@@ -129,7 +131,7 @@ fn put_fields_after_strategy(out: &mut Vec<u8>, parameters: &Parameters) -> Resu
     put_number_field(out, COUNT, parameters.count)
 }
 
-/// Appends the fields of a command of a repository.
+/// Appends the fields of a command for a repository.
 fn put_repository_fields(out: &mut Vec<u8>, parameters: &Parameters) -> Result<(), Memory>
     ensures { OnOk result (out.new.items
         ≡ out.old.items ++ octets (repository_fields parameters.now)) }
@@ -145,7 +147,7 @@ fn put_name(out: &mut Vec<u8>, name: &NameBuf) -> Result<(), Memory>
     put_element(out, NAME, name.view().as_octets())
 }
 
-/// Appends the field of a strategy, if there is one.
+/// Appends the Strategy field, if there is a strategy.
 fn put_strategy(alloc: Global, out: &mut Vec<u8>, name: &Option<NameBuf>) -> Result<(), Memory>
     ensures { OnOk result (out.new.items
         ≡ out.old.items ++ octets (optional STRATEGY (strategy_value name.now))) }

@@ -1,4 +1,4 @@
-//! The answer to a request: which datagram it is, and the outcome of the request.
+//! Answers to a request: which datagram is an answer, and what the outcome of the request is.
 
 ghost use Rattle.std.specs.Prelude.{◌≡◌, ◌++◌, IfOk, OnOk, option_map};
 ghost use Rattle.ndn_names.specs.View.{components, field_of};
@@ -24,12 +24,14 @@ use std::alloc::Global;
 /// The outcome of a request.
 pub type Outcome = Result<(), Failure>;
 
-/// The outcome of a request by a datagram; `None` if the datagram does not answer it.
+/// Returns the outcome of a request, given a received datagram, or `None` if the datagram does not
+/// answer the request.
 ///
-/// A Nack of the Interest is an answer. So is a Data that answers it, and then it is done; but for
-/// a command the Data has to have the command's name and a right signature, by DigestSha256 or by a
-/// key of the book, or to be what a node writes as its reply, of any length. A command is done
-/// where the status is 200, or 100 of a repository's insert.
+/// A Nack of the request's Interest is an answer. A Data that answers the Interest is an answer
+/// too, and the request is then done. But if the request is a command, the Data must have the
+/// command's name and a right signature, by DigestSha256 or by a key of the book, or must be
+/// exactly what a node writes as its reply, of any length. A command is done if the status is 200,
+/// or 100 for an insert to a repository.
 pub fn judge(
     alloc: Global,
     request: &[u8],
@@ -66,7 +68,8 @@ fn judge_frame(asked: &Interest<'_>, frame: &Frame<'_>, book: &KeyBook) -> Optio
     frame_outcome(asked, frame, check)
 }
 
-/// The outcome by a Data that is longer than 8,800 octets.
+/// Returns the outcome of a command whose reply is too long to be read, if the reply is exactly
+/// what a node writes.
 fn judge_written(alloc: Global, name: Name<'_>, datagram: &[u8]) -> Result<Option<Outcome>, Memory>
     ensures { IfOk result (λ outcome. outcome
         ≡ written_outcome (components name.entry)
@@ -94,7 +97,7 @@ fn frame_outcome(
     }
 }
 
-/// The outcome by a Data that answers the Interest.
+/// Returns the outcome of a request, given a Data that answers its Interest.
 fn data_outcome(asked: &Interest<'_>, packet: &Data<'_>, check: Option<TagCheck>) -> Option<Outcome>
     ensures { result ≡ data_outcome (plain_interest asked.now) (plain_data packet.now) check }
 {
@@ -141,7 +144,7 @@ fn reply_outcome(name: Name<'_>, content: Option<&[u8]>) -> Outcome
     }
 }
 
-/// The outcome of a command of this name, by the Content of its reply.
+/// Returns the outcome of a command with this name, given the Content of its reply.
 fn content_outcome(name: Name<'_>, content: &[u8]) -> Outcome
     ensures { result ≡ content_outcome (components name.entry) content.now }
 {
@@ -155,7 +158,8 @@ fn content_outcome(name: Name<'_>, content: &[u8]) -> Outcome
     }
 }
 
-/// The outcome of a command on routes, strategies or the cache, by the status of its reply.
+/// Returns the outcome of a command on routes, strategies or the cache, given the status in its
+/// reply.
 fn node_outcome(code: Option<u64>) -> Outcome
     ensures { result ≡ node_outcome code }
 {
@@ -165,7 +169,7 @@ fn node_outcome(code: Option<u64>) -> Outcome
     }
 }
 
-/// The outcome of a repository's command of this name, by the status of its reply.
+/// Returns the outcome of a command to a repository, with this name, given the status in its reply.
 fn repository_outcome(name: Name<'_>, code: Option<u64>) -> Outcome
     ensures { result ≡ repository_outcome (components name.entry) code }
 {
@@ -175,7 +179,8 @@ fn repository_outcome(name: Name<'_>, code: Option<u64>) -> Outcome
     }
 }
 
-/// Whether a command of this name is a repository's, by the type of its parameters.
+/// Returns whether a command with this name is for a repository, which the type of its parameters
+/// tells.
 fn is_of_repository(name: Name<'_>) -> bool
     ensures { result ≡ is_of_repository (components name.entry) }
 {
@@ -195,7 +200,7 @@ fn done_if(is_done: bool) -> Outcome
     }
 }
 
-/// The StatusCode in a Content that is one element of the type `response`.
+/// Returns the StatusCode in a Content that is a single element of the type `response`.
 fn code_in(content: &[u8], response: u32, kind: u32) -> Option<u64>
     ensures { result ≡ code_in response kind content.now }
 {
@@ -203,14 +208,14 @@ fn code_in(content: &[u8], response: u32, kind: u32) -> Option<u64>
     nni_of(value).ok()
 }
 
-/// Whether the verb of a command is a repository's insert.
+/// Returns whether a command with this name is an insert to a repository.
 fn is_insert(name: Name<'_>) -> bool
     ensures { result ≡ is_insert (components name.entry) }
 {
     is_word(name.component(name.len().saturating_sub(3)), "insert")
 }
 
-/// Whether a component is this text.
+/// Returns whether a component is a GenericNameComponent with this text.
 fn is_word(component: Option<Component<'_>>, word: &str) -> bool
     ensures { result ≡ is_word word.now (option_map field_of component.entry) }
 {
@@ -220,8 +225,8 @@ fn is_word(component: Option<Component<'_>>, word: &str) -> bool
     }
 }
 
-/// Appends the lines of `explain` for the answer to a request, also for a reply of more than 8,800
-/// octets. After `Memory` some of them may have been appended.
+/// Appends the lines that `explain` prints for the answer to a request, also for a reply of more
+/// than 8,800 octets. If memory runs out, some of the lines may have been appended.
 pub fn put_explained(
     alloc: Global,
     text: &mut Vec<u8>,
@@ -268,8 +273,8 @@ fn put_reply(
     }
 }
 
-/// Why no answer came to a request that was sent from this port or a new one; `is_closed` tells
-/// that no program listens.
+/// Returns why no answer came to a request that was sent from the port `from`, or from a new port
+/// if there is none; `is_closed` tells whether no program listens on the port.
 pub fn silence_of(request: &[u8], from: Option<u16>, is_closed: bool) -> Silence
     ensures { result ≡ silence_of request.now from is_closed }
 {

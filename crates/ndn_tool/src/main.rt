@@ -1,4 +1,4 @@
-//! A Named Data Networking client: it writes packets, sends them, computes tags and explains
+//! A Named Data Networking client. It writes packets, sends them, computes tags and explains
 //! packets.
 #![tactic(auto)]
 
@@ -28,9 +28,9 @@ const ANSWER_SECONDS: u64 = 4;
 /// Why no datagram was received.
 #[derive(Clone, Copy)]
 enum Missed {
-    /// No program listens on the port.
+    /// No program uses the port.
     Closed,
-    /// No datagram came in time.
+    /// No datagram arrived in time.
     Late,
     /// The clock cannot be read.
     Clock,
@@ -46,7 +46,7 @@ fn main(rt: HostRuntime) -> ExitCode {
     ExitCode::from(status)
 }
 
-/// Does what the command line asks for, and prints the answer.
+/// Runs the job of the command line and prints its answer.
 fn run<R>(rt: &R) -> Result<(), Fault>
 where
     R: Clock + Env + AllocGlobal + Eprint + Files + Input + Net + Print,
@@ -70,12 +70,12 @@ where
     }
 }
 
-/// Standard input, with a buffer.
+/// Returns a buffered reader of standard input.
 fn input_of<R: AllocGlobal + Input>(rt: &R) -> Result<BufReader<R::Reader>, Fault> {
     BufReader::new(rt.alloc(), rt.reader()).map_err(|_| Fault::Tool(ToolFault::Memory))
 }
 
-/// Does what the job asks for with each line of standard input, before the next one is read.
+/// Runs the job with each line of standard input, before the next line is read.
 fn run_lines<R, I: BufRead>(rt: &R, job: &Job, book: &KeyBook, input: &mut I) -> Result<(), Fault>
 where
     R: Clock + AllocGlobal + Eprint + Net + Print,
@@ -90,7 +90,7 @@ where
     Ok(())
 }
 
-/// Does what the job asks for, with this text of standard input.
+/// Runs the job with the text of standard input.
 fn run_plan<R>(rt: &R, job: &Job, book: &KeyBook, input: &str) -> Result<(), Fault>
 where
     R: Clock + AllocGlobal + Eprint + Net + Print,
@@ -101,7 +101,7 @@ where
     }
 }
 
-/// Sends a request and those that follow it, and prints the answers.
+/// Sends the first request of the exchange and the requests that follow it, and prints the answers.
 fn run_exchange<R: Clock + AllocGlobal + Eprint + Net + Print>(
     rt: &R,
     exchange: Exchange,
@@ -111,7 +111,7 @@ fn run_exchange<R: Clock + AllocGlobal + Eprint + Net + Print>(
     exchange_on(rt, &socket, exchange, book)
 }
 
-/// The same on this socket.
+/// Runs the exchange on this socket: sends its requests, and prints the answers.
 fn exchange_on<R: Clock + AllocGlobal + Eprint + Print>(
     rt: &R,
     socket: &UdpSocket,
@@ -133,15 +133,15 @@ fn print<R: Print>(rt: &R, text: &[u8]) -> Result<(), Fault> {
     io::writer(rt).write_all(text).map_err(|_| Fault::Write)
 }
 
-/// What the command line asks for.
+/// Returns the job of the command line.
 fn asked_job<R: Clock + Env + AllocGlobal>(rt: &R) -> Result<Job, Fault> {
     let now = milliseconds(rt)?;
     let arguments = arguments_of(rt)?;
     Ok(parse_words(rt.alloc(), now, arguments.as_slice())?)
 }
 
-/// Waits for the answer to the request that was sent on this socket. If the exchange is over,
-/// prints the answer and returns the outcome; `None` if the next request is to be sent. Any other
+/// Waits for the answer to the last request on this socket. Returns `None` if the next request is
+/// to be sent. If the exchange is over, prints the answer and returns the outcome. Any other
 /// datagram is reported on standard error.
 fn next_answer<R: Clock + AllocGlobal + Eprint + Print>(
     rt: &R,
@@ -165,7 +165,7 @@ fn next_answer<R: Clock + AllocGlobal + Eprint + Print>(
                 return Ok(Some(outcome));
             }
             Progress::Ignored => {
-                // If standard error cannot be written, the datagram is ignored all the same.
+                // The datagram is ignored even if standard error cannot be written.
                 let _printed = eprintln!(rt;
                     "ignored: a datagram that is no answer to the request"
                 );
@@ -175,7 +175,8 @@ fn next_answer<R: Clock + AllocGlobal + Eprint + Print>(
     Err(fault_of_silence(exchange, false))
 }
 
-/// A socket between these ports of 127.0.0.1, from a new port if none is named.
+/// Returns a socket from port `from` to port `to` of 127.0.0.1. If `from` is not given, the system
+/// chooses a port.
 fn socket_of<R: Net>(rt: &R, from: Option<u16>, to: u16) -> Result<UdpSocket, Fault> {
     let Ok(socket) = UdpSocket::bind(rt, (Ipv4Addr::LOCALHOST, from.unwrap_or(0))) else {
         return Err(match from {
@@ -196,7 +197,8 @@ fn send(socket: &UdpSocket, packet: &[u8]) -> Result<(), Fault> {
     }
 }
 
-/// Receives one datagram before `ANSWER_SECONDS` from the start are over, and answers its length.
+/// Receives one datagram and returns its length in octets. Fails if none arrives within
+/// `ANSWER_SECONDS` of `start`.
 fn receive<R: Clock>(
     rt: &R,
     socket: &UdpSocket,
@@ -207,7 +209,7 @@ fn receive<R: Clock>(
 {
     let waited = start.elapsed(rt).map_err(|_| Missed::Clock)?;
     let left = Duration::from_secs(ANSWER_SECONDS).saturating_sub(waited);
-    // A timeout of zero is refused, and the time is over.
+    // A timeout of zero is refused by the system. It means that the time is over.
     socket
         .set_read_timeout(Some(left))
         .map_err(|_| Missed::Late)?;
@@ -227,7 +229,7 @@ fn arguments_of<R: Env + AllocGlobal>(rt: &R) -> Result<Vec<String>, Fault> {
     }
 }
 
-/// The time of the clock, in milliseconds since 1970.
+/// Returns the time of the clock in milliseconds since 1970.
 fn milliseconds<R: Clock>(rt: &R) -> Result<u64, Fault> {
     let Ok(time) = SystemTime::now(rt) else {
         return Err(Fault::Clock);
@@ -238,7 +240,7 @@ fn milliseconds<R: Clock>(rt: &R) -> Result<u64, Fault> {
     }
 }
 
-/// The keys of the key file that the job names, or none.
+/// Returns the keys of the key file that the job names, or no keys if it names no file.
 fn book_of<R: AllocGlobal + Files>(rt: &R, job: &Job) -> Result<KeyBook, Fault> {
     let Some(path) = job.key_file() else {
         return Ok(KeyBook::new(rt.alloc()));

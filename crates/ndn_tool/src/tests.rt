@@ -10,13 +10,14 @@ use std::io::{Read, repeat};
 use std::net::Ipv4Addr;
 use std::process::Abort;
 
-/// The name `/ops/KEY/1` and its key, the text `key`.
+/// A key file with one key, which is named `/ops/KEY/1` and consists of the text `key`.
 const OPS: &str = "/ops/KEY/1 6b6579\n";
 
-/// The name `/k` and its key, the text `Jefe`.
+/// A key file with one key, which is named `/k` and consists of the text `Jefe`.
 const JEFE: &str = "/k 4a656665";
 
-/// The job of a command, with single spaces between its arguments; `''` is an empty one.
+/// Returns the job of a command. Its arguments are separated by single spaces, and `''` stands for
+/// an empty argument.
 fn job_of(alloc: Global, command: &str) -> Result<Job, ToolFault> {
     let mut arguments = Vec::new(alloc);
     for argument in command.split(' ') {
@@ -26,7 +27,7 @@ fn job_of(alloc: Global, command: &str) -> Result<Job, ToolFault> {
     parse_words(alloc, 1_000_000, arguments.as_slice())
 }
 
-/// What the program prints for a command, with the keys of a text.
+/// Returns the text that the program prints for a command, with the keys of the key file `keys`.
 fn answered(alloc: Global, command: &str, keys: &str) -> Result<String, ToolFault> {
     let job = job_of(alloc, command)?;
     let book = KeyBook::read(alloc, keys).map_err(|_| ToolFault::Memory)?;
@@ -36,7 +37,7 @@ fn answered(alloc: Global, command: &str, keys: &str) -> Result<String, ToolFaul
     }
 }
 
-/// The status that a command ends with, and what it prints.
+/// Returns the exit status of a command and the text that it prints.
 fn reply(alloc: Global, command: &str, keys: &str) -> Option<(u8, String)> {
     match answered(alloc, command, keys) {
         Ok(text) => Some((0, text)),
@@ -44,7 +45,8 @@ fn reply(alloc: Global, command: &str, keys: &str) -> Option<(u8, String)> {
     }
 }
 
-/// Whether a command prints this; where it fails, a line with the status is last.
+/// Returns whether a command prints `wanted`. If the command fails, `wanted` ends with a line that
+/// contains the exit status.
 fn prints(alloc: Global, command: &str, keys: &str, wanted: &str) -> Option<bool> {
     let (status, text) = reply(alloc, command, keys)?;
     if status == 0 {
@@ -54,7 +56,7 @@ fn prints(alloc: Global, command: &str, keys: &str, wanted: &str) -> Option<bool
     Some(whole.as_str() == wanted)
 }
 
-/// Checks the commands of a session, each after `$ `, and what they print.
+/// Checks the commands of a session, each after `$ `, and the text that each prints.
 fn check_session(rt: &(impl Abort + AllocGlobal), keys: &str, session: &str) {
     assert!(rt; session.contains("$ ndn_tool"), "there are no commands");
     for part in session.split("$ ") {
@@ -68,8 +70,8 @@ fn check_session(rt: &(impl Abort + AllocGlobal), keys: &str, session: &str) {
     }
 }
 
-/// Whether a command ends with a status and a text that has this part, `|` for LF. One LF ends the
-/// text.
+/// Returns whether a command ends with this exit status and a text that contains `part`. In `part`,
+/// `|` stands for an LF. The text must have one LF at its end.
 fn has_part(alloc: Global, command: &str, status: u8, part: &str) -> Option<bool> {
     let (ended, text) = reply(alloc, command, "")?;
     let text = text.as_str();
@@ -78,7 +80,7 @@ fn has_part(alloc: Global, command: &str, status: u8, part: &str) -> Option<bool
     Some(ended == status && is_line && text.contains(part.as_str()))
 }
 
-/// Checks rows of a command, ` => `, and a part of the text that it ends with.
+/// Checks rows. Each row is a command, ` => `, and a part of the text that the command ends with.
 fn check_parts(rt: &(impl Abort + AllocGlobal), status: u8, rows: &str) {
     assert!(rt; rows.contains(" => "), "there are no rows");
     for row in rows.lines() {
@@ -126,7 +128,7 @@ $ ndn_tool interest /A --nonce 01020304 --parameters 70
 053007250801410220620e59c59d04596b40d4cbe11e875a127f928accec817bec4519ae74d661f47a0a0401020304240170
 ";
 
-/// Each option of `interest`; the packets were made by a program of its own.
+/// Each option of `interest`. The packets were made by an independent program.
 #[test]
 fn interests(rt: HostRuntime) {
     check_session(&rt, "", INTERESTS);
@@ -170,7 +172,7 @@ lifetime 4000
 hop-limit 255
 ";
 
-/// A HopLimit is one octet, of type 34.
+/// A HopLimit is an element of type 34 with one octet.
 #[test]
 fn hop_limits(rt: HostRuntime) {
     check_session(&rt, "", HOP_LIMITS);
@@ -220,7 +222,7 @@ error: invalid value for nonce: give 8 hexadecimal digits, such as 01020304
 status 2
 ";
 
-/// The digits of a Nonce are of either case, and 8.
+/// A Nonce is 8 hexadecimal digits of either case.
 #[test]
 fn nonces(rt: HostRuntime) {
     check_session(&rt, "", NONCES);
@@ -253,8 +255,8 @@ token a1b2
 idle
 ";
 
-/// A PitToken is an element 98 before the Fragment, an element 80, in a link packet, an element
-/// 100.
+/// A PitToken is an element of type 98 inside a link packet, which has type 100. It precedes the
+/// Fragment, which has type 80.
 #[test]
 fn tokens(rt: HostRuntime) {
     check_session(&rt, "", TOKENS);
@@ -290,7 +292,7 @@ $ ndn_tool interest /A --nonce 01020304 --can-be-prefix --must-be-fresh --lifeti
 057c0725080141022043badb09b67adada910a2773fe2105c48c97f62a512bead62fe439757606b4e9210012000a04010203040c0201002201092401702c1d1b01041c0f070d08036f707308034b45590801312804000f42402a01072e20efd82602c91f6fe2db6b3fc78702ddffd7c53ec4969ddc769960e2e5d96b0d77
 ";
 
-/// Interests signed with a key; the packets were made by a program of its own.
+/// Interests that are signed with a key. The packets were made by an independent program.
 #[test]
 fn signed_interests(rt: HostRuntime) {
     check_session(&rt, OPS, SIGNED_INTERESTS);
@@ -305,7 +307,7 @@ $ ndn_tool command /localhost/nfd/fib/add-nexthop --name /A --face 256 --cost 18
 05c5078708096c6f63616c686f737408036e66640803666962080b6164642d6e657874686f700841683f0703080141690201006a08ffffffffffffffff6b27072508096c6f63616c686f737408036e66640808737472617465677908096d756c7469636173748401000220537e6246c98bb844eb1cbc982f2e3efe4b5b176808d04ec5b44ea984277ad2850a040102030424002c101b01002801002a08ffffffffffffffff2e20682bb2cba3c2367cb040a0256086fa27e5c6e0b58b89c6bb53cf671ad336c057
 ";
 
-/// Each option of `command`; the packets were made by a program of its own.
+/// Each option of `command`. The packets were made by an independent program.
 #[test]
 fn commands(rt: HostRuntime) {
     check_session(&rt, OPS, COMMANDS);
@@ -355,8 +357,8 @@ $ ndn_tool cache erase /A --count 10
 0580074908096c6f63616c686f737408036e66640802637308056572617365080a6808070308014184010a0220128c0a99b3ded3189e916a1a3fc7e7c9f03d50eb050bfdbb62c4f7d45085c0b90a04ca70b69b24002c091b01002804000f42402e205d42d3fdaa6b3c11aea0be4e2784a4e1d3a0456cd9bf39ed18dae188854d34c8
 ";
 
-/// The short forms, with the time 1000000 of the clock; the packets were made by a program of its
-/// own.
+/// The short forms of commands, with the clock at 1000000. The packets were made by an independent
+/// program.
 #[test]
 fn short_forms(rt: HostRuntime) {
     check_session(&rt, OPS, SHORT_FORMS);
@@ -389,8 +391,8 @@ $ ndn_tool command /localhost/nfd/rib/register --name /A --face 1 --cost 2 --str
 05cd078508096c6f63616c686f737408036e66640803726962080872656769737465720842684007030801416901016a01026b27072508096c6f63616c686f737408036e66640808737472617465677908096d756c7469636173746c01036d01046f01058401060220e81fe4a9c31a791ce2e0a662cf5918ee7259642c519760e37705302f0508fa090a040102030424002c1a1b01041c0f070d08036f707308034b45590801312804000f42402e2084eb55d73ad50d435aa887e0566bf99d86058dcef2a5a89ec5c86825d673df7d
 ";
 
-/// Commands for registered routes, with each of their options, in short and with every field by
-/// name; the packets were made by a program of its own.
+/// Commands for registered routes with each of their options, in the short form and with every
+/// field by name. The packets were made by an independent program.
 #[test]
 fn registered_routes(rt: HostRuntime) {
     check_session(&rt, OPS, ROUTES);
@@ -407,7 +409,7 @@ $ ndn_tool repo check /repo /A
 056f073808047265706f0805636865636b0807c90507030801410220593ca0a16e6969e6c69d1ac7be213430a742b857fa2e5dfcc8dc8815ddb8f0720a048261372524002c091b01002804000f42402e2014b7cacbfe78d46252811b204e080caaae1a2ff907a732f6ce2d5414354ce9a5
 ";
 
-/// The short forms of a repository's commands; the packets were made by a program of its own.
+/// The short forms of a repository's commands. The packets were made by an independent program.
 #[test]
 fn repository_forms(rt: HostRuntime) {
     check_session(&rt, OPS, REPOSITORY_FORMS);
@@ -487,7 +489,8 @@ TooLong
 status 1
 ";
 
-/// Commands with another key, or whose names have no room for the parameters.
+/// Commands with a key that is not in the key file, and with names that have no room for the
+/// parameters.
 #[test]
 fn unwritten_commands(rt: HostRuntime) {
     check_session(&rt, OPS, UNWRITTEN_COMMANDS);
@@ -506,7 +509,7 @@ $ ndn_tool data /A --content 78 --freshness 10 --keys F --key /ops/KEY/1
 06450703080141140319010a15017816141b01041c0f070d08036f707308034b45590801311720c83ce207400ab45d20f532b0d226b1f316f0dc1cce9d7c01569fa389541dc48b
 ";
 
-/// Each option of `data`; the packets were made by a program of its own.
+/// Each option of `data`. The packets were made by an independent program.
 #[test]
 fn data_packets(rt: HostRuntime) {
     check_session(&rt, OPS, DATA_PACKETS);
@@ -877,7 +880,7 @@ segment 256 last 512
 $ ndn_tool explain - --keys F
 ";
 
-/// Explanations of packets; the signed ones were made by a program of its own.
+/// Explanations of packets. The signed packets were made by an independent program.
 #[test]
 fn explained_packets(rt: HostRuntime) {
     check_session(&rt, "", EXPLAINED_PACKETS);
@@ -914,13 +917,13 @@ ab cd
 idle
 ";
 
-/// Whether this is the explanation of the lines of a text.
+/// Returns whether `wanted` is the explanation of the lines in `input`.
 fn says(alloc: Global, input: &str, keys: Option<&KeyBook>, wanted: &str) -> bool {
     let mut text = Vec::new(alloc);
     put_input(alloc, &mut text, input, keys).is_ok() && text.as_slice() == wanted.as_bytes()
 }
 
-/// Lines of standard input: packets explained, and other lines as they are.
+/// Lines of standard input. Packets are explained, and other lines are copied.
 #[test]
 fn input_lines(rt: HostRuntime) {
     assert!(rt; says(rt.alloc(), INPUT, None, SAID));
@@ -936,7 +939,7 @@ key not found
 status 1
 ";
 
-// A missing key is reported before a name that is refused.
+// A missing key is reported before a name that is not valid.
 const REFUSALS: &str = "
 $ ndn_tool interest / --nonce 01020304 --key /ops/KEY/1
 key not found
@@ -964,14 +967,14 @@ error: invalid value for freshness: give a decimal number below 2^64
 status 2
 ";
 
-/// The statuses and the texts of refusals.
+/// The exit statuses and the texts of refused commands.
 #[test]
 fn refusals(rt: HostRuntime) {
     check_session(&rt, OPS, REFUSALS_WITH_KEYS);
     check_session(&rt, "", REFUSALS);
 }
 
-/// Whether a Data of 8,800 octets of content is refused.
+/// Returns whether a Data with 8,800 octets of Content is refused.
 fn refuses_long_content(alloc: Global) -> Option<bool> {
     let mut command = String::from_str(alloc, "ndn_tool data /A --content ").ok()?;
     for _ in 0..8800 {
@@ -1011,7 +1014,7 @@ ndn_tool route add /A --face 1 --send 1 --from x => from: give a port
 ndn_tool route add /A --face 1 --from 1 => from: give the port to send to as well
 ";
 
-/// A wrong command line ends with status 2, and with a text of which this is a part.
+/// A wrong command line ends with exit status 2 and a text that contains this part.
 #[test]
 fn command_lines(rt: HostRuntime) {
     check_parts(&rt, 2, COMMAND_LINES);
@@ -1042,7 +1045,7 @@ fn help(rt: HostRuntime) {
     check_parts(&rt, 0, HELP);
 }
 
-/// Whether octets are no key file, with this message.
+/// Returns whether a key file with these octets is refused with this message.
 fn refuses_keys(alloc: Global, octets: &[u8], wanted: &str) -> bool {
     match read_book(alloc, octets) {
         Ok(_) => false,
@@ -1055,7 +1058,7 @@ fn refuses_keys(alloc: Global, octets: &[u8], wanted: &str) -> bool {
     }
 }
 
-/// Whether octets are a key file of `len` keys.
+/// Returns whether the octets are a key file of `len` keys.
 fn reads_keys(alloc: Global, octets: &[u8], len: usize) -> bool {
     read_book(alloc, octets).is_ok_and(|book| book.len() == len)
 }
@@ -1075,13 +1078,13 @@ fn key_files(rt: HostRuntime) {
     assert!(rt; reads_keys(rt.alloc(), OPS.as_bytes(), 1));
 }
 
-/// The status and the message of a refused read from standard input or a key file.
+/// Returns the exit status and the message for standard input or a key file that is refused.
 fn refused<T: Drop>(alloc: Global, read: Result<T, Fault>) -> Option<String> {
     let fault = read.err()?;
     format!(in alloc; "{} {fault}", fault.exit_status()).ok()
 }
 
-/// The refusal of a key file of this many semicolons.
+/// Returns the refusal of a key file of `count` semicolons.
 fn refused_key_file(alloc: Global, count: u64) -> Option<String> {
     refused(
         alloc,
@@ -1089,12 +1092,12 @@ fn refused_key_file(alloc: Global, count: u64) -> Option<String> {
     )
 }
 
-/// The refusal of a packet of this many digits.
+/// Returns the refusal of a packet of `count` digits.
 fn refused_packet(alloc: Global, count: u64) -> Option<String> {
     refused(alloc, read_packet_input(alloc, repeat(b'0').take(count)))
 }
 
-/// The refusal of a line of this many digits and an LF.
+/// Returns the refusal of a line of `count` digits with an LF.
 fn refused_line(alloc: Global, count: u64) -> Option<String> {
     let input = repeat(b'0').take(count).chain(b"\n0\n".as_slice());
     refused(
@@ -1103,7 +1106,7 @@ fn refused_line(alloc: Global, count: u64) -> Option<String> {
     )
 }
 
-/// Key files, packets and lines may have as many octets as their limit, and no more.
+/// Key files, packets and lines may have as many octets as their limits, but not more.
 #[test]
 fn large_input(rt: HostRuntime) {
     let alloc = rt.alloc();
@@ -1119,7 +1122,8 @@ fn large_input(rt: HostRuntime) {
     assert!(rt; refused_line(alloc, 131_072).as_deref() == Some(line));
 }
 
-/// The status that reading the key file of a job ends with: 0 for no keys.
+/// Reads the key file of a job. Returns 1 if it has keys, 0 if it has none, and otherwise the exit
+/// status of the fault.
 fn key_file_status(rt: &HostRuntime, job: &Job) -> u8 {
     match book_of(rt, job) {
         Ok(book) => u8::from(book.len() > 0),
@@ -1127,19 +1131,19 @@ fn key_file_status(rt: &HostRuntime, job: &Job) -> u8 {
     }
 }
 
-/// Whether a command names this key file, and reading it ends with this status.
+/// Returns whether a command names this key file, and reading that file has this status.
 fn has_key_file(rt: &HostRuntime, command: &str, path: Option<&str>, status: u8) -> bool {
     job_of(rt.alloc(), command).is_ok_and(|job| job.key_file() == path
         && key_file_status(rt, &job) == status)
 }
 
-/// The refusal of the key file of a command: the status and the message.
+/// Reads the key file of a command, and returns the exit status and the message of the refusal.
 fn refused_keys_of(rt: &HostRuntime, command: &str) -> Option<String> {
     let job = job_of(rt.alloc(), command).ok()?;
     refused(rt.alloc(), book_of(rt, &job))
 }
 
-/// A missing key file cannot be read.
+/// A key file that does not exist cannot be read.
 #[test]
 fn unreadable_key_file(rt: HostRuntime) {
     let said = refused_keys_of(&rt, "ndn_tool data /A --keys no/such/file");
@@ -1147,7 +1151,8 @@ fn unreadable_key_file(rt: HostRuntime) {
     assert!(rt; said.as_deref() == Some(wanted));
 }
 
-/// Whether a port to send from that another socket has is refused, with the status and the text.
+/// Returns whether sending from a port that another socket uses is refused, with the exit status
+/// and the text.
 fn refuses_taken_port(rt: &HostRuntime) -> Option<bool> {
     let other = UdpSocket::bind(rt, (Ipv4Addr::LOCALHOST, 0)).ok()?;
     let port = other.local_addr().ok()?.port();
@@ -1158,13 +1163,13 @@ fn refuses_taken_port(rt: &HostRuntime) -> Option<bool> {
     Some(said.as_str() == wanted.as_str())
 }
 
-/// A port to send from that another program has cannot be bound.
+/// A source port that another program uses cannot be bound.
 #[test]
 fn taken_port(rt: HostRuntime) {
     assert!(rt; refuses_taken_port(&rt) == Some(true));
 }
 
-/// The job names its key file, and without one it has no keys.
+/// The job names the key file of its options. Without a key file, there are no keys.
 #[test]
 fn key_file_options(rt: HostRuntime) {
     assert!(rt; has_key_file(&rt, "ndn_tool data /A --keys a.keys", Some("a.keys"), 3));
@@ -1175,7 +1180,7 @@ fn ends_with(fault: Fault, status: u8) -> bool {
     fault.exit_status() == status
 }
 
-/// Each fault has its status.
+/// The exit status of each fault.
 #[test]
 fn statuses(rt: HostRuntime) {
     let usage = Usage::BadValue {
@@ -1217,7 +1222,7 @@ $ ndn_tool cache erase /A --count 10
 0580074908096c6f63616c686f737408036e66640802637308056572617365080a6808070308014184010a0220128c0a99b3ded3189e916a1a3fc7e7c9f03d50eb050bfdbb62c4f7d45085c0b90a04ca70b69b24002c091b01002804000f42402e205d42d3fdaa6b3c11aea0be4e2784a4e1d3a0456cd9bf39ed18dae188854d34c8
 ";
 
-/// Whether a command prints this, or is refused memory.
+/// Returns whether a command prints `wanted`. Running out of memory is also accepted.
 fn prints_in_memory(alloc: Global, command: &str, wanted: &str) -> bool {
     match reply(alloc, command, JEFE) {
         None => true,
@@ -1225,7 +1230,7 @@ fn prints_in_memory(alloc: Global, command: &str, wanted: &str) -> bool {
     }
 }
 
-/// With ample memory the answer comes, and with refused memory its fault.
+/// With enough memory, the answer is printed. Without it, the fault is reported.
 #[test]
 fn refused_memory(rt: HostRuntime) {
     for part in IN_MEMORY.split("$ ") {
@@ -1237,8 +1242,8 @@ fn refused_memory(rt: HostRuntime) {
     }
 }
 
-/// A command, and after it datagrams with the outcome of the command by each. These and the packets
-/// below were made by an independent program.
+/// A command, followed by datagrams, each with the outcome that it gives the command. These packets
+/// and the ones below were made by an independent program.
 const ROUTE_ANSWERS: &str =
     "0598075008096c6f63616c686f737408036e66640803666962080b6164642d6e657874686f70080a680807030801416901020220b3efe71974da9dc26e88d0c074c8f0ff34ea85c38b109d9e9c6400b87694f2f20a040102030424002c1a1b01041c0f070d08036f707308034b45590801312804000f42402e20d113cf38056af9bbbec876471f4b51934978ef69345464b05cb762148eaa5dbb
 0684075008096c6f63616c686f737408036e66640803666962080b6164642d6e657874686f70080a680807030801416901020220b3efe71974da9dc26e88d0c074c8f0ff34ea85c38b109d9e9c6400b87694f2f2150965076601c867024f4b16031b01001720b6e80976e9dc6c36e0492f03adf2cda6bfa93df5c7b4489a5fc035173b9449cc done
@@ -1270,7 +1275,7 @@ const ROUTE_ANSWERS: &str =
 0600 ignored
 ";
 
-/// The same for a repository's insert, for which 100 is success.
+/// A repository's insert, for which status 100 is success, and datagrams with their outcomes.
 const INSERT_ANSWERS: &str =
     "0581073908047265706f0806696e736572740807c90507030801410220856ad41dcba9cd04d16e32da8c22468001abf94c4a2d4d42b7c3a6e26de9f5910a040102030424002c1a1b01041c0f070d08036f707308034b45590801312804000f42402e2067118d1ececd0d1c18fc45b8ae9abc3778200f148c277b58cdf8f39b8cc0c96d
 0675073908047265706f0806696e736572740807c90507030801410220856ad41dcba9cd04d16e32da8c22468001abf94c4a2d4d42b7c3a6e26de9f5911511cf0fd00164670770656e64696e6784010016031b0100172007ca981da7330b26cf7f5160965fc8dceb813aed6b86cf7f235dccc6681de8df done
@@ -1281,7 +1286,7 @@ const INSERT_ANSWERS: &str =
 066d073908047265706f0806696e736572740807c90507030801410220856ad41dcba9cd04d16e32da8c22468001abf94c4a2d4d42b7c3a6e26de9f591150965076601c867024f4b16031b01001720d56beaf70800284532e7a6cd9c7891650a32fa9452c2d0cc736edff9e156e4ee no-status
 ";
 
-/// The same for a repository's check, for which 100 is not.
+/// A repository's check, for which status 100 is not success, and datagrams with their outcomes.
 const CHECK_ANSWERS: &str =
     "0542073808047265706f0805636865636b0807c9050703080141022033b67cb5385ceddad93d0ee960679041613bed34b8b4a5e6362fe7539ba2d3ce0a04010203042400
 066f073808047265706f0805636865636b0807c9050703080141022033b67cb5385ceddad93d0ee960679041613bed34b8b4a5e6362fe7539ba2d3ce150ccf0ad001c867024f4b84010116031b01001720e321cf1c01ed9976608792d53dbe9f46213bbd83c57e8c27042f544af69c5bf6 done
@@ -1289,7 +1294,7 @@ const CHECK_ANSWERS: &str =
 0677073808047265706f0805636865636b0807c9050703080141022033b67cb5385ceddad93d0ee960679041613bed34b8b4a5e6362fe7539ba2d3ce1514cf12d002019467096e6f7420666f756e6484010016031b0100172027cb3843c2e805daa3395bfd459ed163293d13329285a18a1fdb9aeed87ff864 refused
 ";
 
-/// The same for an Interest for `/A`.
+/// An Interest for `/A`, and datagrams with their outcomes.
 const INTEREST_ANSWERS: &str = "050b07030801410a0401020304
 062f070308014115017816031b01001720e4f0b5aed03446e702356a360c7194c208b8b6a28ff30de430f1baa08ba29266 done
 062f070308014115017816031b01001720e5f0b5aed03446e702356a360c7194c208b8b6a28ff30de430f1baa08ba29266 done
@@ -1298,25 +1303,26 @@ const INTEREST_ANSWERS: &str = "050b07030801410a0401020304
 6418fd032005fd03210196500d050b07030801410a0401020305 ignored
 ";
 
-/// The same for one with CanBePrefix.
+/// An Interest with CanBePrefix, and datagrams with their outcomes.
 const PREFIX_ANSWERS: &str = "050d070308014121000a0401020304
 0632070608014108014215017816031b01001720ad4bdd84fe28f6c7243eef0f1dbfdb7acd041e625c59fbbdf6c87b1bb228e5a5 done
 ";
 
-/// The same for a command with CanBePrefix, whose reply has the same name.
+/// A command with CanBePrefix, whose reply has the command's name, and datagrams with their
+/// outcomes.
 const PREFIX_COMMAND_ANSWERS: &str =
     "059a075008096c6f63616c686f737408036e66640803666962080b6164642d6e657874686f70080a680807030801416901020220b3efe71974da9dc26e88d0c074c8f0ff34ea85c38b109d9e9c6400b87694f2f221000a040102030424002c1a1b01041c0f070d08036f707308034b45590801312804000f42402e20d113cf38056af9bbbec876471f4b51934978ef69345464b05cb762148eaa5dbb
 0684075008096c6f63616c686f737408036e66640803666962080b6164642d6e657874686f70080a680807030801416901020220b3efe71974da9dc26e88d0c074c8f0ff34ea85c38b109d9e9c6400b87694f2f2150965076601c867024f4b16031b01001720b6e80976e9dc6c36e0492f03adf2cda6bfa93df5c7b4489a5fc035173b9449cc done
 0687075308096c6f63616c686f737408036e66640803666962080b6164642d6e657874686f70080a680807030801416901020220b3efe71974da9dc26e88d0c074c8f0ff34ea85c38b109d9e9c6400b87694f2f2080178150965076601c867024f4b16031b01001720d0d0e633fa38a1d163524163a5943e45b8e2a90e55897bb42e69fc2203e73c09 ignored
 ";
 
-/// A Data has no answer.
+/// A Data, which has no answer, and a datagram that is ignored.
 const NO_ANSWERS: &str =
     "062f070308014115017816031b01001720e4f0b5aed03446e702356a360c7194c208b8b6a28ff30de430f1baa08ba29266
 062f070308014115017816031b01001720e4f0b5aed03446e702356a360c7194c208b8b6a28ff30de430f1baa08ba29266 ignored
 ";
 
-/// A word for the outcome of a request by a datagram.
+/// Returns the word for the outcome that a datagram gives a request.
 fn word_of(outcome: Option<Outcome>) -> &'static str {
     match outcome {
         None => "ignored",
@@ -1328,14 +1334,15 @@ fn word_of(outcome: Option<Outcome>) -> &'static str {
     }
 }
 
-/// Whether this is the outcome of a request by a datagram, with the key `/ops/KEY/1`.
+/// Returns whether the datagram gives the request the outcome `wanted`, with the key `/ops/KEY/1`.
 fn comes_to(alloc: Global, request: &[u8], datagram: &[u8], wanted: &str) -> Option<bool> {
     let book = KeyBook::read(alloc, OPS).ok()?;
     let outcome = judge(alloc, request, datagram, &book).ok()?;
     Some(word_of(outcome) == wanted)
 }
 
-/// The same for packets in hexadecimal, `-` for no octets.
+/// Returns whether a row is correct. The row is a datagram in hexadecimal, or `-` for no octets,
+/// and the word for its outcome.
 fn row_comes_to(alloc: Global, request: &str, row: &str) -> Option<bool> {
     let (digits, wanted) = row.split_once(' ')?;
     let digits = if digits == "-" { "" } else { digits };
@@ -1344,7 +1351,7 @@ fn row_comes_to(alloc: Global, request: &str, row: &str) -> Option<bool> {
     comes_to(alloc, &request, &datagram, wanted)
 }
 
-/// Checks rows of datagrams and words, after the line of the request.
+/// Checks rows of datagrams and the words for their outcomes. The first line is the request.
 fn check_answers(rt: &(impl Abort + AllocGlobal), rows: &str) {
     let (request, rows) = rows.split_once('\n').unwrap_or(("", ""));
     assert!(rt; rows.contains(' '), "there are no rows");
@@ -1356,7 +1363,7 @@ fn check_answers(rt: &(impl Abort + AllocGlobal), rows: &str) {
     }
 }
 
-/// Which datagrams answer a request, and with which outcome.
+/// The datagrams that answer a request, and the outcomes that they give it.
 #[test]
 fn answers(rt: HostRuntime) {
     check_answers(&rt, ROUTE_ANSWERS);
@@ -1368,7 +1375,7 @@ fn answers(rt: HostRuntime) {
     check_answers(&rt, NO_ANSWERS);
 }
 
-/// A reply to the command with this status, and a text of 9,000 spaces.
+/// Returns a reply to the command with this status and a text of 9,000 spaces.
 fn long_reply(alloc: Global, request: &[u8], status: u8) -> Option<Vec<u8>> {
     let Ok(Frame::Interest(asked)) = read_frame(request) else {
         return None;
@@ -1383,7 +1390,8 @@ fn long_reply(alloc: Global, request: &[u8], status: u8) -> Option<Vec<u8>> {
     Some(reply)
 }
 
-/// Whether such a reply has this outcome, with the last octet of its signature changed by `change`.
+/// Returns whether a long reply has this outcome. The last octet of its signature is changed by
+/// `change`.
 fn long_comes_to(alloc: Global, status: u8, change: u8, wanted: &str) -> Option<bool> {
     let (request, _) = ROUTE_ANSWERS.split_once('\n')?;
     let request = packet_in(alloc, request.as_bytes()).ok()?;
@@ -1394,7 +1402,7 @@ fn long_comes_to(alloc: Global, status: u8, change: u8, wanted: &str) -> Option<
     comes_to(alloc, &request, &reply, wanted)
 }
 
-/// Whether the lines of such a reply begin and end so.
+/// Returns whether the explanation of a long reply begins with `first` and ends with `last`.
 fn long_says(alloc: Global, first: &str, last: &str) -> Option<bool> {
     let (request, _) = ROUTE_ANSWERS.split_once('\n')?;
     let request = packet_in(alloc, request.as_bytes()).ok()?;
@@ -1404,7 +1412,7 @@ fn long_says(alloc: Global, first: &str, last: &str) -> Option<bool> {
     Some(text.starts_with(first.as_bytes()) && text.ends_with(last.as_bytes()))
 }
 
-/// A reply of more than 8,800 octets.
+/// Replies of more than 8,800 octets.
 #[test]
 fn long_replies(rt: HostRuntime) {
     assert!(rt; long_comes_to(rt.alloc(), 200, 0, "done") == Some(true));
@@ -1413,7 +1421,7 @@ fn long_replies(rt: HostRuntime) {
     assert!(rt; long_says(rt.alloc(), "data /localhost/nfd/fib/add-nexthop/", " \n") == Some(true));
 }
 
-/// The outcome of a client that sends the request, if a node sends these two datagrams.
+/// Returns the outcome of a client that sends the request and receives these two datagrams.
 fn hears(
     rt: &HostRuntime,
     request: Vec<u8>,
@@ -1437,7 +1445,8 @@ fn hears(
     Some(exchange_on(rt, &client, exchange, &book))
 }
 
-/// The same if the second is a reply of more than 9,000 octets with this status.
+/// Returns the outcome of a client whose second datagram is a reply of more than 9,000 octets with
+/// this status.
 fn hears_long(rt: &HostRuntime, status: u8) -> Option<Result<(), Fault>> {
     let (request, _) = ROUTE_ANSWERS.split_once('\n')?;
     let request = packet_in(rt.alloc(), request.as_bytes()).ok()?;
@@ -1445,7 +1454,8 @@ fn hears_long(rt: &HostRuntime, status: u8) -> Option<Result<(), Fault>> {
     hears(rt, request, b"forged", &reply)
 }
 
-/// A client waits for its answer, whatever else comes, and ends with its outcome.
+/// A client waits for its answer, whatever other datagrams arrive, and ends with the answer's
+/// outcome.
 #[test]
 fn forged_answers(rt: HostRuntime) {
     assert!(rt; matches!(hears_long(&rt, 200), Some(Ok(()))));
@@ -1457,7 +1467,8 @@ fn forged_answers(rt: HostRuntime) {
     );
 }
 
-/// Why no answer comes to a request in the first line of rows.
+/// Returns the reason that is reported if no answer arrives to the request in the first line of
+/// `rows`.
 fn silence(alloc: Global, rows: &str, from: Option<u16>) -> Option<Silence> {
     let (request, _) = rows.split_once('\n')?;
     let request = packet_in(alloc, request.as_bytes()).ok()?;

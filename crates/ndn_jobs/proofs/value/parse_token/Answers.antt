@@ -4,7 +4,7 @@ use Rattle.ndn_packets.specs.Link.{IsToken}
 use Rattle.ndn_jobs.specs.Value.{IsTokenText}
 use Rattle.ndn_jobs.proofs.value.parse_token.Goals as goal
 
--- a text spells no token where the octets that it spells are none
+-- a text spells no token if the octets that it spells are not a token
 no_token : (text octets : List ℕ) → decode_of text ≡ Ok octets → (IsToken octets → ⊥) → (token : List ℕ) → IsTokenText text token → ⊥
 no_token text octets e none token h =
     let both : Ok octets ≡ Ok token = sym e ∙ h.0 in
