@@ -14,8 +14,8 @@ IsTextOf (event ∷ events) text =
     (line rest : List ℕ) × IsEventLine event line × Lacks 10 line × (text ≡ ended line ++ rest)
     × IsTextOf events rest
 
--- The text that a crash may leave: the whole lines of these events, and then octets without an LF,
--- which spell no event.
+-- The text that a crash may leave: the whole lines of these events, and then octets without an LF.
+-- A replay ignores these octets.
 abbrev pub IsCutTextOf : List PlainEvent → List ℕ → Type 0
 IsCutTextOf events text =
     (whole cut : List ℕ) × (text ≡ whole ++ cut) × IsTextOf events whole × Lacks 10 cut
