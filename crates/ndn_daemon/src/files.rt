@@ -32,8 +32,7 @@ pub fn read_keys(alloc: Global, octets: &[u8]) -> Result<KeyBook, Fault>
 }
 
 /// Reads an open rule file, and returns its rules and its octets. `path` is its path. A file of
-/// more than 65,536 octets has a TooLarge fault at line 0, even if it is not UTF-8. At most 65,537
-/// octets of the file are read.
+/// more than 65,536 octets has a TooLarge fault at line 0, even if it is not UTF-8.
 pub fn read_rule_file<R: Read + Drop>(
     alloc: Global,
     path: &str,
@@ -58,8 +57,7 @@ pub fn read_rule_file<R: Read + Drop>(
 }
 
 /// Reads an open key file, and returns its keys and its octets. `path` is its path. A file of more
-/// than `MAX_KEY_FILE` octets is too large, whatever its content. At most `MAX_KEY_FILE + 1` octets
-/// of the file are read.
+/// than `MAX_KEY_FILE` octets is too large, whatever its content.
 pub fn read_key_file<R: Read + Drop>(
     alloc: Global,
     path: &str,
