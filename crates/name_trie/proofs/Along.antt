@@ -1,4 +1,4 @@
--- What a visitor takes on a walk along a name.
+-- How a visitor changes or removes values on a walk along a name.
 use Rattle.std.proofs.Common.{◌≡◌, ℕ, true, false, Bool, cond, List, [], ◌∷◌, ◌++◌, append_assoc, ◌+◌, ◌≤◌, refl, sym, ap, ◌∙◌, arith, length-append}
 use Rattle.std.proofs.lemmas.List.{append-nil}
 use Rattle.std.specs.Prelude.{Option, None, Some, length}
@@ -18,7 +18,8 @@ use Rattle.name_trie.proofs.Closed.{lookup_turned}
 use Rattle.name_trie.proofs.Walks.{walk_none, lookup_none}
 
 module _ {V : Type 0} (own below : V → Option V) where
-  -- how a value is changed on the walk before the node of the name `front`
+  -- how the value of the name `q` is changed by the part of the walk that ends before the node of
+  -- `front`
   abbrev pub before : List Field → List Field → V → Option V
   before q front = changed_along Some below q front
 
@@ -52,7 +53,7 @@ module _ {V : Type 0} (own below : V → Option V) where
   before_itself [] = refl
   before_itself (c ∷ name) = ap (λ f. cond (eq_by_cmp component_cmp c c) f Some) (before_itself name) ∙ sym (same_either (eq_by_cmp component_cmp c c))
 
-  -- below a name that leads to no node there is nothing to change
+  -- if a name leads to no node, its extensions have no values to change
   pub cut_short : (h : Heap V) (o : Option ℕ) (front rest : List Field) → walk h o front ≡ None → (q : List Field)
       → option_and_then (changed_along own below q (front ++ rest)) (lookup h o q) ≡ option_and_then (before q front) (lookup h o q)
   cut_short h o [] rest none q =
@@ -69,7 +70,7 @@ module _ {V : Type 0} (own below : V → Option V) where
 
   module _ (h0 h h' : Heap V) (root : Option ℕ) (sound : Sound h root) (front : List Field) (k : ℕ) (at : walk h root front ≡ Some k)
       (was : (q : List Field) → lookup h root q ≡ option_and_then (before q front) (lookup h0 root q)) where
-    -- the value of the node has not been changed before
+    -- the walk has not yet changed the value of the node that it has reached
     pub still : value h k ≡ lookup h0 root front
     still = ap (option_and_then (value h)) (sym at) ∙ was front ∙ ap (λ f. option_and_then f (lookup h0 root front)) (before_itself front) ∙ whole (lookup h0 root front)
       where
@@ -88,14 +89,15 @@ module _ {V : Type 0} (own below : V → Option V) where
         ] refl
 
 module _ {S V : Type 0} (own below : S → V → S) where
-  -- if no name below `front` has a value, nothing is taken
+  -- if no name that begins with `front` has a value, the visitor does not change
   pub nothing_taken : (s : S) (f : List Field → Option V) (front rest : List Field) → ((p : List Field) → f (front ++ p) ≡ None) → taken_along own below s f front rest ≡ s
   nothing_taken s f front [] none = ap (taken own s) (ap f (sym (append-nil front)) ∙ none [])
   nothing_taken s f front (c ∷ rest) none =
       ap (λ (o : Option V). taken_along own below (taken below s o) f (front ++ c ∷ []) rest) (ap f (sym (append-nil front)) ∙ none [])
       ∙ nothing_taken s f (front ++ c ∷ []) rest (λ p. ap f (append_assoc front (c ∷ []) p) ∙ none (c ∷ p))
 
-  -- the result is the same if the names have the same values
+  -- the visitor is the same afterwards if the names of at most `bound` components have the same
+  -- values
   pub taken_same : (s : S) (f g : List Field → Option V) (front rest : List Field) (bound : ℕ)
       → ((q : List Field) → length q ≤ bound → f q ≡ g q) → length front + length rest ≤ bound → taken_along own below s f front rest ≡ taken_along own below s g front rest
   taken_same s f g front [] bound same le = ap (taken own s) (same front (omega arith))

@@ -18,7 +18,7 @@ use Rattle.name_trie.specs.Changes.{Joins, Starts, Cuts, IsBare, Sets, Turns, La
 use Rattle.name_trie.proofs.Revised.{equal, get-revise}
 use Rattle.name_trie.proofs.Walks.{walk_none}
 
--- ---- an index, unless it is k
+-- ---- an index, or None if it is k
 
 pub unless_is_self : (k : ℕ) → unless_is k k ≡ None
 unless_is_self k = ap (λ b. cond b None (Some k)) (eq-eqb k k refl)
@@ -38,7 +38,7 @@ unless_some k (Some i) j e =
       | false ↦ λ t e. (e, λ is. let same : i ≡ k = (let one : i ≡ j = cc in one ∙ is) in eqb-false i k t same)
     ] refl e
 
--- whether an index is k
+-- a case distinction: two indexes are equal or not
 pub same_or : (j k : ℕ) (P : Type 0) → (j ≡ k → P) → (j ≢ k → P) → P
 same_or j k P same other =
     elim (eqb j k) as (λ b. eqb j k ≡ b → P) [
@@ -106,7 +106,7 @@ module _ {V : Type 0} (h : Heap V) where
         let way = sound.reach k up_k.0 up_k.1 in
         subst (λ (q : List Field). length q ≤ 64) (one_walk way.0 p k way.2 e) way.1
 
--- ---- a node without a value and children, present or absent
+-- ---- walks and lookups after a node without a value and without children is removed
 
 module _ {V : Type 0} (k : ℕ) (h : Heap V) (root : Option ℕ) (h' : Heap V) (root' : Option ℕ) (lacks : Lacks k h root h' root') where
   down_lacks : (o : Option ℕ) (c : Field) → down h' (unless k o) c ≡ unless k (down h o c)

@@ -32,7 +32,7 @@ no_row : {X : Type 0} (b : Bool) → ◌≡◌ {A = Option X} None (cond b None 
 no_row true = refl
 no_row false = refl
 
--- a key is a name and a rest, compared in lexicographic order
+-- a key is made of a name and an inner key, and keys are compared by name, then by inner key
 pub record MakesKeys {N F K : Type 0} (R : N → N → Ordering) (S : F → F → Ordering) (Q : K → K → Ordering) (key : N → F → K) (name : K → N) (rest : K → F) : Type 0 where
   pub ties : (k : K) (n : N) (f : F) → eq_by_cmp Q k (key n f) ≡ (eq_by_cmp R (name k) n && eq_by_cmp S (rest k) f)
   pub by_name : (n m : N) (f g : F) → R n m ≡ Less → Q (key n f) (key m g) ≡ Less

@@ -15,7 +15,7 @@ use Rattle.name_trie.proofs.Changed.{unless_is_self, unless_is_other}
 use Rattle.name_trie.proofs.Halves.{lower_before, row_at}
 use Rattle.name_trie.proofs.Revised.{equal, find_below}
 
--- if no row is the child's, all rows stay
+-- if no row has the index of the child, no row is removed
 pub others_stay : {K : Type 0} (child : ℕ) (rows : List (K × ℕ)) → All (λ row. row.1 ≢ child) rows → revised (unless_is child) rows ≡ rows
 others_stay child [] all = refl
 others_stay child (x ∷ rows) all =
@@ -23,7 +23,7 @@ others_stay child (x ∷ rows) all =
     ap (λ o. with_entry x.0 o (revised (unless_is child) rows)) (unless_is_other child x.1 (all 0 x (omega arith))) ∙ ap (λ l. x ∷ l) rest
 
 module _ {K : Type 0} {R : K → K → Ordering} (total : IsTotalOrder R) (anti : IsAntisymmetric R) (child : ℕ) where
-  -- what is found in the remaining rows is found in all rows
+  -- a key that leads to the child in the rows after the first leads to the child in all rows
   found_more : (x : K × ℕ) (rows : List (K × ℕ)) → T (below_all R x.0 rows) → (k : K) → find R k rows ≡ Some child → find R k (x ∷ rows) ≡ Some child
   found_more x rows below k found =
       elim (eq_by_cmp R k x.0) as (λ b. eq_by_cmp R k x.0 ≡ b → cond b (Some x.1) (find R k rows) ≡ Some child) [

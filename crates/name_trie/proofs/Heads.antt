@@ -24,7 +24,7 @@ small (suc n) octets are =
     let less : head n octets * 256 + slice_index octets n < 256 * 256 ^ n = mul-add-lt (head n octets) 256 (slice_index octets n) (256 ^ n) (small n octets are) (are n) in
     subst (λ (m : ℕ). head n octets * 256 + slice_index octets n < m) (sym (pow-succ' 256 n)) less
 
--- the number of fewer than eight octets has room for one more octet
+-- the number of fewer than eight octets is less than 2^56, so one more octet can be appended
 pub room : (n : ℕ) (octets : List ℕ) → AreOctets octets → n < 8 → head n octets < 2 ^ 56
 room n octets are lt =
     let most : 256 ^ n ≤ 256 ^ 7 = pow-le-pow_right {n = 256} (omega arith) {i = n} {j = 7} (omega arith) in
@@ -101,7 +101,7 @@ by_head n a b are bare =
     ] in
     by (nat_cmp (head n a) (head n b)) refl
 
--- two values of equal length with up to eight octets are ordered by their heads alone
+-- two components of equal length, at most eight octets, are ordered by their heads alone
 pub by_head_alone : (a b : List ℕ) → AreOctets a → AreOctets b → length a ≡ length b → length a ≤ 8 → nat_cmp (head 8 a) (head 8 b) ≡ slice_cmp nat_cmp a b
 by_head_alone a b are bare len short =
     let by : (o : Ordering) → o ≡ nat_cmp (head 8 a) (head 8 b) → o ≡ slice_cmp nat_cmp a b = λ o.

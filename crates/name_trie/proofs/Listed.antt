@@ -40,7 +40,7 @@ module _ {V : Type 0} where
       ap (λ (n : List Field). (n, r.1) ∷ named front (map (λ r. (c ∷ r.0, r.1)) rs)) (sym (append_assoc front (c ∷ []) r.0))
       ∙ ap (λ l. ((front ++ c ∷ []) ++ r.0, r.1) ∷ l) (named_under front c rs)
 
-  -- the rows below one more child
+  -- the rows below a node with one more child
   pub below_more : (front : List Field) (f : Option ℕ → List (List Field × V)) (xs : List (Field × ℕ)) (e : Field × ℕ)
       → named front (below f (xs ++ e ∷ [])) ≡ named front (below f xs) ++ named (front ++ e.0 ∷ []) (f (Some e.1))
   below_more front f xs e =
@@ -126,7 +126,7 @@ module _ {V : Type 0} where
       same_map name_cmp-total name_cmp-antisymmetric _ _ (λ q. get-from_entries name_cmp-total (rows h 65 root) q ∙ sym (get-from_sorted name_cmp (rows h 65 root) q sorted)) in
       ap entries same ∙ entries-from_sorted name_cmp (rows h 65 root) sorted
 
-  -- ---- for `list_below`
+  -- ---- the rows at and below a node
 
   pub rows_missing : (h : Heap V) (n k : ℕ) → h k ≡ None → rows h n (Some k) ≡ []
   unfolding rows

@@ -99,7 +99,7 @@ pub had_timer : {V : Type 0} (timer : V → ℕ) (f : V → Option V) (o : Optio
 had_timer timer f None some = absurd cc
 had_timer timer f (Some v) some = (timer v, refl)
 
--- ---- the number of timers that are due
+-- ---- the number of timers whose deadline is `now` or earlier
 
 abbrev is_due : ℕ → Timer → Bool
 is_due now t = nat_le t.deadline now
@@ -147,7 +147,8 @@ not_empty s t is =
     ] in
     cases (set.len s) refl
 
--- replacing a due timer by a later one, or by none, reduces the number of due timers
+-- replacing an expired timer by one with a later deadline, or by none, reduces the number of
+-- expired timers
 pub fewer_due : (now k d : ℕ) (o : Option ℕ) (timers : TimerSet) → contains timers (timer_for k d) ≡ true → d ≤ now → ((e : ℕ) → o ≡ Some e → now < e)
     → due now (started k o (stopped k (Some d) timers)) < due now timers
 fewer_due now k d o timers there le later =
@@ -163,7 +164,7 @@ pub rings_is : (o : Option ℕ) (d : ℕ) → rings o d ≡ true → o ≡ Some 
 rings_is None d e = absurd cc
 rings_is (Some x) d e = ap Some (sym (eqb-true d x e))
 
--- ---- a change that affects only due values, and leaves no value due
+-- ---- a change that affects only expired values, and leaves no value that is expired
 
 module _ {V : Type 0} (timer : V → ℕ) (change : V → Option V) (now : ℕ) (idle : (v : V) → now < timer v → change v ≡ Some v) (later : (v w : V) → change v ≡ Some w → now < timer w) where
   pub later_than : (o : Option V) (e : ℕ) → option_map timer (option_and_then change o) ≡ Some e → now < e
@@ -181,7 +182,7 @@ module _ {V : Type 0} (timer : V → ℕ) (change : V → Option V) (now : ℕ) 
   twice None = refl
   twice (Some v) = elim (change v) as (λ w. change v ≡ w → option_and_then change w ≡ w) [ None ↦ λ _. refl | (Some w) ↦ λ at. idle w (later v w at) ] refl
 
-  -- changing one value in advance does not affect a change of all values
+  -- changing one value first does not alter the result of changing all values
   pub changed_early : (k : ℕ) (h h' : Heap V) → Turns k (option_and_then change (value h k)) h h' → (root : Option ℕ) (q : List Field) → option_and_then change (lookup h' root q) ≡ option_and_then change (lookup h root q)
   changed_early k h h' turns root q = ap (λ o. option_and_then change (option_and_then (value h') o)) (walk_turned k _ h h' turns root q) ∙ at (walk h root q)
     where
@@ -191,7 +192,7 @@ module _ {V : Type 0} (timer : V → ℕ) (change : V → Option V) (now : ℕ) 
           (λ e. ap (λ (i : ℕ). option_and_then change (value h' i)) e ∙ ap (option_and_then change) turns.here ∙ twice (value h k) ∙ ap (λ (i : ℕ). option_and_then change (value h i)) (sym e))
           (λ ne. ap (option_and_then change) (turns.others j ne))
 
-  -- if no timer is due, no value changes
+  -- if no timer has expired, no value changes
   pub none_due : (h : Heap V) (timers : TimerSet) → IsTimed timer h timers → NoneDue now timers → (root : Option ℕ) (q : List Field) → option_and_then change (lookup h root q) ≡ lookup h root q
   none_due h timers timed none root q = at (walk h root q)
     where

@@ -153,7 +153,7 @@ module _ {V : Type 0} (h h' : Heap V) (root root' : Option ℕ) where
         | false ↦ λ t. long (omega (arith, ltb-false (length q) 65 t))
       ] refl
 
-  -- a changed lookup of a name is a changed lookup in the table
+  -- if `f` changes the value that a name leads to, `f` changes the name's value in the table
   pub get_changed : (f : V → Option V) (q : List Field) → lookup h' root' q ≡ option_and_then f (lookup h root q) → get (table_of h' root') q ≡ option_and_then f (get (table_of h root) q)
   get_changed f q is = by_length _ _ q
       (λ le. get-table h' root' q le ∙ is ∙ sym (ap (option_and_then f) (get-table h root q le)))

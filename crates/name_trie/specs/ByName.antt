@@ -6,17 +6,17 @@ use Rattle.std.specs.FinMap.{FinMap, entries, from_sorted, get, insert, remove}
 use Rattle.ndn_tlv.specs.Element.{Field}
 use Rattle.ndn_names.specs.Order.{name_cmp}
 
--- the entries, with an entry for `k` in front if it has a value
+-- the entries, with an entry for `k` in front if `k` has a value
 abbrev pub with_entry : {K X : Type 0} → K → Option X → List (K × X) → List (K × X)
 with_entry k None es = es
 with_entry k (Some x) es = (k, x) ∷ es
 
--- the entries after each value is changed, or its entry removed
+-- the entries after each value is changed or each entry is removed, as `change` says
 abbrev pub revised : {K X Y : Type 0} → (X → Option Y) → List (K × X) → List (K × Y)
 revised change [] = []
 revised change (e ∷ es) = with_entry e.0 (change e.1) (revised change es)
 
--- the map after each value is changed, or its entry removed
+-- the map after each value is changed or each entry is removed, as `change` says
 unfoldable pub revise : {K X Y : Type 0} {R : K → K → Ordering} → (X → Option Y) → FinMap R X
     → FinMap R Y
 revise change m = from_sorted (revised change (entries m))

@@ -8,7 +8,7 @@ use Rattle.name_trie.specs.ByName.{revise}
 use Rattle.name_trie.specs.Links.{unless, unless_is}
 use Rattle.name_trie.specs.Trie.{Heap, child, value, up, walk, lookup}
 
--- a node without a value and children
+-- a node that has neither a value nor children
 abbrev pub bare : {V : Type 0} → Option ℕ → Node V
 bare parent = record { parent = parent; hint = tt; children = empty; value = None }
 

@@ -1,15 +1,15 @@
--- What is known at the names of a table, and what is shown of it.
+-- The state of a walk at each name of a table, and what a visitor is shown of the table.
 use Rattle.std.specs.Prelude.{ℕ, List, [], ◌++◌, Option, None, Some, fold}
 use Rattle.ndn_tlv.specs.Element.{Field}
 use Rattle.ndn_names.specs.Name.{octets_of}
 use Rattle.name_trie.specs.Taken.{taken_along}
 
--- What is known at a name: `before`, updated with the values of the name's proper prefixes, the
--- shortest first, and then with the name's own value.
+-- The state of a walk at a name: `before`, updated with the values of the name's proper prefixes,
+-- the shortest first, and then with the name's own value.
 abbrev pub known_at : {W V : Type 0} → (W → V → W) → W → (List Field → Option V) → List Field → W
 known_at past before value name = taken_along past past before value [] name
 
--- the visitor s after it is shown each name in order, with what is known there
+-- the visitor s after it is shown each name in order, with the state at that name
 abbrev pub shown_known : {S W V : Type 0} → (S → List ℕ → W → S) → (List Field → W) → S
     → List (List Field × V) → S
 shown_known {S} {W} {V} show known s es =
@@ -26,7 +26,7 @@ abbrev pub shown_after : {S W V : Type 0} → (S → List ℕ → W → S) → L
 shown_after {S} {W} {V} show front known s es =
     fold {A = List Field × V} {B = S} (λ s e. show s (front ++ octets_of e.0) (known e.0)) s es
 
--- the visitor s after it is shown a name, if something is known there
+-- the visitor s after it is shown a name with its state, or unchanged if the state is None
 abbrev pub shown_if : {S W : Type 0} → (S → List ℕ → W → S) → S → List ℕ → Option W → S
 shown_if show s name None = s
 shown_if show s name (Some w) = show s name w

@@ -1,25 +1,25 @@
--- What is taken from the values of a name and of its prefixes.
+-- How a visitor changes or removes the values of a name and of its prefixes.
 use Rattle.std.specs.Prelude.{List, [], ◌∷◌, ◌++◌, Option, None, Some, if◌then◌else◌}
 use Rattle.std.specs.Ordering.{eq_by_cmp}
 use Rattle.ndn_tlv.specs.Element.{Field}
 use Rattle.ndn_names.specs.Order.{component_cmp}
 
--- the visitor s after it has taken from the value, if there is one
+-- the visitor s after it has visited the value, if there is one
 abbrev pub taken : {S V : Type 0} → (S → V → S) → S → Option V → S
 taken take s None = s
 taken take s (Some v) = take s v
 
--- The visitor s after it has taken from the values along a name, the shortest prefix first: by
--- `below` at a proper prefix, by `own` at the whole name. The name is split into `front` and a
--- rest, and only prefixes that begin with `front` count.
+-- The visitor s after it has visited the values along a name, the shortest prefix first. `below` is
+-- the visit at a proper prefix, and `own` is the visit at the whole name. The whole name is `front`
+-- followed by the last argument. Prefixes shorter than `front` are not visited.
 abbrev pub taken_along : {S V : Type 0} → (own below : S → V → S) → S → (List Field → Option V)
     → List Field → List Field → S
 taken_along own below s value front [] = taken own s (value front)
 taken_along own below s value front (c ∷ rest) =
     taken_along own below (taken below s (value front)) value (front ++ c ∷ []) rest
 
--- how the value of the first name changes: by `below` if that name is a proper prefix of the second
--- name, by `own` if both names are equal
+-- how a visit along the second name changes the value of the first name: by `below` if the first
+-- name is a proper prefix of the second, by `own` if both names are equal
 abbrev pub changed_along : {V : Type 0} → (own below : V → Option V) → List Field → List Field
     → V → Option V
 changed_along own below [] [] = own

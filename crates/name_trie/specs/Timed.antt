@@ -32,7 +32,7 @@ abbrev pub started : ℕ → Option ℕ → TimerSet → TimerSet
 started k None timers = timers
 started k (Some d) timers = set.insert timers (timer_for k d)
 
--- there is room for one more timer while a call is prepared
+-- while a call is prepared, memory is reserved for one more timer
 abbrev pub HasTimerRoom : Bool → Waiting → Type 0
 HasTimerRoom false w = Unit {0}
 HasTimerRoom true w = set.len w.timers < w.capacity

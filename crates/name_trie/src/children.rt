@@ -101,8 +101,8 @@ impl Children {
         Ok(())
     }
 
-    /// Removes a child, which is under at most one component. The search begins at the position
-    /// that `hint` gives.
+    /// Removes a child, which is stored under at most one component. The search begins at the
+    /// position that `hint` gives.
     pub fn forget(&mut self, child: usize, hint: &Hint)
         requires { (c d : Field) → map.get self.old c ≡ Some child → map.get self.old d ≡ Some child
             → c ≡ d }

@@ -36,8 +36,8 @@ pub fn release<V: Drop>(
     }
 }
 
-/// Returns a copy of a name with its node, which is created if it is missing. Reserves room for one
-/// more timer.
+/// Returns a copy of a name and the index of the name's node. A missing node is created. Reserves
+/// memory for one more timer.
 pub fn hold<V: Drop>(
     alloc: Global,
     nodes: &mut Slab<Node<V>>,
@@ -139,8 +139,8 @@ pub fn release_other<V: Drop>(
     None
 }
 
-/// Returns the node of a name, as `make_path` does, but without a walk if a node is reserved, which
-/// then belongs to this name.
+/// Returns the node of a name, as `make_path` does. If there is a reserved node, it is the node of
+/// this name, and is returned without a walk.
 fn path_to<V: Drop>(
     alloc: Global,
     nodes: &mut Slab<Node<V>>,
@@ -166,7 +166,7 @@ fn path_to<V: Drop>(
     }
 }
 
-/// Makes room for one more timer, if the node has no value.
+/// Reserves memory for one more timer, if the node has no value.
 fn reserve_for<V>(nodes: &Slab<Node<V>>, timers: &mut Timers, k: usize) -> Result<(), Memory>
     ensures timers { timers.new.timers ≡ timers.old.timers }
     ensures capacity { timers.old.capacity ≤ timers.new.capacity }
@@ -182,8 +182,8 @@ fn reserve_for<V>(nodes: &Slab<Node<V>>, timers: &mut Timers, k: usize) -> Resul
     Ok(())
 }
 
-/// Returns the node of a name, which is created if it is missing, and reserves room for the timer
-/// of its value. No other name may be reserved.
+/// Returns the node of a name. A missing node is created. If the node has no value, memory for one
+/// more timer is reserved. No other name may be reserved.
 pub fn place_for<V: Drop>(
     alloc: Global,
     nodes: &mut Slab<Node<V>>,

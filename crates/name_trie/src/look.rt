@@ -10,10 +10,12 @@ use slab::Slab;
 
 /// A visitor of the values of a name and of its prefixes. It may store references to the values.
 pub trait Look<'a, V> {
-    /// The visitor after it has looked at a value. `true` marks the value of the name itself.
+    /// The visitor after it has looked at a value. The Boolean is `true` for the value of the name
+    /// itself.
     ghost seen: { Bool → Self → V → Self };
 
-    /// Looks at a value: the name's own if `is_own` is set, else that of a proper prefix.
+    /// Looks at a value. If `is_own` is set, it is the value of the name itself; otherwise it is
+    /// the value of a proper prefix.
     fn look(&mut self, value: &'a V, is_own: bool)
         ensures { self.new ≡ seen is_own self.old value.now };
 }

@@ -142,7 +142,8 @@ impl<V: Drop> NameMap<V> {
         self.len -= self.trie.change_all(how);
     }
 
-    /// Sets the value of a name to what `how` makes of its old value, which may be absent.
+    /// Sets the value of a name to the value that `how` computes from the old one, which may be
+    /// absent.
     pub fn put_with<B: Becomes<V> + Drop>(&mut self, name: Name<'_>, how: B) -> Result<(), Memory>
         requires { IsSome (map.get self.old.table (components name))
             ⊎ (map.len self.old.table + 1 < 2 ^ 64) }
@@ -162,8 +163,8 @@ impl<V: Drop> NameMap<V> {
 }
 
 impl<V: Drop> NameMap<V> {
-    /// Shows `see` the values of a name's proper prefixes, the shortest first, and then the value
-    /// of the name. Adds one to `steps` for each search among the children of a node.
+    /// Shows the visitor `see` the values of a name's proper prefixes, the shortest first, and then
+    /// the value of the name. Adds one to `steps` for each search among the children of a node.
     pub fn see_along<S: See<V>>(&self, name: Name<'_>, steps: &mut u64, see: &mut S)
         requires { steps.old + 64 < 2 ^ 64 }
         ensures seen { see.new ≡ taken_along S.seen S.seen see.old
@@ -174,15 +175,15 @@ impl<V: Drop> NameMap<V> {
         self.trie.see_along(name, steps, see);
     }
 
-    /// Shows `see` all values, in the canonical order of their names.
+    /// Shows the visitor `see` all values, in the canonical order of their names.
     pub fn see_all<S: See<V>>(&self, see: &mut S)
         ensures { see.new ≡ fold S.seen see.old (map.values self.now.table) }
     {
         self.trie.see_all(see);
     }
 
-    /// Shows all names that have a value, in canonical order, each with what is known there. On
-    /// `Err`, some of the names may have been shown.
+    /// Shows all names that have a value, in canonical order, each with the state that the walk has
+    /// reached there. On `Err`, some of the names may have been shown.
     pub fn show_all<W: Carry<V> + Drop, S: Show<W>>(
         &self,
         before: &W,

@@ -15,7 +15,7 @@ use ndn_tlv::Memory;
 use slab::Slab;
 use std::alloc::Global;
 
-/// A node of a trie. It stands for the prefix that leads to it.
+/// A node of a trie. It represents the prefix that leads to it.
 #[derive(Drop)]
 pub struct Node<V> {
     /// The index of the parent node.
@@ -73,7 +73,7 @@ pub fn set_value<V: Drop>(nodes: &mut Slab<Node<V>>, at: usize, value: Option<V>
     nodes[at].value = value;
 }
 
-/// Adds a child without a value and children, for a component that has no child.
+/// Adds a child that has neither a value nor children, for a component that has no child.
 pub fn add_child<V: Drop>(
     alloc: Global,
     nodes: &mut Slab<Node<V>>,
@@ -111,7 +111,7 @@ pub fn is_bare<V>(nodes: &Slab<Node<V>>, k: usize) -> bool
     }
 }
 
-/// Adds a node without parent, value and children.
+/// Adds a node that has no parent, no value and no children.
 pub fn add_root<V: Drop>(alloc: Global, nodes: &mut Slab<Node<V>>) -> Result<usize, Memory>
     ensures ok { IfOk result (λ k. Starts k (get nodes.old) (get nodes.new)) }
     ensures err { OnErr result (SameValues nodes.old nodes.new) }
@@ -125,7 +125,7 @@ pub fn add_root<V: Drop>(alloc: Global, nodes: &mut Slab<Node<V>>) -> Result<usi
     Ok(k)
 }
 
-/// Removes a node and the link to it. Returns its parent.
+/// Removes a node and its parent's link to it. Returns the parent.
 pub fn cut<V: Drop>(nodes: &mut Slab<Node<V>>, k: usize) -> Option<usize>
     requires there { IsSome (get nodes.old k) }
     requires once { (a : ℕ) (c d : Field) → child (get nodes.old) a c ≡ Some k

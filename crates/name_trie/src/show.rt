@@ -12,27 +12,27 @@ use ndn_tlv::{Memory, put_header};
 use slab::Slab;
 use std::alloc::Global;
 
-/// What is known at a name. It is carried on to the names below.
+/// The state of a walk at a name. The walk updates it with each value from the root to that name.
 pub trait Carry<V> {
-    /// What is known after a value is taken into account.
+    /// The state after an update with a value.
     ghost past: { Self → V → Self };
 
-    /// Takes a value into account.
+    /// Returns the state after an update with a value.
     fn carry(&self, value: &V) -> Self
         ensures { result ≡ past self.now value.now };
 }
 
-/// A visitor that is shown names one after the other, each with something that belongs to it.
+/// A visitor that is shown names one after the other, each with a value of type `X`.
 pub trait Show<X> {
     /// The visitor after it has been shown a name.
     ghost shown: { Self → List ℕ → X → Self };
 
-    /// Shows the visitor a name, as its octets.
+    /// Shows the visitor a name, given by its octets, with the value `of_name`.
     fn show(&mut self, name: &[u8], of_name: &X) -> Result<(), Memory>
         ensures { OnOk result (self.new ≡ shown self.old name.now of_name.now) };
 }
 
-/// Returns what is known after a value is taken into account, if there is one.
+/// Returns the state `before`, updated with a value, or `None` if there is no value.
 fn past_value<V, W: Carry<V> + Drop>(before: &W, value: &Option<V>) -> Option<W>
     ensures { result ≡ option_map (W.past before.now) value.now }
 {
@@ -42,8 +42,8 @@ fn past_value<V, W: Carry<V> + Drop>(before: &W, value: &Option<V>) -> Option<W>
     }
 }
 
-/// Shows a name that has a value, with what is known after that value. Returns what is known at the
-/// name.
+/// Shows a name with the state `past`, if that is not `None`. Returns the state at the name:
+/// `past`, or `before` if `past` is `None`.
 fn show_name<'a, W, S: Show<W>>(
     past: &'a Option<W>,
     before: &'a W,
@@ -72,8 +72,8 @@ fn put_component(name: &mut Vec<u8>, component: Component<'_>) -> Result<(), Mem
     Ok(())
 }
 
-/// Shows the names with values at a node and below it, down to a depth. `name` holds the octets of
-/// the node's name.
+/// Shows the names that have a value, at a node and below it, down to a depth. `name` contains the
+/// octets of the node's name.
 fn show_below<V, W: Carry<V> + Drop, S: Show<W>>(
     nodes: &Slab<Node<V>>,
     at: usize,
@@ -104,7 +104,8 @@ fn show_below<V, W: Carry<V> + Drop, S: Show<W>>(
     Ok(())
 }
 
-/// Shows all names that have a value, in canonical order, each with what is known there.
+/// Shows all names that have a value, in canonical order, each with the state that the walk has
+/// reached there.
 pub fn show_all<V, W: Carry<V> + Drop, S: Show<W>>(
     alloc: Global,
     nodes: &Slab<Node<V>>,

@@ -16,22 +16,24 @@ use ndn_names::Name;
 use slab::Slab;
 use timers::Timers;
 
-/// A visitor that takes something from the values of a name and of its prefixes.
+/// A visitor that changes or removes the values of a name and of its prefixes.
 pub trait Take<V> {
-    /// The visitor after it has taken from a value. `true` marks the value of the name itself.
+    /// The visitor after it has visited a value. The Boolean is `true` for the value of the name
+    /// itself.
     ghost taken: { Bool → Self → V → Self };
 
-    /// What remains of the value.
+    /// The value after the visit, or None if it is removed. The Boolean is `true` for the value of
+    /// the name itself.
     ghost left: { Bool → V → Option V };
 
-    /// Takes from a value: the name's own if `is_own` is set, else that of a proper prefix. Returns
-    /// what remains of the value.
+    /// Visits a value. If `is_own` is set, it is the value of the name itself; otherwise it is the
+    /// value of a proper prefix. Returns the value after the visit, or `None` to remove it.
     fn take(&mut self, value: V, is_own: bool) -> Option<V>
         ensures taken { self.new ≡ taken is_own self.old value }
         ensures left { result ≡ left is_own value };
 }
 
-/// Takes from a node's value, if it has one.
+/// Lets the visitor `how` change or remove a node's value, if it has one.
 fn take_from<V: Drop, T: Take<V>>(nodes: &mut Slab<Node<V>>, k: usize, is_own: bool, how: &mut T)
     ensures turns { Turns k (option_and_then (T.left is_own) (value_in (get nodes.old) k))
         (get nodes.old) (get nodes.new) }
@@ -46,7 +48,8 @@ fn take_from<V: Drop, T: Take<V>>(nodes: &mut Slab<Node<V>>, k: usize, is_own: b
     set_value(nodes, k, Some(left));
 }
 
-/// Takes from a node's value, if it has one. Updates its timer and the total size.
+/// Lets the visitor `how` change or remove a node's value, if it has one. Updates the node's timer
+/// and the total size.
 pub fn take_at<V: Timed + Drop, T: Take<V>>(
     nodes: &mut Slab<Node<V>>,
     timers: &mut Timers,
@@ -84,8 +87,8 @@ pub struct End {
     pub is_whole: bool,
 }
 
-/// Takes from the values of a name's proper prefixes, the shortest first, and then from the value
-/// of the name.
+/// Lets the visitor `how` change or remove the values of a name's proper prefixes, the shortest
+/// first, and then the value of the name.
 pub fn take_along<V: Timed + Drop, T: Take<V>>(
     nodes: &mut Slab<Node<V>>,
     root: Option<usize>,

@@ -13,7 +13,7 @@ use crate::node::{Node, prune, set_value, value_of};
 use slab::Slab;
 use timers::{Timer, Timers};
 
-/// A value with a deadline. It counts as a number of entries.
+/// A value with a deadline and a size, which is the number of entries that the value counts as.
 pub trait Timed {
     ghost timer: { Self → ℕ };
 
@@ -44,8 +44,8 @@ pub fn size_at<V: Timed>(nodes: &Slab<Node<V>>, k: usize) -> usize
     }
 }
 
-/// Returns the count after the size `was` is replaced by `is`. The count may wrap, and so needs no
-/// bound.
+/// Returns the total size after the size `was` of one value is replaced by `is`. The total wraps,
+/// and so needs no bound.
 pub fn recount(len: usize, was: usize, is: usize) -> usize
     ensures { Recounts was is len result }
 {
@@ -66,7 +66,7 @@ fn stop(timers: &mut Timers, key: usize, old: Option<u64>)
     }
 }
 
-/// Inserts a node's timer. There must be room for it.
+/// Inserts a node's timer. Memory for this timer must be reserved.
 fn start(timers: &mut Timers, key: usize, new: Option<u64>)
     requires { IsSome new → set.len timers.old.timers < timers.old.capacity }
     ensures timers { timers.new.timers ≡ started key new timers.old.timers }
@@ -121,7 +121,8 @@ pub fn change_timed<V: Timed + Drop, C: Change<V>>(
     *len = recount(*len, was, is);
 }
 
-/// Changes every value that is due, or removes it, as `how` says. `how` keeps all other values.
+/// Changes or removes every value whose deadline is `now` or earlier, as `how` says. `how` must
+/// keep all other values unchanged.
 pub fn expire<V: Timed + Drop, C: Change<V>>(
     nodes: &mut Slab<Node<V>>,
     root: &mut Option<usize>,
@@ -188,8 +189,9 @@ fn put_timed<V: Timed + Drop>(nodes: &mut Slab<Node<V>>, timers: &mut Timers, k:
     start(timers, k, new);
 }
 
-/// Sets the value of a node to what `how` makes of its old value, which may be absent, and updates
-/// its timer and the total size. If the node has no value, there must be room for a timer.
+/// Sets the value of a node to the value that `how` computes from the old one, which may be absent.
+/// Updates the node's timer and the total size. If the node has no value, memory for one more timer
+/// must be reserved.
 pub fn replace_at<V: Timed + Drop, B: Becomes<V> + Drop>(
     nodes: &mut Slab<Node<V>>,
     timers: &mut Timers,

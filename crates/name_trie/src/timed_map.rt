@@ -28,13 +28,13 @@ pub struct TimedMap<V: Timed> {
     nodes: Slab<Node<V>>,
     root: Option<usize>,
     // The reserved name and its node: those of the last prepared call. The node is not removed, and
-    // calls for this name begin at it.
+    // calls for this name find it without a walk.
     held: Option<(NameBuf, usize)>,
-    // Whether the prepared call is still to be made.
+    // Whether the prepared call has not been made yet.
     is_ready: bool,
-    // The timers, one for each value. While a call is prepared there is room for one more.
+    // The timers, one for each value. While a call is prepared, memory is reserved for one more.
     timers: Timers,
-    // The total size of all values, wrapping.
+    // The total size of all values, which wraps.
     len: usize,
 }
 
@@ -125,7 +125,8 @@ impl<V: Timed + Drop> TimedMap<V> {
         look_along(&self.nodes, self.root, name, look);
     }
 
-    /// Sets the value of a name to what `how` makes of its old value, which may be absent.
+    /// Sets the value of a name to the value that `how` computes from the old one, which may be
+    /// absent.
     pub fn put_with<B: Becomes<V> + Drop>(&mut self, name: Name<'_>, how: B) -> Result<(), Memory>
         ensures ok { OnOk result (self.new.table ≡ map.insert self.old.table
             (components name.entry)
@@ -172,7 +173,7 @@ impl<V: Timed + Drop> TimedMap<V> {
         Ok(())
     }
 
-    /// Changes or removes the values that are due at `now`, as `how` says.
+    /// Changes or removes the values whose deadline is `now` or earlier, as `how` says.
     pub fn expire<C: Change<V>>(&mut self, now: u64, how: &C)
         requires idle { (v : V) → now < V.timer v → C.change how.now v ≡ Some v }
         requires later { (v w : V) → C.change how.now v ≡ Some w → now < V.timer w }
@@ -221,9 +222,9 @@ impl<V: Timed + Drop> TimedMap<V> {
         prune(&mut self.nodes, &mut self.root, k, kept);
     }
 
-    /// Takes from the values of a name's proper prefixes, the shortest first, and then from the
-    /// value of the name, in one walk. Returns whether an extension of the name by one component of
-    /// type `kind` or a lesser type may have a value.
+    /// Lets the visitor `how` change or remove the values of a name's proper prefixes, the shortest
+    /// first, and then the value of the name, in one walk. Returns whether an extension of the name
+    /// by one component of type `kind` or a lesser type may have a value.
     pub fn take_along<T: Take<V>>(&mut self, name: Name<'_>, kind: u16, how: &mut T) -> bool
         ensures changed { (q : List Field) → map.get self.new.table q ≡ option_and_then
             (changed_along (T.left true) (T.left false) q (components name.entry))
@@ -250,7 +251,8 @@ impl<V: Timed + Drop> TimedMap<V> {
         below
     }
 
-    /// Takes from the value of `name` extended by `component`. That value counts as the name's own.
+    /// Lets the visitor `how` change or remove the value of `name` extended by `component`. For the
+    /// visitor, this is the value of the name itself.
     pub fn take_below<T: Take<V>>(&mut self, name: Name<'_>, component: Component<'_>, how: &mut T)
         ensures table { self.new.table ≡ with_value self.old.table
             (components name.entry ++ field_of component.entry ∷ [])

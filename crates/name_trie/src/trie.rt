@@ -80,7 +80,7 @@ fn put_value<V: Drop>(
     Ok(is_new)
 }
 
-/// Sets the value of a name to what `how` makes of its old value, which may be absent.
+/// Sets the value of a name to the value that `how` computes from the old one, which may be absent.
 fn put_value_with<V: Drop, B: Becomes<V> + Drop>(
     alloc: Global,
     nodes: &mut Slab<Node<V>>,
@@ -228,8 +228,8 @@ impl<V: Drop> NameTrie<V> {
         change_all(&mut self.nodes, &mut self.root, kept, how)
     }
 
-    /// Sets the value of a name to what `how` makes of its old value, which may be absent. Returns
-    /// whether the name had no value.
+    /// Sets the value of a name to the value that `how` computes from the old one, which may be
+    /// absent. Returns whether the name had no value.
     pub fn put_with<B: Becomes<V> + Drop>(&mut self, name: Name<'_>, how: B) -> Result<bool, Memory>
         ensures added { IfOk result (λ is_new. is_new
             ≡ is_none (map.get self.old.table (components name.entry))) }
@@ -249,8 +249,8 @@ impl<V: Drop> NameTrie<V> {
 }
 
 impl<V: Drop> NameTrie<V> {
-    /// Shows `see` the values of a name's proper prefixes, the shortest first, and then the value
-    /// of the name. Adds one to `steps` for each search among the children of a node.
+    /// Shows the visitor `see` the values of a name's proper prefixes, the shortest first, and then
+    /// the value of the name. Adds one to `steps` for each search among the children of a node.
     pub fn see_along<S: See<V>>(&self, name: Name<'_>, steps: &mut u64, see: &mut S)
         requires { steps.old + 64 < 2 ^ 64 }
         ensures seen { see.new ≡ taken_along S.seen S.seen see.old
@@ -261,14 +261,15 @@ impl<V: Drop> NameTrie<V> {
         see_along(&self.nodes, self.root, name, steps, see);
     }
 
-    /// Shows `see` all values, in the canonical order of their names.
+    /// Shows the visitor `see` all values, in the canonical order of their names.
     pub fn see_all<S: See<V>>(&self, see: &mut S)
         ensures { see.new ≡ fold S.seen see.old (map.values self.now.table) }
     {
         see_all(&self.nodes, self.root, see);
     }
 
-    /// Shows all names that have a value, in canonical order, each with what is known there.
+    /// Shows all names that have a value, in canonical order, each with the state that the walk has
+    /// reached there.
     pub fn show_all<W: Carry<V> + Drop, S: Show<W>>(
         &self,
         before: &W,

@@ -18,7 +18,7 @@ use Rattle.name_trie.proofs.Rings.{same_timers}
 use Rattle.name_trie.proofs.Totals.{counted_same, counted_at}
 use Rattle.name_trie.proofs.timed_map.TimedMap.put_with.Goals as goal
 
--- the lookup of a name after another name was released
+-- a lookup returns the value in the table, even after the reservation of another name has ended
 seen : {V : Type 0} (h h1 : Heap V) (root root1 : Option ℕ) (table : ByName V) (name : List Field) → length name ≤ 64 → SameLookups h root h1 root1 → table_of h root ≡ table
     → lookup h1 root1 name ≡ map.get table name
 seen h h1 root root1 table name le same is = same name ∙ sym (get-table h root name le) ∙ ap (λ t. map.get t name) is
