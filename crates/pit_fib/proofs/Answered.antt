@@ -25,8 +25,8 @@ use Rattle.pit_fib.proofs.KeptTables.{both_equal, row_changes}
 
 -- ---- the keys that a walk along the Data's name finds
 
--- whether a Data of this name answers a key, by the names alone: they are equal, or the key has
--- CanBePrefix and its name is a proper prefix of the Data's name
+-- whether a Data of this name answers a key, judged by their names alone: the names are equal, or
+-- the key has CanBePrefix and its name is a proper prefix of the Data's name
 abbrev pub along : List Field → List Field → Bool → Bool
 along [] [] can_be_prefix = true
 along [] (c ∷ name) can_be_prefix = can_be_prefix
@@ -100,7 +100,7 @@ below_stays own below [] c = refl
 below_stays own below (d ∷ name) c =
     elim (eq_by_cmp component_cmp d d) as (λ b. cond b (changed_along own below (name ++ c ∷ []) name) Some ≡ Some) [ true ↦ below_stays own below name c | false ↦ refl ]
 
--- ---- the faces that ask
+-- ---- the faces with an in-record that a Data answers
 
 pub some-any : {X : Type 0} (f : ℕ) (es : List (ℕ × X)) → is_some (find nat_cmp f es) ≡ list_any (λ e. eqb e.0 f) es
 some-any f [] = refl
@@ -116,18 +116,18 @@ some-any f (e ∷ es) =
 contains-any : {X : Type 0} (m : FinMap nat_cmp X) (f : ℕ) → contains_key m f ≡ list_any (λ e. eqb e.0 f) (entries m)
 contains-any m f = ap is_some (get-entries m f) ∙ some-any f (entries m)
 
--- whether the face asks under the key of this entry
+-- whether the face has an in-record in this entry
 abbrev pub asks_in : Option Kept → ℕ → Bool
 asks_in None f = false
 asks_in (Some s) f = contains_key s.records.in_records f
 
--- whether the face asks under a key of this row that the Data answers
+-- whether the face has an in-record under a key of this row that the Data answers
 abbrev pub asks_row : Bool → Option Row → ℕ → Bool
 asks_row is_own row f =
     cond is_own (asks_in (kept_in row (flags false false)) f || asks_in (kept_in row (flags false true)) f) false
     || (asks_in (kept_in row (flags true false)) f || asks_in (kept_in row (flags true true)) f)
 
--- whether the face asks under a key that the walk along the name finds
+-- whether the face has an in-record under a key that the walk along the name finds
 abbrev pub asks_along : (List Field → Option Row) → List Field → List Field → ℕ → Bool
 asks_along value front [] f = asks_row true (value front) f
 asks_along value front (c ∷ rest) f = asks_row false (value front) f || asks_along value (front ++ c ∷ []) rest f
@@ -143,7 +143,7 @@ right_true : (a b : Bool) → IsTrue b → IsTrue (a || b)
 right_true true b t = refl
 right_true false b t = t
 
--- `new` has the faces of `faces`, and those with `more`, in rising order
+-- `new` has, in rising order, the faces in `faces` and the faces for which `more` is true
 pub record Gathers (P : ℕ → Type 0) (faces new : List ℕ) (more : ℕ → Bool) : Type 0 where
   pub rising : IsRising new
   pub within : (f : ℕ) → IsTrue (has_face f new) → P f
@@ -220,9 +220,9 @@ module _ (P : ℕ → Type 0) (few : AtMost64 P) where
       let a = gather_taken false (value front) faces rising all (λ f t. in_record f (left_true _ _ t)) in
       gather_both a (gather_along value (front ++ c ∷ []) rest _ a.rising a.within (λ f t. in_record f (right_true (asks_row false (value front) f) _ t)))
 
--- ---- which faces ask along a name
+-- ---- the faces with an in-record along a name
 
--- a key under which the face asks; `t` is the part of the key's name after `front`
+-- a key under which the face has an in-record; `t` is the rest of the key's name after `front`
 abbrev pub AsksAt : (List Field → Option Row) → List Field → (List Field → Bool → Bool) → ℕ → Type 0
 AsksAt value front test f = (t : List Field) × (g : Flags) × IsTrue (test t g.can_be_prefix) × IsTrue (asks_in (kept_in (value (front ++ t)) g) f)
 

@@ -1,4 +1,4 @@
--- How the faces that ask are collected, one after the other.
+-- How the faces with an in-record that a Data answers are collected, one after the other.
 use Rattle.std.proofs.Common.{◌≡◌, ℕ, suc, ◌<◌, Bool, true, false, cond, List, [], ◌∷◌, length, get_or, take, refl, sym, ap, subst, ◌∙◌, arith, eqb, ltb, zero, ◌⊎◌, inl, inr}
 use Rattle.std.specs.Prelude.{IsTrue, ◌||◌, nat_le}
 use Rattle.std.specs.List.{AllByRecursion, list_any}
@@ -47,7 +47,7 @@ all_has (f ∷ faces) = (ap (λ b. b || has_face f faces) (same f), wider f face
     wider f whole [] h = tt
     wider f whole (g ∷ faces) h = (ap (λ b. eqb f g || b) h.0 ∙ or_true (eqb f g), wider f whole faces h.1)
 
--- a face is added to the faces, if there is room for it
+-- a face is added to a set of faces that has fewer than 64 other faces
 module _ (P : ℕ → Type 0) (few : AtMost64 P) (face : ℕ) (has : P face) (faces new : List ℕ) (added : Bool) (rising : IsRising faces)
     (all : (f : ℕ) → IsTrue (has_face f faces) → P f) (is : (added, new) ≡ adding face faces) where
   each : (l : List ℕ) → AllByRecursion (λ f. IsTrue (has_face f faces)) l → AllByRecursion P l

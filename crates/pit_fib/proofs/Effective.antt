@@ -21,7 +21,7 @@ use Rattle.pit_fib.specs.Route.{Registered, is_capture, is_child_inherit, route_
 use Rattle.pit_fib.specs.Tables.{ByFace}
 use Rattle.pit_fib.proofs.Inheritance.{get-prefer}
 
--- ---- a map, or an empty map instead
+-- ---- lookups in a map that is replaced by the empty map if a test fails
 
 get_if : (b : Bool) (m : ByFace) (f : ℕ) → get (cond b m empty) f ≡ cond b (get m f) None
 get_if true m f = refl
@@ -104,12 +104,12 @@ module _ (wanted : Route → Bool) (f : ℕ) where
       ∙ ap (λ o. fold {A = Row} {B = Option ℕ} step o rows)
       (elim (wanted e.1) as (λ b. get (cond b (with_lesser acc e.0.face e.1.cost) acc) f ≡ cond b (cond (eq_by_cmp nat_cmp f e.0.face) (Some (lesser e.1.cost (get acc f))) (get acc f)) (get acc f)) [ true ↦ get_with acc e | false ↦ refl ])
 
-  -- some wanted route in the list, on the face `f`, has this cost
+  -- some route in the list, on the face `f`, passes the test and has this cost
   abbrev IsOne : List Row → ℕ → Type 0
   IsOne rows c = (e : Row) × Has rows e × (e.0.face ≡ f) × (wanted e.1 ≡ true) × (e.1.cost ≡ c)
 
-  -- the last argument is the least of the cost `o` and of the costs of the wanted routes in the
-  -- list on the face `f`, or None if there are none
+  -- The last argument is the least of the cost `o` and of the costs of the routes in the list that
+  -- are on the face `f` and pass the test. It is None if there is no such cost.
   abbrev Says : Option ℕ → List Row → Option ℕ → Type 0
   Says o rows None = (o ≡ None) × ((e : Row) → Has rows e → e.0.face ≡ f → wanted e.1 ≡ false)
   Says o rows (Some c) = ((o ≡ Some c) ⊎ IsOne rows c) × ((x : ℕ) → o ≡ Some x → c ≤ x) × ((e : Row) → Has rows e → e.0.face ≡ f → wanted e.1 ≡ true → c ≤ e.1.cost)
@@ -168,7 +168,8 @@ module _ (wanted : Route → Bool) (f : ℕ) where
       ] refl
 
   module _ (m : Registered) where
-    -- what a least cost, or None, says about the routes on the face
+    -- the cost is the least cost of the routes on the face that pass the test, or it is None and
+    -- there is no such route
     abbrev Tells : Option ℕ → Type 0
     Tells None = HasNone wanted m f
     Tells (Some c) = IsLeastCost wanted m f c
@@ -209,9 +210,9 @@ module _ (wanted : Route → Bool) (f : ℕ) where
     only_none None t none = refl
     only_none (Some c) t none = absurd (let not_wanted = none t.origin t.route t.there in let is = t.is_wanted in cc)
 
--- ---- what prefixes hand down to longer names
+-- ---- the costs that a name inherits from its prefixes
 
--- what a face inherits from the prefixes with fewer than n components
+-- a cost for a face that a name inherits from its prefixes with fewer than n components
 record IsHandedDown (routes : Routes) (name : List Field) (n face cost : ℕ) : Type 0 where
   from : ℕ
   shorter : from < n

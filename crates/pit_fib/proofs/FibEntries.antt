@@ -1,4 +1,4 @@
--- What the changes of an entry leave in the entry.
+-- An entry after next hops or routes are set or removed.
 use Rattle.std.proofs.Common.{◌≡◌, ◌⊎◌, inl, inr, ℕ, ◌+◌, ◌-◌, ◌<◌, ◌≤◌, Bool, true, false, not, cond, length, List, [], ◌∷◌, nat_cmp, refl, sym, ap, subst, ◌∙◌, arith, eqb}
 use Rattle.std.proofs.lemmas.Bool.{eqb-true, eqb-false}
 use Rattle.ndn_names.proofs.Rows.{len-from_sorted}
@@ -70,7 +70,7 @@ part_without_route key whole part is =
       kept = λ k r there. got_kept (eq_by_cmp route_cmp k key) _ r (sym (get-remove route_cmp-total whole.registered key k) ∙ there);
     })
 
--- ---- the hops and routes of a face, or those due at a moment, are removed
+-- ---- the hops and routes of a face, or the routes that expire by a moment, are removed
 
 -- a key that has no value before a removal has no value afterwards
 pub fewer_rows : {K X : Type 0} (change : X → Option X) (es : List (K × X)) → length (revised change es) ≤ length es
@@ -174,7 +174,7 @@ some_in total m k x =
     positive : (n : ℕ) → 0 < n → eqb n 0 ≡ false
     positive n less = elim (eqb n 0) as (λ b. eqb n 0 ≡ b → b ≡ false) [ true ↦ λ e. (let zero = eqb-true n 0 e in absurd (omega (arith, zero, less))) | false ↦ λ e. refl ] refl
 
--- the faces of an entry after one next hop or one route was added
+-- a value that a map has after an insertion was there before, or is the inserted one
 set_or : {X : Type 0} (b : Bool) (x : X) (o : Option X) {A : Type 0} → (b ≡ true → A) → IsSome (cond b (Some x) o) → IsSome o ⊎ A
 set_or true x o is some = inr (is refl)
 set_or false x o is some = inl some

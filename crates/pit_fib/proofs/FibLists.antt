@@ -1,4 +1,4 @@
--- The list of all entries, without those that are vacant at the moment.
+-- The list of all entries, without those that have neither next hops nor routes at the moment.
 use Rattle.std.proofs.Common.{◌≡◌, ℕ, ◌<◌, true, false, List, [], ◌∷◌, ◌++◌, length, get_or, refl, sym, ap, ◌∙◌}
 use Rattle.std.proofs.lemmas.List.{append-nil, map-append}
 use Rattle.std.specs.Prelude.{None, Some, IsSome, is_some, map}

@@ -24,7 +24,7 @@ use Rattle.pit_fib.specs.Tables.{ByFace}
 use Rattle.pit_fib.proofs.FibLists.{all_listed, left_there}
 use Rattle.pit_fib.proofs.Inheritance.{left_way_is}
 
--- ---- what the walk knows at a name
+-- ---- the state of the walk at a name
 
 now_kept : (s : AtName) (o : Option Entry) → (taken past_at s o).now ≡ s.now
 now_kept s None = refl

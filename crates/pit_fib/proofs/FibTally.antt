@@ -1,5 +1,5 @@
--- The number of all routes, the first moment at which one expires, and the routes that are due at a
--- moment.
+-- The number of all routes, the first moment at which one expires, and the number of routes that
+-- expire by a moment.
 use Rattle.std.proofs.Common.{◌≡◌, ◌+◌, ◌^◌, ◌<◌, ◌≤◌, ℕ, true, false, cond, List, [], ◌∷◌, length, refl, sym, ap, subst, ◌∙◌, arith}
 use Rattle.std.proofs.lemmas.Bool.{lt-leb}
 use Rattle.std.specs.Prelude.{Option, None, Some, fold, map}
@@ -107,7 +107,7 @@ tally_is t start zero few = record {
       (all_got (EntryEnds (of_all start (entries t)).next_due) t (tally_ends start (entries t)) q e is) key r there;
 }
 
--- ---- routes that are not due at a moment
+-- ---- routes that do not expire by a moment
 
 same_row : (now : ℕ) (r : Route) → ((d : ℕ) → r.deadline ≡ Some d → now < d) → is_due now r ≡ false
 same_row now r later =
@@ -116,7 +116,7 @@ same_row now r later =
       | (Some d) ↦ λ is. lt-leb d now (later d is)
     ] refl
 
--- nothing is due before the first moment at which a route expires
+-- an expiry before the first moment at which a route expires removes no route
 pub none_due : (t : Routes) (now moment : ℕ) → HaveSome t → NoneEndsBefore moment t → now < moment → left_at now t ≡ t
 none_due t now moment some later less =
     same_map name_cmp-total name_cmp-antisymmetric _ _ (λ q.

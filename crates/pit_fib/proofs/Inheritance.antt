@@ -170,7 +170,7 @@ module _ (P : ℕ → Type 0) (few : AtMost64 P) where
           | false ↦ same
         ])
 
-    -- ---- whether a route passes a test and is not due
+    -- ---- whether a route passes a test and does not expire by the moment
 
     any_live : (test : Route → Bool) (rows : List (RouteKey × Route)) → list_any (λ e. counts_at at e.1 && test e.1) rows ≡ list_any (λ e. test e.1) (live_rows rows)
     any_live test [] = sym (ap (list_any (λ e. test e.1)) live_nil)
@@ -197,7 +197,7 @@ module _ (P : ℕ → Type 0) (few : AtMost64 P) where
 
 -- ---- the walk passes one more entry
 
--- the routes of an entry without those that are due at the moment, if there is a moment
+-- the routes of an entry without those that expire by the moment, if there is a moment
 abbrev live_map : Option ℕ → Registered → Registered
 live_map None m = m
 live_map (Some now) m = revise (until_due now) m
@@ -311,12 +311,12 @@ take_less (suc m) zero q le = absurd (omega arith)
 take_less (suc m) (suc n) [] le = refl
 take_less (suc m) (suc n) (c ∷ q) le = ap (λ l. c ∷ l) (take_less m n q (omega (arith, le)))
 
--- what a prefix hands down does not depend on the components after it
+-- the costs that a name inherits from a prefix do not depend on the components after that prefix
 handed_prefix : (t : Routes) (name : List Field) (n m : ℕ) → m ≤ n → handed_down t (take n name) m ≡ handed_down t name m
 handed_prefix t name n zero le = refl
 handed_prefix t name n (suc m) le = λ i. passed_on (get t (take_less m n name (omega (arith, le)) i)) (handed_prefix t name n m (omega (arith, le)) i)
 
--- the table without the routes that are due at the moment, if there is a moment
+-- the table without the routes that expire by the moment, if there is a moment
 abbrev live_table : Option ℕ → Routes → Routes
 live_table None t = t
 live_table (Some now) t = left_at now t
@@ -348,7 +348,7 @@ module _ (t : Routes) (few : AtMost64 (LeadsTo t)) (at : Option ℕ) (name : Lis
   abbrev start : Inheriting
   start = record { at = at; inherited = empty; costs = empty }
 
-  -- what is known after the prefixes with fewer than n components
+  -- the state of the walk after the prefixes with fewer than n components
   known : ℕ → Inheriting
   known zero = start
   known (suc n) = taken past_entry (known n) (get t (take n name))
@@ -375,7 +375,7 @@ module _ (t : Routes) (few : AtMost64 (LeadsTo t)) (at : Option ℕ) (name : Lis
   entry_faces : (q : List Field) (e : Entry) → get t q ≡ Some e → (f : ℕ) → EntryLeads e f → LeadsTo t f
   entry_faces q e is f l = (q, subst (λ x. EntryLeads x f) (sym (ap (λ o. unwrap_or o no_entry) is)) l)
 
-  -- the costs that the walk has collected are the costs that the prefixes hand down
+  -- the costs that the walk has collected are the costs that the name inherits from its prefixes
   inherited_at : (n : ℕ) → ((known n).inherited ≡ handed_down (live_table at t) name n) × Among (LeadsTo t) few (known n).inherited × ((known n).at ≡ at)
   unfolding known
   inherited_at zero = (refl, among_none (LeadsTo t) few, refl)

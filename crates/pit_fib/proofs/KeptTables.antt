@@ -84,7 +84,7 @@ len-pending rows =
     len-entries (pending_of rows) ∙ ap length (entries-shown flat) ∙ length_kept (λ (s : Kept). s.records) (entries flat)
     ∙ sym (len-entries flat) ∙ len-flatten key_at (λ k. k.name) flags_of makes rows
 
--- ---- a table in which each key changes on its own
+-- ---- a table in which the entry of each key changes independently
 
 abbrev pub Steps : Cause → Rows → Rows → Type 0
 Steps cause rows new = (k : PlainKey) → kept_at new k ≡ option_and_then (kept_after cause k) (kept_at rows k)
@@ -102,7 +102,7 @@ step_follows cause rows new dead step k =
           | false ↦ refl
         ]
 
--- an entry that a cause does not remove is alive, and has the same memory
+-- an entry that a cause does not remove has an in-record, and has the same memory
 left_alive : (t s : Kept) → living t ≡ Some s → (is_alive s.records ≡ true) × (s.is_wide ≡ t.is_wide)
 left_alive t s e =
     elim (is_alive t.records) as (λ b. is_alive t.records ≡ b → cond b (Some t) None ≡ Some s → (is_alive s.records ≡ true) × (s.is_wide ≡ t.is_wide)) [
@@ -223,7 +223,7 @@ step_within cause rows new dead none step h = record {
   bounded = (let less = step_fewer cause rows new step in let most = h.bounded in omega (arith, less, most));
 }
 
--- under each key of the table some face asks
+-- each key of the table has an in-record
 pub holds_the_living : (rows : Rows) (pending : Pending) → AreAlive rows → pending_of rows ≡ pending → HoldsTheLiving pending
 holds_the_living rows pending alive is = subst HoldsTheLiving is (λ k.
     ap is_some (get-pending rows k) ∙ at (kept_at rows k) (alive k) ∙ ap is_alive (sym (records_kept rows k)))
@@ -232,7 +232,7 @@ holds_the_living rows pending alive is = subst HoldsTheLiving is (λ k.
     at None h = sym dead_none
     at (Some s) h = sym (h s refl)
 
--- a key under which some face asks has an entry
+-- a key with an in-record has an entry
 pub kept_where_alive : (rows : Rows) (k : PlainKey) → is_alive (records_at (pending_of rows) k) ≡ true → (s : Kept) × (kept_at rows k ≡ Some s) × (records_at (pending_of rows) k ≡ s.records)
 kept_where_alive rows k alive = at (kept_at rows k) refl
   where

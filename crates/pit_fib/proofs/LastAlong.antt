@@ -24,8 +24,8 @@ seen_own face last None = refl
 seen_own face last (Some row) = refl
 
 module _ (rows : Rows) (face : ℕ) (name : List Field) where
-  -- the walk from index `n` on, started with the last in-record found before it, finds what the
-  -- whole walk finds
+  -- the walk from index `n` on, started with the last in-record that was found before index `n`,
+  -- finds the same in-record as the whole walk
   walked : (n : ℕ) → n ≤ length name
       → taken_along (last_seen true) (last_seen false) (face, last_above rows face name n) (get rows) (take n name) (drop n name)
       ≡ taken_along (last_seen true) (last_seen false) (face, None) (get rows) [] name

@@ -82,7 +82,8 @@ not_greater o e g = cc
 not_itself : (k key : PlainKey) → k ≡ key → key_cmp k key ≢ Greater
 not_itself k key e g = let tied : key_cmp k key ≡ Equal = ap (key_cmp k) (sym e) ∙ tied_itself key_cmp-total k in cc
 
--- an in-record that does not come after another does not come after a still later one either
+-- if `r` does not come after `b`, it does not come after an `s` whose deadline is not less than
+-- that of `b`, and whose key is not less than that of `r`
 moved : (k key new : PlainKey) (r b s : InRecord) → b.deadline ≤ s.deadline → key_cmp k new ≢ Greater → IsNotAfter k r key b → IsNotAfter k r new s
 moved k key new r b s le order (inl less) = inl (omega arith)
 moved k key new r b s le order (inr same) =

@@ -1,4 +1,4 @@
--- The entry of the longest prefix, and how many routes are due at a moment.
+-- The entry of the longest prefix, and how many routes expire by a moment.
 use Rattle.std.proofs.Common.{◌≡◌, ◌⊎◌, inl, inr, ℕ, zero, suc, ◌+◌, ◌<◌, ◌≤◌, true, false, cond, List, [], ◌∷◌, length, take, refl, sym, ap, subst, ◌∙◌, arith, leb}
 use Rattle.std.proofs.lemmas.Bool.{leb-false, leb-true}
 use Rattle.std.specs.Prelude.{None, Some, IsSome, filter, is_some}
@@ -52,7 +52,7 @@ module _ (routes : Routes) (name : List Field) where
   pub longest_none : ((n : ℕ) → n ≤ length name → get routes (take n name) ≡ None) → longest_hops routes name ≡ hops_of empty
   longest_none none = ap (λ (c : ByFace). hops_of c) (nowhere (length name) none)
 
--- ---- how many routes are due
+-- ---- how many routes expire by a moment
 
 module _ (now : ℕ) where
   abbrev due_of : List (RouteKey × Route) → ℕ

@@ -1,4 +1,4 @@
--- What remains of the records of one face after causes.
+-- The records of one face after a list of causes.
 use Rattle.std.proofs.Common.{◌≡◌, ℕ, ◌≤◌, Bool, true, false, cond, List, [], ◌∷◌, length, refl, sym, ap, subst, ◌∙◌, arith, ltb, eqb}
 use Rattle.std.specs.Prelude.{Option, Some, None, IsSome, IsTrue, is_some, option_and_then, ◌&&◌, ◌↔◌}
 use Rattle.std.specs.Option.{option_map}
@@ -57,14 +57,14 @@ get-changed (Removed key) k f r =
     elim (same_key k key) as (λ b. get (cond b no_records r).in_records f ≡ cond b None (get r.in_records f)) [ true ↦ get-empty nat_cmp f | false ↦ refl ]
 get-changed (Closed face) k f r = get-remove nat_cmp_total r.in_records face f ∙ ap (λ b. cond b None (get r.in_records f)) (tie f face)
 
--- ---- after all causes of a run
+-- ---- after all causes of a list
 
 pub asks_of_run : (run : List Cause) (k : PlainKey) (f : ℕ) → get (records_after_all run k).in_records f ≡ in_record_of run k f
 asks_of_run [] k f = get-empty nat_cmp f
 asks_of_run (cause ∷ before) k f =
     get-settled (changed cause k (records_after_all before k)) f ∙ get-changed cause k f (records_after_all before k) ∙ ap (in_record_after cause k f) (asks_of_run before k f)
 
--- if the map of in-records is not empty, some face asks
+-- if the map of in-records is not empty, some face has an in-record
 has_some : (m : InRecords) → ltb 0 (len m) ≡ true → (face : ℕ) × IsSome (get m face)
 has_some m alive = first_of (entries m) refl
   where
@@ -150,7 +150,7 @@ asked_of_run (cause ∷ before) k g =
     ] refl
     ∙ ap (λ b. cond b (out_record_after cause k g (out_record_of before k g)) None) (sym (alive-settled (changed cause k (records_after_all before k))))
 
--- ---- an in-record that is due at a moment was due at an earlier one already, or is due only now
+-- ---- an expiry has the same effect, whether or not there was an earlier expiry
 
 kept_again : (m n : ℕ) → m ≤ n → (o : Option InRecord) → option_and_then (until_after n) (option_and_then (until_after m) o) ≡ option_and_then (until_after n) o
 kept_again m n le None = refl

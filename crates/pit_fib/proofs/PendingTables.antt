@@ -1,4 +1,4 @@
--- Keys, and causes when no face asks.
+-- Keys, and causes that act on a key without records.
 use Rattle.std.proofs.Common.{◌≡◌, ℕ, ◌-◌, true, false, cond, List, refl, sym, ap, subst, ◌∙◌, ltb}
 use Rattle.std.specs.Prelude.{is_some}
 use Rattle.std.specs.FinMap as map
@@ -39,7 +39,7 @@ same_turned x y =
       ] refl
     ] refl
 
--- ---- causes that change every entry
+-- ---- a key without records has no in-record after these causes either
 
 pub dead_none : is_alive no_records ≡ false
 dead_none = ap (ltb 0) (len-empty nat_cmp InRecord)

@@ -13,7 +13,7 @@ use Rattle.ndn_names.specs.Key.{name_cmp-total, name_cmp-antisymmetric}
 use Rattle.name_trie.specs.ByName.{ByName, longest, longest_within}
 use Rattle.pit_fib.specs.StrategyTable.{without_choice}
 
--- if the outer tests agree, a second test in the other branch makes no difference
+-- if `b` selects the same value `x` in two nested tests, the inner test `b` has no effect
 one_test : {A : Type 0} (b : Bool) (x y z : A) → cond b x z ≡ cond b x (cond b y z)
 one_test true x y z = refl
 one_test false x y z = refl

@@ -12,7 +12,7 @@ use Rattle.pit_fib.specs.declared.route.RouteKey.{RouteKey}
 use Rattle.pit_fib.specs.Tally.{left_of}
 use Rattle.pit_fib.specs.Route.{is_due, route_cmp, route_cmp-antisymmetric, route_cmp-total, until_due}
 
--- the routes that are not due at the moment
+-- the routes that do not expire by the moment
 pub left_rows : (now : ℕ) (rows : List (RouteKey × Route)) → filter (λ row. not (is_due now row.1)) rows ≡ revised (until_due now) rows
 left_rows now [] = refl
 left_rows now (row ∷ rows) =
@@ -31,7 +31,7 @@ from_kept test rows sorted =
     ∙ find-where_key route_cmp test q (λ x t. ap test (sym (route_cmp-antisymmetric q x t))) rows
     ∙ sym (get-retain_keys (from_sorted rows) test q (λ x t. ap test (sym (route_cmp-antisymmetric q x t))) ∙ ap (λ o. cond (test q) o None) (get-from_sorted route_cmp rows q sorted)))
 
--- the default row for an index without a row
+-- the default value for an index at which there is no row
 abbrev pub no_row : RouteKey × Route
 no_row = (record { face = 0; origin = 0 }, record { cost = 0; flags = 0; deadline = None })
 
@@ -48,7 +48,7 @@ any_at test (row ∷ rows) (suc at) d lt passes = later (test row) (any_at test 
 pub both_true : {a b : Bool} → a ≡ true → b ≡ true → (a && b) ≡ true
 both_true {a} {b} p q = ap (λ x. x && b) p ∙ q
 
--- the number of remaining routes grows by one row at a time
+-- the number of remaining routes among the first `at + 1` rows
 pub left_more : (now : ℕ) (rows : List (RouteKey × Route)) (at : ℕ) (d : RouteKey × Route) → at < length rows
     → left_of now (take (at + 1) rows) ≡ left_of now (take at rows) + cond (is_due now (get_or rows at d).1) 0 1
 left_more now rows at d lt = ap (left_of now) (take_more rows at d lt) ∙ counted (take at rows) (get_or rows at d)

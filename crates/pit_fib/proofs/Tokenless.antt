@@ -18,7 +18,7 @@ use Rattle.pit_fib.proofs.KeptTables.{Steps, step_follows}
 use Rattle.pit_fib.proofs.LastAsks.{token_is_for}
 use Rattle.pit_fib.proofs.PendingPast.{get-changed, get-settled}
 
--- the cause does not bring a token
+-- the cause is not the arrival of an Interest with a token
 abbrev pub IsBare : Cause → Type 0
 IsBare (Arrives key face in_record) = in_record.token ≡ None
 IsBare _ = Unit {0}

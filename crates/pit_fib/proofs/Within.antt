@@ -1,4 +1,4 @@
--- Setting a cost if there is room for it.
+-- Setting a cost if fewer than 64 faces have one.
 use Rattle.std.proofs.Common.{◌≡◌, ◌⊎◌, inl, inr, ◌<◌, ℕ, Bool, true, false, cond, refl, ap, ◌∙◌}
 use Rattle.std.proofs.lemmas.Bool.{lt-ltb}
 use Rattle.std.specs.Prelude.{IsSome, nat_lt, ◌||◌}
@@ -6,7 +6,7 @@ use Rattle.std.specs.FinMap.{contains_key, get, insert, len}
 use Rattle.pit_fib.specs.Tables.{ByFace}
 use Rattle.pit_fib.specs.Within.{set_within}
 
--- the costs after an insertion that may fail
+-- the costs after an insertion that may fail at the limit of 64 faces
 pub set_is : (b : Bool) (old new : ByFace) (face cost : ℕ) → b ≡ (contains_key old face || nat_lt (len old) 64) → (b ≡ true → new ≡ insert old face cost) → (b ≡ false → new ≡ old)
     → new ≡ set_within old face cost
 set_is true old new face cost is ok full = ok refl ∙ ap (λ b. cond b (insert old face cost) old) is
@@ -16,7 +16,7 @@ any_or : (a b : Bool) → b ≡ true → (a || b) ≡ true
 any_or true b e = refl
 any_or false b e = e
 
--- if there is room, setting the cost is an insertion
+-- if fewer than 64 faces have a cost, setting a cost is an insertion
 pub set_in_room : (old : ByFace) (face cost : ℕ) → IsSome (get old face) ⊎ (len old < 64) → set_within old face cost ≡ insert old face cost
 set_in_room old face cost (inl there) = ap (λ b. cond (b || nat_lt (len old) 64) (insert old face cost) old) there
 set_in_room old face cost (inr few) = ap (λ b. cond b (insert old face cost) old) (any_or (contains_key old face) (nat_lt (len old) 64) (lt-ltb (len old) 64 few))

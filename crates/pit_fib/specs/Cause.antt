@@ -10,7 +10,7 @@ use Rattle.name_trie.specs.ByName.{revise}
 use Rattle.pit_fib.specs.Records.{InRecord, OutRecord, OutRecords, Records, Pending, no_records, is_alive, records_at, same_nonce}
 
 pub data Cause : Type 0 where
-  -- time passed: in-records expire whose deadline is `now` or earlier
+  -- time passed: in-records whose deadline is `now` or earlier expire
   Expires : (now : ℕ) → Cause
   -- an Interest of this key arrived on a face
   Arrives : (key : PlainKey) (face : ℕ) (in_record : InRecord) → Cause
@@ -30,7 +30,7 @@ pub data Cause : Type 0 where
 abbrev pub same_key : PlainKey → PlainKey → Bool
 same_key = eq_by_cmp key_cmp
 
--- an in-record whose deadline is later than `now`, or None
+-- the in-record, or None if its deadline is `now` or earlier
 abbrev pub until_after : ℕ → InRecord → Option InRecord
 until_after now in_record = if nat_lt now in_record.deadline then Some in_record else None
 

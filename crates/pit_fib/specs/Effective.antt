@@ -16,7 +16,7 @@ use Rattle.pit_fib.specs.Tables.{ByFace}
 abbrev pub prefer : ByFace → ByFace → ByFace
 prefer first second = map.from_entries (map.entries first ++ map.entries second)
 
--- the lesser of `cost` and the cost that a face already has, if it has one
+-- the lesser of `cost` and the cost that a face already has, or `cost` if the face has none
 abbrev pub lesser : ℕ → Option ℕ → ℕ
 lesser cost None = cost
 lesser cost (Some other) = min cost other
@@ -24,7 +24,7 @@ lesser cost (Some other) = min cost other
 abbrev pub with_lesser : ByFace → ℕ → ℕ → ByFace
 with_lesser costs face cost = map.insert costs face (lesser cost (map.get costs face))
 
--- for each face, the least cost of those routes in the list that are wanted
+-- for each face, the least cost of those routes in the list that pass the test `wanted`
 abbrev pub least_costs : (Route → Bool) → List (RouteKey × Route) → ByFace
 least_costs wanted routes =
     fold {A = RouteKey × Route} {B = ByFace}
@@ -34,15 +34,16 @@ least_costs wanted routes =
 abbrev pub has_capture : Registered → Bool
 has_capture registered = list_any (λ e. is_capture e.1) (map.entries registered)
 
--- The costs that the names below an entry inherit: the costs of its child-inherit routes and, for
--- other faces, the costs that the entry inherits itself, unless it has a capture route.
+-- The costs that the names below an entry inherit: for each face, the least cost of the entry's
+-- child-inherit routes. For other faces, the entry passes on the costs that it inherits itself,
+-- unless it has a capture route.
 abbrev pub passed_on : Option Entry → ByFace → ByFace
 passed_on None above = above
 passed_on (Some e) above =
     prefer (least_costs is_child_inherit (map.entries e.registered))
     (if has_capture e.registered then map.empty else above)
 
--- the costs that the prefixes with fewer than n components of a name hand down
+-- the costs that a name inherits from its prefixes with fewer than n components
 abbrev pub handed_down : Routes → List Field → ℕ → ByFace
 handed_down routes name zero = map.empty
 handed_down routes name (suc n) =
@@ -85,7 +86,8 @@ listed routes = list_map (entry_listed routes) (map.entries routes)
 
 -- ---- the same costs, defined face by face
 
--- a wanted route on this face has this cost, and no wanted route on this face has a lesser cost
+-- a route on this face that passes the test has this cost, and no route on this face that passes
+-- the test has a lesser cost
 pub record IsLeastCost (wanted : Route → Bool) (registered : Registered) (face cost : ℕ) : Type 0
   where
     pub origin : ℕ
@@ -97,7 +99,7 @@ pub record IsLeastCost (wanted : Route → Bool) (registered : Registered) (face
         → map.get registered (record { face = face; origin = other }) ≡ Some r
         → wanted r ≡ true → cost ≤ r.cost
 
--- no route on this face is wanted
+-- no route on this face passes the test
 abbrev pub HasNone : (Route → Bool) → Registered → ℕ → Type 0
 HasNone wanted registered face =
     (origin : ℕ) (r : Route)

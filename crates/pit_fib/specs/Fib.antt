@@ -76,7 +76,7 @@ abbrev pub with_next_hop : Routes → List Field → ℕ → ℕ → Routes
 with_next_hop routes name face cost =
     map.insert routes name (entry_with_hop face cost (entry_at routes name))
 
--- the entry without the next hop on this face, or None if nothing is left of the entry
+-- the entry without the next hop on this face, or None if it then has neither next hops nor routes
 abbrev pub entry_without_hop : ℕ → Entry → Option Entry
 entry_without_hop face e = unless_vacant (record e { hops = map.remove e.hops face })
 
@@ -92,7 +92,7 @@ abbrev pub with_route : Routes → List Field → RouteKey → Route → Routes
 with_route routes name key route =
     map.insert routes name (entry_with_route key route (entry_at routes name))
 
--- the entry without a registered route, or None if nothing is left of the entry
+-- the entry without a registered route, or None if it then has neither next hops nor routes
 abbrev pub entry_without_route : RouteKey → Entry → Option Entry
 entry_without_route key e = unless_vacant (record e { registered = map.remove e.registered key })
 
@@ -100,8 +100,8 @@ abbrev pub without_route : Routes → List Field → RouteKey → Routes
 without_route routes name key =
     with_value routes name (entry_without_route key (entry_at routes name))
 
--- the entry without the next hops and routes of a face that was closed, or None if nothing is left
--- of the entry
+-- the entry without the next hops and routes of a face that was closed, or None if it then has
+-- neither next hops nor routes
 abbrev pub entry_without_face : ℕ → Entry → Option Entry
 entry_without_face face e =
     unless_vacant (record {
@@ -112,8 +112,8 @@ entry_without_face face e =
 abbrev pub without_face : Routes → ℕ → Routes
 without_face routes face = revise (entry_without_face face) routes
 
--- the entry without the routes that are due at the moment `now`, or None if nothing is left of the
--- entry
+-- the entry without the routes that expire by the moment `now`, or None if it then has neither next
+-- hops nor routes
 abbrev pub entry_left_at : ℕ → Entry → Option Entry
 entry_left_at now e =
     unless_vacant (record e { registered = revise (until_due now) e.registered })
@@ -121,7 +121,7 @@ entry_left_at now e =
 abbrev pub left_at : ℕ → Routes → Routes
 left_at now routes = revise (entry_left_at now) routes
 
--- how many routes are due at the moment `now`
+-- how many routes expire by the moment `now`
 abbrev pub due_count : ℕ → Routes → ℕ
 due_count now routes = route_count routes - route_count (left_at now routes)
 

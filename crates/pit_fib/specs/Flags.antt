@@ -11,7 +11,7 @@ abbrev pub flags : Bool → Bool → Flags
 flags can_be_prefix must_be_fresh =
     record { can_be_prefix = can_be_prefix; must_be_fresh = must_be_fresh }
 
--- flags are ordered by CanBePrefix, then by MustBeFresh; a flag that is not set comes first
+-- flags are ordered by CanBePrefix, then by MustBeFresh; an unset flag comes before a set one
 abbrev pub flags_cmp : Flags → Flags → Ordering
 flags_cmp =
     then_cmp (on (λ f. f.can_be_prefix) bool_cmp) (on (λ f. f.must_be_fresh) bool_cmp)

@@ -17,7 +17,7 @@ abbrev pub laid_over : ByFace → ByFace → ByFace
 laid_over first second =
     fold {A = ℕ × ℕ} {B = ByFace} (λ costs e. set_within costs e.0 e.1) second (map.entries first)
 
--- whether a route counts: if there is a moment, routes that are due at that moment do not count
+-- whether a route counts: if `at` is a moment, routes that expire by that moment do not count
 abbrev pub counts_at : Option ℕ → Route → Bool
 counts_at None r = true
 counts_at (Some now) r = not (is_due now r)
@@ -38,7 +38,7 @@ has_route_at at rows = list_any (λ e. counts_at at e.1) rows
 abbrev pub has_capture_at : Option ℕ → List (RouteKey × Route) → Bool
 has_capture_at at rows = list_any (λ e. counts_at at e.1 && is_capture e.1) rows
 
--- what is known after the walk has passed one more entry
+-- the state of the walk after it has passed one more entry
 abbrev pub past_entry : Inheriting → Entry → Inheriting
 past_entry s e =
     let rows = map.entries e.registered in

@@ -19,7 +19,7 @@ use Rattle.pit_fib.specs.Pit.{all_nacked, least_reason, was_sent}
 use Rattle.pit_fib.specs.Records.{InRecord, OutRecord, Records, Pending, no_records, is_alive, records_code}
 use Rattle.pit_fib.specs.Cause.{Cause, changed, until_after, with_reason}
 
--- the octets of the Interest, which come before those of its token, of length `token_len`
+-- the octets of the Interest, without the last `token_len` octets, which are its token
 abbrev pub interest_in : ℕ → List ℕ → List ℕ
 interest_in token_len octets = take (length octets - token_len) octets
 
@@ -107,7 +107,7 @@ kept_after cause k s = living (record s { records = changed cause k s.records })
 abbrev pub deadline : Kept → ℕ
 deadline s = least (λ in_record. in_record.deadline) (map.entries s.records.in_records)
 
--- the faces, and in addition those with an in-record
+-- the faces in `faces`, and the faces with an in-record
 abbrev pub with_faces_of : List (ℕ × InRecord) → List ℕ → List ℕ
 with_faces_of [] faces = faces
 with_faces_of (e ∷ es) faces = with_faces_of es (adding e.0 faces).1
@@ -116,7 +116,7 @@ abbrev pub with_asking : Option Kept → List ℕ → List ℕ
 with_asking None faces = faces
 with_asking (Some s) faces = with_faces_of (map.entries s.records.in_records) faces
 
--- the lesser of two moments, or the only one, if the other is None
+-- the lesser of two moments; if one is None, the other
 abbrev pub lesser : Option ℕ → Option ℕ → Option ℕ
 lesser None b = b
 lesser (Some a) None = Some a
@@ -127,7 +127,7 @@ lesser (Some a) (Some b) = Some (min a b)
 abbrev pub Row : Type 0
 Row = map.FinMap flags_cmp Kept
 
--- the values that `has` gives, in the order of the flags
+-- the values that `has` returns for the four combinations of flags, in the order of the flags
 abbrev pub slots : {X : Type 0} → (Flags → Option X) → List (Flags × X)
 slots has =
     with_entry (flags false false) (has (flags false false)) (
@@ -144,7 +144,7 @@ by_flags a b c d f =
     if f.can_be_prefix then (if f.must_be_fresh then d else c) else (
     if f.must_be_fresh then b else a)
 
--- the row after each of its values is changed or removed, or None if no value is left
+-- the row after each of its values is changed or removed, or None if no value remains
 abbrev pub changed_row : (Flags → Kept → Option Kept) → Row → Option Row
 changed_row change row = nonempty (row_of (λ f. option_and_then (change f) (map.get row f)))
 
@@ -177,15 +177,15 @@ row_sent f face out_record room row =
     with_kept_if f (option_map (sent_in room face out_record) (kept_in row f)) row
 
 -- Whether a Data answers the key with these flags. If the key's name is the Data's name or full
--- name, the Data answers all keys of the name; if it is a proper prefix, only those with
--- CanBePrefix.
+-- name, the Data answers every key of that name. If the key's name is a proper prefix, the Data
+-- answers only the keys with CanBePrefix.
 abbrev pub is_answered : Bool → Flags → Bool
 is_answered is_own f = is_own || f.can_be_prefix
 
 abbrev pub unanswered : Bool → Flags → Kept → Option Kept
 unanswered is_own f s = if is_answered is_own f then None else Some s
 
--- the faces, and in addition those with an in-record under the keys that the Data answers
+-- the faces in `faces`, and the faces with an in-record under a key that the Data answers
 abbrev pub with_answered : Bool → List ℕ → Row → List ℕ
 with_answered is_own faces row =
     with_asking (map.get row (flags true true)) (
@@ -216,7 +216,7 @@ abbrev pub answer_in : Option Kept → ℕ → Nacked
 answer_in None reason = NoPending
 answer_in (Some s) reason = all_nacked (least_reason reason (map.entries s.records.out_records))
 
--- whether the memory of the entry has room for an out-record of this face
+-- whether the memory of the entry suffices for an out-record of this face
 abbrev pub has_place_in : Option Kept → ℕ → Bool
 has_place_in None face = true
 has_place_in (Some s) face =

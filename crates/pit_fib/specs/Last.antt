@@ -11,7 +11,7 @@ use Rattle.pit_fib.specs.Kept.{Kept, Row, Rows, pending_of}
 use Rattle.pit_fib.specs.Records.{InRecord}
 use Rattle.pit_fib.specs.Tokens.{HaveNoTokens}
 
--- the later of two in-records, or `b` if their deadlines are the same
+-- the in-record with the later deadline, or `b` if their deadlines are the same
 abbrev pub later : Option InRecord → Option InRecord → Option InRecord
 later None b = b
 later (Some a) None = Some a

@@ -1,4 +1,4 @@
--- What is known during a walk over all names, for the contracts of private functions.
+-- The state of a walk over all names, for the contracts of private functions.
 use Rattle.std.specs.Prelude.{ℕ, List, false, Some, is_some, if◌then◌else◌}
 use Rattle.std.specs.FinMap as map
 use Rattle.pit_fib.specs.declared.hops.Hop.{Hop}
@@ -8,7 +8,7 @@ use Rattle.pit_fib.specs.Fib.{Entry, entry_left_at}
 use Rattle.pit_fib.specs.Hops.{hops_of}
 use Rattle.pit_fib.specs.Inheriting.{past_entry}
 
--- what is known before the first entry
+-- the state before the first entry
 abbrev pub start_at : ℕ → AtName
 start_at now =
     record {
@@ -17,7 +17,7 @@ start_at now =
       way = record { at = Some now; inherited = map.empty; costs = map.empty };
     }
 
--- what is known after one more entry
+-- the state after one more entry
 abbrev pub past_at : AtName → Entry → AtName
 past_at s e =
     record {
@@ -26,7 +26,7 @@ past_at s e =
       way = past_entry s.way e;
     }
 
--- what is shown for a name, if its entry remains at the moment
+-- the visitor after it is shown a name, if the name's entry remains at the moment
 abbrev pub hops_shown : {S : Type 0} → (S → List ℕ → List Hop → S) → AsHops S → List ℕ → AtName
     → AsHops S
 hops_shown show s name at =

@@ -18,8 +18,9 @@ use Rattle.pit_fib.specs.Cause.{with_reason}
 
 pub record PitState : Type 0 where
   pub pending : Pending
-  -- the key of the prepared calls: with a number, one `arrive` of an Interest and a token of at
-  -- most so many octets together, and the `sent` calls after it; with None, only the `sent` calls
+  -- The key of the prepared calls. With a number, they are one `arrive` whose Interest and token
+  -- have together at most this number of octets, and the `sent` calls after it. With None, they are
+  -- only the `sent` calls.
   pub prepared : Option (PlainKey × Option ℕ)
 
 abbrev pub pit_code : Coded PitState

@@ -14,7 +14,7 @@ use Rattle.pit_fib.specs.Records.{is_alive}
 use Rattle.pit_fib.specs.Kept.{Kept, Row, Rows, kept_at, pending_of}
 use Rattle.pit_fib.specs.Pit.{HasRecord}
 
--- the number of octets for which there is room
+-- the number of octets for which there is capacity
 abbrev pub room_of : Option Ready → Option ℕ
 room_of ready = option_map (λ r. r.size) ready
 
@@ -33,7 +33,7 @@ abbrev pub HasNoArrival : Option Prepared → Type 0
 HasNoArrival prepared = IfSome prepared (λ p. p.arrival ≡ None)
 
 -- There is memory for the out-records of all faces under a key: the entry's own memory, or the
--- spare memory, which has room for `spare` out-records.
+-- spare memory, which has capacity for `spare` out-records.
 abbrev pub CanSend : Rows → PlainKey → ℕ → Type 0
 CanSend rows key spare =
     (MAX_FACES ≤ spare) ⊎ ((s : Kept) → kept_at rows key ≡ Some s → s.is_wide ≡ true)

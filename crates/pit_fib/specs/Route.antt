@@ -59,6 +59,6 @@ has_come now (Some deadline) = nat_le deadline now
 abbrev pub is_due : ℕ → Route → Bool
 is_due now r = has_come now r.deadline
 
--- the route, or None if it expires by the moment `now`
+-- the route, or None if the route expires by the moment `now`
 abbrev pub until_due : ℕ → Route → Option Route
 until_due now r = if is_due now r then None else Some r

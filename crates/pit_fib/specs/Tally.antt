@@ -9,7 +9,7 @@ use Rattle.pit_fib.specs.declared.tally.Tally.{Tally}
 use Rattle.pit_fib.specs.Fib.{Entry}
 use Rattle.pit_fib.specs.Route.{until_due}
 
--- a sum, at most the greatest u64
+-- a sum of two numbers, or the greatest u64 if the sum is greater
 abbrev pub stopped_sum : ℕ → ℕ → ℕ
 stopped_sum a b = min (a + b) (2 ^ 64 - 1)
 
@@ -28,7 +28,7 @@ tallied t e = record {
   next_due = earliest t.next_due (map.entries e.registered);
 }
 
--- how many of the routes are not due at the moment `now`
+-- how many of the routes do not expire by the moment `now`
 abbrev pub left_of : ℕ → List (RouteKey × Route) → ℕ
 left_of now rows = length (revised (until_due now) rows)
 

@@ -1,4 +1,4 @@
--- Setting a value if there is room for it, for the contracts of private functions.
+-- Setting a value unless that would exceed a limit, for the contracts of private functions.
 use Rattle.std.specs.Prelude.{ℕ, nat_lt, ◌||◌, if◌then◌else◌}
 use Rattle.std.specs.FinMap as map
 use Rattle.pit_fib.specs.declared.face_set.TheConstants.{MAX_FACES}
@@ -17,7 +17,7 @@ set_within costs face cost =
 abbrev pub entry_with_hop_within : ℕ → ℕ → Entry → Entry
 entry_with_hop_within face cost e = record e { hops = set_within e.hops face cost }
 
--- the routes with `route` added, if the memory has room for one more than there are
+-- the routes with `route` added, if the memory has capacity for one more route than there are
 abbrev pub with_route_within : ℕ → RouteKey → Route → Registered → Registered
 with_route_within room key route registered =
     if nat_lt (map.len registered) room then map.insert registered key route else registered

@@ -17,8 +17,8 @@ use name_trie::Becomes;
 use ndn_tlv::Memory;
 use std::alloc::Global;
 
-/// Memory for the records of one arrival: for the records of a new entry, or for the in-records of
-/// an entry whose own memory is full. Also slots for a name without entries.
+/// Memory for the records of one arriving Interest: for the records of a new entry, or for the
+/// in-records of an entry whose own memory is full. Also has the slots for a name without entries.
 #[derive(Drop)]
 pub struct RecordRoom {
     in_records: Room<InRecord>,

@@ -8,9 +8,9 @@ use crate::face_set::MAX_FACES;
 use std::cmp::Ordering;
 use std::marker::Model;
 
-/// A number for each of at most 64 faces, in rising order of the faces: the costs of an entry's
-/// next hops, or when an Interest was last sent to a face, in milliseconds since 1970. The numbers
-/// are in an array, so this never allocates.
+/// A map from at most 64 faces to numbers, in rising order of the faces. The numbers are the costs
+/// of an entry's next hops, or the moments at which an Interest was last sent to a face, in
+/// milliseconds since 1970. The map is an array, so it never allocates.
 #[derive(Drop)]
 pub struct Used {
     places: [(u64, u64); MAX_FACES],
@@ -63,7 +63,7 @@ impl Used {
         self.as_slice().len()
     }
 
-    /// Returns the number that is kept for a face.
+    /// Returns the number of a face.
     pub fn get(&self, face: u64) -> Option<u64>
         ensures { result ≡ map.get self.now face }
     {
@@ -73,8 +73,8 @@ impl Used {
         }
     }
 
-    /// Returns the face at index `i`, counted from 0 in rising order of the faces, and the number
-    /// that is kept for it.
+    /// Returns the face at index `i` in rising order of the faces, and the number of this face. The
+    /// first index is 0.
     pub fn at(&self, i: usize) -> Option<(u64, u64)>
         ensures { result ≡ slice_get (map.entries self.now) i }
     {
@@ -82,8 +82,8 @@ impl Used {
         Some(*place)
     }
 
-    /// Sets the number that is kept for a face. Returns false, and changes nothing, if the face is
-    /// new and 64 faces have a number.
+    /// Sets the number of a face. Returns false, and changes nothing, if the face has no number yet
+    /// and 64 other faces have one.
     pub fn insert(&mut self, face: u64, number: u64) -> bool
         ensures ok { IsTrue result → self.new ≡ map.insert self.old face number }
         ensures full { result ≡ false → (self.new ≡ self.old) × (map.get self.old face ≡ None)
@@ -104,7 +104,7 @@ impl Used {
         true
     }
 
-    /// Removes a face and the number that is kept for it.
+    /// Removes a face and its number.
     pub(crate) fn remove(&mut self, face: u64)
         ensures { self.new ≡ map.remove self.old face }
     {
@@ -122,8 +122,8 @@ impl Used {
     }
 }
 
-/// Moves the entries of other faces among the first `len` entries to the front, and returns how
-/// many there are.
+/// Moves those of the first `len` entries that are not of `face` to the front, and returns how many
+/// there are.
 fn without_face(places: &mut [(u64, u64)], len: usize, face: u64) -> usize
     requires { len ≤ length places.old }
     ensures fewer { result ≤ len }

@@ -25,7 +25,7 @@ pub struct InRecord {
     // The octets of the Interest, followed by the octets of its PIT token.
     octets: Vec<u8>,
     nonce: [u8; 4],
-    // How many of the octets belong to the token; 0 if there is no token.
+    // How many of the last octets are the token; 0 if there is no token.
     token_len: u8,
     deadline: u64,
 }
@@ -193,7 +193,7 @@ impl FaceMap<InRecord> {
     }
 }
 
-/// Returns the lesser of two moments, or the only one, if the other is `None`.
+/// Returns the lesser of two moments. If one is `None`, returns the other.
 pub fn lesser(a: Option<u64>, b: Option<u64>) -> Option<u64>
     ensures { result ≡ lesser a b }
 {
@@ -259,8 +259,9 @@ impl Entry {
         self.in_records.deadline()
     }
 
-    /// Adds or replaces the in-record of a face, which must have one already unless fewer than 64
-    /// faces have one. If the entry's own memory is full, the in-records move into `room`.
+    /// Adds or replaces the in-record of a face. If the face has no in-record, fewer than 64 faces
+    /// must have one. If the entry's own memory is full, the in-records move into the memory
+    /// `room`.
     pub fn arrive(&mut self, face: u64, in_record: InRecord, room: Room<InRecord>)
         requires { MAX_FACES ≤ room }
         ensures { self.new ≡ with_in_record face in_record self.old }
@@ -268,7 +269,7 @@ impl Entry {
         self.in_records.set(face, in_record, room);
     }
 
-    /// Returns whether the entry's memory has room for an out-record of this face.
+    /// Returns whether the entry's own memory suffices for an out-record of this face.
     pub fn has_place_for(&self, face: u64) -> bool
         ensures { result ≡ (map.contains_key self.now.records.out_records face
             || has_place (kept_out_records self.now)) }
@@ -276,7 +277,8 @@ impl Entry {
         self.out_records.get(face).is_some() || self.out_records.has_place()
     }
 
-    /// Adds or replaces the out-record of a face, in the out-records' own memory or in `room`.
+    /// Adds or replaces the out-record of a face, in the out-records' own memory or in the memory
+    /// `room`.
     pub fn sent(&mut self, face: u64, out_record: OutRecord, room: Room<OutRecord>)
         ensures { self.new ≡ sent_in room face out_record self.old }
     {
@@ -399,8 +401,8 @@ impl Entry {
     }
 }
 
-/// Returns the later of two in-records: `b` if their deadlines are the same, or the only one, if
-/// the other is `None`.
+/// Returns the in-record with the later deadline, or `b` if the deadlines are the same. If one
+/// in-record is `None`, returns the other.
 pub fn later<'a>(a: Option<&'a InRecord>, b: Option<&'a InRecord>) -> Option<&'a InRecord>
     ensures { option_map (λ r. r.now) result
         ≡ later (option_map (λ r. r.now) a.entry) (option_map (λ r. r.now) b.entry) }

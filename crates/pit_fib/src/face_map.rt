@@ -14,7 +14,7 @@ use crate::face_set::MAX_FACES;
 use crate::room::{FEW, Room};
 use std::marker::Model;
 
-/// A value for each of at most 64 faces, in rising order of the faces. There is memory for a few
+/// A map from at most 64 faces to values, in rising order of the faces. Its memory is for a few
 /// values, or for all 64.
 #[derive(Drop)]
 pub struct FaceMap<V> {
@@ -87,8 +87,9 @@ impl<V: Drop> FaceMap<V> {
         self.rows.capacity() >= MAX_FACES || self.rows.len() < FEW
     }
 
-    /// Makes room for one more value, in the map's own memory or in `room`. Returns false if
-    /// neither has room, or if there are 64 values.
+    /// Ensures that there is memory for one more value: the map's own memory, or the memory `room`,
+    /// into which the values then move. Returns false if neither suffices, or if there are 64
+    /// values.
     fn make_place(&mut self, room: Room<V>) -> bool
         ensures { (result, self.new) ≡ placed room self.old }
     {
@@ -119,7 +120,7 @@ impl<V: Drop> FaceMap<V> {
         }
     }
 
-    /// Sets the value of a face, if the map's own memory or `room` has room for it.
+    /// Sets the value of a face, if the map's own memory or the memory `room` suffices.
     pub fn set(&mut self, face: u64, value: V, room: Room<V>)
         ensures { self.new ≡ set_in room face value self.old }
     {

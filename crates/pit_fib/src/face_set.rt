@@ -7,7 +7,7 @@ use std::marker::Model;
 /// The greatest number of faces.
 pub const MAX_FACES: usize = 64;
 
-/// The numbers of at most 64 faces, in rising order. The numbers are in an array, so this never
+/// A set of at most 64 faces, in rising order. The faces are stored in an array, so this set never
 /// allocates.
 #[derive(Drop)]
 pub struct Faces {
@@ -70,7 +70,7 @@ impl Faces {
         self.len
     }
 
-    /// Returns the face at index `i`, counted from 0 in rising order.
+    /// Returns the face at index `i` in rising order. The first index is 0.
     pub fn get(&self, i: usize) -> Option<u64>
         ensures { result ≡ slice_get self.now i }
     {

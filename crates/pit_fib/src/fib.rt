@@ -36,15 +36,15 @@ pub const MAX_DEPTH: usize = 32;
 /// The greatest number of registered routes.
 pub const MAX_ROUTES: usize = 16384;
 
-/// Where Interests are sent: the next hops and registered routes by name (NFD Developer's Guide,
-/// "Forwarding Information Base", "Routing Information Base"). The table has at most 4,096 names of
-/// at most 32 components, each with next hops or routes, at most 16,384 routes in all, and at most
-/// 64 faces.
+/// The table of next hops and registered routes by name (NFD Developer's Guide, "Forwarding
+/// Information Base", "Routing Information Base"). It has at most 4,096 names of at most 32
+/// components, and each name has next hops or routes. It has at most 16,384 routes in all, and at
+/// most 64 different faces.
 #[derive(Drop)]
 pub struct Fib {
     alloc: Global,
     entries: NameMap<Entry>,
-    // While a call is prepared: memory for the routes of the call's name, and one more.
+    // While a call is prepared: memory for the routes of that call's name and for one more route.
     room: Vec<(RouteKey, Route)>,
     // The number of registered routes.
     count: usize,
@@ -84,7 +84,8 @@ impl Fib {
         }
     }
 
-    /// Returns the number of names. The clauses other than `exact` are true of every table.
+    /// Returns the number of names. The contract clauses other than `exact` state properties of
+    /// every table.
     pub fn len(&self) -> usize
         ensures exact { result ≡ map.len self.now.table }
         ensures bounded { map.len self.now.table ≤ MAX_ENTRIES }
@@ -99,9 +100,9 @@ impl Fib {
     /// Adds a next hop, or sets its cost. The faces of all next hops and routes, together with
     /// `face`, must be at most 64.
     ///
-    /// If it fails, it returns the first fault in the order of `TableFault`, and the table is
-    /// unchanged, but no call is prepared any more. `Memory` is never returned for a name that has
-    /// an entry.
+    /// On failure, it returns the first fault in the order of `TableFault`. In that case the table
+    /// is unchanged, but a prepared call is cancelled. `Memory` is never returned for a name that
+    /// has an entry.
     pub fn add(&mut self, name: Name<'_>, face: u64, cost: u64) -> Result<(), TableFault>
         requires { HasRoomFor self.old.table face }
         ensures ok { OnOk result
@@ -140,13 +141,13 @@ impl Fib {
         Some(TableFault::TableFull)
     }
 
-    /// Registers a route, which expires at its deadline, in milliseconds since 1970, if it has one.
+    /// Registers a route. If the route has a deadline, in milliseconds since 1970, it expires then.
     /// In the flags, 1 is child-inherit and 2 is capture. The route replaces the name's route with
     /// the same face and origin. The faces of all next hops and routes, together with `face`, must
     /// be at most 64.
     ///
-    /// If it fails, it returns the first fault in the order of `TableFault`, and the table is
-    /// unchanged, but no call is prepared any more. The table is full for a new name when it has
+    /// On failure, it returns the first fault in the order of `TableFault`. In that case the table
+    /// is unchanged, but a prepared call is cancelled. The table is full for a new name when it has
     /// 4,096 names, and for a new route when it has 16,384 routes.
     pub fn register(
         &mut self,
@@ -306,7 +307,7 @@ impl Fib {
         hops_in_order(way.costs.as_slice())
     }
 
-    /// Returns all names in canonical order, each with its effective next hops, as they are once
+    /// Returns all names in canonical order, each with the effective next hops that it has after
     /// the routes that expire by `now` are removed.
     pub fn list(&self, alloc: Global, now: u64) -> Result<Vec<(NameBuf, Hops)>, Memory>
         ensures { IfOk result (λ list. list.items ≡ listed (left_at now self.now.table)) }
@@ -321,7 +322,7 @@ impl Fib {
         Ok(list)
     }
 
-    /// Shows all names in canonical order, each with its effective next hops, as they are once the
+    /// Shows all names in canonical order, each with the effective next hops that it has after the
     /// routes that expire by `now` are removed.
     pub fn show_all<S: Show<Hops> + Drop>(&self, now: u64, show: S) -> Result<S, Memory>
         ensures { IfOk result
@@ -394,8 +395,8 @@ impl Fib {
         Ok(())
     }
 
-    /// Returns the effective next hops of a name, as they are once the routes that expire by `now`
-    /// are removed. The name must then still have an entry.
+    /// Returns the effective next hops that a name has after the routes that expire by `now` are
+    /// removed. The name must then still have an entry.
     fn hops_left_at(&self, name: Name<'_>, now: u64) -> Hops
         requires { IsSome (map.get (left_at now self.now.table) (components name)) }
         ensures { result
@@ -408,7 +409,8 @@ impl Fib {
     }
 }
 
-/// Returns `room`, if it has room for `len` routes and one more, or else new memory that has.
+/// Returns the vector `room`, if it has capacity for `len` routes and one more. Otherwise returns a
+/// new vector with this capacity.
 fn enough_room(
     alloc: Global,
     room: Vec<(RouteKey, Route)>,

@@ -11,7 +11,7 @@ use name_trie::{Becomes, Change};
 use std::alloc::Global;
 use std::marker::Model;
 
-/// What the table of routes has for one name: next hops, and registered routes.
+/// The entry of a name in the table of routes: next hops, and registered routes.
 #[derive(Drop)]
 pub struct Entry {
     pub hops: Used,
@@ -93,8 +93,8 @@ impl Becomes<Entry> for WithHop {
     }
 }
 
-/// A change that sets the registered route with a face and an origin, using the memory that it
-/// holds.
+/// A change that sets the registered route with a face and an origin, using the memory in this
+/// change.
 #[derive(Drop)]
 pub struct WithRoute {
     pub alloc: Global,

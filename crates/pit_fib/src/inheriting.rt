@@ -9,19 +9,19 @@ use crate::fib_entry::Entry;
 use crate::route::{Route, RouteKey};
 use name_trie::See;
 
-/// What is known during a walk along a name, at the last entry that it passed: the effective next
-/// hops of that entry, and what the names below it inherit (NFD Developer's Guide, "Routing
+/// The state of a walk along a name, after the last entry that it passed: the effective next hops
+/// of that entry, and the costs that the names below it inherit (NFD Developer's Guide, "Routing
 /// Information Base").
 #[derive(Drop)]
 pub struct Inheriting {
-    /// If there is a moment, routes that expire by that moment do not count.
+    /// If `at` is a moment, routes that expire by that moment do not count.
     pub at: Option<u64>,
     pub inherited: Used,
     pub costs: Used,
 }
 
 impl Inheriting {
-    /// Returns what is known before the first entry.
+    /// Returns the state of the walk before the first entry.
     pub fn new(at: Option<u64>) -> Inheriting
         ensures { result ≡ record { at = at; inherited = map.empty; costs = map.empty } }
     {

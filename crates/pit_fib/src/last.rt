@@ -13,7 +13,7 @@ use ndn_names::{Component, Name};
 use ndn_packets::Data;
 use std::marker::Model;
 
-/// The last in-record of a face among those that the search has looked at.
+/// The last in-record of a face among those in the rows that the search has visited.
 #[derive(Drop)]
 struct LastOf<'a> {
     face: u64,

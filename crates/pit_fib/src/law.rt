@@ -41,10 +41,10 @@ pub fn hops_are_in_order()
         → hops ≡ hops_of costs }
 {}
 
-/// Law: a face has a cost among the effective next hops of a name exactly in these cases: the name
-/// has a next hop of that cost on the face; it has no next hop but routes on the face, and this is
-/// their least cost; or it has neither there, but has routes, none of them a capture route, and
-/// inherits that cost for the face.
+/// Law: a face has a cost among the effective next hops of a name exactly in one of three cases.
+/// The name has a next hop of that cost on the face. Or it has routes but no next hop on the face,
+/// and the cost is the least of these routes. Or it has neither on the face, has other routes, none
+/// of them a capture route, and inherits that cost for the face.
 pub fn effective_hops_are_as_defined()
     ensures { (routes : Routes) (name : List Field) (face cost : ℕ)
         → (map.get (effective routes name) face ≡ Some cost) ↔ IsEffective routes name face cost }
@@ -60,25 +60,26 @@ pub fn routes_are_those_of_the_longest_prefix()
         → longest_hops routes name ≡ hops_of map.empty }
 {}
 
-/// Law: `due_count` is the number of routes that expire by a moment, which are those whose deadline
-/// is at most this moment.
+/// Law: `due_count` is the number of routes that expire by a moment: the routes whose deadline is
+/// that moment or earlier.
 pub fn routes_that_end_are_counted()
     ensures { (now : ℕ) (routes : Routes) → due_count now routes ≡ total
         (λ (e : Entry). length (filter (λ r. is_due now r.1) (map.entries e.registered)))
         (map.entries routes) }
 {}
 
-/// Law: when the values of a map by face are changed, each face has its own value changed, or has
-/// none.
+/// Law: when all values of a map by face are changed, each face has the changed value, or no value
+/// if it had none or its value was removed.
 pub fn revising_changes_each_value<V, W>()
     ensures { (change : V → Option W) (m : map.FinMap nat_cmp V) (face : ℕ)
         → map.get (revise change m) face ≡ option_and_then change (map.get m face) }
 {}
 
-/// Law: the records of a key after a list of causes, the last one first, can be told face by face:
-/// the in-record of a face is its last Interest that nothing has removed since, and the out-record
-/// of a face is the last Interest sent to it during the current uninterrupted period in which the
-/// key has had an in-record. The key has an in-record exactly if such an Interest is left.
+/// Law: the records of a key follow from the list of past causes, the last one first, face by face.
+/// The in-record of a face is its last Interest, unless something has removed it since. The
+/// out-record of a face is the last Interest that was sent to that face since the key was last
+/// without an in-record, unless the face has closed since. The key has an in-record exactly if such
+/// an Interest of some face remains.
 pub fn records_are_the_past()
     ensures in_records { (causes : List Cause) (key : PlainKey) (face : ℕ)
         → map.get (records_after_all causes key).in_records face ≡ in_record_of causes key face }
@@ -90,8 +91,8 @@ pub fn records_are_the_past()
 {}
 
 /// Law: the result of a Nack is `NoPending` exactly if its Nonce was not the last one sent to its
-/// face. Otherwise the result is a reason exactly if each out-record then has a reason, and it is
-/// the least of these.
+/// face. Otherwise the result is a reason exactly if each out-record has a reason after the Nack,
+/// and this reason is the least of them.
 pub fn nacks_tell_the_least_reason()
     ensures pending { (r : Records) (face : ℕ) (nonce : List ℕ) (reason : ℕ)
         → (nacked_answer r face nonce reason ≡ answers.NoPending)
@@ -117,15 +118,16 @@ pub fn records_tell_the_table()
         → ((key : PlainKey) → records_at a key ≡ records_at b key) → a ≡ b }
 {}
 
-/// Law: an expiry gives the same records, whether or not there was an expiry at an earlier moment.
+/// Law: the records after an expiry are the same, whether or not there was an expiry at an earlier
+/// moment.
 pub fn expiry_may_come_twice()
     ensures { (m n : ℕ) (key : PlainKey) (r : Records) → m ≤ n
         → records_after (Expires n) key (records_after (Expires m) key r)
         ≡ records_after (Expires n) key r }
 {}
 
-/// Law: the limits are these: 4,096 names or keys in a table, 32 components in the name of a route
-/// or strategy, 64 faces under a key or in the table of routes, and 16,384 registered routes.
+/// Law: the limits are 4,096 names or keys in a table, 32 components in the name of a route or
+/// strategy, 64 faces under a key or in the table of routes, and 16,384 registered routes.
 pub fn table_limits_are_as_promised()
     ensures { (MAX_FACES ≡ 64) × (MAX_ENTRIES ≡ 4096) × (MAX_DEPTH ≡ 32) × (MAX_ROUTES ≡ 16384)
         × (MAX_PENDING ≡ 4096) }

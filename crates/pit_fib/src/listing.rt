@@ -7,19 +7,18 @@ use crate::inheriting::Inheriting;
 use name_trie::{Carry, See, Show};
 use ndn_tlv::Memory;
 
-/// What is known at a name during a walk over all names.
+/// The state of a walk over all names, at a name.
 #[derive(Drop)]
 pub struct AtName {
     pub now: u64,
     /// Whether the entry of the name remains at the moment `now`.
     pub is_left: bool,
-    /// What is known after a walk along the name, including the name's own entry.
+    /// The effective next hops of the last entry along the name, which may be the name's own entry.
     pub way: Inheriting,
 }
 
 impl AtName {
-    /// Returns what is known before the first entry, for the moment `now` in milliseconds since
-    /// 1970.
+    /// Returns the state before the first entry, for the moment `now` in milliseconds since 1970.
     pub fn new(now: u64) -> AtName
         ensures { result ≡ start_at now }
     {
@@ -47,7 +46,8 @@ impl Carry<Entry> for AtName {
     }
 }
 
-/// Shows the effective next hops of the names whose entries remain at the moment.
+/// A visitor that passes on the effective next hops of each name whose entry remains at the moment
+/// `now`.
 #[derive(Drop)]
 pub struct AsHops<S> {
     pub show: S,

@@ -5,6 +5,6 @@ pub enum Nacked {
     NoPending,
     /// Some other out-record has no Nack yet.
     Waiting,
-    /// Each out-record has the reason of a Nack. Holds the least of these reasons.
+    /// Each out-record has the reason of a Nack. The number is the least of these reasons.
     All(u64),
 }

@@ -39,10 +39,10 @@ use std::mem;
 /// The greatest number of keys with pending Interests.
 pub const MAX_PENDING: usize = MAX_ENTRIES;
 
-/// The pending Interest table (NFD Developer's Guide, "Pending Interest Table"). For each key it
+/// The pending Interest table (NFD Developer's Guide, "Pending Interest Table"). Under each key it
 /// has an in-record for each face with a pending Interest, and an out-record for each face to which
-/// an Interest was sent. Each of its keys has an in-record. The table has at most 4,096 keys, and
-/// records of at most 64 different faces.
+/// an Interest was sent. Each key in the table has an in-record. The table has at most 4,096 keys,
+/// and records of at most 64 different faces.
 #[derive(Drop)]
 pub struct Pit {
     alloc: Global,
@@ -51,7 +51,7 @@ pub struct Pit {
     prepared: Option<Prepared>,
     // Spare memory for the out-records of an entry whose own memory is full.
     spare: Room<OutRecord>,
-    // Whether any Interest so far had a PIT token. As long as none had, no search looks for a
+    // Whether any Interest so far had a PIT token. While this is false, no search looks for a
     // token.
     has_tokens: bool,
 }
@@ -90,8 +90,8 @@ impl Pit {
         }
     }
 
-    /// Returns the number of keys with pending Interests. The clauses other than `exact` are true
-    /// of every table.
+    /// Returns the number of keys with pending Interests. The contract clauses other than `exact`
+    /// state properties of every table.
     pub fn len(&self) -> usize
         ensures exact { result ≡ map.len self.now.pending }
         ensures living { HoldsTheLiving self.now.pending }
@@ -108,8 +108,8 @@ impl Pit {
         self.len() == 0
     }
 
-    /// Returns whether an Interest with this key and Nonce from a face loops: the in-record of
-    /// another face, or an out-record, has the Nonce, and the face's own in-record does not have it
+    /// Returns whether an Interest with this key and Nonce from a face loops. It loops if the Nonce
+    /// is in an out-record or in the in-record of another face, and not in the face's own in-record
     /// (NFD Developer's Guide, "Incoming Interest Pipeline").
     pub fn loops(&self, key: Key<'_>, face: u64, nonce: [u8; 4]) -> bool
         ensures { result
@@ -123,8 +123,8 @@ impl Pit {
 
     /// Prepares one `arrive` of this key, for an Interest and a PIT token of at most `octets`
     /// octets together, and the `sent` calls of this key after it. The prepared calls cannot run
-    /// out of memory as long as only removals come in between. This fails only if memory runs out,
-    /// and then no call is prepared any more.
+    /// out of memory if only removals come in between. `prepare` fails only if memory runs out;
+    /// then no call is prepared.
     pub fn prepare(&mut self, key: Key<'_>, octets: usize) -> Result<(), Memory>
         ensures pending { self.new.pending ≡ self.old.pending }
         ensures ok { OnOk result (self.new.prepared
@@ -140,12 +140,12 @@ impl Pit {
         Ok(())
     }
 
-    /// Records the Interest of a face, in these octets, until a deadline in milliseconds since
-    /// 1970, with the PIT token that came with it, of 1 to 32 octets (NDNLPv2, "PIT Token"). It
-    /// replaces the face's older Interest of this key and that Interest's token. The faces that
-    /// have records, together with `face`, must be at most 64.
+    /// Records the Interest of a face until a deadline, in milliseconds since 1970. `interest` has
+    /// the octets of the Interest, and `token` is its PIT token, of 1 to 32 octets (NDNLPv2, "PIT
+    /// Token"). The Interest and its token replace those that the face had under this key. The
+    /// faces that have records, together with `face`, must be at most 64.
     ///
-    /// If it fails, the records are unchanged, but no call is prepared any more. It fails with
+    /// On failure, the records are unchanged, but a prepared call is cancelled. It fails with
     /// `PitFull` if the key is new and there are 4,096 keys, and otherwise with `Memory`.
     pub fn arrive(
         &mut self,
@@ -200,8 +200,8 @@ impl Pit {
         self.rows.len() >= MAX_PENDING && entry_of(&self.rows, key).is_none()
     }
 
-    /// Records the Interest of a face. The key must be in the table, or there must be room for a
-    /// new one.
+    /// Records the Interest of a face. The key must be in the table, or the table must have fewer
+    /// than 4,096 keys.
     fn keep(
         &mut self,
         key: Key<'_>,
@@ -254,10 +254,10 @@ impl Pit {
     }
 
     /// Records that an Interest with this key and Nonce was sent to a face now, in milliseconds
-    /// since 1970; this replaces the face's older out-record. The key must have an in-record, and
+    /// since 1970. This replaces the face's older out-record. The key must have an in-record, and
     /// the faces that have records, together with `face`, must be at most 64. A call that is not
-    /// prepared may run out of memory; then the records are unchanged, but no call is prepared any
-    /// more.
+    /// prepared may run out of memory. In that case the records are unchanged, but a prepared call
+    /// is cancelled.
     pub fn sent(&mut self, key: Key<'_>, face: u64, nonce: [u8; 4], now: u64) -> Result<(), Memory>
         requires stands { is_alive (records_at self.old.pending (plain_key key)) ≡ true }
         requires room { HasRoomFor self.old.pending face }
@@ -325,11 +325,11 @@ impl Pit {
     }
 
     /// Returns the PIT token that is sent to a face with a Data (NDNLPv2, "PIT Token"). It is the
-    /// token of the last of the face's Interests that the Data answers, whatever their MustBeFresh:
-    /// the Interest with the latest deadline and, among Interests with the same deadline, the one
-    /// with the greatest key, where keys are ordered by name in canonical order, then by
-    /// CanBePrefix, then by MustBeFresh. Returns `None` if that Interest came without a token, or
-    /// if the Data answers no Interest of the face.
+    /// token of the last of the face's Interests that the Data answers, with or without
+    /// MustBeFresh. The last Interest is the one with the latest deadline. Of the Interests with
+    /// this deadline, it is the one with the greatest key, where keys are ordered by name in
+    /// canonical order, then by CanBePrefix, then by MustBeFresh. Returns `None` if that Interest
+    /// has no token, or if the Data answers no Interest of the face.
     pub fn token_for(&self, packet: &Data<'_>, face: u64) -> Option<&[u8]>
         ensures token { IsTokenFor (records_at self.now.pending) (components packet.now.name)
             (sha256 packet.now.whole.now) face (option_map (λ t. t.now) result) }
@@ -341,7 +341,7 @@ impl Pit {
         last_for(&self.rows, packet, face)?.token()
     }
 
-    /// Removes all Interests that a Data answers, whatever their MustBeFresh, and returns their
+    /// Removes all Interests that a Data answers, with or without MustBeFresh, and returns their
     /// faces.
     pub fn satisfy(&mut self, packet: &Data<'_>) -> Faces
         ensures pending { Follows (Satisfied (components packet.now.name)
@@ -471,8 +471,9 @@ fn entry_of<'a>(rows: &'a TimedMap<Row>, key: Key<'_>) -> Option<&'a Entry>
     rows.get(key.name)?.get(Flags::of(key))
 }
 
-/// Adds the faces that have an in-record under the keys of a name, if there is a row for the name:
-/// under all keys if the name is a Data's own, and otherwise under those with CanBePrefix.
+/// Does nothing if there is no row for a name. Adds the faces that have an in-record under a key of
+/// the name that the Data answers. If the name is the Data's own, these are all keys; otherwise
+/// they are the keys with CanBePrefix.
 fn add_of(row: Option<&Row>, is_own: bool, faces: &mut Faces)
     ensures { faces.new
         ≡ taken (with_answered is_own) faces.old (option_map (λ r. r.now) row.entry) }
@@ -492,8 +493,8 @@ fn was_sent(rows: &TimedMap<Row>, key: Key<'_>, face: u64, nonce: [u8; 4]) -> bo
     }
 }
 
-/// Returns whether an entry's own memory has room for an out-record of this face, or there is no
-/// entry.
+/// Returns whether an entry's own memory suffices for an out-record of this face. Also returns true
+/// if there is no entry.
 fn has_place_for(rows: &TimedMap<Row>, key: Key<'_>, face: u64) -> bool
     ensures { result ≡ has_place_in (kept_at rows.now.table (plain_key key.entry)) face }
 {

@@ -56,7 +56,7 @@ impl Prepared {
     }
 }
 
-/// Returns the memory of an `arrive` of this key, if one is prepared, and the calls that stay
+/// Returns the memory of an `arrive` of this key, if one is prepared, and the calls that are still
 /// prepared after it.
 pub fn arriving(prepared: Option<Prepared>, key: Key<'_>) -> (Option<Ready>, Option<Prepared>)
     requires { IfSome prepared (λ p. IfSome p.arrival IsReady) }
@@ -81,7 +81,7 @@ pub fn arriving(prepared: Option<Prepared>, key: Key<'_>) -> (Option<Ready>, Opt
     (arrival, Some(after))
 }
 
-/// Returns `ready`, if it has room for `size` octets, or else new memory.
+/// Returns `ready`, if it has capacity for `size` octets. Otherwise returns new memory.
 fn ready_for(alloc: Global, ready: Option<Ready>, size: usize) -> Result<Ready, Memory>
     requires { IfSome ready IsReady }
     ensures ok { IfOk result (λ ready. (size ≤ ready.size) × IsReady ready) }
@@ -150,7 +150,7 @@ pub fn in_record_and_room(
     Ok((in_record, room))
 }
 
-/// Returns the calls that stay prepared after a `sent` of this key.
+/// Returns the calls that are still prepared after a `sent` of this key.
 pub fn after_sending(prepared: Option<Prepared>, key: Key<'_>) -> Option<Prepared>
     ensures next { calls_of prepared ≡ Some (plain_key key.entry, None)
         → calls_of result ≡ calls_of prepared }

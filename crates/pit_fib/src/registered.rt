@@ -63,8 +63,8 @@ impl Registered {
         place_of(self.rows(), key).is_ok()
     }
 
-    /// Returns these routes with `route` added, stored in `room`. If `room` has no room for one
-    /// more route than there are, the routes are unchanged.
+    /// Returns these routes with `route` added, stored in the vector `room`. If `room` lacks
+    /// capacity for all these routes and one more, the routes are unchanged.
     pub fn with(self, key: RouteKey, route: Route, room: Vec<(RouteKey, Route)>) -> Registered
         ensures { result ≡ with_route_within (vec_capacity room) key route self }
     {
@@ -102,7 +102,8 @@ impl Registered {
     }
 }
 
-/// Inserts a route in order, or replaces the route with the same key. There is room for it.
+/// Inserts a route in order, or replaces the route with the same key. `rows` must have capacity for
+/// one more route.
 fn put(rows: &mut Vec<(RouteKey, Route)>, key: RouteKey, route: Route)
     requires sorted { T (map.is_sorted route_cmp rows.old.items) }
     requires room { vec_len rows.old < vec_capacity rows.old }

@@ -5,11 +5,11 @@ use ndn_tlv::Memory;
 use std::alloc::Global;
 use std::marker::Model;
 
-/// How many faces the memory of a new entry has room for.
+/// The number of faces for which the memory of a new entry has capacity.
 pub const FEW: usize = 2;
 
-/// Memory for values of faces, still without values. Its model is the number of values that it has
-/// room for.
+/// Memory for values of faces. It has no values yet. Its model is the number of values for which it
+/// has capacity.
 #[derive(Drop)]
 pub struct Room<V> {
     rows: Vec<(u64, V)>,
@@ -47,7 +47,7 @@ impl<V: Drop> Room<V> {
         Ok(Room { rows })
     }
 
-    /// Returns how many values there is room for.
+    /// Returns the number of values for which there is capacity.
     pub fn count(&self) -> usize
         ensures { result ≡ self.now }
     {

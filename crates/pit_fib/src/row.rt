@@ -73,8 +73,8 @@ impl Row {
         Some(Row::from_slots(slots))
     }
 
-    /// Adds the faces that have an in-record under the keys of the name: under all keys if the name
-    /// is a Data's own, and otherwise under those with CanBePrefix.
+    /// Adds the faces that have an in-record under a key of this name that the Data answers. If the
+    /// name is the Data's own, these are all keys; otherwise they are the keys with CanBePrefix.
     pub fn add_answered(&self, is_own: bool, faces: &mut Faces)
         ensures { faces.new ≡ with_answered is_own faces.old self.now }
     {
@@ -83,8 +83,9 @@ impl Row {
         }
     }
 
-    /// Returns the later of `last` and of the face's Interests under the keys of the name: under
-    /// all keys if the name is a Data's own, and otherwise under those with CanBePrefix.
+    /// Returns the last of `last` and of the face's in-records under a key of this name that the
+    /// Data answers. If the name is the Data's own, these are all keys; otherwise they are the keys
+    /// with CanBePrefix.
     pub fn last_of<'a>(
         &'a self,
         is_own: bool,

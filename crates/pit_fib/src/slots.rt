@@ -42,7 +42,7 @@ pub trait Revision {
         ensures { result ≡ after self.now flags entry };
 }
 
-/// Returns what one entry is after a revision, if there is an entry.
+/// Returns the entry after a revision, or `None` if there is no entry or the revision removes it.
 fn revised<R: Revision>(how: &R, flags: Flags, entry: Option<Entry>) -> Option<Entry>
     ensures { result ≡ option_and_then (R.after how.now flags) entry }
 {
@@ -132,8 +132,8 @@ impl Slots {
         all.unwrap_or(0)
     }
 
-    /// Adds the faces that have an in-record under the keys of the name: under all keys if the name
-    /// is a Data's own, and otherwise under those with CanBePrefix.
+    /// Adds the faces that have an in-record under a key of this name that the Data answers. If the
+    /// name is the Data's own, these are all keys; otherwise they are the keys with CanBePrefix.
     pub fn add_answered(&self, is_own: bool, faces: &mut Faces)
         ensures { faces.new ≡ with_answered is_own faces.old self.now }
     {
@@ -145,7 +145,7 @@ impl Slots {
         add_faces(&self.prefix_fresh, faces);
     }
 
-    /// Returns the later of `last` and of the face's Interests under the keys without CanBePrefix.
+    /// Returns the last of `last` and of the face's in-records under the keys without CanBePrefix.
     fn last_exact<'a>(&'a self, face: u64, last: Option<&'a InRecord>) -> Option<&'a InRecord>
         ensures { option_map (λ r. r.now) result
             ≡ last_exact face (option_map (λ r. r.now) last.entry) self.now }
@@ -154,7 +154,7 @@ impl Slots {
         later(last, in_record_of(&self.exact_fresh, face))
     }
 
-    /// Returns the later of `last` and of the face's Interests under the keys with CanBePrefix.
+    /// Returns the last of `last` and of the face's in-records under the keys with CanBePrefix.
     fn last_prefix<'a>(&'a self, face: u64, last: Option<&'a InRecord>) -> Option<&'a InRecord>
         ensures { option_map (λ r. r.now) result
             ≡ last_prefix face (option_map (λ r. r.now) last.entry) self.now }
@@ -163,8 +163,9 @@ impl Slots {
         later(last, in_record_of(&self.prefix_fresh, face))
     }
 
-    /// Returns the later of `last` and of the face's Interests under the keys of the name: under
-    /// all keys if the name is a Data's own, and otherwise under those with CanBePrefix.
+    /// Returns the last of `last` and of the face's in-records under a key of this name that the
+    /// Data answers. If the name is the Data's own, these are all keys; otherwise they are the keys
+    /// with CanBePrefix.
     pub fn last_of<'a>(
         &'a self,
         is_own: bool,

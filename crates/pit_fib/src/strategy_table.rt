@@ -26,7 +26,7 @@ pub enum StrategyId {
     Multicast,
 }
 
-// On a walk over all names, what is known at a name with a strategy is only that strategy.
+// On a walk over all names, the state at a name with a strategy is that strategy.
 impl Carry<StrategyId> for StrategyId {
     ghost past = { λ before strategy. strategy };
 
@@ -35,8 +35,8 @@ impl Carry<StrategyId> for StrategyId {
     }
 }
 
-/// Which strategy chooses next hops for a name (NFD Developer's Guide, "Strategy Choice Table").
-/// The table has at most 4,096 names of at most 32 components. One of them is always `/`.
+/// The table of strategies by name (NFD Developer's Guide, "Strategy Choice Table"). It has at most
+/// 4,096 names of at most 32 components. One of these names is always `/`.
 #[derive(Drop)]
 pub struct StrategyTable {
     // The strategy of `/`, stored separately, since it needs no memory.
@@ -77,8 +77,8 @@ impl StrategyTable {
         }
     }
 
-    /// Returns the number of names, including `/`. The clauses other than `exact` are true of every
-    /// table.
+    /// Returns the number of names, including `/`. The contract clauses other than `exact` state
+    /// properties of every table.
     pub fn len(&self) -> usize
         ensures exact { result ≡ map.len self.now.table }
         ensures bounded { map.len self.now.table ≤ MAX_ENTRIES }
@@ -89,9 +89,9 @@ impl StrategyTable {
 
     /// Sets the strategy of a name.
     ///
-    /// If it fails, it returns the first fault in the order of `TableFault`, and the table is
-    /// unchanged, but no call is prepared any more. `Memory` is never returned for a name that has
-    /// a strategy, such as `/`.
+    /// On failure, it returns the first fault in the order of `TableFault`. In that case the table
+    /// is unchanged, but a prepared call is cancelled. `Memory` is never returned for a name that
+    /// has a strategy, such as `/`.
     pub fn set(&mut self, name: Name<'_>, strategy: StrategyId) -> Result<(), TableFault>
         ensures ok { OnOk result
             (self.new.table ≡ map.insert self.old.table (components name.entry) strategy) }
@@ -153,7 +153,7 @@ impl StrategyTable {
         self.others.forget_prepared();
     }
 
-    /// Removes the strategy of a name, if it has one. The strategy of `/` stays.
+    /// Removes the strategy of a name, if it has one. The strategy of `/` is not removed.
     pub fn unset(&mut self, name: Name<'_>)
         ensures table { self.new.table ≡ without_choice self.old.table (components name.entry) }
         ensures prepared { self.new.prepared ≡ self.old.prepared }

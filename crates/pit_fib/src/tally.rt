@@ -5,12 +5,11 @@ use crate::fib_entry::Entry;
 use crate::route::{Route, RouteKey};
 use name_trie::See;
 
-/// The number of registered routes, and the first moment at which one of them expires.
+/// The number of registered routes, and a moment before which none of them expires.
 #[derive(Drop)]
 pub struct Tally {
     pub count: usize,
-    /// The first moment at which a route expires, or the greatest moment if there is no earlier
-    /// deadline.
+    /// The earliest deadline of a route, or the greatest u64 if no route has an earlier deadline.
     pub next_due: u64,
 }
 
@@ -44,7 +43,7 @@ impl See<Entry> for Left {
     }
 }
 
-/// Returns the earliest of `moment` and of the deadlines of the routes.
+/// Returns the earlier of `moment` and of the earliest deadline of the routes.
 fn earliest(rows: &[(RouteKey, Route)], moment: u64) -> u64
     ensures { result ≡ earliest moment rows.now }
 {

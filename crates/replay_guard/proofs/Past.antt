@@ -1,5 +1,5 @@
--- The latest time and number of each signer decide freshness in the same way as all recorded
--- commands do.
+-- A command is fresh according to the latest time and number of its signer exactly if it is fresh
+-- according to all recorded commands.
 use Rattle.std.proofs.Common.{◌≡◌, ℕ, ◌<◌, Bool, true, false, cond, List, [], ◌∷◌, refl, sym, subst, arith}
 use Rattle.std.specs.Prelude.{◌↔◌, Option, Some, None}
 use Rattle.std.specs.List.{AllByRecursion}
@@ -27,7 +27,8 @@ raised_after (Some l) t n time number =
       λ h k. let e = h.0 in let f = k.0 in (omega (arith, e, f), both.1 h.1 k.1),
     )
 
--- what one more recorded command changes
+-- after one more recorded command, a command must be newer than the earlier state and than that
+-- command
 pub one_more : (table : Signer → Option Latest) (r : Recorded) (signer : Signer) (time : ℕ) (number : Option ℕ) (b : Bool) → eq_by_cmp signer_cmp signer r.signer ≡ b
     → (IsAfterLatest (cond b (Some (raised (table r.signer) r.time r.number)) (table signer)) time number → IsAfterLatest (table signer) time number × IsNewer signer time number r)
     × (IsAfterLatest (table signer) time number → IsNewer signer time number r → IsAfterLatest (cond b (Some (raised (table r.signer) r.time r.number)) (table signer)) time number)

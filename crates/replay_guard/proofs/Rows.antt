@@ -94,11 +94,12 @@ pub push_is_insert : (k : Signer) (v : Latest) (es : List Row) → find signer_c
     → from_entries {R = signer_cmp} (es ++ (k, v) ∷ []) ≡ map.insert (from_entries es) k v
 push_is_insert k v es h = from_entries_push signer_cmp-total signer_cmp-antisymmetric es k v h
 
--- a spare key belongs to only one signer
+-- the spare key is the key of at most one signer
 pub other_spare : (spare : Option Signer) (k s : Signer) (b : Bool) → spare ≡ Some k → spare ≡ Some s → b ≡ same s k → b ≡ false → ⊥
 other_spare spare k s b h e is other = (let one : k ≡ s = cc in let tied = same_signer s k (sym one) in cc)
 
--- how freshness is decided: one lemma if the signer has a row, another if it has none
+-- a command near the present moment is fresh exactly if it is newer than its signer's row; if its
+-- signer has no row, it is fresh
 pub fresh_found : (table : Table) (es : List Row) (at : ℕ) (row : Row) (s : Signer) (t : ℕ) (n : Option ℕ) (now : ℕ) (b : Bool) → from_entries es ≡ table → IsFirst s es at → row ≡ get_or es at row
     → AreNear t now → (IsTrue b → IsAfterLatest (Some row.1) t n) × (IsAfterLatest (Some row.1) t n → IsTrue b) → (IsTrue b → IsFresh table s t n now) × (IsFresh table s t n now → IsTrue b)
 fresh_found table es at row s t n now b shown first is near both =

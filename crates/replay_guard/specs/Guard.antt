@@ -49,7 +49,7 @@ raised None time number = record { time = time; number = number }
 raised (Some l) time number =
     record { time = max l.time time; number = greater_number l.number number }
 
--- the table with one more recorded command
+-- the table after one more command is recorded
 abbrev pub with_recorded : Table → Recorded → Table
 with_recorded table r =
     map.insert table r.signer (raised (map.get table r.signer) r.time r.number)

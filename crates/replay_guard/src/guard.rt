@@ -11,15 +11,15 @@ use ndn_tlv::Memory;
 use std::alloc::Global;
 use std::marker::Model;
 
-/// By how much a command's time may differ from the present moment, in milliseconds.
+/// The greatest difference between a command's time and the present moment, in milliseconds.
 const WINDOW: u64 = 120_000;
 
-/// For each signer, the greatest time and the greatest number of the commands that were recorded.
+/// For each signer, the greatest time and the greatest number of its recorded commands.
 #[derive(Drop)]
 pub struct Guard {
     alloc: Global,
     rows: Vec<Row>,
-    // The key of the row that is prepared, for which `rows` has room.
+    // The key of the prepared row. `rows` has capacity for that row.
     spare: Option<Option<NameBuf>>,
 }
 
@@ -74,8 +74,8 @@ impl Guard {
         place_of(&self.rows, signer).is_some()
     }
 
-    /// Records a command. It returns `Memory` only for a signer without recorded commands; then the
-    /// guard is unchanged, but no call is prepared any more.
+    /// Records a command. It returns `Memory` only for a signer without recorded commands. In that
+    /// case the recorded commands are unchanged, but a prepared call is cancelled.
     pub fn record(&mut self, signer: Signer<'_>, time: u64, seq: Option<u64>) -> Result<(), Memory>
         ensures ok { OnOk result (self.new.latest ≡ with_recorded self.old.latest
             (record { signer = signer_of signer.entry; time = time; number = seq })) }
@@ -109,8 +109,8 @@ impl Guard {
     }
 
     /// Prepares one `record` of this signer. The prepared call cannot run out of memory. The next
-    /// `record` or `prepare`, of any signer, ends the preparation, even if it fails. A signer with
-    /// a recorded command needs no memory.
+    /// `record` or `prepare`, of any signer, ends this preparation, even if that call fails. A
+    /// signer with a recorded command needs no memory.
     pub fn prepare(&mut self, signer: Signer<'_>) -> Result<(), Memory>
         ensures latest { self.new.latest ≡ self.old.latest }
         ensures ok { OnOk result (IsPrepared self.new (signer_of signer.entry)) }
@@ -135,7 +135,7 @@ fn are_near(a: u64, b: u64) -> bool
     a.abs_diff(b) <= WINDOW
 }
 
-/// Returns the signer's key: the spare key, or a copy.
+/// Returns the signer's key: the spare key, or a new copy.
 fn key_in(
     alloc: Global,
     spare: Option<Option<NameBuf>>,

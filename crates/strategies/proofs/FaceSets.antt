@@ -31,7 +31,7 @@ added_few face faces =
       | false ↦ omega (arith, length-with_face face faces)
     ]
 
--- multicast takes one more hop
+-- the chosen faces after multicast has selected one more hop
 pub taken_more : (used : ByFace) (now : ℕ) (hop : Hop) (rest hops : List Hop) (faces new : List ℕ) (n : ℕ) → 0 < n
     → (length faces + n ≤ 64) × (faces ≡ faces_of (multicast rest used now)) → hops ≡ hop ∷ rest → was_recent now (map.get used hop.face) ≡ false
     → new ≡ (adding hop.face faces).1 → (length new + (n - 1) ≤ 64) × (new ≡ faces_of (multicast hops used now))

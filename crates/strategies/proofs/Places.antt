@@ -1,4 +1,4 @@
--- The part of a list from an index on.
+-- The items of a list from an index to the end.
 use Rattle.std.proofs.Common.{◌≡◌, ℕ, zero, suc, ◌+◌, ◌-◌, ◌<◌, Bool, cond, List, [], ◌∷◌, drop, filter, refl, sym, ap, ◌∙◌, add-one, arith}
 use Rattle.std.specs.Prelude.{None, Some, slice_get, ◌||◌}
 use Rattle.std.specs.List.{list_any}

@@ -1,4 +1,4 @@
--- The law of each strategy: the hops that it takes are among the hops that it is given.
+-- The law of each strategy: the hops that it selects are among the hops that it is given.
 use Rattle.std.specs.Prelude.{ℕ, List, [], ◌∷◌, Bool, true, false, Option, None, Some, All, Contains, filter, cond}
 use Rattle.std.specs.List.{list_any}
 use Rattle.std.specs.Option.{option_or, option_to_list}

@@ -1,5 +1,5 @@
--- Which of the eligible hops a strategy takes (NFD Developer's Guide, "Strategies": best-route and
--- multicast). Moments are in milliseconds.
+-- Which of the eligible hops a strategy selects (NFD Developer's Guide, "Strategies": best-route
+-- and multicast). Moments are in milliseconds.
 use Rattle.std.specs.Prelude.{ℕ, ◌+◌, List, [], ◌∷◌, Bool, false, Option, None, Some, filter, not, nat_lt, unwrap_or, ◌==◌, ◌&&◌, ◌||◌, if◌then◌else◌}
 use Rattle.std.specs.List.{list_any}
 use Rattle.std.specs.Option.{option_or, option_to_list}
@@ -8,7 +8,8 @@ use Rattle.pit_fib.specs.declared.hops.Hop.{Hop}
 use Rattle.pit_fib.specs.Hops.{is_before}
 use Rattle.pit_fib.specs.Tables.{ByFace}
 
--- the hops to send to, given the eligible hops, the moments at which faces were last used, and now
+-- the hops to send to; the arguments are the eligible hops, the moments at which faces were last
+-- used, and the present moment
 abbrev pub Selection : Type 0
 Selection = List Hop → ByFace → ℕ → List Hop
 
@@ -19,8 +20,8 @@ is_recent now time = nat_lt now (time + 10)
 abbrev pub is_new : ByFace → Hop → Bool
 is_new asked hop = not (map.contains_key asked hop.face)
 
--- whether hop `a` was used longer ago than hop `b`, or at the same moment and comes before it by
--- cost, then by face; both hops must have been used
+-- whether hop `a` was used longer ago than hop `b`; if they were used at the same moment, whether
+-- `a` comes before `b` by cost, then by face; both hops must have been used
 abbrev pub is_staler : ByFace → Hop → Hop → Bool
 is_staler asked a b =
     let s = unwrap_or (map.get asked a.face) 0 in

@@ -10,9 +10,9 @@ use crate::eligible::{any_eligible, eligible_at, is_recent};
 use crate::strategy::{Ask, Choice, Strategy};
 use pit_fib::{Faces, Hop, Hops, Used};
 
-/// Sends to one hop: the least hop, by cost and then by face, that was not used, or if all were
-/// used, the hop that was used longest ago. Sends to no hop while some face was used less than 10
-/// milliseconds ago.
+/// Sends to one hop: the least hop, by cost and then by face, that was not used. If all hops were
+/// used, sends to the hop that was used longest ago. Sends to no hop if some face was used less
+/// than 10 milliseconds ago.
 #[derive(Clone, Copy, Debug)]
 pub struct BestRoute;
 
@@ -66,8 +66,8 @@ fn least_new(hops: &Hops, used: &Used, ask: Ask) -> Option<Hop>
     first
 }
 
-/// Returns the eligible hop that was used longest ago and, among hops that were used at the same
-/// moment, the least by cost and then by face.
+/// Returns the eligible hop that was used longest ago. Of the hops that were used at the same
+/// moment, it returns the least by cost and then by face.
 fn stalest(hops: &Hops, used: &Used, ask: Ask) -> Option<Hop>
     ensures { result ≡ least (is_hop_staler used.now) (eligible ask hops.now) }
 {
@@ -105,8 +105,8 @@ fn staler(used: &Used, hop: Hop, first: Option<Hop>) -> Hop
     }
 }
 
-/// Returns whether hop `a` was used longer ago than hop `b`, or was used at the same moment and
-/// comes before it.
+/// Returns whether hop `a` was used longer ago than hop `b`. If they were used at the same moment,
+/// returns whether `a` comes before `b`.
 fn is_staler(used: &Used, a: Hop, b: Hop) -> bool
     ensures { result ≡ is_hop_staler used.now a b }
 {

@@ -7,11 +7,12 @@ ghost use Rattle.strategies.specs.Selection.{is_recent as came_recently};
 use crate::strategy::Ask;
 use pit_fib::{Hop, Hops};
 
-/// How long after a use a face is not used again, in milliseconds.
+/// For how long a face is not used again after an Interest is sent to it, in milliseconds.
 const RETRY_AFTER: u64 = 10;
 
-/// Returns whether the Interest may be sent to a hop. The Interest may never be sent back to the
-/// face that it came from and, if it stays on this machine, only to Local faces.
+/// Returns whether the Interest may be sent to a hop. An Interest may never be sent back to the
+/// face that it came from. If the Interest stays on this machine, it may be sent only to Local
+/// faces.
 pub fn is_eligible(hop: Hop, ask: Ask) -> bool
     ensures { result ≡ may_get ask hop }
 {

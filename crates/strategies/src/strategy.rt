@@ -30,17 +30,18 @@ pub enum Choice {
 
 /// Chooses where an Interest is sent (NFD Developer's Guide, "Strategies").
 pub trait Strategy {
-    /// The hops to send to, given the eligible hops, the moments at which faces were last used, and
-    /// now.
+    /// The hops to send to. The arguments are the eligible hops, the moments at which faces were
+    /// last used, and the present moment.
     ghost selection: { Selection };
 
-    /// Chooses among next hops. `Hops::mark` has marked the Local ones. `used` has the moments, in
-    /// milliseconds since 1970, at which an Interest of this entry was last sent to each face. The
-    /// face of each hop counts as open, since `Fib::close_face` removes the hops of a closed face.
+    /// Chooses among next hops. The Local hops have been marked by `Hops::mark`. `used` has the
+    /// moments, in milliseconds since 1970, at which an Interest of this entry was last sent to
+    /// each face. The face of each hop counts as open, since `Fib::close_face` removes the hops of
+    /// a closed face.
     fn choose(&self, hops: &Hops, used: &Used, ask: Ask) -> Choice
         ensures { result ≡ chosen selection hops.now used.now ask };
 
-    /// The hops that the strategy takes are among the eligible hops.
+    /// The hops that the strategy selects are among the eligible hops.
     ghost takes_eligible: { (hops : List Hop) (used : ByFace) (now : ℕ)
         → All (Contains hops) (selection hops used now) };
 }
