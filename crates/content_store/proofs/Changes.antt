@@ -1,5 +1,5 @@
--- One Data is added to the cached ones, one is removed, and the last one is evicted when there are
--- too many.
+-- The cached Data after one is added, after one is removed, and after the last one is evicted
+-- because the store is full.
 use Rattle.std.proofs.Common.{◌≡◌, ℕ, zero, suc, ◌+◌, ◌-◌, ◌<◌, ◌≤◌, Bool, true, false, cond, eqb, eq-eqb, List, [], ◌∷◌, length, take, insert, refl, sym, ap, subst, ◌∙◌, arith}
 use borrow.Author.Tests.{eqb-false, ne_eqb}
 use Rattle.std.specs.Prelude.{Option, None, Some, IsSome, nat_eq, slice_get}
@@ -195,7 +195,7 @@ sound_kept rows used next n (Some e) sound le at valid =
           ∙ ap (cached_in rows) (sym last.0) ∙ take_cached (held_in rows) n used (all_map (LeadsTo rows) (λ u. IsSome (held_in rows u.1)) (some_held rows) used sound.there),
     )
 
--- a serial number that is not in use
+-- a serial number above all serial numbers in use is not in use
 pub not_used : (s : ℕ) (us : List (ℕ × ℕ)) → AllByRecursion (λ u. u.0 < s) us → (lookup (nat_eq s) us ≡ None) × (lookup_entry (nat_eq s) us ≡ None)
 not_used s [] h = (refl, refl)
 not_used s (u ∷ us) h =

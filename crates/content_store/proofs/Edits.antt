@@ -1,4 +1,4 @@
--- The rows that a list of slab indexes shows, when the list changes.
+-- The rows at the slab indexes of a list, after a change of the slab or the list.
 use Rattle.content_store.specs.Store.{full_name_of}
 use Rattle.std.proofs.Common.{◌≡◌, ◌≢◌, ◌⊎◌, inl, inr, ℕ, zero, suc, ◌+◌, ◌<◌, ◌≤◌, Bool, true, false, cond, eqb, eqb-true, eq-eqb, List, [], ◌∷◌, length, get_or, insert, refl, sym, ap, subst, ◌∙◌, arith}
 use borrow.Author.Tests.{eqb-false, ne_eqb}
@@ -86,7 +86,7 @@ own_place h ps p at row rows found lower =
     order_of : (m n : ℕ) → (m < n) ⊎ ((m ≡ n) ⊎ (n < m))
     order_of m n = grind arith
 
--- a slab index that was vacant
+-- a slab index without a row is not in the list
 pub vacant : (h : ℕ → Option Row) (ps : List ℕ) (p : ℕ) → AllByRecursion (λ q. IsSome (h q)) ps → h p ≡ None → AllByRecursion (λ q. q ≢ p) ps
 vacant h [] p a none = tt
 vacant h (q ∷ ps) p a none = ((λ e. (let r = some_is (h q) a.0 in let n = ap h e ∙ none in let b = sym r.1 ∙ n in cc)), vacant h ps p a.1 none)

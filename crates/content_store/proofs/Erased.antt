@@ -54,7 +54,7 @@ there_at h order start end rows le lt =
     subst (λ (p : ℕ). IsSome (h p)) (range_at order start end le lt)
     (all_there (λ p. IsSome (h p)) (without_range start end order) start rows.there (omega (arith, range_len order start end le (omega arith))))
 
--- ---- the rows that are left
+-- ---- the rows that remain
 
 below_or : (m n : ℕ) → (m < n) ⊎ (n ≤ m)
 below_or m n = grind arith

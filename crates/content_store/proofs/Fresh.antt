@@ -98,7 +98,7 @@ without_none name [] h = refl
 without_none name (c ∷ cs) h =
     ap (λ b. cond (not b) (c ∷ without name cs) (without name cs)) (differ (full_name_of c) name h.0) ∙ ap (λ (t : List CachedData). c ∷ t) (without_none name cs h.1)
 
--- no cached Data has a full name that is not among the rows
+-- a full name that no row has is the full name of no cached Data
 pub none_named : (rows : List Placed) (at : ℕ) (name : List Field) → Rising rows → IsLower name rows at → ((d : Placed) → at < length rows → name_at (get_or rows at d) ≢ name)
     → (used : List (ℕ × ℕ)) (next : ℕ) → Sound rows used next → All (λ d. full_name_of d ≢ name) (cached_in rows used)
 none_named rows at name rising lower other used next sound =

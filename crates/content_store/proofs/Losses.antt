@@ -33,7 +33,7 @@ loses_either old new (inl e) = subst (λ (s : StoreState). LosesSome old.cached 
 loses_either old new (inr e) =
     subst (λ (s : StoreState). LosesSome old.cached s.cached) (sym e) (record { stays = λ _. false; left = none_stay old.cached })
 
--- every element that is left was there before
+-- every element that remains was there before
 pub loses_some-contained : (xs ys : List CachedData) → LosesSome xs ys → All (Contains xs) ys
 loses_some-contained xs ys h = All-same (Contains xs) _ _ h.left (All-filter h.stays (Contains xs) xs (All-contains_itself xs))
 

@@ -1,4 +1,4 @@
--- The rows at slab indexes, and what a binary search knows about them.
+-- The rows at slab indexes, and how the steps of a binary search narrow the range.
 use Rattle.content_store.specs.Store.{full_name_of}
 use Rattle.std.proofs.Common.{◌≡◌, ◌⊎◌, inl, inr, ℕ, zero, suc, ◌+◌, ◌-◌, ◌*◌, ◌/◌, ◌^◌, ◌<◌, ◌≤◌, List, [], ◌∷◌, length, get_or, refl, sym, ap, subst, ◌∙◌, arith}
 use borrow.Author.Tests.{ne_eqb}
@@ -50,7 +50,7 @@ less_is Greater e = absurd cc
 pub lt_is : (o : Ordering) → o ≡ Less → is_lt o ≡ true
 lt_is o e = ap is_lt e
 
--- The progress of a binary search.
+-- A binary search: all rows before `low` come before the name, and no row from `high` on does.
 pub record LowerSoFar (name : List Field) (rows : List Placed) (low high : ℕ) : Type 0 where
   pub ordered : low ≤ high
   pub below : (k : ℕ) (d : Placed) → k < low → name_cmp (name_at (get_or rows k d)) name ≡ Less
@@ -60,7 +60,7 @@ same_or_less : (a b : ℕ) → a ≤ b → (a ≡ b) ⊎ (a < b)
 same_or_less a b le = grind arith
 
 module _ (name : List Field) (rows : List Placed) (rising : Rising rows) (mid : ℕ) (r : Placed) (within : mid < length rows) (at : (d : Placed) → get_or rows mid d ≡ r) where
-  -- all rows up to a row that comes before the name come before it too
+  -- if a row comes before the name, all rows up to that row come before the name
   pub all_below : name_cmp (name_at r) name ≡ Less → (k : ℕ) (d : Placed) → k < mid + 1 → name_cmp (name_at (get_or rows k d)) name ≡ Less
   all_below less k d lt =
       elim (same_or_less k mid (omega arith)) [
@@ -68,7 +68,7 @@ module _ (name : List Field) (rows : List Placed) (rising : Rising rows) (mid : 
         | inr before ↦ name_cmp-total.trans (name_at (get_or rows k d)) (name_at (get_or rows mid d)) name (rising k mid d before within) (ap (λ x. name_cmp (name_at x) name) (at d) ∙ less)
       ]
 
-  -- no row from position `mid` on comes before the name if the row at `mid` does not
+  -- if the row at `mid` does not come before the name, no later row comes before the name
   pub none_below : (name_cmp (name_at r) name ≡ Less → ⊥) → (k : ℕ) (d : Placed) → mid ≤ k → k < length rows → name_cmp (name_at (get_or rows k d)) name ≡ Less → ⊥
   none_below never k d ge lt less =
       elim (same_or_less mid k ge) [

@@ -1,4 +1,4 @@
--- What is left when the least full names are erased, one after another.
+-- The Data that remain after the least full names are erased, one after another.
 use Rattle.std.proofs.Common.{◌≡◌, ℕ, ◌+◌, ◌⊎◌, inl, inr, Bool, true, false, not, ◌&&◌, List, length, get_or, refl, sym, ap, subst, ◌∙◌, arith, All}
 use Rattle.std.specs.Prelude.{◌≤◌, Option, None, Some}
 use Rattle.std.specs.Option.{unwrap_or}
@@ -34,7 +34,7 @@ not_true false e = refl
 apart : (a b : List Field) → eq_by_cmp name_cmp a b ≡ false → a ≡ b → ⊥
 apart a b f e = (let t = tied a b e in cc)
 
--- all other full names under the name are greater
+-- all other full names that begin with the name are greater than the least one
 others_greater : (name : List Field) (ys : List CachedData) (c : CachedData) → IsLeast (λ d. IsPrefix name (full_name_of d)) ys c
     → All (λ d. IsPrefix name (full_name_of d) → Less (full_name_of c) (full_name_of d)) (without (full_name_of c) ys)
 others_greater name ys c least =
@@ -48,7 +48,7 @@ others_greater name ys c least =
       | inr (inr greater) ↦ absurd (not_less greater)
     ]
 
--- the least full name under the name is removed
+-- one more Data is removed: the one with the least full name that begins with the name
 pub one_taken : (name : List Field) (xs ys : List CachedData) (n : ℕ) (c : CachedData) → TakesLeast name xs ys n → IsLeast (λ d. IsPrefix name (full_name_of d)) ys c
     → length (without (full_name_of c) ys) + 1 ≡ length ys → TakesLeast name xs (without (full_name_of c) ys) (n + 1)
 one_taken name xs ys n c h least fewer =
@@ -71,7 +71,7 @@ one_taken name xs ys n c h least fewer =
           ];
     }
 
--- without a count, the greatest number is no limit
+-- an erase without a count is an erase of at most 2^64 - 1 Data
 pub erases : (name : List Field) (count : Option ℕ) (xs ys : List CachedData) (n most : ℕ) → most ≡ unwrap_or count 18446744073709551615 → TakesLeast name xs ys n → n ≤ most
     → (n ≡ most) ⊎ All (λ d. IsPrefix name (full_name_of d) → ⊥) ys → length xs ≤ 65536 → Erases name count xs ys n
 erases name None xs ys n most is taken le ended few = (

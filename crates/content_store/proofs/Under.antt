@@ -1,4 +1,4 @@
--- The full names under a name are contiguous.
+-- Full names that begin with the same name are contiguous in the list.
 use Rattle.std.proofs.Common.{◌≡◌, ◌⊎◌, inl, inr, ℕ, ◌<◌, ◌≤◌, Bool, true, false, List, [], ◌∷◌, ◌++◌, length, get_or, drop, append_assoc, refl, sym, ap, subst, ◌∙◌, arith}
 use Rattle.std.specs.Prelude.{◌&&◌, ◌||◌}
 use Rattle.std.specs.Ordering.{ordering_reverse, ordering_then}
@@ -28,7 +28,8 @@ under_not_less (c ∷ n) (d ∷ a) p e =
     let tie : component_cmp d c ≡ Equal = ap (λ x. component_cmp d x) (sym first) ∙ tied_itself component_cmp-total d in
     under_not_less n a (p.0, after) (sym (ap (λ o. ordering_then o (name_cmp a n)) tie) ∙ e)
 
--- every full name between a name and a full name under it is under it too
+-- every full name between a name and a full name that begins with this name begins with this name
+-- too
 pub convex : (n a b : List Field) → (name_cmp a n ≡ Less → ⊥) → name_cmp a b ≡ Less → IsPrefix n b → IsPrefix n a
 convex [] a b low less p = (a, refl)
 convex (c ∷ n) [] b low less p = absurd (low refl)
@@ -56,7 +57,7 @@ convex (c ∷ n) (d ∷ a) (e ∷ b) low less p = by (component_cmp d c) refl (c
 same_or_after : (a b : ℕ) → a ≤ b → (a ≡ b) ⊎ (a < b)
 same_or_after a b le = grind arith
 
--- if a row that is not less than a name is not under it, no later row is under it
+-- if a row is not less than a name and does not begin with it, no later row begins with it
 pub none_after : (n : List Field) (rows : List Placed) (at : ℕ) → Rising rows → at < length rows → ((d : Placed) → name_cmp (name_at (get_or rows at d)) n ≡ Less → ⊥)
     → ((d : Placed) → IsPrefix n (name_at (get_or rows at d)) → ⊥) → (k : ℕ) (d : Placed) → at ≤ k → k < length rows → IsPrefix n (name_at (get_or rows k d)) → ⊥
 none_after n rows at rising lt low never k d ge within p =
@@ -68,7 +69,7 @@ none_after n rows at rising lt low never k d ge within p =
 not_greater : (a b : List Field) → name_cmp a b ≡ Less → name_cmp a b ≡ Greater → ⊥
 not_greater a b less greater = (let clash = sym less ∙ greater in cc)
 
--- if a row that is not less than a name is not near it, no later row is near it
+-- if a row is not less than a name and not near it, no later row is near it
 pub far_after : (n : List Field) (flag : Bool) (rows : List Placed) (at : ℕ) → Rising rows → at < length rows → ((d : Placed) → name_cmp (name_at (get_or rows at d)) n ≡ Less → ⊥)
     → ((d : Placed) → is_near n flag (name_at (get_or rows at d)) ≡ true → ⊥) → (k : ℕ) (d : Placed) → at ≤ k → k < length rows → is_near n flag (name_at (get_or rows k d)) ≡ true → ⊥
 far_after n flag rows at rising lt low never k d ge within near =

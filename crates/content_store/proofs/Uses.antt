@@ -81,7 +81,7 @@ lookup_other s t (u ∷ us) ne = split (eqb s u.0) refl (lookup_other s t us ne)
         sym (ap (λ b. cond b (Some u.1) (lookup (nat_eq t) us)) other)
     split false e rest = ap (λ o. cond (eqb t u.0) (Some u.1) o) rest
 
--- the keys that are left are different from the removed key
+-- the keys that remain are different from the removed key
 pub others_left : {X : Type 0} (s : ℕ) (us : List (ℕ × X)) → IsDistinct nat_eq (keys_of us) → AllByRecursion (λ t. nat_eq s t ≡ false) (keys_of (remove_entry (nat_eq s) us))
 others_left s [] h = tt
 others_left s (u ∷ us) h = split (eqb s u.0) refl (others_left s us (IsDistinct-tail nat_eq u.0 (keys_of us) h))

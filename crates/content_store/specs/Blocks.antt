@@ -13,7 +13,7 @@ use Rattle.content_store.specs.declared.blocks.Change.TheVariants.{Added, Renewe
 abbrev pub fresh_until : CachedData → ℕ
 fresh_until c = min (c.arrival + c.freshness) (2 ^ 64 - 1)
 
--- no Data of the block is fresh after the block's `until`
+-- the block's `until` is a freshness bound: from that moment on, no Data of the block is fresh
 abbrev pub Bounds : List Placed → Block → Type 0
 Bounds rows b =
     (k : ℕ) (d : Placed) → b.start ≤ k → k < b.end → k < length rows
@@ -35,11 +35,11 @@ Follows (Renewed at until) rows rows' =
 Follows (Removed start end) rows rows' =
     (start ≤ end) × (end ≤ length rows) × (rows' ≡ without_range start end rows)
 
--- the freshness bounds of the blocks still hold
+-- the freshness bounds are still true after the blocks change, if they were true before
 abbrev pub Keeps : List Placed → List Block → List Block → Type 0
 Keeps rows blocks blocks' = AreBounds rows blocks → AreBounds rows blocks'
 
--- the freshness bounds of the blocks hold after the change
+-- the freshness bounds of the new blocks are true after the change of the list
 abbrev pub Carries : Change → List Placed → List Block → List Block → Type 0
 Carries change rows' blocks blocks' =
     (rows : List Placed) → Follows change rows rows' → AreBounds rows blocks

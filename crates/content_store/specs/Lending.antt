@@ -5,6 +5,6 @@ use mathlib.Core.Option.{none}
 use Rattle.content_store.specs.Store.{StoreState}
 use Rattle.content_store.specs.contracts.store.Store.{the_row}
 
--- when the borrow ends, `P` holds of the store
+-- when the borrow ends, the store has the property `P`
 abbrev pub EndsWith : MutBor StoreState → (StoreState → Type 0) → Fml
 EndsWith s P = follows_so the_row the_row s.ghost_name none (λ _ _. ⊤) P

@@ -8,7 +8,7 @@ use Rattle.ndn_names.specs.Order.{name_cmp}
 use Rattle.content_store.specs.Store.{CachedData, full_name_of}
 use Rattle.content_store.specs.declared.rows.Row.{Row}
 
--- a slab index with the row there
+-- a slab index and the row at this index
 abbrev pub Placed : Type 0
 Placed = ℕ × Row
 
@@ -45,7 +45,7 @@ pub record IsLower (name : List Field) (rows : List Placed) (at : ℕ) : Type 0 
   pub above : (k : ℕ) (d : Placed) → at ≤ k → k < length rows
       → name_cmp (name_at (slice_index_or rows k d)) name ≡ Less → ⊥
 
--- the position of the first row with the property P, or `None` if no row has it
+-- the position of the first row with the property P, or None if no row has this property
 abbrev pub FirstWith : (CachedData → Type 0) → List Placed → Option ℕ → Type 0
 FirstWith P rows None =
     (k : ℕ) (d : Placed) → k < length rows → ¬ P (held_at (slice_index_or rows k d))

@@ -57,7 +57,7 @@ pub record IsCachedData (c : CachedData) : Type 0 where
   pub digest : c.digest ≡ sha256 c.octets
   pub freshness : c.freshness ≡ packet.freshness
 
--- What holds of every store.
+-- The properties of every store.
 pub record IsStore (s : StoreState) : Type 0 where
   pub not_none : 1 ≤ s.capacity
   pub at_most_65536 : s.capacity ≤ MAX_CAPACITY
@@ -91,8 +91,8 @@ pub record LosesSome (before after : List CachedData) : Type 0 where
   pub stays : CachedData → Bool
   pub left : after ≡ filter stays before
 
--- the store after `c` is added in front: `c` replaces a Data with the same full name, and Data
--- beyond the capacity are evicted
+-- the store after `c` is added as the most recently used Data: `c` replaces a Data with the same
+-- full name, and Data beyond the capacity are evicted
 abbrev pub with_cached : StoreState → CachedData → StoreState
 with_cached s c = record s {
   cached = take s.capacity (c ∷ without (full_name_of c) s.cached);
@@ -118,8 +118,8 @@ Finds key now before (Some octets) after =
     (c : CachedData) × IsLeast (CanServe key now) before.cached c × (octets ≡ c.octets)
     × (after ≡ with_used before c)
 
--- `stays` marks the Data that are left, in their order. All removed Data were under the name, and
--- have lesser full names than the Data under it that are left.
+-- `stays` marks the Data that remain, in their order. All removed Data are under the name, and
+-- their full names are less than those of the Data under the name that remain.
 pub record TakesLeast (name : List Field) (before after : List CachedData) (gone : ℕ) : Type 0 where
   pub stays : CachedData → Bool
   pub left : after ≡ filter stays before
@@ -128,8 +128,8 @@ pub record TakesLeast (name : List Field) (before after : List CachedData) (gone
   pub least : All (λ c. stays c ≡ false → All (λ d. IsPrefix name (full_name_of d)
       → Less (full_name_of c) (full_name_of d)) after) before
 
--- What an erase does: it removes at most `count` Data, and fewer only if no Data under the name is
--- left.
+-- The effect of an erase: it removes at most `count` Data. It removes fewer than `count` only if no
+-- Data under the name remains.
 abbrev pub Erases : List Field → Option ℕ → List CachedData → List CachedData → ℕ → Type 0
 Erases name count before after gone =
     TakesLeast name before after gone × IfSome count (λ n. gone ≤ n)

@@ -1,4 +1,4 @@
--- The LRU order, as serial numbers that lead to slab indexes, for private contracts.
+-- The LRU order, as a map from serial numbers to slab indexes, for private contracts.
 use Rattle.std.specs.Prelude.{◌≡◌, ◌⊎◌, ℕ, ◌<◌, ◌≤◌, List, [], ◌∷◌, ◌++◌, length, take, drop, Option, None, Some, nat_eq, slice_index_or, insert}
 use Rattle.std.specs.Option.{option_map}
 use Rattle.std.specs.List.{All, AllByRecursion, IsDistinct}
@@ -15,7 +15,7 @@ abbrev pub with_held : Option CachedData → List CachedData → List CachedData
 with_held None rest = rest
 with_held (Some c) rest = c ∷ rest
 
--- the Data that these serial numbers lead to
+-- the Data to which these serial numbers lead
 unfoldable pub cached_by : (ℕ → Option CachedData) → List (ℕ × ℕ) → List CachedData
 cached_by g [] = []
 cached_by g (u ∷ us) = with_held (g u.1) (cached_by g us)

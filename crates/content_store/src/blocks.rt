@@ -11,8 +11,8 @@ use slab::Slab;
 /// The greatest number of rows in a block. A larger block is split.
 const MAX_BLOCK: usize = 512;
 
-/// Consecutive positions of the list, from `start` up to `end`, and a moment from which on no Data
-/// there is fresh.
+/// The list positions from `start` up to `end`, and the freshness bound `until` of this block: from
+/// that moment on, no Data at these positions is fresh.
 #[derive(Clone, Copy)]
 pub struct Block {
     pub start: usize,
@@ -54,8 +54,8 @@ impl Block {
         self.start <= at && at < self.end
     }
 
-    /// Returns the block after a row was inserted before position `at`. The block also takes in a
-    /// row that is inserted at its end.
+    /// Returns the block after a row was inserted before position `at`. A row that is inserted at
+    /// the end of the block belongs to the block.
     fn with(self, at: usize, until: u64) -> Block
         ensures { (rows : List Placed) (row : Placed) → at ≤ length rows
             → fresh_until (held_at row) ≤ until → Bounds rows self
@@ -124,7 +124,7 @@ fn index_at(blocks: &[Block], at: usize) -> usize {
     blocks.partition_point(|block| block.end <= at)
 }
 
-/// Returns the next position to look at after the row at `at`, which cannot serve. With
+/// Returns the next position to search after the row at `at`, which cannot serve the Interest. With
 /// MustBeFresh, skips rows that are known not to be fresh.
 pub fn next_place(blocks: &[Block], at: usize, must_be_fresh: bool, now: u64) -> usize
     requires { at + 1 < 2 ^ 64 }
@@ -166,7 +166,7 @@ fn begin(entries: &Slab<Row>, order: &Places, blocks: &mut Vec<Block>)
     }
 }
 
-/// Splits a block that has become too long, unless memory runs out.
+/// Splits a block that is longer than `MAX_BLOCK`, unless memory runs out.
 fn halve(entries: &Slab<Row>, order: &Places, blocks: &mut Vec<Block>, index: usize)
     requires { IsRows (get entries.now) order.now }
     ensures { Keeps (shown (get entries.now) order.now) blocks.old.items blocks.new.items }
@@ -186,7 +186,7 @@ fn halve(entries: &Slab<Row>, order: &Places, blocks: &mut Vec<Block>, index: us
     }
 }
 
-/// Computes the freshness bound of a block anew.
+/// Computes the freshness bound of a block from its rows.
 fn look_again(entries: &Slab<Row>, order: &Places, blocks: &mut Vec<Block>, index: usize)
     requires { IsRows (get entries.now) order.now }
     ensures { Keeps (shown (get entries.now) order.now) blocks.old.items blocks.new.items }

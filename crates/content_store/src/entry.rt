@@ -22,7 +22,8 @@ use std::marker::Model;
 /// A cached Data. Its implicit digest is computed when a comparison needs it.
 #[derive(Drop)]
 pub struct Entry {
-    // The first 32 octets of the name, if it has that many. They decide most comparisons.
+    // The first 32 octets of the name, if the name has at least 32 octets. These octets decide most
+    // comparisons.
     head: Option<[u8; HEAD_LEN]>,
     name: NameBuf,
     octets: Vec<u8>,
@@ -95,7 +96,8 @@ impl Entry {
         }
     }
 
-    /// Compares the full name with that of a Data with this name and these octets.
+    /// Compares the full name of this entry with the full name of a Data, given by its name and
+    /// octets.
     #[inline(always)]
     pub fn compare_full(&self, name: Name<'_>, octets: &[u8]) -> Ordering
         ensures { result ≡ name_cmp (full_name_of self.now)
@@ -130,8 +132,8 @@ impl Entry {
         self.name.view().compare(name).is_eq() || self.compare(name).is_eq()
     }
 
-    /// Returns whether the full name is near the name of a key in canonical order: only near full
-    /// names can serve an Interest of this key.
+    /// Returns whether the full name is near the name of a key in canonical order. Only Data with a
+    /// full name near a key's name can serve an Interest of this key.
     #[inline(always)]
     pub fn is_near(&self, key: Key<'_>) -> bool
         ensures { result

@@ -76,8 +76,8 @@ pub fn compare_full_names(
     }
 }
 
-/// Compares the full name of a Data, given by its name and octets, with any full name of a longer
-/// name.
+/// Compares the full name of a Data, given by its name and octets, with each full name that begins
+/// with the longer name `other`.
 fn compare_longer(name: Name<'_>, octets: &[u8], other: Name<'_>) -> Ordering
     requires { AreShorter name other }
     ensures { (digest : List ℕ) → length digest ≡ 32
@@ -92,7 +92,8 @@ fn compare_longer(name: Name<'_>, octets: &[u8], other: Name<'_>) -> Ordering
     }
 }
 
-/// Compares the octets of a Data's implicit digest component with the octets of other components.
+/// Compares the octets of a Data's implicit digest component with the octets `rest` of other
+/// components.
 fn compare_digest(octets: &[u8], rest: &[u8]) -> Ordering
     ensures { result ≡ slice_cmp nat_cmp (digest_octets (sha256 octets.now)) rest.now }
 {

@@ -35,9 +35,9 @@ impl Model for Places {
     ghost invariant = { λ p. IsLaid p.blocks.items };
 }
 
-/// Returns the index of the block that contains position `at`, or into which it is to be inserted.
-/// `first` and `last` are a hint: the search covers only the blocks between them if the position is
-/// there, and all blocks otherwise.
+/// Returns the index of the block that contains position `at`, or of the block into which a slab
+/// index is inserted at this position. `first` and `last` are a hint: if the position is in a block
+/// between them, only those blocks are searched; otherwise all blocks are searched.
 fn block_at(blocks: &[Block], first: usize, last: usize, at: usize) -> usize
     requires laid { IsLaid blocks.now }
     requires some { 0 < length blocks.now }
@@ -63,7 +63,7 @@ fn block_at(blocks: &[Block], first: usize, last: usize, at: usize) -> usize
     low
 }
 
-/// Updates the start position of each block.
+/// Sets the start position of each block from the lengths of the blocks before it.
 fn lay(blocks: &mut Vec<Block>)
     requires { length (flat blocks.old.items) ≤ 131072 }
     ensures same { flat blocks.new.items ≡ flat blocks.old.items }
@@ -231,8 +231,8 @@ impl Places {
     }
 
     /// Returns the slab index at position `at` of the list, and the index of its block. `first` and
-    /// `last` are a hint: the search covers only the blocks between them if the position is there,
-    /// and all blocks otherwise.
+    /// `last` are a hint: if the position is in a block between them, only those blocks are
+    /// searched; otherwise all blocks are searched.
     pub fn get_between(&self, first: usize, last: usize, at: usize) -> (usize, u32)
         requires { at < length self.now }
         ensures { result.1 ≡ slice_index self.now at }

@@ -33,12 +33,13 @@ pub struct Row {
     pub serial: u64,
 }
 
-/// The cached Data, in canonical order of their full names.
+/// The list of cached Data, in canonical order of their full names.
 #[derive(Drop)]
 pub struct Rows {
     entries: Slab<Row>,
     order: Places,
-    // Moments from which on ranges of `order` have no fresh Data, for Interests with MustBeFresh.
+    // The blocks of `order`. Each block has a moment from which on none of its Data is fresh, so
+    // that a search with MustBeFresh can skip the block.
     blocks: Vec<Block>,
 }
 
@@ -68,7 +69,7 @@ fn lower_bound(entries: &Slab<Row>, order: &Places, sought: Sought<'_>, steps: &
 {
     let mut low = 0;
     let mut high = order.len();
-    // The position is between these blocks, so that the next lookup is fast.
+    // The sought position is in the blocks from `first` to `last`, so only these are searched next.
     let mut first = 0;
     let mut last = usize::MAX;
     while low < high {
@@ -138,7 +139,7 @@ fn first_from(
     None
 }
 
-/// Returns whether the row before position `at` comes before a name.
+/// Returns whether the row before position `at` comes before a name, or there is no such row.
 fn is_above(entries: &Slab<Row>, order: &Places, name: Name<'_>, at: usize) -> bool
     requires rows { IsRows (get entries.now) order.now }
     requires within { at ≤ length order.now }
@@ -189,7 +190,8 @@ impl Rows {
         first_serving(&self.entries, &self.order, &self.blocks, key, now, steps)
     }
 
-    /// Returns the position of a key's name, if some Data can serve an Interest of this key.
+    /// Returns the position of a key's name in the list, if some Data can serve an Interest of this
+    /// key.
     pub fn start_for(&self, key: Key<'_>, now: u64) -> Option<usize>
         requires { length self.now < 131072 }
         ensures { MatchOption result (FirstWith (CanServe (plain_key key.entry) now) self.now None)
@@ -202,8 +204,8 @@ impl Rows {
         }
     }
 
-    /// Returns the position of the first Data that can serve an Interest of this key. `place` may
-    /// be the position of the key's name.
+    /// Returns the position of the first Data that can serve an Interest of this key. If `place` is
+    /// the position of the key's name, no binary search is needed.
     pub fn first_at(&self, place: usize, key: Key<'_>, now: u64) -> Option<usize>
         requires { length self.now < 131072 }
         ensures { FirstWith (CanServe (plain_key key.entry) now) self.now result }
@@ -216,7 +218,7 @@ impl Rows {
         first_from(&self.entries, &self.order, &self.blocks, start, key, now)
     }
 
-    /// Returns the number of rows. The contract also states what holds of all rows.
+    /// Returns the number of rows. The contract also states a property of every list of rows.
     pub fn len(&self) -> usize
         ensures len { result ≡ length self.now }
         ensures valid { IsValidRows self.now }
@@ -250,8 +252,8 @@ impl Rows {
         lower_bound(&self.entries, &self.order, sought, &mut steps)
     }
 
-    /// Returns whether the Data at position `at` has the full name of a Data with this name and
-    /// these octets.
+    /// Returns whether the Data at position `at` has the same full name as another Data, given by
+    /// its name and octets.
     pub fn is_full(&self, at: usize, name: Name<'_>, octets: &[u8]) -> bool
         ensures yes { IsTrue result → (at < length self.now)
             × ((d : Placed) → name_at (slice_index_or self.now at d)
@@ -320,8 +322,8 @@ impl Rows {
         remove_row(&self.entries, &self.order, &mut self.blocks, at, until);
     }
 
-    /// Removes at most `most` Data whose full names begin with a name, the least full names first,
-    /// and their serial numbers. Returns the number of removed Data.
+    /// Removes the Data whose full names begin with a name, and their serial numbers. Removes at
+    /// most `most` Data, the least full names first. Returns the number of removed Data.
     pub fn remove_under(&mut self, used: &mut LruCache<u64, u32>, name: Name<'_>, most: u64) -> u64
         requires { length self.old < 131072 }
         ensures { (next : ℕ) → Sound self.old used.old.entries next
@@ -336,8 +338,9 @@ impl Rows {
     }
 }
 
-/// Removes from the slab and from `used` at most `most` Data whose full names begin with a name,
-/// starting at a position of the list. Returns the position after the last of them.
+/// Removes the Data whose full names begin with a name from the slab and from `used`. Starts at a
+/// position of the list, and removes at most `most` Data. Returns the position after the last
+/// removed Data.
 fn remove_under(
     entries: &mut Slab<Row>,
     used: &mut LruCache<u64, u32>,

@@ -7,7 +7,7 @@ ghost use Rattle.content_store.specs.Sought.{sought_name};
 use crate::entry::Entry;
 use ndn_names::Name;
 
-/// The name that a binary search looks for.
+/// The name or full name that a binary search looks for.
 #[derive(Clone, Copy)]
 pub enum Sought<'a> {
     /// A name.

@@ -112,11 +112,12 @@ impl Store {
     }
 
     /// Caches a Data that arrived at `arrival`, in milliseconds since 1970, as the most recently
-    /// used. It replaces a cached Data with the same full name. If there is none and the store is
-    /// full, the least recently used Data is evicted. A Data that is already cached needs no
-    /// memory, and is not refused. Returns false and leaves the store unchanged if memory runs out,
-    /// or if a cached Data with the same full name has other octets. After 2^64 - 1 full names, the
-    /// next new one empties the store instead, and the result is false.
+    /// used. It replaces a cached Data with the same full name. If no cached Data has this full
+    /// name and the store is full, the least recently used Data is evicted. A Data that is already
+    /// cached needs no memory, and is never refused. Returns false and leaves the store unchanged
+    /// if memory runs out, or if a cached Data with the same full name has other octets. After 2^64
+    /// - 1 full names, the next new full name empties the store without being cached, and the
+    /// result is false.
     pub fn put(&mut self, packet: &Data<'_>, arrival: u64) -> bool
         ensures ok { IsTrue result
             → self.new ≡ with_cached self.old (cached_at packet.now arrival) }
@@ -154,8 +155,9 @@ impl Store {
     }
 
     /// Returns the octets of the Data with the least full name that answers an Interest of this
-    /// key. With MustBeFresh, only Data count whose FreshnessPeriod after the arrival has not ended
-    /// at `now`, in milliseconds since 1970. The returned Data becomes the most recently used.
+    /// key. With MustBeFresh, only fresh Data count: those whose FreshnessPeriod after the arrival
+    /// has not ended at `now`, in milliseconds since 1970. The returned Data becomes the most
+    /// recently used.
     pub fn find(&mut self, key: Key<'_>, now: u64) -> Option<&[u8]>
         ensures found { GivesData (plain_key key.entry) now self.old.cached
             (option_map (λ o. o.now) result) }
@@ -170,8 +172,8 @@ impl Store {
         Some(self.rows.row(at).entry.octets())
     }
 
-    /// Returns what `find` returns. Each comparison of the binary search for the first full name
-    /// not less than the Interest's name adds one to `steps`, at most 17.
+    /// Returns what `find` returns. A binary search finds the first full name that is not less than
+    /// the Interest's name. Each of its comparisons adds one to `steps`, at most 17 in all.
     pub fn find_counted(&mut self, key: Key<'_>, now: u64, steps: &mut u64) -> Option<&[u8]>
         requires { steps.old ≤ 2 ^ 64 - 1 - 17 }
         ensures found { GivesData (plain_key key.entry) now self.old.cached
@@ -199,8 +201,8 @@ impl Store {
         self.rows.start_for(key, now)
     }
 
-    /// Returns what `find` returns, but without a binary search if `place` is what `place_for`
-    /// returned for this key, and the store has not changed since.
+    /// Returns what `find` returns. No binary search is needed if `place` is what `place_for`
+    /// returned for this key and the store has not changed since.
     pub fn serve_at(&mut self, place: usize, key: Key<'_>, now: u64) -> Option<&[u8]>
         ensures found { GivesData (plain_key key.entry) now self.old.cached
             (option_map (λ o. o.now) result) }
@@ -227,8 +229,8 @@ impl Store {
     }
 }
 
-/// Renews the cached Data at position `at`, which has the full name of `packet`, as one that
-/// arrived at `arrival`. It becomes the most recently used, and keeps its serial number. Returns
+/// Renews the cached Data at position `at`, which has the full name of `packet`, as if it arrived
+/// at `arrival`. The Data becomes the most recently used, and keeps its serial number. Returns
 /// false and changes nothing if the cached octets differ from those of `packet`.
 fn put_same(
     rows: &mut Rows,

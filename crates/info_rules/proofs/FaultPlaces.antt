@@ -17,7 +17,7 @@ use Rattle.info_rules.proofs.TreeFinding.{entries_found, never_deep, whole_found
 
 -- ---- texts of whole lines
 
--- the tokens that these octets end
+-- the tokens that end within these octets
 ended : Mode → ℕ → List ℕ → List (ℕ × Token)
 ended mode line [] = []
 ended mode line (o ∷ text) = with_ended line (ended_by mode o) (ended (mode_after mode o) (line_after line o) text)
@@ -118,7 +118,7 @@ from_line n mode line (o ∷ text) h =
 
 -- ---- the lines of faults
 
--- `On` holds for the line of a block that is too deep, if there is one
+-- `On` is true of the line of the block that is inside eight others, if there is one
 abbrev DeepOn : (ℕ → Type 0) → Option ℕ → Type 0
 DeepOn On None = ⊤
 DeepOn On (Some line) = On line
@@ -175,7 +175,8 @@ fitting_err draft line Close fault e = by_depth (eqb draft.depth 0) e
     by_depth false e = absurd cc
 fitting_err draft line Broken fault e = cc
 
--- the fault after a block that may be too deep
+-- `On` is true of the line of the fault, whether or not this is the fault of a block inside eight
+-- others
 unless_deep : {A : Type 0} (On : ℕ → Type 0) (deep : Option ℕ) (line : ℕ) (read : Result A RulesFault) (fault : RulesFault) → DeepOn On deep → (read ≡ Err fault → On fault.line) → unless_fault (deep_before deep line) read ≡ Err fault → On fault.line
 unless_deep On None line read fault h behind e = behind e
 unless_deep On (Some deep) line read fault h behind e = by_test (eqb deep line) e
@@ -234,7 +235,7 @@ ending_err On line tokens draft fault all here deep e = by_read (with_tokens dra
 
 -- ---- the lines before the fault
 
--- the reading of `n` whole lines
+-- the state after reading `n` whole lines
 record AreRead (n : ℕ) (front : List ℕ) : Type 0 where
   within : AllOn (λ l. l ≤ n) (ended Between 1 front)
   mode : mode_at Between front ≡ Between
@@ -275,7 +276,8 @@ tokens_stopped ((line, token) ∷ some) more draft fault e = by_next (with_token
     by_next (Ok next) is further = tokens_one draft next line token (some ++ more) is ∙ further next (sym (tokens_one draft next line token some is) ∙ e)
     by_next (Err told) is further = tokens_faulty draft line token (some ++ more) told is ∙ (sym (tokens_faulty draft line token some told is) ∙ e)
 
--- a block that is too deep is reported if it is on an earlier line
+-- if a block inside eight others is on one of the first `n` lines, the fault is on one of these
+-- lines
 deep_told : (n line deep : ℕ) (draft : PlainDraft) (tokens : List (ℕ × Token)) (fault : RulesFault) → draft.deep ≡ Some deep → deep ≤ n → n + 1 ≤ line → AllOn (λ l. n + 1 ≤ l) tokens → ending line (with_tokens draft tokens) ≡ Err fault → fault.line ≤ n
 deep_told n line deep draft [] fault is low here all e =
     let other : eqb deep line ≡ false = ne_eqb deep line (λ same. omega (arith, same)) in

@@ -30,7 +30,8 @@ key_here name place following there len some few =
     let long : length (drop (suc place) name) ≡ following = length-drop (suc place) name ∙ omega (arith, len) in
     (drop (suc place) name, split_at name place key_component there, omega (arith, long, some), omega (arith, long, few))
 
--- for each way to read the name as a key's name, at least `following` components follow KEY
+-- wherever the name can be split into a prefix, KEY and one to three components, at least
+-- `following` components follow KEY
 abbrev pub HasFollowing : List Field → ℕ → Type 0
 HasFollowing name following = (prefix : List Field) → IsKeyOf prefix name → length prefix + 1 + following ≤ length name
 

@@ -103,7 +103,7 @@ not_among (w ∷ words) word e (inl is) =
     absurd cc
 not_among (w ∷ words) word e (inr h) = not_among words word (neither (bytes_eq word w) (list_any (λ (v : List ℕ). bytes_eq word v) words) e).1 h
 
--- if the keys may only be certain words, no key is another word
+-- if all keys are in a list of words, no key is a word outside the list
 pub lacks : (words : List (List ℕ)) (word : List ℕ) (keys : List Block) → list_any (λ (w : List ℕ). bytes_eq word w) words ≡ false → HasOnly words keys → Lacks word keys
 lacks words word [] e h = refl
 lacks words word (key ∷ keys) e h = by_test (bytes_eq key.0.key word) refl (lacks words word keys e h.1)
@@ -114,7 +114,7 @@ lacks words word (key ∷ keys) e h = by_test (bytes_eq key.0.key word) refl (la
 
 -- ---- keys by the table
 
--- the number of keys that are `word` is allowed
+-- the table allows this number of keys that are `word`
 abbrev pub Stands : Times → List ℕ → List Block → Type 0
 Stands Once word keys = others_of (named word keys) ≡ []
 Stands (UpTo most) word keys = length (named word keys) ≤ most
@@ -226,7 +226,7 @@ no_first : {A : Type 0} (xs : List A) → first_of xs ≡ None → xs ≡ []
 no_first [] e = refl
 no_first (x ∷ xs) e = absurd cc
 
--- no value is read if no key is `word`
+-- no value is read if no key has the word `word`
 pub lacks_read : {A : Type 0} (kind : RulesFaultKind) (read : List ℕ → Option A) (word : List ℕ) (keys : List Block) → value_in kind read word keys ≡ Ok None → Lacks word keys
 unfolding value_in
 lacks_read {A = A} kind read word keys e = by_first (first_of (named word keys)) refl e

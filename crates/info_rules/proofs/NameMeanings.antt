@@ -149,7 +149,8 @@ no_other_again tested form [] may = refl
 no_other_again tested form (key ∷ keys) (inl none, may) = rw none (no_other_again tested form keys may)
 no_other_again tested form (key ∷ keys) (inr some, may) = rw (some, is_itself form) (no_other_again tested form keys may)
 
--- the keys contain a key of this form
+-- if a key `word` belongs to this form, and no key belongs to another form, the first key that
+-- belongs to a form belongs to this one
 first_there : (tested : Tested) (form : Form) (word : List ℕ) (keys rest : List Block) (found : Block) → AllMayStand tested form keys → ((key : Block) → key.0.key ≡ word → form_of tested key ≡ Some form) → named word keys ≡ found ∷ rest
     → (line : ℕ) × (first_other tested None keys ≡ Some (form, line))
 first_there tested form word [] rest found may means e = absurd cc

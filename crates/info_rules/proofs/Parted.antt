@@ -7,7 +7,7 @@ use Rattle.info_rules.specs.declared.entry.Entry.{Entry}
 use Rattle.info_rules.specs.Tree.{PlainEntry, Block, parted}
 use Rattle.info_rules.specs.Shown.{entry_of}
 
--- no entry is at this depth
+-- no entry of the list is at this depth
 abbrev pub Lack : ℕ → List Entry → Type 0
 Lack depth [] = ⊤
 Lack depth (entry ∷ entries) = (eqb entry.depth depth ≡ false) × Lack depth entries

@@ -21,7 +21,7 @@ unfolding after
 after_append told [] ys = refl
 after_append told (x ∷ xs) ys = after_append (noted told x) xs ys
 
--- adding the faults of the first element, then those of the others
+-- adding the faults of a list of elements adds those of the first element, then those of the others
 pub after_first : {A : Type 0} (f : A → List RulesFault) (told : Option RulesFault) (xs : List A) (x : A) (others : List A) → xs ≡ x ∷ others
     → after (after told (f x)) (flat_map f others) ≡ after told (flat_map f xs)
 after_first f told xs x others e = sym (after_append told (f x) (flat_map f others)) ∙ ap (λ l. after told (flat_map f l)) (sym e)
@@ -29,7 +29,7 @@ after_first f told xs x others e = sym (after_append told (f x) (flat_map f othe
 pub after_no : {A : Type 0} (f : A → List RulesFault) (told : Option RulesFault) (xs : List A) → xs ≡ [] → after told (flat_map f xs) ≡ told
 after_no f told xs e = ap (λ l. after told (flat_map f l)) e ∙ after_none told
 
--- the specification's view of the table has the same keys
+-- a key is in the table exactly if it is in the specification's view of the table
 known_shown : (key : Block) (forms : List Form) → list_any (λ (form : PlainForm). is_word form.word key) (map form_of forms) ≡ list_any (λ (form : Form). is_word form.0.now key) forms
 known_shown key [] = refl
 known_shown key (form ∷ forms) = ap (λ t. is_word form.0.now key || t) (known_shown key forms)
@@ -40,13 +40,13 @@ unknown_here key forms e = rw (known_shown key forms, e) refl
 pub known_here : (key : Block) (forms : List Form) → list_any (λ (form : Form). is_word form.0.now key) forms ≡ true → unknown_faults (map form_of forms) key ≡ []
 known_here key forms e = rw (known_shown key forms, e) refl
 
--- the first element has no faults
+-- the report after an element without faults
 pub after_clean : {A : Type 0} (f : A → List RulesFault) (told : Option RulesFault) (xs : List A) (x : A) (others : List A) → xs ≡ x ∷ others → f x ≡ [] → after told (flat_map f others) ≡ after told (flat_map f xs)
 after_clean f told xs x others e none =
     let same : flat_map f xs ≡ flat_map f others = rw (e, none) refl in
     ap (after told) (sym same)
 
--- the first element has one fault
+-- the report after an element with one fault
 pub after_noted : {A : Type 0} (f : A → List RulesFault) (told new : Option RulesFault) (xs : List A) (x : A) (others : List A) (fault : RulesFault) → xs ≡ x ∷ others → f x ≡ fault ∷ [] → new ≡ after told (fault ∷ [])
     → after new (flat_map f others) ≡ after told (flat_map f xs)
 after_noted f told new xs x others fault e one is =

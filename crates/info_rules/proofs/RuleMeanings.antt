@@ -29,7 +29,7 @@ use Rattle.info_rules.proofs.CheckerMeanings.{ok_one, locator_means, locator_mea
 
 -- ---- checkers
 
--- the key `sig-type` has the value for this signature type; without a type, the key is absent
+-- the value of the key `sig-type` is this signature type; if the type is None, the key is absent
 abbrev Takes : Option SignatureType → List Block → Type 0
 Takes None keys = Lacks (codes "sig-type") keys
 Takes (Some HmacSha256) keys = HasValue (codes "sig-type") keys (codes "hmac-sha256")

@@ -1,4 +1,4 @@
--- Allowed packets name their signer.
+-- The signature of an allowed packet states its signer.
 use Rattle.std.proofs.Common.{◌≡◌, List, refl, subst, inl, inr}
 use Rattle.std.specs.Prelude.{Some, None}
 use Rattle.hmac_keys.specs.KeyFile.{NamedKey}

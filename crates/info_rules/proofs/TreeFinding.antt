@@ -303,7 +303,7 @@ end_step draft ended =
     further draft [] (entries_of draft) (Bottom NoNode) draft.pending refl (sym nothing_spelled) (λ _. starts_nothing draft.closed) (λ _. λ _. tt) (ended, nothing_apart, nothing_shallow draft.depth)
     (sym (append-nil (entries_of draft)) ∙ ap (λ (more : List PlainEntry). entries_of draft ++ more) (sym (nothing_listed draft.depth)))
 
--- ---- blocks that were too deep
+-- ---- blocks that are inside eight others
 
 no_deeper : (b : Bool) (line : ℕ) (deep : Option ℕ) → cond b (Some line) deep ≡ None → (b ≡ false) × (deep ≡ None)
 no_deeper true line deep e = absurd cc

@@ -23,7 +23,7 @@ pub ok_unless : {A : Type 0} (fault : Option RulesFault) (read : Result A RulesF
 ok_unless None read next e = (refl, e)
 ok_unless (Some fault) read next e = absurd cc
 
--- ---- the added part
+-- ---- the draft after one step
 
 abbrev pub with_its_value : PlainDraft → PlainEntry → List ℕ → PlainDraft
 with_its_value draft entry word = record draft { pending = Some (record entry { value = Some (unescaped word) }) }

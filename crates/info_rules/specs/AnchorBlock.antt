@@ -12,6 +12,6 @@ unfoldable pub anchor_of : ℕ → List Block → Found (Unit {0})
 anchor_of line keys =
     beside (after None (walk_faults Anchor keys)) (needed line (anchor_value_in keys))
 
--- reads a `trust-anchor`, which adds nothing to the rules
+-- the result of reading a `trust-anchor`, which adds nothing to the rules
 unfoldable pub anchor_in : Block → Found (Unit {0})
 anchor_in key = block_in 1 anchor_of key

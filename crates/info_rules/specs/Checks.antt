@@ -14,7 +14,7 @@ use Rattle.info_rules.specs.declared.decision.Reason.TheVariants as reasons
 use Rattle.info_rules.specs.Seen.{PlainSigned}
 use Rattle.info_rules.specs.Locator.{PassesLocator}
 
--- if `Fact` is false, `given` is this reason; if it is true, `Rest` holds
+-- `given` is this reason if `Fact` is false; if `Fact` is true, `Rest` holds
 abbrev pub Unless : Type 0 → Reason → Option Reason → Type 0 → Type 0
 Unless Fact reason given Rest = ((¬ Fact) × (given ≡ Some reason)) ⊎ (Fact × Rest)
 
@@ -29,7 +29,7 @@ ChecksKey keys name signed given =
     (((key : List ℕ) → IsAmong (name, key) keys → ⊥) × (given ≡ Some reasons.KeyUnknown))
     ⊎ ((key : List ℕ) × IsAmong (name, key) keys × ChecksTag (Mac key signed.covered) signed given)
 
--- the KeyLocator names a key that meets the requirement
+-- the KeyLocator has the name of a key, and this name meets the requirement
 abbrev pub ChecksLocator : List NamedKey → LocatorTest → PlainLocator → PlainSigned → Option Reason
     → Type 0
 ChecksLocator keys test (KeyName name) signed given =

@@ -37,14 +37,14 @@ IsGreater (Some earlier) reason greatest =
 abbrev pub IsPassed : List NamedKey → List Checker → PlainSigned → Type 0
 IsPassed keys all signed = Any (λ checker. Checks keys checker signed None) all
 
--- the checker denies the packet, and its reason is at most this one
+-- the checker denies the packet, and the rank of its reason is at most that of this reason
 abbrev pub IsAtMost : List NamedKey → PlainSigned → Reason → Checker → Type 0
 IsAtMost keys signed reason checker =
     (given : Reason) × Checks keys checker signed (Some given)
     × (reason_number given ≤ reason_number reason)
 
--- No checker passes the packet, and this is their greatest reason to deny it. Without checkers, the
--- reason is `KeyLocator`.
+-- No checker passes the packet, and this is the greatest of their reasons. If the rule has no
+-- checkers, the reason is `KeyLocator`.
 abbrev pub IsGreatest : List NamedKey → List Checker → PlainSigned → Reason → Type 0
 IsGreatest keys all signed reason =
     ((all ≡ []) × (reason ≡ reasons.KeyLocator))
@@ -55,13 +55,13 @@ IsGreatest keys all signed reason =
 abbrev pub Allow : List NamedKey → List Checker → SeenPacket → Type 0
 Allow keys all packet = (signed : PlainSigned) × IsSigned packet signed × IsPassed keys all signed
 
--- the checkers deny the packet, and this is their greatest reason
+-- the checkers deny the packet, and this is the greatest of their reasons
 abbrev pub DenyBy : List NamedKey → List Checker → SeenPacket → Reason → Type 0
 DenyBy keys all packet reason =
     (signed : PlainSigned) × IsSigned packet signed × IsGreatest keys all signed reason
 
--- an Interest has no SignatureTime, or the signature covers nothing because the parameters digest
--- of an Interest is not the last component of its name
+-- an Interest without SignatureTime, or an Interest whose signature covers nothing because its
+-- parameters digest is not the last component of its name
 abbrev pub IsMisshaped : SeenPacket → PlainSignature → Type 0
 IsMisshaped packet signature =
     (¬ SaysWhen packet.kind signature)

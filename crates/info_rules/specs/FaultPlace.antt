@@ -4,18 +4,18 @@ use Rattle.info_rules.specs.Tree.{PlainEntry}
 use Rattle.info_rules.specs.Words.{tokens_in, end_line}
 use Rattle.info_rules.specs.TreeGrammar.{IsTree}
 
--- the text consists of `n` lines, each with the LF that ends it
+-- the text consists of `n` lines, and each line ends with an LF
 abbrev pub AreLines : ℕ → List ℕ → Type 0
 AreLines n text =
     (end_line text ≡ n + 1) × ((text ≡ []) ⊎ ((inner : List ℕ) × (text ≡ inner ++ 10 ∷ [])))
 
--- the text is the beginning of a text that spells entries
+-- the text is a prefix of some text that spells entries
 abbrev pub BeginsSome : List ℕ → Type 0
 BeginsSome text =
     (rest : List ℕ) × (entries : List PlainEntry) × IsTree (tokens_in (text ++ rest)) entries
 
--- The line is a line of the text. The text before the line is the beginning of a text that spells
--- entries. The text up to the end of the line is not such a beginning.
+-- The line is a line of the text. The text before the line is a prefix of some text that spells
+-- entries. The text up to the end of the line is not such a prefix.
 pub record StandsAt (text : List ℕ) (line : ℕ) : Type 0 where
   pub first : 1 ≤ line
   pub last : line ≤ end_line text

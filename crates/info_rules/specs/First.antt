@@ -21,7 +21,7 @@ Applies rule kind name =
 abbrev pub NoneApplies : List PlainRule → Kind → List Field → Type 0
 NoneApplies rules kind name = All (λ rule. ¬ Applies rule kind name) rules
 
--- `rule` is the first rule that applies, and `n` is its number, counted from 0
+-- `rule` is the first rule that applies, and `n` is its index; the first index is 0
 pub record IsFirst (rules : List PlainRule) (kind : Kind) (name : List Field) (n : ℕ)
     (rule : PlainRule) : Type 0 where
   pub there : slice_get rules n ≡ Some rule

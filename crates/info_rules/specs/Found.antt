@@ -8,7 +8,7 @@ use Rattle.info_rules.specs.Tree.{Block}
 abbrev pub Found : Type 0 → Type 0
 Found A = Result A RulesFault
 
--- the fault that is reported if both are present
+-- the one of two faults that is reported if both are present
 abbrev pub sooner_of : RulesFault → RulesFault → RulesFault
 sooner_of a b = if sooner b a then b else a
 
@@ -19,7 +19,8 @@ both (Ok a) (Err f) = Err f
 both (Err e) (Ok b) = Err e
 both (Err e) (Err f) = Err (sooner_of e f)
 
--- the value, or the fault that is reported if this fault is also present
+-- the value that was read; if `fault` is present or the value is a fault, the fault that is
+-- reported
 abbrev pub beside : {A : Type 0} → Option RulesFault → Found A → Found A
 beside None found = found
 beside (Some e) (Ok a) = Err e
@@ -30,7 +31,7 @@ abbrev pub shown : {A B : Type 0} → (A → B) → Found A → Found B
 shown f (Ok a) = Ok (f a)
 shown f (Err e) = Err e
 
--- the value after a function is applied to it; the function may give a fault
+-- the value after a function is applied to it; the function may return a fault
 abbrev pub then_made : {A B : Type 0} → (A → Found B) → Found A → Found B
 then_made f (Ok a) = f a
 then_made f (Err e) = Err e

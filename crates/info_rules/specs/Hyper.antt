@@ -5,7 +5,7 @@ use Rattle.name_patterns.specs.Template.{PlainPart, NeedAtMost}
 use Rattle.info_rules.specs.declared.rule.Relation.{Relation}
 
 -- a pattern and a template for the key's name, a pattern and a template for the packet's name, and
--- the relation between the two expanded names
+-- the relation that the first expanded name must have to the second
 pub record PlainHyper : Type 0 where
   pub key_pattern : PlainPattern
   pub key_template : List PlainPart

@@ -38,7 +38,8 @@ half_with template_word keys pattern =
     shown (λ half. option_zip half.0 half.1) (both pattern (value_in Pattern
     (λ text. ok_of (template_in (groups_of pattern) text)) template_word keys))
 
--- a pattern and a template that uses its groups, each read from the key of its word
+-- a pattern, and a template that uses the groups of this pattern, each read from the first key with
+-- its word
 unfoldable pub half_in : List ℕ → List ℕ → List Block → Found Half
 half_in pattern_word template_word keys = half_with template_word keys
     (value_in Pattern (λ text. ok_of (pattern_in text)) pattern_word keys)
@@ -72,8 +73,8 @@ parts_in keys = both
     (value_in BadValue relation_in (codes "h-relation") keys))
     (half_in (codes "p-regex") (codes "p-expand") keys)
 
--- the hyper-relation of a block; its keys must be present unless the key locator also has another
--- form
+-- the hyper-relation of a block; all its keys must be present, unless the key locator also has
+-- another form
 unfoldable pub hyper_of : Bool → ℕ → List Block → Found (Option PlainHyper)
 hyper_of needed line keys = beside (after None (walk_faults blocks.Hyper keys))
     (beside (missing_unless (not needed || is_whole keys) line)

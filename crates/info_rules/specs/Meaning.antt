@@ -36,7 +36,7 @@ HasOnly words keys = AllByRecursion (λ key. IsOneOf words key.0.key) keys
 abbrev pub Lacks : List ℕ → List Block → Type 0
 Lacks word keys = named word keys ≡ []
 
--- exactly one key is `word`, and it has this value and no block
+-- exactly one key is `word`; this key has this value and no block
 abbrev pub HasValue : List ℕ → List Block → List ℕ → Type 0
 HasValue word keys text =
     (key : Block) × (named word keys ≡ key ∷ []) × (key.0.value ≡ Some text)
@@ -50,11 +50,11 @@ Has IsText word keys x = (text : List ℕ) × HasValue word keys text × IsText 
 abbrev pub OpensBlock : Block → Type 0
 OpensBlock key = (key.0.has_block ≡ true) × (key.0.value ≡ None)
 
--- exactly one key is `word`, and its meaning is `x`
+-- exactly one key is `word`, and the meaning of this key is `x`
 abbrev pub HasBlock : {A : Type 0} → (Block → A → Type 0) → List ℕ → List Block → A → Type 0
 HasBlock Means word keys x = (key : Block) × (named word keys ≡ key ∷ []) × Means key x
 
--- the keys mean the values of the list, in the same order
+-- the meanings of the keys are the values in the list, in the same order
 abbrev pub Mean : {A : Type 0} → (Block → A → Type 0) → List Block → List A → Type 0
 Mean Means [] [] = ⊤
 Mean Means [] (x ∷ xs) = ⊥
@@ -123,7 +123,7 @@ AsksOfKey keys locators.Hierarchical = ⊥
 abbrev pub IsLocator : Block → LocatorTest → Type 0
 IsLocator key test = OpensBlock key × AsksOfKey (blocks_of 3 key.1) test
 
--- the checker accepts HMAC with SHA-256: it says so or gives no signature type
+-- the checker accepts HMAC with SHA-256: its signature type is `hmac-sha256` or absent
 abbrev pub TakesHmac : List Block → Type 0
 TakesHmac keys = Lacks (codes "sig-type") keys
     ⊎ HasValue (codes "sig-type") keys (codes "hmac-sha256")
@@ -135,8 +135,8 @@ abbrev pub TakesAsymmetric : List Block → Type 0
 TakesAsymmetric keys = HasValue (codes "sig-type") keys (codes "rsa-sha256")
     ⊎ HasValue (codes "sig-type") keys (codes "ecdsa-sha256")
 
--- a checker of `type customized`: its key locator states which keys may make the HMAC; a digest has
--- no key, so a checker of digests needs no locator and ignores one that is given
+-- A checker of `type customized`. Its key locator states the requirement on the key's name. A
+-- digest has no key, so a checker of digests needs no key locator, and ignores one.
 abbrev pub AsksAsTold : List Block → Checker → Type 0
 AsksAsTold keys (checkers.HmacSha256 test) =
     TakesHmac keys × HasBlock IsLocator (codes "key-locator") keys test

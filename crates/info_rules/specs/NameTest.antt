@@ -47,13 +47,13 @@ abbrev pub is_other : Option Form → Form → Bool
 is_other None form = true
 is_other (Some other) form = not (is_form other form)
 
--- the form and the line of a key that belongs to a form other than `other`
+-- the form and the line of a key, if the key belongs to a form, and this form is not `other`
 abbrev pub other_form_of : Tested → Option Form → Block → Option (Form × ℕ)
 other_form_of tested other key =
     on_option (λ form. if is_other other form then Some (form, key.0.line) else None) None
     (form_of tested key)
 
--- the form and the line of the first key that belongs to a form other than `other`
+-- the form and the line of the first key that belongs to a form, where this form is not `other`
 abbrev pub first_other : Tested → Option Form → List Block → Option (Form × ℕ)
 first_other tested other keys = first_of (filter_map (other_form_of tested other) keys)
 
@@ -64,7 +64,8 @@ half_fault line keys forms.Related =
 half_fault line keys forms.Matching = None
 half_fault line keys forms.Hyper = None
 
--- the fault of the first key of a second form; without such a key, the fault of what the form lacks
+-- the fault of the first key of a second form; if there is no such key, the fault of a key that the
+-- form needs and that is absent
 abbrev pub second_fault : Tested → ℕ → List Block → Form → Option RulesFault
 second_fault tested line keys form =
     on_option (λ second. Some (record { line = second.1; kind = BadValue }))

@@ -29,7 +29,7 @@ same_id_faults id key =
     (λ text. if bytes_eq text id then fault_at TwiceNamed later ∷ [] else []) []
     (value_of later)) [] (id_key key)
 
--- the faults of the later rules whose id is the id of the rule `key`
+-- the faults of the later rules that have the same id as the rule `key`
 unfoldable pub repeated_faults : Block → List Block → List RulesFault
 repeated_faults key later =
     on_option (λ id. flat_map (same_id_faults id) later) [] (id_key key >>= value_of)
@@ -45,7 +45,7 @@ shared_faults keys = if nat_lt 256 (length (named (codes "rule") keys)) then [] 
 
 -- ---- the file
 
--- the rules that the keys give, one for each `rule`
+-- the rules of the keys, one for each `rule`
 unfoldable pub rules_of_keys : List Block → Found (List PlainRule)
 rules_of_keys keys = beside (after None (walk_faults File keys ++ shared_faults keys))
     (beside (result_err (each anchor_in (named (codes "trust-anchor") keys)))

@@ -48,7 +48,7 @@ pub record PlainSigned : Type 0 where
   pub signature : PlainSignature
   pub covered : List ℕ
 
--- the packet is signed in a valid shape, and the checkers see it as `signed`
+-- the packet is signed and has a valid shape, and `signed` is what the checkers see of it
 pub record IsSigned (packet : SeenPacket) (signed : PlainSigned) : Type 0 where
   pub first : List ℕ
   pub second : List ℕ

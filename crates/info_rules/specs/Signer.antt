@@ -1,22 +1,22 @@
--- The signer that a packet names.
+-- The signer of a packet, as its signature states.
 use Rattle.std.specs.Prelude.{◌≡◌, ◌⊎◌, ℕ, List, Some, IsSome}
 use Rattle.ndn_tlv.specs.Element.{Field}
 use Rattle.hmac_keys.specs.KeyFile.{NamedKey, IsAmong}
 use Rattle.ndn_packets.specs.Packet.{KeyName, PlainSignature, PlainFrame, AnInterest, AData, ANack, Idle}
 
--- the KeyLocator names a key of the book
+-- the KeyLocator has the name of a key of the book
 abbrev pub NamesKey : List NamedKey → PlainSignature → Type 0
 NamesKey keys signature =
     (name : List Field) × (key : List ℕ) × (signature.info.locator ≡ KeyName name)
     × IsAmong (name, key) keys
 
--- the signature type is DigestSha256, which anybody can make, or HmacWithSha256 with a key of the
--- book that the KeyLocator names (NDN Packet Format 0.3, "Signature")
+-- the signature type is DigestSha256, which anybody can compute, or it is HmacWithSha256 and the
+-- KeyLocator has the name of a key of the book (NDN Packet Format 0.3, "Signature")
 abbrev pub NamesSigner : List NamedKey → PlainSignature → Type 0
 NamesSigner keys signature =
     (signature.info.kind ≡ 0) ⊎ ((signature.info.kind ≡ 4) × NamesKey keys signature)
 
--- the packet names its signer, and an Interest also has a SignatureTime
+-- the signature of the packet states its signer, and an Interest also has a SignatureTime
 abbrev pub NamesItsSigner : List NamedKey → PlainFrame → Type 0
 NamesItsSigner keys (AnInterest whole i) =
     (signature : PlainSignature) × (i.signature ≡ Some signature) × IsSome signature.info.time

@@ -31,7 +31,7 @@ tokens_of (Leaf head others) = head_tokens head ++ tokens_of others
 tokens_of (Branch head opened block closed others) =
     head_tokens head ++ (opened, Open) ∷ (tokens_of block ++ (closed, Close) ∷ tokens_of others)
 
--- the first of the entries is on another line
+-- the first of the entries is not on this line
 abbrev pub BeginsOff : ℕ → Nodes → Type 0
 BeginsOff line NoNode = ⊤
 BeginsOff line (Leaf head others) = head.line ≢ line

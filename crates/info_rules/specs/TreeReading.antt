@@ -23,7 +23,7 @@ pub record PlainDraft : Type 0 where
   pub depth : ℕ
   -- the line of the last brace that closed a block, if no block was opened after it
   pub closed : Option ℕ
-  -- the line of a brace that opened a block inside eight others
+  -- the line of the brace that opened a block inside eight others, if there is such a block
   pub deep : Option ℕ
 
 abbrev pub begun : PlainDraft
@@ -101,7 +101,8 @@ with_fitting draft line Open = with_open draft line draft.pending
 with_fitting draft line Close = with_close draft line
 with_fitting draft line Broken = Err (syntax line)
 
--- the fault of a block that was too deep, if that block is on a line before `line`
+-- the fault of the block that is inside eight others, if there is one and it is on a line before
+-- `line`
 abbrev pub deep_before : Option ℕ → ℕ → Option RulesFault
 deep_before None line = None
 deep_before (Some deep) line = if deep == line then None else Some (too_deep deep)
@@ -139,6 +140,6 @@ unfoldable pub tree_in : List ℕ → Result (List PlainEntry) RulesFault
 tree_in text = if nat_lt 65536 (length text) then Err (record { line = 0; kind = TooLarge })
     else entries_in text
 
--- `fault` is the fault in `read`, or `Memory`, whose cause is not in the text
+-- `fault` is the fault that `read` returns, or `Memory`, which may occur for any text
 abbrev pub IsTreeFaultOf : {A : Type 0} → Result A RulesFault → RulesFault → Type 0
 IsTreeFaultOf read fault = (read ≡ Err fault) ⊎ (fault ≡ memory_fault)

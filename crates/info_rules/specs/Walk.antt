@@ -1,5 +1,6 @@
 -- The faults of the keys of a block, according to the table: keys that are not in the table, and
--- keys that are given too many times. The first key of each word is checked when its value is read.
+-- keys that are given too many times. The value of the first key with each word is checked when it
+-- is read.
 use Rattle.std.specs.Prelude.{List, [], ◌∷◌, ◌++◌, false, if◌then◌else◌}
 use Rattle.std.specs.List.{flat_map, list_any}
 use Rattle.info_rules.specs.declared.fault.RulesFault.{RulesFault}
@@ -24,7 +25,7 @@ again_kind Inner key = TwiceNamed
 abbrev pub again_faults : Takes → Block → List RulesFault
 again_faults takes key = fault_at (again_kind takes key) key ∷ []
 
--- the faults of the keys of one word that are given too many times
+-- the faults of the keys with one word that are given too many times
 unfoldable pub times_faults : List Block → PlainForm → List RulesFault
 times_faults keys form = by_times form.times
   where

@@ -20,7 +20,7 @@ is_alone sign [] = false
 is_alone sign (o ∷ []) = o == sign
 is_alone sign (o ∷ (other ∷ word)) = false
 
--- the token that an unquoted word stands for
+-- the token of an unquoted word: a brace or a word
 unfoldable pub word_token : List ℕ → Token
 word_token word =
     if is_alone 123 word then Open else (if is_alone 125 word then Close else Word word)
@@ -31,7 +31,7 @@ pub data Mode : Type 0 where
   InComment : Mode
   -- inside a word, after these octets
   InWord : List ℕ → Mode
-  -- inside a quoted text, after these octets; the flag tells whether the last octet is a backslash
+  -- inside a quoted text, after these octets; the Boolean is true if the last octet is a backslash
   InQuotes : Bool → List ℕ → Mode
 
 -- the state after an octet that does not belong to an earlier word
@@ -43,7 +43,7 @@ begun_by o = if o == 34 then InQuotes false []
 unfoldable pub is_closing : Bool → ℕ → Bool
 is_closing escaped o = (o == 34) && not escaped
 
--- the token that the octet ends, if any
+-- the token that ends before or with this octet, if any
 abbrev pub ended_by : Mode → ℕ → Option Token
 ended_by Between o = None
 ended_by InComment o = None
@@ -59,7 +59,7 @@ mode_after (InQuotes escaped inner) o =
     if o == 10 then Between
     else (if is_closing escaped o then Between else InQuotes (o == 92) (inner ++ o ∷ []))
 
--- the token that the end of the text ends, if any
+-- the token that ends at the end of the text, if any
 abbrev pub ended_at_end : Mode → Option Token
 ended_at_end Between = None
 ended_at_end InComment = None
@@ -87,7 +87,7 @@ quoted_len escaped (o ∷ text) =
     else (if is_closing escaped o then Some 0
     else option_map (λ len. len + 1) (quoted_len (o == 92) text))
 
--- the text from the end of its first line on
+-- the text from the end of its first line to the end of the text
 unfoldable pub from_line_end : List ℕ → List ℕ
 from_line_end [] = []
 from_line_end (o ∷ text) = if o == 10 then o ∷ text else from_line_end text

@@ -10,7 +10,7 @@ use crate::table::Block;
 use crate::walk::walk;
 use std::alloc::Global;
 
-/// A reader of trust anchors, which add nothing to the rules.
+/// A reader of `trust-anchor` blocks, which add nothing to the rules.
 pub struct AnchorReader;
 
 impl BlockReader for AnchorReader {

@@ -1,4 +1,4 @@
-//! Reads the blocks of all keys that are one word.
+//! Reads the blocks of all keys that have the same word.
 
 ghost use Rattle.std.specs.Prelude.{◌≡◌, ℕ, List, IfOk};
 ghost use Rattle.info_rules.specs.Tree.{Block};
@@ -11,7 +11,7 @@ use crate::found::{Read, beside, with_one};
 use crate::keys::{Key, Keys};
 use std::alloc::Global;
 
-/// A reader for the keys in one kind of block.
+/// A reader for the keys of one kind of block.
 pub trait BlockReader {
     /// The result of reading a block of this kind.
     type Part: Drop;
@@ -23,7 +23,7 @@ pub trait BlockReader {
 
     ghost part_of: { Self → ℕ → List Block → Found Self.Part };
 
-    /// Reads the `keys` of a block. `line` is the line of the key that owns the block.
+    /// Reads the `keys` of a block. `line` is the line of the key that has the block.
     fn read(&self, alloc: Global, line: u32, keys: Keys<'_>) -> Read<Self::Part>
         ensures { IfOk result (λ found. found ≡ part_of self.now line (keys_of keys.entry)) };
 }

@@ -18,10 +18,10 @@ use crate::value_words::{CheckerType, SignatureType};
 use crate::walk::walk;
 use std::alloc::Global;
 
-/// The type of a checker, if the block gives one, or the fault.
+/// The type of a checker, if the block has one, or the fault.
 type FoundType = Found<Option<CheckerType>>;
 
-/// The signature type that a checker accepts, if the block gives one, or the fault.
+/// The signature type that a checker accepts, if the block has one, or the fault.
 type FoundSignature = Found<Option<SignatureType>>;
 
 fn is_hierarchical(checker_type: FoundType) -> bool
@@ -30,8 +30,8 @@ fn is_hierarchical(checker_type: FoundType) -> bool
     matches!(checker_type, Ok(Some(CheckerType::Hierarchical)))
 }
 
-/// Reads the requirement of a checker on the key's name, if the block gives one. A hierarchical
-/// checker has no key locator. If there are several `key-locator` keys, the first counts.
+/// Reads the requirement of a checker on the key's name, if the block has one. A hierarchical
+/// checker has no key locator. If there are several `key-locator` keys, only the first is read.
 #[tactic(auto, unfolding(crate::specs::LocatorBlock::locator_in))]
 fn read_test(alloc: Global, hierarchical: bool, keys: Keys<'_>) -> Read<Option<LocatorTest>>
     ensures { IfOk result (λ found. found ≡ spec.locator_of hierarchical (keys_of keys.entry)) }
@@ -56,7 +56,7 @@ fn block_of(hierarchical: bool) -> Block
     }
 }
 
-/// Returns whether the block has a key locator or needs none.
+/// Returns whether the block has a key locator or does not need one.
 fn has_locator(keys: Keys<'_>, checker_type: FoundType, signature: FoundSignature) -> bool
     ensures { result ≡ spec.has_locator (keys_of keys.entry) checker_type signature }
 {

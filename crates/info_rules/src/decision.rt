@@ -21,8 +21,9 @@ use ndn_tlv::Memory;
 use std::alloc::Global;
 use thiserror::Error;
 
-/// Why a packet is denied. If several checkers give reasons, the one that comes last in this list
-/// is reported. The printed text says what was wrong and what the signer or the operator can do.
+/// Why a packet is denied. If several checkers have different reasons, the reason that is last in
+/// this list is reported. The printed text says what was wrong and what the signer or the operator
+/// can do.
 #[derive(Clone, Copy, Debug, PartialEq, Eq, Error)]
 pub enum Reason {
     /// The Interest is not signed.
@@ -35,7 +36,7 @@ pub enum Reason {
     /// No checker accepts this signature type.
     #[error("SigType: no checker takes this type of signature; sign with the rule's sig-type")]
     SigType,
-    /// The KeyLocator does not name a key that a checker accepts, or the rule has no checker.
+    /// The KeyLocator has no name of a key that a checker accepts, or the rule has no checker.
     #[error("KeyLocator: not a key that the rule asks for; sign with one, or widen its key-locator")]
     KeyLocator,
     /// The key is not in the key book.
@@ -79,7 +80,7 @@ impl Reason {
         }
     }
 
-    /// Returns the position of the reason in the list above, counted from 1.
+    /// Returns the position of the reason in the list of reasons. The first position is 1.
     fn number(self) -> u8
         ensures { result ≡ reason_number self }
     {
@@ -119,11 +120,11 @@ impl Rules {
     }
 
     /// Decides a packet from its received octets, by the first rule that applies. The name of an
-    /// Interest is taken without a parameters digest at its end.
+    /// Interest is used without a parameters digest at its end.
     ///
-    /// Memory is needed only if a checker of that rule has a hyper-relation that expands the key's
-    /// name and the packet's name, each to at most 64 components. A template that makes a longer
-    /// name does not pass.
+    /// Memory is needed only if a checker of that rule has a hyper-relation that expands both the
+    /// key's name and the packet's name, each to at most 64 components. If a template expands to a
+    /// longer name, the packet does not pass that checker.
     pub fn decide(
         &self,
         alloc: Global,
@@ -199,8 +200,9 @@ pub fn no_packet_is_undecided()
         → ¬ ((decision : Decision) → ¬ Decides rules keys packet decision) }
 {}
 
-/// Law: an allowed packet names its signer. With DigestSha256 the signer may be anybody; with HMAC
-/// the signer owns the named key of the book. An allowed Interest also has a SignatureTime.
+/// Law: an allowed packet is signed either with DigestSha256, which anybody can compute, or with
+/// HmacWithSha256 and the key of the book whose name is in the KeyLocator. An allowed Interest also
+/// has a SignatureTime.
 pub fn allowed_packets_name_their_signer()
     ensures { (rules : List PlainRule) (keys : List NamedKey) (packet : PlainFrame) (rule : RuleNo)
         → Decides rules keys packet (Decision.Allowed rule) → NamesItsSigner keys packet }

@@ -1,7 +1,8 @@
 //! Entries of rule files.
 
 /// A key of a rule file, with its value and whether it has a block. The entries of the block follow
-/// this entry and are deeper than it. The block ends before the next entry that is not deeper.
+/// this entry and have a greater depth. The block ends before the next entry whose depth is not
+/// greater than that of this entry.
 #[derive(Debug, Drop)]
 pub struct Entry {
     /// The number of blocks around the key.

@@ -13,7 +13,7 @@ pub enum RulesFaultKind {
     /// block that is never closed.
     #[error("Syntax: unexpected word or brace, or a quote or block that is not closed")]
     Syntax,
-    /// A block inside eight others.
+    /// A block inside eight other open blocks.
     #[error("TooDeep: blocks nest more than 8 deep")]
     TooDeep,
     /// A text of more than 65,536 octets, more than 256 rules, or a rule of more than 16 filters or
@@ -26,8 +26,8 @@ pub enum RulesFaultKind {
     /// A block without a key that it needs.
     #[error("Missing: this block lacks a key that it needs")]
     Missing,
-    /// A key without the value or the block that it needs; or with a value or a block that it
-    /// cannot have; or a key that begins a second form in a block that allows one form.
+    /// A key without the value or the block that it needs; a key with a value or a block that it
+    /// cannot have; or a key of a second form in a block that allows only one form.
     #[error("BadValue: wrong or missing value or block, or a key that cannot stand with the others")]
     BadValue,
     /// A key is given twice in a block that allows it once, or two rules have the same id.
@@ -73,8 +73,8 @@ impl RulesFaultKind {
     }
 }
 
-/// Why a text is not a rule file: the line of the fault, counted from 1, and its kind. `TooLarge`
-/// and `Memory` are reported at line 0.
+/// Why a text is not a rule file: the kind of the fault and its line. The first line is 1.
+/// `TooLarge` and `Memory` are reported at line 0.
 #[derive(Clone, Copy, Debug, PartialEq, Eq, Error)]
 #[error("line {line}: {kind}")]
 pub struct RulesFault {
@@ -83,7 +83,7 @@ pub struct RulesFault {
 }
 
 impl RulesFault {
-    /// Returns the line of the fault, counted from 1, or 0 if the fault has no line.
+    /// Returns the line of the fault, or 0 if the fault has no line. The first line is 1.
     pub fn line(self) -> u32
         ensures { result ≡ self.line }
     {

@@ -47,7 +47,8 @@ ghost use Rattle.std.specs.Option.{option_map};
 ghost use Rattle.info_rules.specs.NameTest.{other_form_of, first_other};
 ghost use Rattle.info_rules.specs.Shown.{key_of, keys_of, tested_of, name_form_of, found_form_of};
 
-/// Returns the form and the line of `key`, if it belongs to a form other than `other`.
+/// Returns the form and the line of `key`, if `key` belongs to a form, and this form is not
+/// `other`.
 fn other_form_of(tested: Tested, other: Option<Form>, key: Key<'_>) -> Option<(Form, u32)>
     ensures { option_map found_form_of result
         ≡ other_form_of (tested_of tested) (option_map name_form_of other) (key_of key.entry) }
@@ -59,7 +60,8 @@ fn other_form_of(tested: Tested, other: Option<Form>, key: Key<'_>) -> Option<(F
     }
 }
 
-/// Returns the form and the line of the first key that belongs to a form other than `other`.
+/// Returns the form and the line of the first key that belongs to a form, where this form is not
+/// `other`.
 pub fn first_other(tested: Tested, other: Option<Form>, keys: Keys<'_>) -> Option<(Form, u32)>
     ensures { option_map found_form_of result
         ≡ first_other (tested_of tested) (option_map name_form_of other) (keys_of keys.entry) }

@@ -31,7 +31,7 @@ impl RulesFault {
     ghost use Rattle.info_rules.specs.Faults.{sooner};
     ghost use Rattle.info_rules.specs.Found.{sooner_of};
 
-    /// Returns whether this fault is reported rather than the other one.
+    /// Returns whether this fault is reported before the fault `other`.
     pub fn is_sooner(self, other: RulesFault) -> bool
         ensures { result ≡ sooner self other }
     {
@@ -39,7 +39,7 @@ impl RulesFault {
             || self.line == other.line && self.kind.number() < other.kind.number()
     }
 
-    /// Returns the fault that is reported if both are present.
+    /// Returns the one of two faults that is reported if both are present.
     pub fn sooner_of(self, other: RulesFault) -> RulesFault
         ensures { result ≡ sooner_of self other }
     {
@@ -69,15 +69,16 @@ pub fn beside<A: Drop>(fault: Option<RulesFault>, read: Found<A>) -> Found<A>
     }
 }
 
-/// Returns the value that was read. If it is absent, returns the fault `Missing` at `line`, the
-/// line of the key that owns the block.
+/// Returns the value that was read. If the value is absent, returns the fault `Missing` at `line`,
+/// the line of the key that has the block.
 pub fn needed<A: Drop>(line: u32, read: Found<Option<A>>) -> Found<A>
     ensures { result ≡ found.needed line read }
 {
     read?.ok_or(RulesFaultKind::Missing.at(line))
 }
 
-/// Appends one value to the values that were read, or returns the fault that is reported.
+/// Appends a value that was read to a list of values. If the value or the list is a fault, returns
+/// the fault that is reported.
 pub fn with_one<A: Drop>(parts: Found<Vec<A>>, read: Found<A>) -> Read<Vec<A>>
     ensures { IfOk result (λ all. shown (λ parts. parts.items) all
         ≡ found.and_one (shown (λ parts. parts.items) parts) read) }
@@ -91,7 +92,7 @@ pub fn with_one<A: Drop>(parts: Found<Vec<A>>, read: Found<A>) -> Read<Vec<A>>
     }
 }
 
-/// Returns the fault `Missing` at the line, unless all needed keys are present.
+/// Returns the fault `Missing` at the line, unless `there` is true: all needed keys are present.
 pub fn missing_unless(there: bool, line: u32) -> Option<RulesFault>
     ensures { result ≡ missing_unless there line }
 {

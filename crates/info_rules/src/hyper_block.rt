@@ -43,7 +43,7 @@ fn zipped<A: Drop, B: Drop>(parts: Found<(Option<A>, Option<B>)>) -> Found<Optio
     Ok(first.zip(second))
 }
 
-/// Reads a pattern and a template that uses its groups.
+/// Reads a pattern, and a template that uses the groups of this pattern.
 #[tactic(auto, unfolding(crate::specs::HyperBlock::half_in))]
 fn read_half(alloc: Global, keys: Keys<'_>, pattern_word: &str, template_word: &str) -> Read<Half>
     ensures read { IfOk result
@@ -108,7 +108,7 @@ fn read_hyper(alloc: Global, keys: Keys<'_>) -> Read<Option<HyperRelation>>
     Ok(made_of(both(both(key, relation), packet)))
 }
 
-/// A reader of hyper-relations. `needed` tells whether their keys must be present.
+/// A reader of hyper-relations. `needed` is true if all keys of the block must be present.
 #[derive(Drop)]
 pub struct HyperReader {
     pub needed: bool,

@@ -34,7 +34,7 @@ impl<'a> Key<'a> {
         self.own.value.as_deref()
     }
 
-    /// Returns the keys of this key's block. `depth` is their depth.
+    /// Returns the keys of this key's block. `depth` is the depth of the keys in that block.
     pub fn keys(self, depth: usize) -> Keys<'a>
         ensures { keys_of result ≡ blocks_of depth (key_of self.entry).1 }
     {

@@ -1,4 +1,5 @@
-//! Reads rule files for Named Data Networking and decides packets by them.
+//! Reads rule files for Named Data Networking, and decides by their rules which packets are
+//! allowed.
 #![tactic(auto)]
 
 mod anchor_block;

@@ -17,7 +17,7 @@ use ndn_names::{Component, Name, NameBuf};
 use ndn_tlv::Memory;
 use std::alloc::Global;
 
-/// The value of the component `KEY`, which follows the prefix in a key's name.
+/// The value of the component `KEY` in a key's name, which follows the prefix.
 const KEY: &[u8; 3] = b"KEY";
 
 /// The greatest number of components after `KEY` in a key's name. The least number is 1.

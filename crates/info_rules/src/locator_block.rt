@@ -25,8 +25,8 @@ fn is_hyper_alone(keys: Keys<'_>) -> bool
     first_other(Tested::KeyName, Some(Form::Hyper), keys).is_none()
 }
 
-/// Makes the requirement on a key's name from the first hyper-relation, or from `asked` if there is
-/// no hyper-relation.
+/// Makes the requirement on a key's name from the first hyper-relation, or from the name test
+/// `asked` if there is no hyper-relation.
 fn made_of(
     line: u32,
     asked: Found<Asked>,

@@ -18,11 +18,11 @@ use std::alloc::Global;
 /// A name, a relation and a pattern. Each may be absent.
 type Names = ((Option<NameBuf>, Option<Relation>), Option<Pattern>);
 
-/// The requirement on a name, if the block gives one.
+/// The requirement on a name, if the block has one.
 pub type Asked = Option<NameTest>;
 
-/// Returns the fault of the first key that belongs to a form other than `form`. Without such a key,
-/// returns the fault `Missing` if the form needs a key that is absent.
+/// Returns the fault of the first key that belongs to a form other than `form`. If there is no such
+/// key, returns the fault `Missing` if a key that `form` needs is absent.
 fn second_fault(tested: Tested, line: u32, keys: Keys<'_>, form: Form) -> Option<RulesFault>
     ensures { result
         ≡ spec.second_fault (tested_of tested) line (keys_of keys.entry) (name_form_of form) }
@@ -35,7 +35,7 @@ fn second_fault(tested: Tested, line: u32, keys: Keys<'_>, form: Form) -> Option
 }
 
 /// Returns the fault of the forms in a block, if any. The block must have exactly one form. `line`
-/// is the line of the key that owns the block.
+/// is the line of the key that has the block.
 #[tactic(auto, unfolding(crate::specs::NameTest::form_fault))]
 fn form_fault(tested: Tested, line: u32, keys: Keys<'_>) -> Option<RulesFault>
     ensures { result ≡ spec.form_fault (tested_of tested) line (keys_of keys.entry) }
@@ -75,7 +75,7 @@ fn read_names(alloc: Global, keys: Keys<'_>) -> Read<Names>
 }
 
 /// Reads the requirement on a name from the keys of a block, in one form. `line` is the line of the
-/// key that owns the block.
+/// key that has the block.
 #[tactic(auto, unfolding(crate::specs::NameTest::asked_in))]
 pub fn read_asked(alloc: Global, tested: Tested, line: u32, keys: Keys<'_>) -> Read<Asked>
     ensures { IfOk result

@@ -59,8 +59,8 @@ impl<'a> Packet<'a> {
         }
     }
 
-    /// Returns what the checkers see of the packet, or the reason that denies it without a checker.
-    /// `name` is the name that the rules see.
+    /// Returns the parts of the packet that the checkers see, or the reason why it is denied
+    /// without a checker. `name` is the name that the rules see.
     pub(crate) fn signed(self, name: Name<'a>) -> Result<Signed<'a>, Reason>
         requires { components name ≡ (seen_of self).name }
         ensures { MatchResult result (λ signed. IsSigned (seen_of self.entry) (signed_of signed))
@@ -127,8 +127,8 @@ fn signed_data<'a>(packet: &'a Data<'a>, name: Name<'a>) -> Result<Signed<'a>, R
 }
 
 /// Law: checkers can examine every Data that was read. They can also examine every signed Interest
-/// that was read, if it has a SignatureTime and its parameters digest is the last component of its
-/// name.
+/// that was read, if the Interest has a SignatureTime and its parameters digest is the last
+/// component of its name.
 pub fn read_packets_have_a_shape()
     ensures data { (text : List ℕ) (d : PlainData) (reason : Reason) → IsData text d
         → ¬ IsUnfit (seen_data text d) reason }

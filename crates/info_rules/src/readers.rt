@@ -17,8 +17,8 @@ use name_patterns::{PatternFault, Template};
 use ndn_tlv::Memory;
 use std::alloc::Global;
 
-/// Reads the value of the first key that is `word`, if there is one. An invalid value is reported
-/// as the given kind of fault.
+/// Reads the value of the first key that is `word`, if there is one. If the value is invalid,
+/// returns a fault of the kind `kind`.
 #[tactic(auto, unfolding(crate::specs::Values::value_in))]
 pub fn read_value<V: Value>(
     alloc: Global,

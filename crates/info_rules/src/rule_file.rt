@@ -55,7 +55,7 @@ fn judge_same_id(id: &str, key: Key<'_>, report: &mut Report)
     }
 }
 
-/// Adds a fault to the report for each later rule whose id is the id of the rule `key`.
+/// Adds a fault to the report for each later rule that has the same id as the rule `key`.
 #[tactic(auto, using(crate::proofs::Reports::after_first, crate::proofs::Reports::after_no, crate::proofs::Reports::after_none), unfolding(crate::specs::RuleFile::repeated_faults))]
 fn judge_repeated(key: Key<'_>, later: Keys<'_>, report: &mut Report)
     ensures { report.new
@@ -83,8 +83,8 @@ fn judge_ids(keys: Keys<'_>, report: &mut Report)
     }
 }
 
-/// Returns the fault that is reported for the keys of a file: for unknown keys, more than 256
-/// rules, and ids that two rules have.
+/// Returns the fault that is reported for the keys of a file. Faults are unknown keys, more than
+/// 256 rules, and ids that two rules have.
 #[tactic(auto, using(crate::proofs::Reports::after_append, crate::proofs::Reports::after_none))]
 fn judge_file(alloc: Global, keys: Keys<'_>) -> Result<Report, Memory>
     ensures { IfOk result (λ fault. fault ≡ after None
@@ -108,7 +108,7 @@ fn read_keys(alloc: Global, keys: Keys<'_>) -> Read<Vec<Rule>>
     Ok(beside(fault, beside(anchors.err(), rules)))
 }
 
-/// Reads the rules that the entries give.
+/// Reads the rules from the entries.
 #[tactic(auto, unfolding(crate::specs::RuleFile::rules_in))]
 fn read_file(alloc: Global, tree: &InfoTree) -> Result<Rules, RulesFault>
     ensures { MatchResult result (λ rules. rules_in tree.now ≡ Ok rules)
@@ -126,15 +126,16 @@ fn read_file(alloc: Global, tree: &InfoTree) -> Result<Rules, RulesFault>
 impl Rules {
     /// Reads the rules of a file, at most 256, in the order of the text.
     ///
-    /// Otherwise returns the fault on the least line, and among faults on one line the one of the
-    /// least kind: see `RulesFault`. `Memory` may be returned for any file.
+    /// If the file has faults, returns the fault on the least line. Of several faults on that line,
+    /// it is the one of the least kind: see `RulesFault`. `Memory` may be returned for any file.
     pub fn read(alloc: Global, tree: &InfoTree) -> Result<Rules, RulesFault>
-        // The entries mean the rules that are returned.
+        // The returned rules are the meaning of the entries.
         ensures found { IfOk result (IsRuleFile tree.now) }
-        // If the entries mean rules, those rules are returned, unless memory runs out.
+        // If the meaning of the entries is a list of rules, that list is returned, unless memory
+        // runs out.
         ensures only { (rules : List PlainRule) → IsRuleFile tree.now rules
             → MatchResult result (λ read. read ≡ rules) (λ fault. fault ≡ memory_fault) }
-        // The returned fault is the one that `rules_in` gives, or `Memory`.
+        // The returned fault is the one that `rules_in` returns, or `Memory`.
         ensures exact { MatchResult result (λ rules. rules_in tree.now ≡ Ok rules)
             (λ fault. (rules_in tree.now ≡ Err fault) ⊎ (fault ≡ memory_fault)) }
     {
@@ -142,7 +143,7 @@ impl Rules {
     }
 }
 
-/// Law: entries mean at most one list of rules, the one that `rules_in` gives.
+/// Law: the meaning of the entries is at most one list of rules, the one that `rules_in` returns.
 pub fn rule_files_have_one_reading()
     ensures exact { (entries : List PlainEntry) (rules : List PlainRule)
         → (rules_in entries ≡ Ok rules) ↔ IsRuleFile entries rules }

@@ -96,7 +96,7 @@ impl Block {
         }
     }
 
-    /// Returns whether the block allows no other keys.
+    /// Returns whether the block allows no keys except those in the table.
     pub fn is_closed(self) -> bool
         ensures { result ≡ is_closed (block_kind_of self) }
     {

@@ -15,7 +15,8 @@ const MAX_DEPTH: usize = 8;
 /// The outcome of adding a token. `Err` is the fault of a token that cannot be added.
 type Added = Result<(), RulesFault>;
 
-/// Returns the fault of a block that was too deep, if that block is on a line before `line`.
+/// Returns the fault of the block that is inside eight others, if there is one and it is on a line
+/// before `line`.
 fn deep_before(deep: Option<u32>, line: u32) -> Option<RulesFault>
     ensures { result ≡ read.deep_before deep line }
 {
@@ -36,7 +37,7 @@ pub struct Draft {
     pub depth: usize,
     /// The line of the last brace that closed a block, if no block was opened after it.
     pub closed: Option<u32>,
-    /// The line of a brace that opened a block inside eight others.
+    /// The line of the brace that opened a block inside eight others, if there is such a block.
     pub deep: Option<u32>,
 }
 

@@ -53,23 +53,25 @@ impl InfoTree {
     /// configuration format of ndn-cxx (boost's INFO format without its directives).
     ///
     /// A word ends before a space, a tab, a CR, an LF or a semicolon. `{` and `}` are braces if
-    /// they stand alone. A semicolon begins a comment up to the end of its line. A word that begins
-    /// with `"` continues to the next `"` of its line that has no backslash directly before it. In
-    /// words, quoted or not, `\\` means a backslash and `\"` a quote. An entry is a key, at most
-    /// one value on the key's line, and at most one block of entries between braces. The opening
-    /// brace may be on a later line. An entry ends with its line, or before a `}`.
+    /// they stand alone. A semicolon begins a comment that ends with its line. A word that begins
+    /// with `"` continues to the next `"` on the same line that has no backslash directly before
+    /// it. In words, quoted or not, `\\` means a backslash and `\"` a quote. An entry is a key, at
+    /// most one value on the key's line, and at most one block of entries between braces. The
+    /// opening brace may be on a later line. An entry ends with its line, or before a `}`.
     ///
-    /// Otherwise returns the fault of the first word that does not fit (`Syntax`), of a block that
-    /// is not closed (`Syntax` at the line where the text ends), or of the first block inside eight
-    /// others (`TooDeep`, or `Syntax` if a word of the same line does not fit). A text that is too
-    /// long is refused before all these checks (`TooLarge`). `Memory` may be returned for any text.
+    /// On failure, returns the first of these faults: a word that does not fit (`Syntax`), a block
+    /// that is not closed (`Syntax` at the line where the text ends), or a block inside eight
+    /// others (`TooDeep`, or `Syntax` if a word of the same line does not fit). A text of more than
+    /// 65,536 octets is refused before all these checks (`TooLarge`). `Memory` may be returned for
+    /// any text.
     pub fn read(alloc: Global, text: &str) -> Result<InfoTree, RulesFault>
         // The text spells the entries that are returned.
         ensures found { IfOk result (TreeOf text.now) }
-        // If the text spells entries, those entries are returned, unless memory runs out.
+        // If the tokens of the text spell entries, those entries are returned, unless memory runs
+        // out.
         ensures only { (entries : List PlainEntry) → TreeOf text.now entries
             → MatchResult result (λ tree. tree ≡ entries) (λ fault. fault ≡ memory_fault) }
-        // The returned fault is the one that `tree_in` gives, or `Memory`.
+        // The returned fault is the one that `tree_in` returns, or `Memory`.
         ensures exact { MatchResult result (λ tree. tree_in text.now ≡ Ok tree)
             (IsTreeFaultOf (tree_in text.now)) }
     {
@@ -77,7 +79,7 @@ impl InfoTree {
     }
 }
 
-/// Law: a text spells at most one list of entries, the one that `tree_in` gives.
+/// Law: a text spells at most one list of entries, the one that `tree_in` returns.
 pub fn trees_have_one_reading()
     ensures exact { (text : List ℕ) (entries : List PlainEntry) → (tree_in text ≡ Ok entries)
         ↔ TreeOf text entries }
@@ -91,9 +93,8 @@ pub fn outlines_keep_blocks()
         ≡ keyed depth nodes }
 {}
 
-/// Law: unless the fault is `TooLarge`, it is on a line of the text. The lines before it are the
-/// beginning of a text that spells entries. The lines up to and including it are not such a
-/// beginning.
+/// Law: unless the fault is `TooLarge`, it is on a line of the text. The lines before that line are
+/// a prefix of some text that spells entries. Together with that line, they are not such a prefix.
 pub fn faults_stand_at_their_line()
     ensures { (text : List ℕ) (fault : RulesFault) → tree_in text ≡ Err fault
         → fault.kind ≢ RulesFaultKind.TooLarge → StandsAt text fault.line }

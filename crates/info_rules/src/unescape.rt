@@ -8,7 +8,7 @@ use crate::fault::RulesFault;
 use std::alloc::Global;
 
 /// Reads one escape. `following` is the text after a backslash. Returns the text that the escape
-/// stands for, and the text after the escape. A backslash that escapes nothing stands for itself.
+/// means, and the text after the escape. A backslash that escapes nothing means itself.
 #[tactic(auto, using(crate::proofs::Escapes::escape_front, crate::proofs::Escapes::kept_backslash))]
 fn first_sign(following: &str) -> (&str, &str)
     ensures read { words.unescaped (92 ∷ following.now)

@@ -16,7 +16,7 @@ use std::alloc::Global;
 /// The greatest length of a rule's id, in octets.
 const MAX_ID_LEN: usize = 100;
 
-/// The type of a checker, which tells what it requires of the key's name.
+/// The type of a checker: its requirement on the key's name.
 #[derive(Clone, Copy)]
 pub enum CheckerType {
     /// The key meets the requirement of the checker's key locator.

@@ -41,8 +41,8 @@ fn judge_unknown(forms: &[Form], keys: Keys<'_>, report: &mut Report)
     }
 }
 
-/// Returns the fault of a repeated key: `BadValue` if its own value is wrong, otherwise
-/// `TwiceNamed`. The value of the first key of each word is checked when the block is read.
+/// Returns the fault of a repeated key: `BadValue` if the key's own value is wrong, otherwise
+/// `TwiceNamed`. The value of the first key with the same word is checked when the block is read.
 fn again_kind(alloc: Global, takes: Takes, key: Key<'_>) -> Result<RulesFaultKind, Memory>
     ensures { IfOk result (λ kind. kind ≡ again_kind (takes_of takes) (key_of key.entry)) }
 {
@@ -58,7 +58,7 @@ fn again_kind(alloc: Global, takes: Takes, key: Key<'_>) -> Result<RulesFaultKin
     }
 }
 
-/// Adds a fault to the report for each key of the word except the first.
+/// Adds a fault to the report for each key with this word except the first.
 #[tactic(auto, using(crate::proofs::Reports::after_append, crate::proofs::Reports::after_none), unfolding(crate::specs::Faults::after))]
 fn judge_second(alloc: Global, form: &Form, keys: Keys<'_>, report: &mut Report) -> Judged
     ensures { OnOk result (report.new ≡ after report.old
@@ -109,8 +109,8 @@ fn judge_all_times(alloc: Global, forms: &[Form], keys: Keys<'_>, report: &mut R
     Ok(())
 }
 
-/// Returns the fault that is reported for unknown and repeated keys of a block. The value of the
-/// first key of each word is not checked here.
+/// Returns the fault that is reported for unknown and repeated keys of a block. The values of keys
+/// that are given for the first time are not checked here.
 #[tactic(auto, using(crate::proofs::Reports::after_append, crate::proofs::Reports::after_none), unfolding(crate::specs::Walk::walk_faults))]
 pub fn walk(alloc: Global, block: Block, keys: Keys<'_>) -> Result<Report, Memory>
     ensures { IfOk result

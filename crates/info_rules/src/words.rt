@@ -17,7 +17,7 @@ pub enum Token<'a> {
     Broken,
 }
 
-/// A token, its line, and the text after it. That text begins on the same line.
+/// A token, the line of the token, and the text after the token. That text begins on the same line.
 #[derive(Clone, Copy)]
 pub struct NextToken<'a> {
     pub token: Token<'a>,
@@ -33,7 +33,7 @@ fn is_separator(octet: u8) -> bool
     matches!(octet, b' ' | b'\t' | b'\r' | b'\n' | b';')
 }
 
-/// Returns the token that an unquoted word stands for.
+/// Returns the token of an unquoted word: a brace or a word.
 #[tactic(auto, unfolding(crate::specs::Words::word_token))]
 fn word_token(word: &str) -> Token<'_>
     ensures { token_of result ≡ words.word_token word.now }
@@ -84,7 +84,7 @@ fn quoted_len(text: &[u8]) -> Option<usize>
     None
 }
 
-/// Returns the text from the end of its first line on.
+/// Returns the text from the end of its first line to the end of the text.
 fn from_line_end(text: &str) -> &str
     ensures read { result.now ≡ from_line_end text.now }
     ensures shorter { length result.now ≤ length text.now }
@@ -184,7 +184,7 @@ pub fn first_token(first_line: u32, text: &str) -> Option<NextToken<'_>>
     None
 }
 
-/// Returns the line where the text ends, counted from 1.
+/// Returns the line where the text ends. The first line is 1.
 pub fn end_line(text: &str) -> u32
     requires { length text.now < 2 ^ 31 }
     ensures { result ≡ words.end_line text.now }

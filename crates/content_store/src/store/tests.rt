@@ -26,7 +26,7 @@ fn store_from(alloc: Global, next: u64) -> Option<Store> {
     })
 }
 
-/// Returns whether a put of a Data returns `answer` and leaves `left` Data in the store.
+/// Returns whether `put` of a Data returns `answer`, after which the store has `left` Data.
 fn puts(store: &mut Store, packet: &[u8], answer: bool, left: usize) -> bool {
     match read_frame(packet) {
         Ok(Frame::Data(data)) => store.put(&data, 0) == answer && store.len() == left,
@@ -34,8 +34,8 @@ fn puts(store: &mut Store, packet: &[u8], answer: bool, left: usize) -> bool {
     }
 }
 
-/// Returns whether a store forgets everything at the first new full name after its last serial
-/// number, and not before.
+/// Returns whether a store becomes empty at the first new full name after its last serial number,
+/// and not before.
 fn begins_again(store: &mut Store) -> bool {
     puts(store, &A, true, 1)
         && puts(store, &A, true, 1)

@@ -6,7 +6,7 @@ use Rattle.info_rules.proofs.Scanning.{quote_begins, comment_begins, gap_begins,
 use Rattle.info_rules.proofs.words.first_token.Goals as goal
 use Rattle.info_rules.proofs.words.first_token.Goals.{After-as_bytes}
 
--- the octet that was tested is the first octet of the remaining text
+-- the tested octet is the first octet of the remaining text
 first_is : (c : After-as_bytes) → get_or c.as_bytes.result.now 0 0 ≡ get_or c.loop-rest.rest.now 0 0
 first_is c = ap (λ (t : List ℕ). get_or t 0 0) c.as_bytes.ensures.value
 
