@@ -1,4 +1,5 @@
--- A rising list of faces that is contained in another list is not longer.
+-- If each face of one rising list is in another rising list, the first list is at most as long as
+-- the second.
 use Rattle.std.proofs.Common.{◌≡◌, ℕ, ◌<◌, ◌≤◌, true, List, [], ◌∷◌, length, sym, subst, inl, inr, arith}
 use Rattle.std.specs.Prelude.{◌⊎◌}
 use Rattle.std.specs.List.{AllByRecursion}
@@ -11,7 +12,7 @@ use Rattle.mgmt_core.specs.Tables.{AllAreUp}
 abbrev pub AreIn : List ℕ → List ℕ → Type 0
 AreIn xs ys = AllByRecursion (λ f. has_face f ys ≡ true) xs
 
--- a face greater than the first face of a list is among the other faces
+-- a face in a list that is greater than the first face is among the other faces
 in_rest : (x y : ℕ) (ys : List ℕ) → y < x → has_face x (y ∷ ys) ≡ true → has_face x ys ≡ true
 in_rest x y ys lt h = grind (arith, h)
 
@@ -62,7 +63,8 @@ no_longer (x ∷ xs) (y ∷ ys) rx ry h =
           omega (arith, le)
     ]
 
--- if each face that has a next hop or a route is up, the table has room for a face that is up
+-- if each face that has a next hop or a route is up, a face that is up does not exceed the table's
+-- limit of faces
 pub has_room : (routes : Routes) (face : ℕ) (up : List ℕ) → length up ≤ 64 → IsRising up → has_face face up ≡ true → AllAreUp routes up → HasRoomFor routes face
 has_room routes face up small rising there all faces rises each =
     let le = no_longer faces up rises rising (are_in faces each) in

@@ -48,7 +48,7 @@ entry_up routes up all n = λ face leads. all face (n, leads)
 entries_up : (routes : Routes) (up : List ℕ) → ((n : List Field) → AreUp (entry_at routes n) up) → AllAreUp routes up
 entries_up routes up each = λ face w. each w.0 face w.1
 
--- whether a value is present after one was put or removed
+-- the presence of a value after an insertion or a removal
 module _ {X A : Type 0} where
   none_there : (o : Option X) → o ≡ None → IsSome o → A
   none_there o e some = absurd cc

@@ -69,11 +69,11 @@ module _ {X : Type 0} (entry : List ℕ → X → List ℕ) (from : ℕ) where
       ∙ written (text ++ one) es
       ∙ ap (kept_of from) (append_assoc text one (flat_map (λ (e : List Field × X). entry (octets_of e.0) e.1) es))
 
-  -- the segment of all entries is kept
+  -- the state after all entries are written, one by one, is the state for their whole text
   pub all_written : (es : List (List Field × X)) → shown_each (λ k name x. with_more k (entry name x)) (kept_of from []) es ≡ kept_of from (flat_map (λ e. entry (octets_of e.0) e.1) es)
   all_written es = written [] es
 
--- the text of all entries is written
+-- appending the entries one by one appends the text of all entries
 pub text_written : {X : Type 0} (entry : List ℕ → X → List ℕ) (text : List ℕ) (es : List (List Field × X))
     → shown_each (λ t name x. t ++ entry name x) text es ≡ text ++ flat_map (λ e. entry (octets_of e.0) e.1) es
 text_written entry text [] = sym (append-nil text)

@@ -94,7 +94,7 @@ abbrev pub is_named : List ℕ → List ℕ → Action → Bool
 is_named part verb action =
     bytes_eq part (row_of action).part && bytes_eq verb (row_of action).verb
 
--- the action that the module and the verb name
+-- the action with this module and this verb
 abbrev pub action_named : List ℕ → List ℕ → Option Action
 action_named part verb = find (is_named part verb) actions
 

@@ -31,7 +31,7 @@ pub record PlainCommand : Type 0 where
   pub strategy : Option (List Field)
   pub count : Option ℕ
 
--- the plain data of a command
+-- a command as plain data
 abbrev pub asked : Command → PlainCommand
 asked c = record {
   action = c.action;
@@ -47,7 +47,7 @@ asked c = record {
 
 -- ---- fields
 
--- the element can be read, and it is not a field that the command does not take
+-- the element can be read and, if it is a command parameter field, the command takes it
 abbrev pub fits : Row → Result Field TlvFault → Bool
 fits row (Ok e) = not (has e.0 parameter_fields && not (takes e.0 row))
 fits row (Err fault) = false
@@ -55,7 +55,7 @@ fits row (Err fault) = false
 abbrev pub number_of : List ℕ → Option ℕ
 number_of value = on_result (λ n. Some n) (λ _. None) (nni_at value)
 
--- an optional field, or None if its form is wrong
+-- the value of an optional field; the result is None if the field cannot be decoded
 abbrev pub optional_of : {X : Type 0} → (List ℕ → Option X) → Option (List ℕ) → Option (Option X)
 optional_of form None = Some None
 optional_of form (Some value) = option_map (λ x. Some x) (form value)
@@ -135,7 +135,7 @@ action_at cs = do
   if bytes_eq localhost (codes "localhost") && bytes_eq nfd (codes "nfd")
       then action_named part verb else None
 
--- the command whose parameters are one element in the fifth component
+-- the command whose parameters are the only element in the fifth component
 unfoldable pub parameters_at : Action → List Field → Option PlainCommand
 parameters_at action cs = do
   value ← generic_at cs 4

@@ -7,7 +7,7 @@ use Rattle.mgmt_core.specs.Reading.{PlainCommand}
 use Rattle.ndn_tlv.specs.Writing.{octets}
 use Rattle.mgmt_core.specs.Writing.{reply_body, reply_fields}
 
--- there is room for the reply to the command from any face
+-- the reserved memory is enough for the reply to the command, whichever face it comes from
 abbrev pub HasRoomForReply : ReplyRoom → PlainCommand → Type 0
 HasRoomForReply room c =
     (face : ℕ) → face < 2 ^ 64

@@ -75,7 +75,7 @@ route_asked c now = record {
 abbrev pub is_full : {X : Type 0} → ByName X → List Field → Bool
 is_full table name = not (map.contains_key table name) && nat_le MAX_ENTRIES (map.len table)
 
--- the table that the command enlarges has no room for the new name or route
+-- the name or route is new, and the table that the command enlarges is full
 abbrev pub is_full_for : PlainCommand → ℕ → Routes → Choices → Bool
 is_full_for c face routes choices =
     elim c.action [

@@ -27,7 +27,7 @@ pub enum Action {
 }
 
 impl Action {
-    /// Returns whether the module and the verb name this action.
+    /// Returns whether this action has this module and this verb.
     fn is_named(self, module: &[u8], verb: &[u8]) -> bool
         ensures { result ≡ is_named «module».now verb.now self }
     {
@@ -50,7 +50,7 @@ impl Action {
         }
     }
 
-    /// Returns the action that the module and the verb name.
+    /// Returns the action with this module and this verb.
     pub(crate) fn named(module: &[u8], verb: &[u8]) -> Option<Action>
         ensures { result ≡ action_named «module».now verb.now }
     {

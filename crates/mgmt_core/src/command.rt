@@ -22,7 +22,7 @@ const CHILD_INHERIT: u64 = 1;
 pub struct Command<'a> {
     /// The action of the command.
     pub action: Action,
-    /// The name whose routes, strategy or cached Data the command is about.
+    /// The name whose routes, strategy choice or cached Data the command changes.
     pub name: Name<'a>,
     /// The face of the next hop or route. 0 stands for the face that the command came from.
     pub face: u64,
@@ -45,9 +45,10 @@ impl<'a> Command<'a> {
     /// Reads the name of a command, `/localhost/nfd/MODULE/VERB/PARAMETERS`. A digest component may
     /// follow.
     ///
-    /// Otherwise returns the first status that applies, in this order: 400 if there are fewer than
-    /// four components before the digest; 501 if the command does not exist or the name does not
-    /// begin with `/localhost/nfd`; 400 if the parameters are not valid for the command.
+    /// If this is not the name of a valid command, returns the first status that applies, in this
+    /// order: 400 if there are fewer than four components before the digest; 501 if the command
+    /// does not exist or the name does not begin with `/localhost/nfd`; 400 if the parameters are
+    /// not valid for the command.
     pub fn read(name: Name<'a>) -> Result<Command<'a>, u16>
         ensures { on_result (λ c. Ok (asked c)) Err result ≡ command_at (components name.entry) }
     {

@@ -35,8 +35,9 @@ pub fn strategy_dataset(alloc: Global, strategies: &StrategyTable) -> Result<Vec
     Ok(list.into_octets())
 }
 
-/// Returns the segment with this number, counted from 0, and the number of the last segment. Each
-/// segment except the last has 4,096 octets. An empty text has one segment, which is empty.
+/// Returns segment `number` and the number of the last segment, or `None` if there is no such
+/// segment. The first segment has number 0. Each segment except the last has 4,096 octets. An empty
+/// text has one segment, which is empty.
 pub fn segment_of(text: &[u8], number: u64) -> Option<(&[u8], u64)>
     ensures { option_map (λ s. (s.0.now, s.1)) result ≡ segment_at text.now number }
 {
@@ -48,8 +49,8 @@ pub fn segment_of(text: &[u8], number: u64) -> Option<(&[u8], u64)>
     Some((&rest[..rest.len().min(SEGMENT_LEN)], last))
 }
 
-/// Returns the same as `segment_of` for the dataset of routes, without storing the whole dataset:
-/// it holds only the segment, one entry and one name in memory while it reads all names in order.
+/// Returns the same as `segment_of` for the dataset of routes, without storing the whole dataset.
+/// Reads all names in order, and stores only the segment, one entry and one name at a time.
 pub fn fib_segment(
     alloc: Global,
     fib: &Fib,

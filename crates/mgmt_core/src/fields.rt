@@ -27,7 +27,8 @@ fn is_field(kind: u32) -> bool
     }
 }
 
-/// Returns whether the octets are TLV elements and contain no field that the action does not take.
+/// Returns whether the octets are well-formed TLV elements, and the action takes all command
+/// parameter fields among them. Elements of other types are ignored.
 pub fn are_fields(octets: &[u8], action: Action) -> bool
     ensures { result ≡ list_all (fits (row_of action)) (elements_of octets.now) }
 {

@@ -17,8 +17,7 @@ pub fn commands_leave_faces_up()
         (routes_after c face now routes) routes) up }
 {}
 
-/// Law: if each face that has a next hop or a route is up, and one face closes, each face that has
-/// a next hop or a route afterwards is still up.
+/// Law: if each face that has a next hop or a route is up, this also holds after a face closes.
 pub fn closings_leave_faces_up()
     ensures { (up rest : List ℕ) (face : ℕ) (routes : Routes)
         → ((f : ℕ) → has_face f up ≡ true → f ≢ face → has_face f rest ≡ true)

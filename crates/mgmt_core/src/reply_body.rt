@@ -22,7 +22,7 @@ use std::alloc::Global;
 use std::mem;
 
 /// The greatest number of octets in the body of a reply, not counting the octets of the command's
-/// name: headers and the longest fields after the name, which are the numbers of a route.
+/// name. These are the headers and the fields after the name, which are longest for a route.
 pub const BODY_EXTRA: usize = 70;
 
 /// The greatest number of octets in a whole reply, not counting the octets of the command's name.
@@ -54,7 +54,8 @@ impl Command<'_> {
         Some(now.saturating_add(self.expires?))
     }
 
-    /// Returns the strategy that the command names.
+    /// Returns the strategy in the command's Strategy field, if the field is the name of a
+    /// strategy.
     pub(crate) fn strategy(&self) -> Option<StrategyId>
         ensures { result ≡ strategy_asked (asked self.now) }
     {
@@ -110,8 +111,8 @@ impl Command<'_> {
         put_number_field(out, ORIGIN, origin)
     }
 
-    /// Appends the other fields of the reply. If memory runs out, some of their octets may be
-    /// appended.
+    /// Appends the fields of the reply that follow the Name, the FaceId and the Origin. If memory
+    /// runs out, some of their octets may be appended.
     fn put_given(&self, out: &mut Vec<u8>) -> Result<(), Memory>
         ensures ok { OnOk result
             (out.new.items ≡ out.old.items ++ octets (given_fields (asked self.now))) }
@@ -162,8 +163,8 @@ impl ReplyRoom {
         }
     }
 
-    /// Reserves memory for the reply to a command from any face. The greatest face id gives the
-    /// longest reply.
+    /// Reserves memory for the reply to a command, whichever face it comes from. The greatest face
+    /// id gives the longest reply.
     pub fn prepare(&mut self, command: &Command<'_>) -> Result<(), Memory>
         ensures { OnOk result (HasRoomForReply self.new (asked command.now)) }
     {

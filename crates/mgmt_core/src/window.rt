@@ -36,7 +36,7 @@ impl Model for Window {
 }
 
 impl Window {
-    /// Returns an empty window for the segment with this number, counted from 0.
+    /// Returns an empty window for segment `number`. The first segment has number 0.
     fn new(alloc: Global, number: u64) -> Window
         ensures { result ≡ kept_of (start_of number) [] }
     {
@@ -106,7 +106,7 @@ impl Model for ListWriter {
 }
 
 impl ListWriter {
-    /// Returns a writer for the segment with this number, counted from 0.
+    /// Returns a writer for segment `number`. The first segment has number 0.
     pub fn new(alloc: Global, number: u64) -> ListWriter
         ensures { result ≡ kept_of (start_of number) [] }
     {

@@ -57,7 +57,7 @@ answers_alone name n d = (
 pub is_answers_alone : (name n : List Field) (d : List ℕ) (r : Bool) → IsTrue r ↔ ((name ≡ n) ⊎ (name ≡ full_name n d)) → r ≡ full_name_answers name false (full_name n d)
 is_answers_alone name n d r is = same_from_decides r (full_name_answers name false (full_name n d)) is (answers_alone name n d)
 
--- a full name answers if and only if its Data does
+-- a full name answers an Interest if and only if the Data with this name and digest does
 pub as_data : (name n : List Field) (d : List ℕ) (flag : Bool) → full_name_answers name flag (full_name n d) ≡ answers n d name flag
 as_data name n d false =
     is_answers n name d false (full_name_answers name false (full_name n d)) (
@@ -80,7 +80,7 @@ as_data name n d true =
     prefix (inr (inr (f, inl q))) = (q.0 ++ (1, d) ∷ [], ap (λ (m : List Field). full_name m d) q.1 ∙ append_assoc name q.0 ((1, d) ∷ []))
     prefix (inr (inr (f, inr q))) = q
 
--- two objects are equal if their octets and their names are equal
+-- an object is that of a Data if and only if their octets and their names are equal
 pub one_object : (f : PlainFullName) (w octets : List ℕ) (name : List Field) → f.digest ≡ sha256 w
     → (((w ≡ octets) × (name ≡ f.name)) ↔ (◌≡◌ {A = List Field × List ℕ} (all_components f, w) (full_name name (sha256 octets), octets)))
 one_object f w octets name digest = (

@@ -22,7 +22,7 @@ use Rattle.repo_core.proofs.Kept.{entries-kept}
 no_more : {X : Type 0} (test : X → Bool) (xs : List X) → length (filter test xs) ≤ length xs
 no_more test xs = let some = count_by-le-length test xs in omega (arith, length-filter test xs, some)
 
--- if an entry passes the test, removing such entries makes the list shorter
+-- if at least one element passes the test, removing the elements that pass makes the list shorter
 fewer : {X : Type 0} (test : X → Bool) (xs : List X) → list_any test xs ≡ true → length (filter (λ x. not (test x)) xs) < length xs
 fewer test [] e = absurd cc
 fewer test (x ∷ xs) e = by (test x) e (λ rest. fewer test xs rest)
@@ -51,7 +51,8 @@ one_less : (b : Bool) (n : ℕ) → cond b (n - 1) n ≤ n
 one_less true n = omega arith
 one_less false n = omega arith
 
--- an insert is pending only if there is an equal want or the repository is not full
+-- an insert is answered with status 100 only if there is an equal want or the repository is not
+-- full
 pending : (stored wanted full : Bool) → eqb (cond stored 200 (cond wanted 100 (cond full 503 100))) 100 ≡ true → (wanted ≡ true) ⊎ (full ≡ false)
 pending true wanted full e = absurd cc
 pending false true full e = inl refl

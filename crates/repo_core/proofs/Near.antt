@@ -1,4 +1,6 @@
--- Full names that answer are contiguous, directly after the name of the Interest.
+-- Only full names that are near the Interest's name (`is_near`) can answer the Interest. In sorted
+-- rows, the near full names are contiguous and come directly after the full names that are less
+-- than that name.
 use Rattle.std.proofs.Common.{◌≡◌, ◌≢◌, ℕ, suc, ◌+◌, ◌<◌, Bool, true, false, cond, List, [], ◌∷◌, ◌++◌, length, get_or, take, drop, filter, refl, sym, ap, subst, ◌∙◌, arith, inl, inr, append-nil}
 use lib.Dec.{T}
 use Rattle.std.specs.Prelude.{◌&&◌, ◌||◌, ◌==◌, nat_lt}
@@ -35,7 +37,7 @@ small_alone false (c ∷ []) e = small c.0 e
     small kind e = grind arith
 small_alone false (c ∷ (d ∷ rest)) e = absurd cc
 
--- only full names that are near the name answer
+-- a full name that answers an Interest is near the Interest's name (`is_near`)
 pub near_answers : (name : List Field) (flag : Bool) (full : List Field) → full_name_answers name flag full ≡ true → is_near name flag full ≡ true
 near_answers name flag full e =
     let b = both_true _ _ e in
@@ -49,7 +51,7 @@ split_far false name flag full e far = refl
 pub far_answers_not : (name : List Field) (flag : Bool) (full : List Field) → is_near name flag full ≡ false → full_name_answers name flag full ≡ false
 far_answers_not name flag full far = split_far (full_name_answers name flag full) name flag full refl far
 
--- a full name that is less than a name does not begin with it
+-- a full name that is less than `name` does not begin with `name`
 begins_not : (name full : List Field) → name_cmp name full ≡ Greater → begins_with name full ≡ false
 begins_not [] [] e = absurd cc
 begins_not [] (d ∷ full) e = absurd cc
@@ -95,7 +97,7 @@ all_map : {X : Type 0} (P Q : X → Type 0) → ((x : X) → P x → Q x) → (x
 all_map P Q f [] h = tt
 all_map P Q f (x ∷ xs) h = (f x h.0, all_map P Q f xs h.1)
 
--- after a row that is not near, no row answers
+-- if the row at index `stop` is not near the name, no row from `stop` on answers
 pub ended : (name : List Field) (flag : Bool) (rest : Rows) (stop : ℕ) (row : List Field × List ℕ) → IsPartitionedBy (λ o. is_near name flag o.0) rest → stop < length rest → row ≡ get_or rest stop row
     → is_near name flag row.0 ≡ false → answering name flag rest ≡ answering name flag (take stop rest)
 ended name flag rest stop row parted lt is far =
@@ -127,7 +129,7 @@ candidates_are name flag rows rest start place is =
     ∙ ap (filter test) (sym is)
     )
 
--- the first row that answers
+-- the first row that passes the test is the first element of the filtered rows
 pub first_is : (test : List Field × List ℕ → Bool) (rows : Rows) (at : ℕ) (row : List Field × List ℕ) → at < length rows → row ≡ get_or rows at row → filter test (take at rows) ≡ [] → test row ≡ true
     → filter test rows ≡ row ∷ filter test (drop (suc at) rows)
 first_is test rows at row lt is none passes =

@@ -20,7 +20,8 @@ stands [] at lt = absurd (omega arith)
 stands (x ∷ xs) zero lt = (x, refl)
 stands (x ∷ xs) (suc n) lt = stands xs n (omega arith)
 
--- a property of all elements before index `at`, or of all elements from index `at` on
+-- a property of each element at an index below `at` is a property of all elements of `take at xs`;
+-- `all_from` is the same for the elements from `at` on and `drop at xs`
 pub all_before : {X : Type 0} (P : X → Type 0) (xs : List X) (at : ℕ) → ((k : ℕ) (d : X) → k < at → k < length xs → P (get_or xs k d)) → AllByRecursion P (take at xs)
 all_before P [] zero h = tt
 all_before P [] (suc n) h = tt
@@ -62,7 +63,7 @@ module _ {K X : Type 0} {R : K → K → Ordering} (total : IsTotalOrder R) wher
   rises (e ∷ es) zero (suc j) d h lt within = below_at e.0 es j d (first_of _ _ h) (omega arith)
   rises (e ∷ es) (suc i) (suc j) d h lt within = rises es i j d (second_of _ _ h) (omega arith) (omega arith)
 
-  -- the rows less than a key come first
+  -- in sorted rows, the rows with keys less than `k` come first
   pub below_parted : (k : K) (es : List (K × X)) → T (is_sorted R es) → IsPartitionedBy (λ row. is_lt (R row.0 k)) es
   below_parted k es h i j d le within below =
       elim (cases_lt i j) [
@@ -92,7 +93,8 @@ module _ {K X : Type 0} {R : K → K → Ordering} (total : IsTotalOrder R) wher
         let s = stands rows at has.0 in
         ap is_some (find_found R k rows at s.0 has.0 s.1 place.before (tied s.0 (has.1 s.0 s.1)))
 
-    -- the row at this index has another key
+    -- if the key of this row is neither less than `k` nor equal to `k`, then `k` is less than that
+    -- key
     other : (o : Ordering) (row : K × X) → R k row.0 ≡ o → o ≢ Greater → (R k row.0 ≡ Equal → ⊥) → R k row.0 ≡ Less
     other Less row e not_gt not_eq = e
     other Equal row e not_gt not_eq = absurd (not_eq e)

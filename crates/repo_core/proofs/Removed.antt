@@ -12,7 +12,7 @@ use Rattle.repo_core.proofs.Kept.{is_equal, lacks}
 use Rattle.ndn_names.proofs.Rows.{first_of, second_of}
 
 module _ {K X : Type 0} {R : K → K → Ordering} (o : IsTotalOrder R) (anti : IsAntisymmetric R) (test : K × X → Bool) where
-  -- a key with a value that passes the test, as a lookup of the key finds it
+  -- a lookup of some key finds a value, and the key with this value passes the test
   abbrev Passes : List (K × X) → Type 0
   Passes es = (k : K) × (v : X) × (find R k es ≡ Some v) × (test (k, v) ≡ true)
 

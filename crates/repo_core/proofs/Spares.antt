@@ -10,7 +10,7 @@ use Rattle.ndn_names.specs.Order.{name_cmp}
 use Rattle.ndn_names.specs.Key.{name_cmp-total}
 use Rattle.repo_core.specs.declared.want_names.Names.{Names}
 
--- spare names hold only their own name
+-- if `spare` contains copies of `name`, comparing its key with `name` gives Equal
 pub other_spare : (spare : Option Names) (k : Names) (name : List Field) → spare ≡ Some k → option_map (λ n. n.key) spare ≡ Some name → is_eq (name_cmp name k.key) ≡ false → ⊥
 other_spare spare k name h e other =
     (let one : Some k.key ≡ Some name = ap (λ o. option_map (λ n. n.key) o) h' ∙ e in let same : k.key ≡ name = cc in let tied = ap is_eq (ap (λ (n : List Field). name_cmp name n) same ∙ tied_itself name_cmp-total name) in cc)
@@ -22,7 +22,7 @@ pub no_spare : (spare : Option Names) (name : List Field) → spare ≡ None →
 no_spare None name h e = (cc)
 no_spare (Some n) name h e = (cc)
 
--- some element passes the test if the element at this index does
+-- some element passes the test if the element at index `at` passes it
 pub any_here : {X : Type 0} (test : X → Bool) (xs : List X) (at : ℕ) (x : X) → at < length xs → x ≡ get_or xs at x → test x ≡ true → list_any test xs ≡ true
 any_here test [] at x lt is passes = absurd (omega arith)
 any_here test (y ∷ xs) zero x lt is passes = ap (λ b. b || list_any test xs) (ap test (sym is) ∙ passes)
@@ -49,7 +49,8 @@ any_of_part test stays (x ∷ xs) some = by (stays x) some (λ rest. any_of_part
     by true some again = either (test x) (list_any test (filter stays xs)) (list_any test xs) again some
     by false some again = later (test x) (list_any test xs) (again some)
 
--- some element passes both tests if and only if some element of those that stay passes `test`
+-- some element passes both `stays` and `test` if and only if, of the elements that pass `stays`,
+-- some element passes `test`
 pub any_of_those : {X : Type 0} (test stays : X → Bool) (xs : List X)
     → list_any (λ x. stays x && test x) xs ≡ list_any test (filter stays xs)
 any_of_those test stays [] = refl

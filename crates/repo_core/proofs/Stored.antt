@@ -31,7 +31,7 @@ read_object octets packet read = record { packet = packet; read = read; name = r
 pub data_object : (d : Data) → IsObject (object_of d).0 (object_of d).1
 data_object d = read_object d.whole.now (plain_data d) (data_read d)
 
--- one more object, in place of the object with the same full name
+-- after an insertion of a Data under its full name, all stored objects are still Data
 pub put_objects : (objects : Objects) (full : List Field) (octets : List ℕ) → IsObject full octets → AreObjects objects → AreObjects (map.insert objects full octets)
 put_objects objects full octets is h name found e =
     by (eq_by_cmp name_cmp name full) refl (sym (get-insert name_cmp-total objects full octets name) ∙ e)
@@ -45,7 +45,7 @@ put_objects objects full octets is h name found e =
         subst (λ (o : List ℕ). IsObject name o) same (subst (λ (n : List Field). IsObject n octets) (here t) is)
     by false t e = h name found e
 
--- the entries that remain were present before
+-- an entry that remains after the removal was present before it
 left : (test : List Field × List ℕ → Bool) (name : List Field) (found : List ℕ) (o : Option (List ℕ)) → if_kept test name o ≡ Some found → o ≡ Some found
 left test name found None e = e
 left test name found (Some x) e = by (test (name, x)) e

@@ -16,7 +16,7 @@ use Rattle.ndn_tlv.specs.Options.{◌>>=◌}
 use Rattle.repo_core.specs.Reading.{value_after, value_of, verb_at}
 use Rattle.repo_core.proofs.Kept.{is_equal}
 
--- the word of a verb names this verb and no other
+-- a lookup of a verb's word finds this verb
 named : (verb : Verb) → verb_named (verb_row verb).word ≡ Some verb
 named Insert = refl
 named Delete = refl
@@ -40,7 +40,7 @@ component_same a b e = component_cmp-antisymmetric a b (is_equal (component_cmp 
 same_component : (a b : Field) → a ≡ b → eq_by_cmp component_cmp a b ≡ true
 same_component a b e = ap (λ (c : Field). eq_by_cmp component_cmp a c) (sym e) ∙ ap is_eq (tied_itself component_cmp-total a)
 
--- the component is the verb's word
+-- a component encodes a verb if and only if it is the GenericNameComponent with the verb's word
 at_component : (verb : Verb) (c : Field) → (((value_of 8 (Some c)) >>= verb_named) ≡ Some verb) ↔ ((eq_by_cmp component_cmp (8, (verb_row verb).word) c && true) ≡ true)
 at_component verb c = (
   λ e. by (eqb c.0 8) refl e,

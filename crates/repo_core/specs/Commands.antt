@@ -8,11 +8,11 @@ use Rattle.repo_core.specs.declared.types.TheConstants.{BAD_PARAMETERS, FULL, NO
 
 -- the cases that decide the status of a reply
 pub data Case : Type 0 where
-  -- at least one stored Data answers
+  -- at least one stored Data matches the command
   Stored : Case
   -- there is a want with the command's name and CanBePrefix
   Wanted : Case
-  -- there is no room for one more want
+  -- one more want would exceed the limits
   NoPlace : Case
   Otherwise : Case
 
@@ -38,7 +38,7 @@ verb_row Check = record {
 abbrev pub verbs : List Verb
 verbs = Insert ∷ Delete ∷ Check ∷ []
 
--- the verb that is named by a word
+-- the verb with this word
 abbrev pub verb_named : List ℕ → Option Verb
 verb_named word = find (λ verb. bytes_eq word (verb_row verb).word) verbs
 

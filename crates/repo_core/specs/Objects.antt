@@ -12,7 +12,7 @@ use Rattle.ndn_packets.specs.Grammar.{IsData}
 use Rattle.ndn_packets.specs.Packet.{PlainData}
 use Rattle.ndn_packets.specs.declared.data.Data.{Data}
 
--- the octets of Data by full name, in canonical order
+-- a map from full names, in canonical order, to the octets of Data
 abbrev pub Objects : Type 0
 Objects = FinMap name_cmp (List ℕ)
 
@@ -36,30 +36,30 @@ unfoldable pub kept : {K X : Type 0} {R : K → K → Ordering} → (K × X → 
     → FinMap R X
 kept test m = from_sorted (filter test (entries m))
 
--- what remains of a key's entry when the entries that fail the test are removed
+-- the value of a key after the entries that fail the test are removed
 abbrev pub if_kept : {K X : Type 0} → (K × X → Bool) → K → Option X → Option X
 if_kept test key None = None
 if_kept test key (Some x) = if test (key, x) then Some x else None
 
--- the list is empty, or it is an implicit digest and nothing else
+-- the list is empty, or its only component has the type of an implicit digest
 abbrev pub is_digest_alone : List Field → Bool
 is_digest_alone [] = true
 is_digest_alone (c ∷ []) = c.0 == IMPLICIT_SHA256_DIGEST
 is_digest_alone (c ∷ (d ∷ cs)) = false
 
 -- The Data with this full name answers an Interest with this name: the name is a prefix of the full
--- name, and it is followed by nothing, by the digest alone or, with CanBePrefix, by anything.
+-- name and, without CanBePrefix, at most an implicit digest follows the prefix.
 abbrev pub full_name_answers : List Field → Bool → List Field → Bool
 full_name_answers name can_be_prefix full =
     begins_with name full && (can_be_prefix || is_digest_alone (drop (length name) full))
 
--- the objects that answer an Interest, in canonical order of their full names
+-- the objects that answer an Interest with this name and CanBePrefix, in the same order
 abbrev pub answering : List Field → Bool → List (List Field × List ℕ)
     → List (List Field × List ℕ)
 answering name can_be_prefix rows =
     filter (λ o. full_name_answers name can_be_prefix o.0) rows
 
--- the number of objects that answer
+-- the number of objects that answer an Interest with this name and CanBePrefix
 abbrev pub number_answering : List Field → Bool → Objects → ℕ
 number_answering name can_be_prefix objects =
     length (answering name can_be_prefix (entries objects))
@@ -72,7 +72,7 @@ first_octets (o ∷ os) = Some o.1
 abbrev pub served : List Field → Bool → Objects → Option (List ℕ)
 served name can_be_prefix objects = first_octets (answering name can_be_prefix (entries objects))
 
--- the objects without those that answer
+-- the objects that do not answer an Interest with this name and CanBePrefix
 abbrev pub without_answering : List Field → Bool → Objects → Objects
 without_answering name can_be_prefix objects =
     kept (λ o. not (full_name_answers name can_be_prefix o.0)) objects

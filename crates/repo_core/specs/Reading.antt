@@ -18,7 +18,7 @@ use Rattle.ndn_packets.specs.declared.types.TheConstants.{CAN_BE_PREFIX, INTERES
 use Rattle.repo_core.specs.declared.types.TheConstants.{DEFAULT_LIFETIME}
 use Rattle.repo_core.specs.Commands.{verb_named}
 
--- a command with its parameters; it is about the Data that answer an Interest with this name and
+-- a command with its parameters; it applies to the Data that answer an Interest with this name and
 -- CanBePrefix
 pub record RepoCommand : Type 0 where
   pub verb : Verb
@@ -45,13 +45,14 @@ can_be_read (Err fault) = false
 abbrev pub name_in : Elements → Option (List Field)
 name_in es = first_of NAME es >>= name_of
 
--- CanBePrefix is present; None if the field is not empty
+-- whether the CanBePrefix field is present, or None if its value is not empty
 abbrev pub flag_of : Option (List ℕ) → Option Bool
 flag_of None = Some false
 flag_of (Some []) = Some true
 flag_of (Some (b ∷ value)) = None
 
--- the InterestLifetime, or the default if the field is absent; None if it is not a number
+-- the InterestLifetime, or the default if the field is absent; None if the value of the field is
+-- not a NonNegativeInteger
 abbrev pub lifetime_of : Option (List ℕ) → Option ℕ
 lifetime_of None = Some DEFAULT_LIFETIME
 lifetime_of (Some value) = on_result (λ n. Some n) (λ _. None) (nni_at value)
@@ -86,7 +87,7 @@ unfoldable pub verb_at : List Field → List Field → Option Verb
 verb_at start cs =
     if begins_with start cs then (value_after start cs GENERIC 0 >>= verb_named) else None
 
--- the command that the name encodes, or None if the name has another shape
+-- the command that the name encodes, or None if the name does not encode a command
 unfoldable pub repo_command_at : List Field → List Field → Option RepoCommand
 repo_command_at start cs = do
   verb ← verb_at start cs

@@ -23,8 +23,8 @@ pub record Held : Type 0 where
 pub record RepoState : Type 0 where
   pub start : List Field
   pub held : Held
-  -- the name of the prepared insert, with either value of CanBePrefix, and the full name and the
-  -- octets of the Data whose offer is prepared
+  -- `prepared_want`: the name for which an insert is prepared, for both values of CanBePrefix.
+  -- `prepared_object`: the full name and the octets of the Data whose offer is prepared.
   pub prepared_want : Option (List Field)
   pub prepared_object : Option (List Field × List ℕ)
 
@@ -68,7 +68,8 @@ fetch_of c status =
       | _ ↦ None
     ]
 
--- the reply with this status; its count is the number of objects that answer, if the status is 200
+-- the reply with this status; if the status is 200, its count is the number of objects that match
+-- the command
 abbrev pub reply_with : Held → RepoCommand → ℕ → RepoReply
 reply_with s c status = record {
   status = status;
@@ -114,7 +115,8 @@ MakesWant s (Some c) = (c.verb ≡ Insert) × (repo_status_of s c ≡ PENDING)
 
 -- ---- Data
 
--- the state after an offer: a wanted Data is stored in place of the object with the same full name
+-- the state after an offer: a wanted Data is stored and replaces the object with the same full
+-- name, if there is one
 abbrev pub after_offer : List Field → List ℕ → List ℕ → Held → Held
 after_offer name digest octets s =
     if is_wanted name digest s.wants then record {
@@ -130,7 +132,7 @@ after_time now s = record s { wants = wants_after now s.wants }
 
 -- ---- preparations
 
--- the command is prepared, if it can create a want
+-- whether the command is an insert, the only command that can create a want
 abbrev pub is_insert : Verb → Bool
 is_insert Insert = true
 is_insert Delete = false
@@ -146,13 +148,13 @@ IsCommandPrepared s name =
     IfSome (repo_command_at s.start name)
     (λ c. is_insert c.verb ≡ true → s.prepared_want ≡ Some c.name)
 
--- the offer of this Data is prepared, if the Data is wanted
+-- if the Data is wanted, its offer is prepared
 abbrev pub IsOfferPrepared : RepoState → List Field → List ℕ → List ℕ → Type 0
 IsOfferPrepared s name digest octets =
     is_wanted name digest s.held.wants ≡ true
     → s.prepared_object ≡ Some (full_name name digest, octets)
 
--- ---- the state as the value of a model
+-- ---- encodings of the state
 
 abbrev pub octets_code : Coded (List ℕ)
 octets_code = coded_list coded_ℕ

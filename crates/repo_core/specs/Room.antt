@@ -20,7 +20,8 @@ shelf_code =
     (coded× (map.code name_code (coded_list coded_ℕ)) coded_ℕ)
     (λ s. (s.table, s.room)) (λ p. record { table = p.0; room = p.1 }) (λ _. refl)
 
--- all rows before index `at` have keys less than `key`, and the rows from `at` on do not
+-- the rows before index `at` have keys less than `key`, and the rows from `at` on have keys greater
+-- than or equal to `key`
 pub record IsPlace {K X : Type 0} (R : K → K → Ordering) (key : K) (rows : List (K × X))
     (at : ℕ) : Type 0 where
   pub within : at ≤ length rows
@@ -34,6 +35,6 @@ HasAt {K} {X} key rows at =
     (at < length rows)
     × ((row : K × X) → row ≡ slice_index_or rows at row → row.0 ≡ key)
 
--- both copies hold the same name
+-- both copies are of the same name
 abbrev pub AreAlike : Names → Type 0
 AreAlike n = n.fetched ≡ n.key

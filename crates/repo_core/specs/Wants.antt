@@ -14,11 +14,11 @@ use Rattle.ndn_packets.specs.Answers.{answers}
 use Rattle.ndn_packets.specs.Key.{bool_tie}
 use Rattle.repo_core.specs.Objects.{kept}
 
--- a name and a flag; the flag is CanBePrefix
+-- a name and the CanBePrefix flag
 abbrev pub WantKey : Type 0
 WantKey = List Field × Bool
 
--- by name in canonical order; for one name, CanBePrefix `false` comes first
+-- the order of wants: by name in canonical order, and for the same name CanBePrefix `false` first
 abbrev pub want_cmp : WantKey → WantKey → Ordering
 want_cmp = then_cmp (on (λ k. k.0) name_cmp) (on (λ k. k.1) bool_cmp)
 
@@ -37,7 +37,7 @@ want_cmp-antisymmetric x y e =
 abbrev pub want_code : Coded WantKey
 want_code = coded× name_code coded_bool
 
--- the deadlines of wants, in milliseconds since 1970
+-- a map from wants to their deadlines, in milliseconds since 1970
 abbrev pub Wants : Type 0
 Wants = FinMap want_cmp ℕ
 

@@ -14,8 +14,8 @@ use ndn_names::component_type::{GENERIC, PARAMETERS_SHA256_DIGEST};
 use ndn_packets::command_types::REPO_COMMAND_PARAMETER;
 use ndn_tlv::single_element;
 
-/// A well-formed command. It is about the Data that answer an Interest with this name and this
-/// CanBePrefix. The lifetime of a want is in milliseconds.
+/// A well-formed command. It applies to the Data that answer an Interest with this `name` and
+/// `can_be_prefix`. `lifetime` is the lifetime of a want in milliseconds.
 #[derive(Clone, Copy)]
 pub struct Asked<'a> {
     pub verb: Verb,
@@ -49,7 +49,7 @@ pub fn verb_after(start: Name<'_>, name: Name<'_>) -> Option<Verb>
 }
 
 #[tactic(auto, unfolding(crate::specs::Reading::repo_command_at))]
-/// Returns the command that the name encodes.
+/// Returns the command that the name encodes, or `None` if the name does not encode a command.
 pub fn command_in<'a>(start: Name<'_>, name: Name<'a>) -> Option<Asked<'a>>
     ensures exact { option_map plain result
         ≡ repo_command_at (components start.entry) (components name.entry) }
@@ -67,7 +67,7 @@ pub fn command_in<'a>(start: Name<'_>, name: Name<'a>) -> Option<Asked<'a>>
 }
 
 #[tactic(auto, unfolding(crate::specs::Reading::command_of))]
-/// Returns the command with these parameters.
+/// Returns the command with these parameters, or `None` if they are not well formed.
 fn command_of(verb: Verb, fields: &[u8]) -> Option<Asked<'_>>
     ensures exact { option_map plain result ≡ command_of verb (elements_of fields.now) }
     ensures short { IfSome result (λ a.

@@ -14,7 +14,7 @@ use ndn_names::Name;
 use ndn_packets::types::{CAN_BE_PREFIX, INTEREST_LIFETIME, NAME};
 use ndn_tlv::{first_element, first_field, nni_of};
 
-/// Returns whether the octets are TLV elements.
+/// Returns whether the octets are a sequence of well-formed TLV elements.
 pub fn are_elements(octets: &[u8]) -> bool
     ensures { result ≡ list_all can_be_read (elements_of octets.now) }
 {
@@ -49,8 +49,8 @@ pub fn flag_field(octets: &[u8]) -> Option<bool>
     }
 }
 
-/// Returns the InterestLifetime field, or the default if the field is absent. Returns `None` if it
-/// is not a number.
+/// Returns the InterestLifetime field, or the default if the field is absent. Returns `None` if the
+/// value of the field is not a NonNegativeInteger.
 pub fn lifetime_field(octets: &[u8]) -> Option<u64>
     ensures { result ≡ lifetime_of (first_of INTEREST_LIFETIME (elements_of octets.now)) }
 {

@@ -18,7 +18,7 @@ ghost use Rattle.repo_core.specs.Writing.{repo_response};
 
 use crate::reply::MAX_REPLY_LEN;
 
-/// Law: an object answers an Interest if and only if its Data does.
+/// Law: a Data answers an Interest if and only if its full name passes `full_name_answers`.
 pub fn full_names_answer_as_data()
     ensures { (name asked : List Field) (digest : List ℕ) (can_be_prefix : Bool)
         → full_name_answers asked can_be_prefix (full_name name digest)
@@ -80,8 +80,8 @@ pub fn objects_stay_data()
         → AreObjects s.objects → AreObjects (after_time now s).objects }
 {}
 
-/// Law: after all entries that fail a test are removed, the entry of a name or of a want is
-/// unchanged if it passes the test, and otherwise absent.
+/// Law: after all entries that fail a test are removed from a map of objects or wants, a lookup of
+/// a key finds the same entry as before if that entry passes the test, and otherwise none.
 pub fn kept_entries_by_key()
     ensures objects { (test : List Field × List ℕ → Bool) (objects : Objects) (name : List Field)
         → map.get (kept test objects) name ≡ if_kept test name (map.get objects name) }

@@ -13,8 +13,8 @@ use ndn_tlv::Memory;
 use std::alloc::Global;
 use std::marker::Model;
 
-/// A stored Data. Its model is its full name and its octets. An object is one pointer, so a list of
-/// objects can be shifted quickly.
+/// A stored Data. In contracts, it is the pair of its full name and its octets. An object is one
+/// pointer, so a list of objects can be shifted quickly.
 #[derive(Drop)]
 pub struct Object {
     stored: Box<Stored>,
@@ -119,8 +119,9 @@ impl Object {
         }
     }
 
-    /// Returns whether the full name is near the name: an object whose full name is not near cannot
-    /// answer an Interest with this name and CanBePrefix.
+    /// Returns whether `name` is a prefix of the full name and, without CanBePrefix, the next
+    /// component (if there is one) has a type less than 2. Only such objects can answer an Interest
+    /// with this name and CanBePrefix.
     pub fn is_near(&self, name: Name<'_>, can_be_prefix: bool) -> bool
         ensures { result ≡ is_near (components name.entry) can_be_prefix self.now.0 }
     {

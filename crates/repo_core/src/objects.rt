@@ -104,7 +104,7 @@ impl Objects {
         Ok(())
     }
 
-    /// Inserts an object, in place of the object with the same full name, if there is one.
+    /// Inserts an object. Replaces the object with the same full name, if there is one.
     pub fn put(&mut self, object: Object)
         requires { 0 < self.old.room }
         ensures { self.new.table ≡ map.insert self.old.table object.0 object.1 }
@@ -139,8 +139,8 @@ fn has_at(objects: &[Object], at: usize, octets: &[u8]) -> bool
     }
 }
 
-/// Returns a slice with all objects that answer an Interest with this name and CanBePrefix. Objects
-/// with full names near `name` come first.
+/// Returns a slice with all objects that answer an Interest with this name and CanBePrefix. In the
+/// slice, objects that pass `is_near` come before all other objects.
 fn candidates<'a>(objects: &'a [Object], name: Name<'_>, can_be_prefix: bool) -> &'a [Object]
     requires { T (map.is_sorted name_cmp objects.now) }
     ensures same { answering (components name.entry) can_be_prefix result.now

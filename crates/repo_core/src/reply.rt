@@ -28,7 +28,7 @@ pub struct RepoReply {
     /// The status code: 100 pending, 200 OK, 400 bad parameters, 404 not found, or 503 repository
     /// full.
     pub status: u16,
-    /// The number of stored Data that answer, if the status is 200, otherwise 0.
+    /// If the status is 200, the number of stored Data that match the command, otherwise 0.
     pub count: u64,
     /// The Interest to send, if the command is an insert and the status is 100.
     pub fetch: Option<Want>,

@@ -36,8 +36,8 @@ pub fn repo_limits_are_as_promised()
     ensures { (MAX_WANTS ≡ 64) × (MAX_HELD ≡ 65536) }
 {}
 
-/// A repository. It stores the Data that commands ask for and serves them. It holds at most 64
-/// wants, and at most 65,536 objects and wants together.
+/// A repository. It stores the Data that insert commands request, and serves them. It has at most
+/// 64 wants, and at most 65,536 objects and wants together.
 #[derive(Drop)]
 pub struct Repo {
     alloc: Global,
@@ -93,8 +93,8 @@ impl Repo {
         })
     }
 
-    /// Returns the verb of a name that begins with the repository's prefix and a verb, as the names
-    /// of commands do.
+    /// Returns the verb of a name that begins with the repository's prefix and a verb. The names of
+    /// commands begin like this.
     pub fn verb_of(&self, name: Name<'_>) -> Option<Verb>
         ensures { result ≡ verb_at self.now.start (components name.entry) }
     {
@@ -104,16 +104,18 @@ impl Repo {
     /// Applies a command. The name of a command is the prefix, the verb, the parameters and the
     /// digest of the Interest's parameters. `now` is in milliseconds since 1970.
     ///
-    /// An insert is answered 200 with the number of objects that answer, if there are any.
-    /// Otherwise it is answered 503 if there is no equal want and no room for a new want, and 100
-    /// in all other cases. With 100, the repository holds a want until its lifetime is over. A
-    /// delete removes the objects that answer and an equal want. It is answered 200 with the number
-    /// of objects if it removed anything, and 404 otherwise. A check is answered 200 with the
-    /// number of objects that answer, if there are any; otherwise 100 if there is an equal want,
-    /// and 404 if not. Any other name is answered 400.
+    /// Objects match a command if they answer an Interest with its name and CanBePrefix. A want is
+    /// equal to a command if it has the same name and CanBePrefix. An insert is answered 200 with
+    /// the number of matching objects, if there are any. Otherwise it is answered 503 if there is
+    /// no equal want and one more want would exceed the limits, and 100 in all other cases. An
+    /// insert that is answered 100 adds a want or renews the equal want; the want expires when its
+    /// lifetime is over. A delete removes the matching objects and the equal want. It is answered
+    /// 200 with the number of objects if it removed anything, and 404 otherwise. A check is
+    /// answered 200 with the number of matching objects, if there are any; otherwise 100 if there
+    /// is an equal want, and 404 if not. Any other name is answered 400.
     ///
-    /// Only an insert may return `Memory`. Then objects and wants are unchanged, but the
-    /// preparation has ended. An insert ends the preparation; other commands do not.
+    /// Only an insert can return `Memory`. It then leaves the objects and wants unchanged. Every
+    /// insert ends the preparation; other commands do not.
     pub fn command(&mut self, name: Name<'_>, now: u64) -> Result<RepoReply, Memory>
         ensures reply { IfOk result (λ r.
             r ≡ reply_to self.old.held (repo_command_at self.old.start (components name.entry))) }
@@ -147,8 +149,8 @@ impl Repo {
         }
     }
 
-    /// Offers a Data to the repository, and returns whether the Data was wanted. A wanted Data
-    /// replaces the object with the same full name or is added. All wants that it answers are
+    /// Offers a Data to the repository, and returns whether the Data was wanted. A wanted Data is
+    /// added, or replaces the object with the same full name. All wants that the Data answers are
     /// removed, and the preparation ends. `Memory` is returned only for a wanted Data; then objects
     /// and wants are unchanged, but the preparation has ended. A Data that is not wanted changes
     /// nothing.
@@ -233,7 +235,8 @@ impl Repo {
 
     /// Prepares the command with this name, including its reply. The command then cannot run out of
     /// memory. An insert, a stored Data or another preparation, even one that fails, ends the
-    /// preparation. Expiring wants and deletes do not end it. Only an insert needs memory.
+    /// preparation. Deletes and the expiry of wants do not end the preparation. Only an insert
+    /// needs memory.
     pub fn prepare_command(&mut self, name: Name<'_>) -> Result<(), Memory>
         ensures held { self.new.held ≡ self.old.held }
         ensures start { self.new.start ≡ self.old.start }
@@ -279,7 +282,7 @@ impl Repo {
         Ok(())
     }
 
-    /// Applies an insert, using the names that were prepared.
+    /// Applies an insert. Uses the prepared names `spare` if they are copies of the command's name.
     fn insert(
         &mut self,
         asked: Asked<'_>,
@@ -318,7 +321,7 @@ impl Repo {
         })
     }
 
-    /// Returns whether there is no room for one more want.
+    /// Returns whether one more want would exceed the limits.
     fn is_full(&self) -> bool
         ensures { result ≡ is_repo_full self.now.held }
     {

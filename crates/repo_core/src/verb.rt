@@ -4,16 +4,19 @@ ghost use Rattle.repo_core.specs.Commands.{verb_named};
 /// The verb of a command.
 #[derive(Clone, Copy, Debug, PartialEq, Eq)]
 pub enum Verb {
-    /// `insert`: stores the Data that answer as soon as they arrive.
+    /// `insert`: requests a Data that matches the command, and stores it when it arrives. Requests
+    /// nothing if a matching Data is stored already.
     Insert,
-    /// `delete`: removes the stored Data that answer, and an equal want.
+    /// `delete`: removes the stored Data that match the command, and the want with its name and
+    /// CanBePrefix.
     Delete,
-    /// `check`: counts the stored Data that answer, or reports an equal want.
+    /// `check`: counts the stored Data that match the command. If there are none, reports whether
+    /// there is a want with its name and CanBePrefix.
     Check,
 }
 
 impl Verb {
-    /// Returns the verb that is named by the word.
+    /// Returns the verb with this word, for example `Insert` for `insert`.
     pub(crate) fn named(word: &[u8]) -> Option<Verb>
         ensures { result ≡ verb_named word.now }
     {

@@ -21,8 +21,9 @@ type Row = ((NameBuf, bool), u64);
 /// The wants of a repository, by name and CanBePrefix.
 #[derive(Drop)]
 pub struct Wants {
-    // The wants in canonical order of their names, and for one name with CanBePrefix `false` first.
-    // The capacity for the greatest number of wants is allocated at the start.
+    // The wants in canonical order of their names. Of two wants with the same name, the one with
+    // CanBePrefix `false` comes first. The capacity for the greatest number of wants is allocated
+    // at the start.
     rows: Vec<Row>,
 }
 
@@ -89,7 +90,7 @@ impl Wants {
             .retain(|row| !order_of(row, name, can_be_prefix).is_eq());
     }
 
-    /// Returns whether the Data is wanted.
+    /// Returns whether the Data answers at least one want.
     pub fn are_filled_by(&self, packet: &Data<'_>) -> bool
         ensures { result
             ≡ is_wanted (components packet.now.name) (sha256 packet.now.whole.now) self.now }
@@ -133,7 +134,7 @@ impl Wants {
     }
 }
 
-/// Compares a want with this name and CanBePrefix.
+/// Compares the key of a want with the key that consists of this name and CanBePrefix.
 fn order_of(row: &Row, name: Name<'_>, can_be_prefix: bool) -> Ordering
     ensures { result ≡ want_cmp row.now.0 (components name.entry, can_be_prefix) }
 {
@@ -144,7 +145,7 @@ fn order_of(row: &Row, name: Name<'_>, can_be_prefix: bool) -> Ordering
         .then(row.0.1.cmp(&can_be_prefix))
 }
 
-/// Returns the index of the first want that is not less than this name and CanBePrefix.
+/// Returns the index of the first want whose key is not less than this name and CanBePrefix.
 fn place_of(rows: &[Row], name: Name<'_>, can_be_prefix: bool) -> usize
     requires { T (map.is_sorted want_cmp rows.now) }
     ensures { IsPlace want_cmp (components name.entry, can_be_prefix) rows.now result }

@@ -10,7 +10,7 @@ use Rattle.repo_core.proofs.Limits.{removed_within}
 use Rattle.repo_core.proofs.Stored.{removed_objects}
 use Rattle.repo_core.proofs.repo.Repo.delete.Goals as goal
 
--- the spare capacity does not decrease
+-- if the spare capacity does not decrease, it is still enough for a prepared object
 still_room : (old new : ℕ) (o : Option (List Field × List ℕ)) → old ≤ new → IfSome o (λ _. 0 < old) → IfSome o (λ _. 0 < new)
 still_room old new None le room = tt
 still_room old new (Some object) le room = omega (arith, le, room)
