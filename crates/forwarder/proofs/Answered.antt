@@ -55,7 +55,8 @@ unharmed old new policy pending cache = record {
   cache = subst (MayForget old.cache) (sym cache) (All-contains_itself old.cache.cached, refl);
 }
 
--- when time passes, it does not change whether a name is out of scope, and no Data becomes wanted
+-- advancing time does not change whether a name is out of scope, and a Data that was not wanted
+-- remains unwanted
 pub later_scope : (old was : NodeState) (face now : ℕ) (name : List Field) → IsLater old now was
     → is_out_of_scope was.policy face name ≡ is_out_of_scope old.policy face name
 later_scope old was face now name later = ap (λ (p : Policy). is_out_of_scope p face name) later.policy

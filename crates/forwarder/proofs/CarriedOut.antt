@@ -86,7 +86,7 @@ has_room len n limit cap none few most = omega arith
 pub at_most : (n limit cap : ℕ) → n ≤ limit → limit ≤ cap → n ≤ cap
 at_most n limit cap few most = omega arith
 
--- what is prepared for a command stays prepared when routes expire
+-- the preparation of a command remains valid when routes expire
 pub still_ready : (old new : Tables) (c : PlainCommand) → new ≡ record old { fib = new.fib } → new.fib.prepared ≡ old.fib.prepared → IsPrepared old c → IsPrepared new c
 still_ready old new c same prepared ready =
     subst (λ (t : Tables). IsPrepared t c) (sym same) (ready.0, by_action c.action ready.1)
@@ -142,7 +142,7 @@ with_tables n routes choices cache r k s =
 
 -- ---- commands to the repository
 
--- what is prepared for a command to the repository stays prepared
+-- the preparation of a command to the repository remains valid
 pub still_prepared : (old new : RepoState) (name : List Field) → new.start ≡ old.start → new.prepared_want ≡ old.prepared_want
     → IsCommandPrepared old name → IsCommandPrepared new name
 still_prepared old new name start want ready =

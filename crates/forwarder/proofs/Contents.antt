@@ -1,4 +1,4 @@
--- What can be said of octets that begin with the type of an Interest, a Data or a Nack.
+-- Properties of octets that begin with the type of an Interest, a Data or a Nack.
 use Rattle.std.proofs.Common.{◌≡◌, ℕ, zero, suc, ◌+◌, ◌-◌, ◌^◌, ◌<◌, ◌≤◌, Bool, true, false, cond, not, ltb, List, [], ◌∷◌, ◌++◌, length, take, drop, refl, sym, ap, ◌∙◌, arith, Result, Ok, Err, lit<}
 use Rattle.std.specs.Prelude.{◌==◌, ◌&&◌, ◌||◌, Option, None, Some, nat_lt, slice_set, is_some, IfSome}
 use Rattle.std.proofs.lemmas.Bool.{eqb-true, ltb-false, le-ltb, le-leb}
@@ -401,7 +401,8 @@ module _ (token packet : List ℕ) (is : IsToken token) (small : length (wrapped
       ∙ ap (λ (r : Result PlainFramed PacketFault). r >>= λ f. Ok f.frame)
       (link_is value ∙ ap (link_from no_headers_yet) parts_are ∙ ap (λ (r : Result LinkSoFar PacketFault). r >>= λ s. link_from s (Ok (80, packet) ∷ [])) (token_taken token is))
 
--- octets that are not a Nack are not a Nack when they are sent back, with a token or without one
+-- octets that are not a Nack do not become a Nack when they are sent back, with a token or without
+-- one
 pub back_is_no_nack : (token : Token) (packet : List ℕ) → IfSome token IsToken → length packet ≤ 8800 → is_nack packet ≡ false → is_nack (lp_text token None packet) ≡ false
 back_is_no_nack None packet is short other = other
 back_is_no_nack (Some token) packet is short other = ap is_nack_frame (wrapped_is token packet is (wrapped_short token packet is short)) ∙ by_element (only_element packet)

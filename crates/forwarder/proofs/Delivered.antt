@@ -45,7 +45,7 @@ never e = absurd cc
 none_found : {A : Type 0} (m : InRecords) (face : ℕ) → entries m ≡ [] → IsSome (get m face) → A
 none_found m face none some = never (sym (ap is_some (get-entries m face ∙ ap (find nat_cmp face) none)) ∙ some)
 
--- records in which a face asks are alive
+-- records with an in-record are alive
 pub asker_lives : (r : Records) (face : ℕ) → IsSome (get r.in_records face) → is_alive r ≡ true
 asker_lives r face some = by_entries (entries r.in_records) refl
   where
@@ -53,7 +53,7 @@ asker_lives r face some = by_entries (entries r.in_records) refl
     by_entries [] none = none_found r.in_records face none some
     by_entries (e ∷ es) is = lt-ltb 0 (len r.in_records) (omega (arith, len-entries r.in_records, ap (λ (l : List (ℕ × InRecord)). length l) is))
 
--- in records that are alive, some face asks
+-- records that are alive have an in-record of some face
 pub living_asker : (r : Records) → is_alive r ≡ true → (face : ℕ) × IsSome (get r.in_records face)
 living_asker r alive = by_entries (entries r.in_records) refl
   where

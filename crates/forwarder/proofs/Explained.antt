@@ -176,7 +176,7 @@ module _ (seen : Seen) (face now : ℕ) (octets whole : List ℕ) (i : PlainInte
 
 -- ---- a Data, a Nack, and all events
 
--- a property of the send to each face in `askers` is a property of all these sends
+-- if the send to each face in `askers` has a property, all sends in the list have it
 all_sent : (P : Send → Type 0) (T : ℕ × Token → Type 0) (whole : List ℕ) (askers : Askers) → All T askers
     → ((a : ℕ × Token) → IsTrue (has_face a.0 (faces_of askers)) → T a → P (sent_back a.0 a.1 whole)) → All P (sent_to askers whole)
 all_sent P T whole [] all each = All-nil P

@@ -231,7 +231,7 @@ module _ (key : PlainKey) (face : ℕ) (ask : InRecord) (Q : Type 0) where
       by_rest (inl q) = inl q
       by_rest (inr e) = by_cause (one_cause cause key face ask (in_record_of_causes earlier key face) e)
 
--- an in-record that is left when time has advanced to a moment was there before
+-- an in-record that remains when time has advanced to a moment was there before
 pub waited_before : (past : Run) (now : ℕ) (key : PlainKey) (face : ℕ) (ask : InRecord) → fin.get (records_after (Expires now) key (records_of past key)).in_records face ≡ Some ask
     → fin.get (records_of past key).in_records face ≡ Some ask
 waited_before past now key face ask e =

@@ -1,6 +1,6 @@
 -- The time of a policy is the greatest moment of the run, its rules and keys are those of the last
--- event that brought new ones, and its prefix never changes. Two moments in a row have the effect
--- of the later one.
+-- event that brought new ones, and its prefix never changes. Advancing time to two moments, one
+-- after the other, has the effect of advancing time to the later moment.
 use Rattle.std.proofs.Common.{◌≡◌, ◌⊎◌, inl, inr, ℕ, ◌+◌, ◌-◌, ◌^◌, ◌≤◌, Bool, true, false, cond, arith, List, [], ◌∷◌, ◌++◌, refl, sym, ap, subst, ◌∙◌, Result, Ok, Err}
 use Rattle.std.proofs.lemmas.Bool.Decides.{nat_tests}
 use Rattle.std.specs.Prelude.{Option, Some, None, max, min, nat_lt, if◌then◌else◌}
@@ -240,7 +240,7 @@ counted_on : (number first second both : ℕ) → first + second ≡ both
     → min (min (number + first) (2 ^ 64 - 1) + second) (2 ^ 64 - 1) ≡ min (number + both) (2 ^ 64 - 1)
 counted_on number first second both sum = omega arith
 
--- what is due at the first or the second of two moments expires, and is counted, as at the later
+-- advancing time to two moments, one after the other, is the same as advancing time to the later
 -- moment
 pub moments_in_a_row : (p : Policy) (m n : ℕ) → at_moment (at_moment p m) n ≡ at_moment p (max m n)
 moments_in_a_row p m n =

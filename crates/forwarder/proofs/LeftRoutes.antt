@@ -99,14 +99,15 @@ entry_falls now e =
     let few = len-revise (until_due now) e.registered in
     elim (is_vacant left) as (λ b. size_of (λ (x : Entry). map.len x.registered) (cond b None (Some left)) ≤ map.len e.registered) [ true ↦ omega arith | false ↦ few ]
 
--- passing time adds no routes
+-- advancing time adds no routes
 pub count-left : (now : ℕ) (routes : Routes) → route_count (left_at now routes) ≤ route_count routes
 count-left now routes =
     subst (λ es. total (λ (e : Entry). map.len e.registered) es ≤ route_count routes) (sym (entries-revise name_cmp (entry_left_at now) routes))
     (total_revised (entry_left_at now) (λ e. map.len e.registered) (entry_falls now) (map.entries routes))
 
--- each route expires once: the routes due by the moment `m` and the other routes due by the later
--- moment `n` are together all that are due by `n`
+-- each route is counted once: the number of routes that expire by the moment `m`, plus the number
+-- of remaining routes that expire by the later moment `n`, is the number of routes that expire by
+-- `n`
 pub due_twice : (m n : ℕ) (routes : Routes) → m ≤ n → due_count m routes + due_count n (left_at m routes) ≡ due_count n routes
 due_twice m n routes le =
     let twice = ap route_count (left_twice m n routes le) in

@@ -1,4 +1,4 @@
--- Lists under a filter, and the list of open faces.
+-- Filtered lists, and the list of open faces.
 use Rattle.std.proofs.Common.{◌≡◌, ℕ, suc, ◌+◌, ◌<◌, ◌≤◌, ◌⊎◌, Bool, true, false, cond, not, eqb, ltb, List, [], ◌∷◌, ◌++◌, length, Option, Some, None, refl, sym, ap, subst, ◌∙◌, arith, inl, inr}
 use Rattle.std.specs.Prelude.{filter, ◌||◌}
 use Rattle.std.specs.List.{list_any, AllByRecursion}
@@ -243,7 +243,7 @@ not_open_none f faces closed =
       | Some s ↦ λ e. absurd (false_is_not_true (sym closed ∙ is_open_some f faces s e))
     ] refl
 
--- the faces rise after a face that was not open is added
+-- the faces are in rising order after a face that was not open is added
 pub rising_with : (f : ℕ) (s : Scope) (old new : List FaceEntry) → is_open f old ≡ false → new ≡ with_face f s old → IsRising (numbers old) → IsRising (numbers new)
 rising_with f s old new closed is rising = rw is (IsRising-with_face f s old (not_open_none f old closed) rising)
 

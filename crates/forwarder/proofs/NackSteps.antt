@@ -1,5 +1,6 @@
--- How a Nack is answered: there is room for the Nacks to all faces that ask, these Nacks go out in
--- rising order of the faces, and the reason of the received Nack is recorded.
+-- How a Nack is answered. The reserved memory is enough for the Nacks to all faces with in-records,
+-- these Nacks are sent in rising order of the faces, and the reason of the received Nack is
+-- recorded.
 use Rattle.std.proofs.Common.{◌≡◌, ◌⊎◌, inl, inr, ℕ, ◌+◌, ◌<◌, ◌≤◌, Bool, true, false, cond, eqb, ltb, List, [], ◌∷◌, ◌++◌, length, drop, Option, None, Some, refl, sym, ap, subst, ◌∙◌, arith}
 use lib.Dec.{T}
 use Rattle.std.specs.Prelude.{is_some, option_and_then, map, slice_get, unwrap_or, ◌||◌}
@@ -164,8 +165,8 @@ module _ (reason : ℕ) where
         kept true o some = refl
         kept false o some = some
 
-    -- if each face that asks is in `faces`, and these rise, then these Nacks are the Nacks to all
-    -- faces that ask
+    -- if `faces` is in rising order and contains each face with an in-record, the Nacks to the
+    -- faces in `faces` are the Nacks to all faces with in-records
     pub nacks_to_all : IsRising faces → nacks_by reason (get asks) faces ≡ nacks_to asks reason
     nacks_to_all rising =
         same_nacks (get asks) (λ f. find nat_cmp f (entries asks)) faces (each faces)

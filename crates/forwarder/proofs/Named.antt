@@ -1,4 +1,4 @@
--- A denial names the rule that denies.
+-- A denial gives the rule that denies the packet.
 use Rattle.std.proofs.Common.{◌≡◌, ℕ, Bool, true, false, List, [], refl, ap, subst, Result, Ok, Err, inl, inr}
 use Rattle.std.specs.Prelude.{◌⊎◌, Option, Some, None, not, if◌then◌else◌}
 use Rattle.ndn_packets.specs.FrameReading.{frame_at, token_at}

@@ -56,7 +56,7 @@ request_guard p face i ForTables = tables_guard p face (command_at i.name)
 request_guard p face i ForRepository = refl
 request_guard p face i ForData = refl
 
--- the packet is an allowed command, and the new guard has it recorded
+-- the packet is an allowed command, and the new guard is the old one with the command recorded
 pub record Records (p : Policy) (packet : PlainFrame) (new : Table) : Type 0 where
   pub whole : List ℕ
   pub interest : PlainInterest
@@ -97,24 +97,25 @@ said_guard p face packet decided.NoRule = inl refl
 
 -- ---- the table of a replay guard
 
--- in this table, each later command of the signer of `r` is newer than `r`
+-- each command of the signer of `r` that is later than this table's record of the signer is newer
+-- than `r`
 abbrev HasSeen : Table → Recorded → Type 0
 HasSeen table r =
     (time : ℕ) (number : Option ℕ) → IsLater (map.get table r.signer) time number → (r.time < time) × NumberRises r.number number
 
--- a command that is later in a table with one more recorded command is later in the old table, and
--- newer than the added command
+-- a command that is later than the record of its signer after `r` was recorded is later than that
+-- record before, and newer than `r` if the signers are equal
 added : (table : Table) (r : Recorded) (signer : Signer) (time : ℕ) (number : Option ℕ) → IsLater (map.get (with_recorded table r) signer) time number
     → IsLater (map.get table signer) time number × IsNewer signer time number r
 added table r signer time number h =
     let got = get-insert signer_cmp-total table r.signer (raised (map.get table r.signer) r.time r.number) signer in
     (one_more (map.get table) r signer time number (eq_by_cmp signer_cmp signer r.signer) refl).0 (subst (λ (o : Option Latest). IsLater o time number) got h)
 
--- a command that the table has seen stays seen when another is recorded
+-- `HasSeen` remains true of a command when another command is recorded
 seen_stays : (table : Table) (r s : Recorded) → HasSeen table r → HasSeen (with_recorded table s) r
 seen_stays table r s h time number k = h time number (added table s r.signer time number k).0
 
--- a command that is recorded in the table is seen there
+-- `HasSeen` is true of a command after the command is recorded
 seen_now : (table : Table) (r : Recorded) → HasSeen (with_recorded table r) r
 seen_now table r time number k = (added table r r.signer time number k).1 refl
 

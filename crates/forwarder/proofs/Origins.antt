@@ -39,7 +39,7 @@ kept_fits now event answer key face r kept =
           (token_fits passed.octets (token_in event) (sym (ap token_in passed.brings)));
     }
 
--- the in-records of a run
+-- each in-record of a run fits in a link packet
 pub run_fits : (past : Run) → AllFit (records_of past)
 run_fits Start key face r is = (let none : map.get (records_of Start key).in_records face ≡ None = get-empty nat_cmp face in cc (none, is))
 run_fits (Then past event answer) key face r is =
@@ -48,7 +48,7 @@ run_fits (Then past event answer) key face r is =
       | inr was ↦ run_fits past key face r was
     ]
 
--- the in-records that are still pending when time has advanced to a moment
+-- each in-record that is still pending when time has advanced to a moment fits in a link packet
 pub waiting_fits : (past : Run) (now : ℕ) (waiting : Pending) → IsWaiting past now waiting → AllFit (records_at waiting)
 waiting_fits past now waiting is key face r has =
     run_fits past key face r (waited_before past now key face r (sym (ap (λ (rs : Records). map.get rs.in_records face) (is.records key)) ∙ has))

@@ -126,7 +126,7 @@ pub ok_done : {E P : Type 0} (r : Result (Unit {0}) E) → is_ok r ≡ true → 
 ok_done (Ok u) e p = p
 ok_done (Err e) h p = cc h
 
--- if the packet was written, nothing refused it
+-- if the packet was written, there was no refusal
 pub no_refusal : (P : Type 0) {E : Type 0} (refusal : Option E) (r : Result (Unit {0}) E) → is_ok r ≡ true → MatchOption refusal P (λ fault. r ≡ Err fault) → refusal ≡ None
 no_refusal P None r done h = refl
 no_refusal P (Some fault) (Ok u) done h = cc h

@@ -50,7 +50,7 @@ valued : (routes : Routes) (n name : List Field) (o : Option Entry) → map.get 
 valued routes n name None = get-remove name_cmp-total routes n name
 valued routes n name (Some e) = get-insert name_cmp-total routes n e name
 
--- what is read off the entry of a name, after the entry of `n` was set to `e`
+-- the value of `read` for the entry of a name, after the entry of `n` was set to `e`
 module _ {V : Type 0} (read : Entry → V) (routes : Routes) (n : List Field) (e : Entry) (name : List Field) where
   by_name : (b : Bool) (o : Option Entry) → unwrap_or o no_entry ≡ e → read (unwrap_or (cond b o (map.get routes name)) no_entry) ≡ cond b (read e) (read (entry_at routes name))
   by_name true o is = ap read is
@@ -74,7 +74,8 @@ module _ {V : Type 0} (read : Entry → V) (routes : Routes) (n : List Field) (e
       by true t = here ∙ ap (λ (m : List Field). cond b y (read (entry_at routes m))) (sym (same_name name n t))
       by false t = refl
 
-  -- if the new entry `e` reads as `y` or as before, so do the changed routes
+  -- if `read` gives `y` or the old value for the new entry `e`, it gives the same for the changed
+  -- routes
   pub changed_with : (b : Bool) (y : V) → read e ≡ cond b y (read (entry_at routes n))
       → read (entry_at (map.insert routes n e) name) ≡ cond (eq_by_cmp name_cmp name n && b) y (read (entry_at routes name))
   changed_with b y = changed_there (read (entry_at (map.insert routes n e) name)) b y read_with
@@ -87,7 +88,8 @@ module _ {V : Type 0} (read : Entry → V) (routes : Routes) (n : List Field) (e
   either_way true x = refl
   either_way false x = refl
 
-  -- if the new entry `e` reads as the old entry, the changed routes read as before
+  -- if `read` gives the same value for the new entry `e` as for the old entry, its values for the
+  -- changed routes are the old values
   pub unread_with : read e ≡ read (entry_at routes n) → read (entry_at (map.insert routes n e) name) ≡ read (entry_at routes name)
   unread_with same = changed_with false (read (entry_at routes name)) same ∙ either_way (eq_by_cmp name_cmp name n) (read (entry_at routes name))
 

@@ -1,5 +1,5 @@
--- How one event changes what is read off the routes, such as a next hop or a registered route: only
--- commands of status 200 and faces that close change it.
+-- How one event changes a value that the routes determine, such as a next hop or a registered
+-- route: only commands with status 200 and faces that close change the value.
 use Rattle.std.proofs.Common.{◌≡◌, ℕ, Bool, true, false, cond, List, refl, sym, ap, ◌∙◌, Result, Ok, Err}
 use Rattle.std.specs.Prelude.{[], Option, Some, None, not, ◌==◌}
 use Rattle.hmac_keys.specs.KeyFile.{AreApart}
@@ -33,8 +33,8 @@ use Rattle.forwarder.proofs.Requests.{by_request, no_command}
 use Rattle.forwarder.proofs.RunSteps.{seen_with}
 use Rattle.forwarder.proofs.Uses.{dropped_outcome}
 
--- what is read off the routes after an outcome, if `command` and `closing` say how a command that
--- takes effect and a closing face change it
+-- the value after an outcome, where `command` gives the change by a command that takes effect, and
+-- `closing` the change by a face that closes
 abbrev pub after_by : {V : Type 0} → (Result PlainCommand ℕ → ℕ → V → V) → (ℕ → V → V) → Outcome → V → V
 after_by command closing Nothing x = x
 after_by command closing (InterestPassed from whole i) x = x
@@ -70,7 +70,7 @@ module _ {V : Type 0} (see : Routes → V) (q : Policy) (command : Result PlainC
   same true x y e = sym e
   same false x y e = refl
 
-  -- a command on the tables changes what is read if its status is 200
+  -- a command on the tables changes the value if the command's status is 200
   on_tables : (from : ℕ) (r : Result PlainCommand ℕ) → see (after_tables q from r).routes ≡ cond (tables_status q from r == OK) (command r from was) was
   on_tables from (Err status) = same (status == OK) was (command (Err status) from was) (unread status from was)
   on_tables from (Ok c) = by_status (tables_status q from (Ok c) == OK)
@@ -79,7 +79,7 @@ module _ {V : Type 0} (see : Routes → V) (q : Policy) (command : Result PlainC
       by_status true = done from c
       by_status false = refl
 
-  -- a command that takes effect changes what is read; no other Interest changes it
+  -- a command that takes effect changes the value; no other Interest changes the value
   command_read : (from : ℕ) (whole : List ℕ) (i : PlainInterest) (v : Verdict) (x : V)
       → cond (is_done v) (command (command_at i.name) from x) x ≡ after (packet_outcome from (AnInterest whole i) v) x
   command_read from whole i Passed x = refl

@@ -21,7 +21,7 @@ use Rattle.forwarder.proofs.RunSteps.{is_waiting, now_is}
 
 -- ---- lists of cached Data
 
--- a property that all Data of a list have is a property of each Data in it
+-- if all Data of a list have a property, each Data in the list has the property
 all_contained : (P : CachedData → Type 0) (cs : List CachedData) (c : CachedData) → All P cs → Contains cs c → P c
 all_contained P cs c h at = subst P at.2 (h at.0 c at.1)
 
@@ -51,7 +51,7 @@ module _ (now : ℕ) (waiting : Pending) (old new : StoreState) (K K' : CachedDa
     inserted c arrives (inl (awaited, inr f)) = all_forgotten K' old.cached new.cached (All-weaker K K' keep old.cached held) f.0
     inserted c arrives (inr (other, e)) = unchanged e
 
-  -- each Data that is left after an erase has the property `K'`
+  -- each Data that remains after an erase has the property `K'`
   erased : (name : List Field) (count : Option ℕ) (gone : ℕ) → ((c : CachedData) → K c → ¬ ((count ≡ None) × IsPrefix name (full_name_of c)) → K' c)
       → IsErased name count old.cached new.cached gone → All K' new.cached
   erased name count gone keep h = by_count h.2

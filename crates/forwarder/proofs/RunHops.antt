@@ -1,4 +1,4 @@
--- The next hops and the registered routes after a run are read off the run.
+-- The events and answers of a run determine the next hops and the registered routes after the run.
 use Rattle.std.proofs.Common.{◌≡◌, ℕ, Bool, true, false, cond, List, refl, ap, subst, ◌∙◌, Result, Ok, Err}
 use Rattle.std.specs.Prelude.{Option, Some, None, max, nat_le, option_and_then, ◌==◌, ◌&&◌}
 use Rattle.std.specs.Ordering.{eq_by_cmp}
@@ -40,8 +40,8 @@ module _ (first was p : Policy) (before : Run) (event : PlainEvent) (answer : An
       let one : reply.was ≡ was = one_policy first reply.was was before before apart (one_history before) reply.is_policy is in
       subst (λ (x : Policy). Replies (seen_after before (at_moment x (moment event)) reply.waiting) event answer) one reply.replies
 
-  -- what is read off the routes after the event, from what is read off them once time has advanced
-  -- to the event's moment
+  -- a value that the routes determine after the event, given the value once time has advanced to
+  -- the event's moment
   last_read : {V : Type 0} (see : Routes → V) (command : Result PlainCommand ℕ → ℕ → V → V) (closing : ℕ → V → V)
       → ((status from : ℕ) (x : V) → command (Err status) from x ≡ x)
       → ((from : ℕ) (c : PlainCommand) → see (routes_after c from q.now q.routes) ≡ command (Ok c) from (see q.routes))

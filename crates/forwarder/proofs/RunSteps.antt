@@ -29,7 +29,7 @@ either_map : (b : Bool) {A B C D : Type 0} → (A → C) → (B → D) → IfTru
 either_map true f g h = f h
 either_map false f g h = g h
 
--- ---- an answer that depends on less is also an answer that may depend on more
+-- ---- a valid answer remains valid if the cache may give more Data
 
 abbrev pub seen_with : Policy → (PlainKey → Records) → Bool → (PlainKey → Option (List ℕ) → Type 0) → Seen
 seen_with p records full gives = record { policy = p; records = records; is_full = full; MayGive = gives }

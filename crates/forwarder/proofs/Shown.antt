@@ -1,4 +1,4 @@
--- Lists, and what they show through a view.
+-- Lists to whose elements a function `view` is applied.
 use Rattle.std.proofs.Common.{◌≡◌, Bool, true, false, cond, List, [], ◌∷◌, map, refl, sym, ap, ◌∙◌}
 use Rattle.std.specs.Prelude.{filter, ◌||◌, ◌&&◌}
 use Rattle.std.specs.List.{list_any}
@@ -11,7 +11,8 @@ filter-map view p (x ∷ xs) =
       | false ↦ filter-map view p xs
     ]
 
--- the view of a filtered list is the filter of the view
+-- applying `view` to a list that was filtered by `view` and `p` is the same as filtering the list
+-- of views by `p`
 pub shown_filter : {A B : Type 0} (view : A → B) (p : B → Bool) (xs ys : List A) → ys ≡ filter (λ x. p (view x)) xs → map view ys ≡ filter p (map view xs)
 shown_filter view p xs ys e = ap (map view) e ∙ sym (filter-map view p xs)
 

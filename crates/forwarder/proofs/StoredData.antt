@@ -53,16 +53,17 @@ effect_stores : (p new : Policy) (face : ℕ) (packet : PlainFrame) (b : Bool) �
 effect_stores p new face packet true (said, says, is) read h = subst StoresData (sym is) (said_stores p face packet said read h)
 effect_stores p new face packet false is read h = subst StoresData (sym is) h
 
--- the objects are Data after a moment
+-- all stored objects are still Data after time has advanced
 pub later_stores : (old new : State) (now : ℕ) → IsLater (state_of old) now (state_of new) → AreObjects old.repo.held.objects → AreObjects new.repo.held.objects
 later_stores old new now later h = subst StoresData (sym later.policy) h
 
--- the objects are Data after an event whose packet rules do not decide, or that brings no packet
+-- all stored objects are still Data after an event that brings no packet, or a packet that rules do
+-- not decide
 pub undecided_stores : (old new : Policy) (event : PlainEvent) → new ≡ undecided_effect (at_moment old (moment event)) event → AreObjects old.held.objects → AreObjects new.held.objects
 undecided_stores old new event is h =
     subst (λ (s : Held). AreObjects s.objects) (sym (ap (λ (p : Policy). p.held) is ∙ undecided_stored (at_moment old (moment event)) event)) h
 
--- the objects are Data after a packet
+-- all stored objects are still Data after a packet
 pub handled_stores : (old new : State) (before after : List Send) (face : ℕ) (token : Token) (now : ℕ) (packet : PlainFrame) (r : Result code.Verdict Memory)
     → HandlesPacket old new before after face token now packet r → IsReadAsData packet → AreObjects old.repo.held.objects → AreObjects new.repo.held.objects
 handled_stores old new before after face token now packet (Ok verdict) done read h = by_answer done.handled

@@ -29,13 +29,14 @@ pub record BringsPacketOn (event : PlainEvent) (face : ℕ) (packet : PlainFrame
   pub brings : event ≡ Packet face now octets
   pub read : frame_at octets ≡ Ok packet
 
--- the node made these octets: they are the reply to the Interest `i`, which is a command, or the
--- segment of a list that `i` asks for
+-- the octets are the node's own answer to the Interest `i`: the reply to a command, or the
+-- requested segment of a list
 abbrev pub IsOwnAnswer : Policy → ℕ → List ℕ → PlainInterest → List ℕ → Type 0
 IsOwnAnswer p face asked i octets =
     IsReplyToCommand p face asked i octets ⊎ IsSegmentAskedFor p face i octets
 
--- the Data answers this Interest and came in an earlier event that allowed it, or the node made it
+-- the Data answers this Interest and came in an earlier event that allowed it, or it is the node's
+-- own answer
 abbrev pub AnswersNow : Policy → Run → Policy → ℕ → List ℕ → PlainInterest → List ℕ → PlainData
     → Type 0
 AnswersNow first past p face asked i whole d =

@@ -19,7 +19,7 @@ pub data CacheUse : Type 0 where
   Untouched : CacheUse
   -- an Interest of this key asks for Data, and the cache is looked up
   LooksUp : (key : PlainKey) → CacheUse
-  -- an allowed Data is to be cached, if some face waits for it
+  -- an allowed Data is offered to the cache, which may store it if some face waits for it
   Inserts : (c : CachedData) → CacheUse
   -- an allowed command erases the Data under a name, at most `count` of them if `count` is given
   Erases : (name : List Field) (count : Option ℕ) → CacheUse
@@ -34,9 +34,9 @@ held_from now whole d = record {
   arrival = now;
 }
 
--- How an allowed command that was answered with this status uses the cache, read off the command's
--- name: an erase of status 200 erases Data. A name under the repository's prefix is not read as an
--- erase.
+-- How an allowed command that was answered with this status uses the cache, given the command that
+-- its name encodes: an erase with status 200 erases Data. A name under the repository's prefix does
+-- not encode an erase.
 abbrev pub command_use : Result PlainCommand ℕ → ℕ → CacheUse
 command_use (Err refused) status = Untouched
 command_use (Ok c) status = elim c.action [
@@ -80,8 +80,8 @@ CacheAfter now waiting (Erases name count) old new =
     ((gone : ℕ) × IsErased name count old.cached new.cached gone)
     × (new.capacity ≡ old.capacity)
 
--- The use removes each cached Data of this full name. An erase with Count may also remove this
--- Data, but the event does not determine which Data such an erase removes.
+-- The use removes every cached Data with the full name of `c`. An erase with Count may also remove
+-- this Data, but the event does not determine which Data such an erase removes.
 abbrev pub TakesAway : CacheUse → CachedData → Type 0
 TakesAway Untouched c = ⊥
 TakesAway (LooksUp key) c = ⊥

@@ -78,8 +78,8 @@ causes_by now token sends (DataCame whole d) = Satisfied d.name (sha256 whole) �
 causes_by now token sends (NackPassed face reason i) = nack_causes face reason i sends
 causes_by now token sends (FaceClosed face) = Closed face ∷ []
 
--- the causes of an event and its answer, in order, at the moment `now`, once the records that were
--- due have expired
+-- the causes of an event and its answer, in order, at the moment `now`, after the expiry of records
+-- at that moment
 abbrev pub causes_of : ℕ → PlainEvent → Answer → List Cause
 causes_of now event answer =
     causes_by now (token_in event) answer.sends (outcome_of event answer.verdict)
@@ -89,7 +89,8 @@ abbrev pub after_causes : List Cause → PlainKey → Records → Records
 after_causes [] key r = r
 after_causes (cause ∷ causes) key r = after_causes causes key (records_after cause key r)
 
--- these causes put before the earlier ones, so that the last cause comes first
+-- a list of causes with the last one first: these causes in reverse order, followed by the earlier
+-- ones
 abbrev pub before_earlier : List Cause → List Cause → List Cause
 before_earlier [] earlier = earlier
 before_earlier (cause ∷ causes) earlier = before_earlier causes (cause ∷ earlier)

@@ -88,8 +88,9 @@ fetch_text want nonce =
           ++ (NONCE, nonce) ∷ (INTEREST_LIFETIME, shortest_nni want.lifetime) ∷ [])),
     )
 
--- whether the node's Interest cannot be written: its name is empty or has a parameters digest, or
--- the Interest is too long, which is not expected, since the command is longer than the Interest
+-- Whether the node's Interest cannot be encoded: its name is empty or has a parameters digest, or
+-- the Interest is too long. An Interest that is too long is not expected, since the command is
+-- longer than the Interest.
 abbrev pub is_unwritable : Want → List ℕ → Bool
 is_unwritable want nonce =
     is_bad_name want.name || nat_lt 8800 (length (fetch_text want nonce))
@@ -114,7 +115,7 @@ pub record Reply : Type 0 where
   pub content : List ℕ
   pub fetches : List Send
 
--- the reply to an allowed request; requests that rules do not decide have none
+-- the reply to an allowed request; a request that rules do not decide has no reply
 abbrev pub allowed_reply : Policy → ℕ → PlainInterest → Request → Reply
 allowed_reply p face i (Refused reason) = record { status = 0; content = []; fetches = [] }
 allowed_reply p face i (ForList asked) = record { status = 0; content = []; fetches = [] }
@@ -174,8 +175,8 @@ command_answer p face token i decided.NoRule = record {
   sends = replied face token i (reply_content p face i decided.NoRule) ∷ [];
 }
 
--- How a packet is answered that is denied, or to which no rule applies: a command gets a reply of
--- status 403, which names the reason and the rule, and a Data gets no answer. No other packet is
+-- How a packet that is denied, or to which no rule applies, is answered. A command gets a reply
+-- with status 403, which gives the reason and the rule. A Data gets no answer. No other packet is
 -- denied.
 abbrev pub IsDenial : Policy → ℕ → Token → PlainFrame → Decision → Answer → Type 0
 IsDenial p face token (AnInterest whole i) (decided.Allowed rule) answer = ⊥

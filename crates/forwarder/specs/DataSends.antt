@@ -108,8 +108,8 @@ abbrev pub holds_data : Result Field PacketFault → Bool
 holds_data (Err fault) = false
 holds_data (Ok e) = if e.0 == LINK_PACKET then carries_data (elements_of e.1) else (e.0 == DATA)
 
--- Whether octets that go over a link hold a Data, either bare or in a link packet: a Data that can
--- be read, or a Data that is too long to be read, such as a long reply of the node.
+-- Whether octets that go over a link are a Data or a link packet that carries a Data: a Data that
+-- can be read, or a Data that is too long to be read, such as a long reply of the node.
 abbrev pub is_data : List ℕ → Bool
 is_data octets = is_data_frame (frame_at octets) || holds_data (only_element octets)
 

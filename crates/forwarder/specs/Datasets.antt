@@ -24,7 +24,8 @@ segment_name kind version segment =
 abbrev pub LIST_FRESHNESS : ℕ
 LIST_FRESHNESS = 1000
 
--- a segment as a Data, signed with DigestSha256, whose FinalBlockId names the last segment
+-- a segment as a Data, signed with DigestSha256, whose FinalBlockId contains the number of the last
+-- segment
 abbrev pub segment_data : List Field → List ℕ → ℕ → List ℕ
 segment_data name content last =
     signed_data sign.Digest name (meta_of (meta_fields (Some LIST_FRESHNESS) (Some last)))
@@ -35,7 +36,7 @@ segment_answer face token name None = dropped NoSegment
 segment_answer face token name (Some part) =
     passed (sent_back face token (segment_data name part.0 part.1) ∷ [])
 
--- the version that is asked for is the current one, or no version is asked for
+-- the requested version is the current one, or no version is requested
 abbrev pub is_present : Policy → Option ℕ → Bool
 is_present p None = true
 is_present p (Some version) = version == p.table_number

@@ -12,7 +12,7 @@ use Rattle.replay_guard.specs.Guard.{IsFresh, signer_of}
 use Rattle.forwarder.specs.declared.freshness.Signed.{Signed}
 use Rattle.forwarder.specs.Policy.{Policy}
 
--- the key that a signature names
+-- the key name in a KeyLocator, or None if the KeyLocator contains no name
 abbrev pub key_named : PlainLocator → Signer
 key_named Missing = None
 key_named (KeyName name) = Some name
@@ -39,7 +39,7 @@ recorded_of i = elim i.signature [
 abbrev pub recorded_by : Signed → Recorded
 recorded_by s = record { signer = signer_of s.signer; time = s.time; number = s.seq }
 
--- the time of a command is near `p.now`, and the command is newer than all that was recorded of its
+-- the time of a command is near `p.now`, and the command is newer than all recorded commands of its
 -- signer
 abbrev pub IsFreshCommand : Policy → PlainInterest → Type 0
 IsFreshCommand p i =
@@ -52,8 +52,8 @@ IsFreshPacket p (AData whole d) = ⊤
 IsFreshPacket p (ANack reason whole i) = ⊤
 IsFreshPacket p Idle = ⊤
 
--- The first rule that applies decides. If that rule allows a command that is not fresh, the rule
--- denies it as a replay.
+-- The first rule that applies decides. If that rule allows a command that is not fresh, the command
+-- is denied as a replay by that rule.
 abbrev pub IsDecidedAs : Policy → PlainFrame → Decision → Type 0
 IsDecidedAs p packet (Allowed rule) =
     Decides p.rules p.keys packet (Allowed rule) × IsFreshPacket p packet

@@ -38,7 +38,7 @@ with_closed p face =
       routes = without_face p.routes face;
     }) else p
 
--- the packet of an event, if rules decide it
+-- the packet of an event, if rules decide the packet
 abbrev pub packet_to_decide : Policy → ℕ → Result PlainFrame PacketFault → Option PlainFrame
 packet_to_decide p face (Err fault) = None
 packet_to_decide p face (Ok packet) = if is_decided p face packet then Some packet else None
@@ -73,7 +73,7 @@ face_in (FaceDown face now) = face
 face_in (Tick now) = 0
 face_in (NewRules rules keys now) = 0
 
--- the policy after an event without a packet that rules decide
+-- the policy after an event that brings no packet, or a packet that rules do not decide
 abbrev pub undecided_effect : Policy → PlainEvent → Policy
 undecided_effect p (Packet face now octets) = p
 undecided_effect p (FaceUp face scope now) = with_open p face scope

@@ -63,11 +63,12 @@ token_in (NewRules rules keys now) = None
 abbrev pub Send : Type 0
 Send = ℕ × List ℕ
 
--- a packet is sent back to a face that asked, with the token of the face's Interest
+-- a packet is sent back to the face of an Interest, with the token of that Interest
 abbrev pub sent_back : ℕ → Token → List ℕ → Send
 sent_back face token packet = (face, lp_text token None packet)
 
--- a Nack of this reason is sent back around the Interest, with the Interest's token
+-- a Nack with this reason, which contains an Interest, is sent back to the Interest's face with the
+-- Interest's token
 abbrev pub nacked_back : ℕ → Token → ℕ → List ℕ → Send
 nacked_back face token reason whole = (face, lp_text token (Some reason) whole)
 

@@ -22,7 +22,7 @@ choice_from s face i =
     choice_for s.policy i.name (moments (records_at s.pending (key_of i)).out_records)
     (ask_from s.policy face i)
 
--- an Interest was sent on as this choice says
+-- an Interest was handled according to this choice of the strategy
 pub record IsForwarded (was : NodeState) (face : ℕ) (token : Token) (whole : List ℕ)
     (i : PlainInterest) (choice : Choice) (answer : Answer) (new : NodeState) : Type 0 where
   pub replied : answer ≡ by_strategy (seen_by was) (key_of i) whole i face token choice

@@ -48,8 +48,8 @@ packet_causes now face token packet answer =
 abbrev pub packet_use : ℕ → ℕ → PlainFrame → Verdict → CacheUse
 packet_use now face packet verdict = cache_use now (packet_outcome face packet verdict)
 
--- a packet that came with this token was answered and had its effect on the node `was`, for which
--- time had already advanced to the moment of the packet
+-- a packet that came with this token was answered and took effect on the node `was`, after time had
+-- advanced to the moment of the packet
 pub record IsAnswered (was : NodeState) (face : ℕ) (token : Token) (packet : PlainFrame)
     (answer : Answer) (new : NodeState) : Type 0 where
   pub replies : RepliesToPacket (seen_by was) face token (Ok packet) answer

@@ -1,5 +1,5 @@
--- The next hops as they are read off a run, for one name and one face (NFD Management, "FIB
--- Management").
+-- The next hop of one name on one face, as the events and answers of a run determine it (NFD
+-- Management, "FIB Management").
 use Rattle.std.specs.Prelude.{ℕ, List, Bool, Option, None, Some, Result, Ok, Err, ◌==◌, ◌&&◌, if◌then◌else◌}
 use Rattle.std.specs.Ordering.{eq_by_cmp}
 use Rattle.ndn_tlv.specs.Element.{Field}
@@ -11,13 +11,13 @@ use Rattle.mgmt_core.specs.Tables.{face_of}
 use Rattle.forwarder.specs.Outcome.{Outcome, Nothing, InterestPassed, CommandAllowed, DataCame, NackPassed, FaceClosed, outcome_of}
 use Rattle.forwarder.specs.Runs.{Run, Start, Then}
 
--- a command that came from the face `from` names this next hop; a command without a FaceId names
--- the face that it came from
+-- a command that came from the face `from` is about this next hop; without a FaceId, a command is
+-- about the face that it came from
 abbrev pub names_hop : PlainCommand → ℕ → List Field → ℕ → Bool
 names_hop c from name face = eq_by_cmp name_cmp name c.name && (face == face_of c from)
 
--- the cost of a next hop after a command that took effect: add-nexthop sets the cost of the next
--- hop that it names, and remove-nexthop removes that next hop
+-- the cost of a next hop after a command that took effect: add-nexthop for this next hop sets its
+-- cost, and remove-nexthop for this next hop removes it
 abbrev pub cost_after_command : Result PlainCommand ℕ → ℕ → List Field → ℕ → Option ℕ → Option ℕ
 cost_after_command (Err status) from name face was = was
 cost_after_command (Ok c) from name face was =

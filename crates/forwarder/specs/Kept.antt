@@ -36,8 +36,9 @@ pub record IsKept (now : ℕ) (event : PlainEvent) (answer : Answer) (key : Plai
   pub is_key : key ≡ key_of interest
   pub is_record : in_record ≡ in_record_for now (token_in event) whole interest
 
--- the Interest is sent on to other faces only, without its token and unchanged except for its
--- HopLimit; to no face, if the strategy waits for the faces that it was sent to before
+-- the Interest is forwarded only to other faces, without its token and unchanged except for its
+-- HopLimit; it is forwarded to no face if the strategy still waits for the faces that the Interest
+-- was sent to before
 abbrev pub IsSentOn : ℕ → List ℕ → PlainInterest → List Send → Type 0
 IsSentOn face whole i sends =
     (faces : List ℕ) × (has_face face faces ≡ false)

@@ -1,4 +1,4 @@
--- The most octets that the Nacks to all in-records of a key can take.
+-- The greatest total length in octets of the Nacks for all in-records of a key.
 use Rattle.std.specs.Prelude.{ℕ, ◌+◌, List, length, Option, None, Some, sum_by}
 use Rattle.std.specs.FinMap as map
 use Rattle.ndn_packets.specs.Key.{PlainKey}

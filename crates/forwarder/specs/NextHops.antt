@@ -41,7 +41,7 @@ abbrev pub is_last_hop : Option ℕ → Bool
 is_last_hop None = false
 is_last_hop (Some limit) = limit == 1
 
--- what the strategy is asked about an Interest that came on `face`
+-- the input of the strategy for an Interest that came on `face`
 abbrev pub ask_from : Policy → ℕ → PlainInterest → Ask
 ask_from p face i = record {
   asker = Some face;
@@ -50,7 +50,7 @@ ask_from p face i = record {
   now = p.now;
 }
 
--- what the strategy is asked about an Interest of the node itself
+-- the input of the strategy for an Interest of the node itself
 abbrev pub ask_for : Policy → List Field → Ask
 ask_for p name = record {
   asker = None;

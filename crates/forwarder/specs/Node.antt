@@ -31,7 +31,7 @@ pub record NodeState : Type 0 where
 
 -- ---- a step
 
--- for each key, the causes lead from the old records to the new records
+-- for each key, applying the causes to the old records gives the new records
 abbrev pub FollowAll : List Cause → Pending → Pending → Type 0
 FollowAll causes old new =
     (key : PlainKey) → records_at new key ≡ after_causes causes key (records_at old key)
@@ -73,9 +73,9 @@ pub record ChangesCacheOnly (old new : NodeState) : Type 0 where
 
 -- ---- events that need no memory
 
--- The packets that need no memory: octets that are no packet, or a link packet that holds none; a
--- packet out of scope, or an Interest whose HopLimit is 0; and a Data that is not allowed, if no
--- checker of its rule expands a template.
+-- The packets that need no memory: octets that are no packet, or a link packet that contains no
+-- packet; a packet out of scope, or an Interest whose HopLimit is 0; and a Data that is not
+-- allowed, if no checker of its rule expands a template.
 abbrev pub NeedsNoMemory : Policy → ℕ → Result PlainFrame PacketFault → Type 0
 NeedsNoMemory p face (Err fault) = ⊤
 NeedsNoMemory p face (Ok (AnInterest whole i)) =
@@ -87,7 +87,7 @@ NeedsNoMemory p face (Ok (AData whole d)) =
 NeedsNoMemory p face (Ok (ANack reason whole i)) = is_out_of_scope p face i.name ≡ true
 NeedsNoMemory p face (Ok Idle) = ⊤
 
--- the events that need no memory, as can be told from the node before the event
+-- the events that need no memory, depending on the node before the event
 abbrev pub AsksNoMemory : NodeState → PlainEvent → Type 0
 AsksNoMemory old (Packet face now octets) =
     (is_open face old.policy.faces ≡ false) ⊎ NeedsNoMemory old.policy face (frame_at octets)

@@ -4,7 +4,7 @@ use Rattle.std.specs.List.{AllByRecursion}
 use Rattle.forwarder.specs.Event.{Send}
 use Rattle.forwarder.specs.declared.sends.Sent.{Sent}
 
--- the start and the end of this send are in order and lie within the octets
+-- the start of this send is at most its end, and its end is at most the number of octets
 abbrev pub IsWithin : List ℕ → Sent → Type 0
 IsWithin octets sent = (sent.start ≤ sent.end) × (sent.end ≤ length octets)
 
@@ -14,7 +14,8 @@ AreWithin octets sends = AllByRecursion (IsWithin octets) sends
 abbrev pub size_of : Sent → ℕ
 size_of sent = sent.end - sent.start
 
--- each send lies within the octets, and there are no more octets than all sends have together
+-- each send lies within the octets, and the number of octets is at most the sum of the lengths of
+-- the sends
 pub record AreOctetsOf (octets : List ℕ) (sends : List Sent) : Type 0 where
   pub within : AreWithin octets sends
   pub no_more : length octets ≤ sum_by size_of sends

@@ -1,6 +1,6 @@
--- The outcome of an event, which is read off the event and its verdict only once. The outcome
--- determines which records change, how the cache is used, and which next hops and routes a command
--- sets (NFD Developer's Guide, "Forwarding").
+-- The outcome of an event, which the event and its verdict determine. The outcome determines which
+-- records change, how the cache is used, and which next hops and routes a command sets (NFD
+-- Developer's Guide, "Forwarding").
 use Rattle.std.specs.Prelude.{ℕ, List, Result, Ok, Err}
 use Rattle.ndn_packets.specs.FrameReading.{frame_at}
 use Rattle.ndn_packets.specs.Packet.{PlainInterest, PlainData, PlainFrame, AnInterest, AData, ANack, Idle}
@@ -9,8 +9,8 @@ use Rattle.forwarder.specs.Event.{PlainEvent, Packet, FaceUp, FaceDown, Tick, Ne
 use Rattle.forwarder.specs.Verdict.{Verdict, Passed, Allowed, DataAllowed, Denied, NoRule, Dropped}
 
 pub data Outcome : Type 0 where
-  -- beyond the effect of its moment, the event changes no record, cached Data, next hop or route: a
-  -- tick, a face that opens, new rules, or anything dropped or denied
+  -- apart from what expires at its moment, the event changes no record, cached Data, next hop or
+  -- route: a tick, a face that opens, new rules, or anything dropped or denied
   Nothing : Outcome
   -- an Interest for Data, or for a segment of a list, was passed
   InterestPassed : (face : ℕ) (whole : List ℕ) (i : PlainInterest) → Outcome

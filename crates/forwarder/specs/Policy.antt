@@ -48,8 +48,8 @@ first_policy rules keys repo = record {
   held = record { objects = map.empty; wants = map.empty };
 }
 
--- Time advances to a moment, and the routes and the wants that are due expire. Each route that
--- expires gives the lists their next version.
+-- Time advances to a moment, and the routes and wants that expire by then are removed. Each route
+-- that expires gives the lists their next version.
 abbrev pub at_moment : Policy → ℕ → Policy
 at_moment p moment =
     let now = max p.now moment in

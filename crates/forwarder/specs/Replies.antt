@@ -36,7 +36,7 @@ use Rattle.forwarder.specs.NextHops.{choice_for, ask_from, sent_on}
 -- what an answer may depend on, once time has advanced to the moment of the event
 pub record Seen : Type 1 where
   pub policy : Policy
-  -- the records of each key, and whether the PIT is full, with records for 4,096 keys
+  -- the records of each key, and whether the PIT is full, that is, has records for 4,096 keys
   pub records : PlainKey → Records
   pub is_full : Bool
   -- the cache may give these octets for an Interest of this key; with None, it may give nothing
@@ -66,14 +66,14 @@ outgoing_interest seen key whole i faces =
 abbrev pub interest_reject : ℕ → Token → List ℕ → Answer
 interest_reject face token whole = passed (nacked_back face token NO_ROUTE whole ∷ [])
 
--- the answer by the strategy's choice
+-- the answer according to the strategy's choice
 abbrev pub by_strategy : Seen → PlainKey → List ℕ → PlainInterest → ℕ → Token → Choice → Answer
 by_strategy seen key whole i face token choices.NoRoute = interest_reject face token whole
 by_strategy seen key whole i face token (choices.Send faces) =
     outgoing_interest seen key whole i faces
 
--- an object that the repository stores is sent back as a cached Data is; MustBeFresh does not apply
--- to it
+-- an object that the repository stores is sent back like a cached Data, even if the Interest has
+-- MustBeFresh; without such an object, the strategy chooses
 abbrev pub by_repository : Seen → ℕ → Token → List ℕ → PlainInterest → Option (List ℕ) → Answer
 by_repository seen face token whole i (Some octets) = content_store_hit face token octets
 by_repository seen face token whole i None =
@@ -126,7 +126,7 @@ Waits seen name digest face =
     (key : PlainKey) × IsTrue (answers name digest key.name key.can_be_prefix)
     × IsSome (map.get (seen.records key).in_records face)
 
--- faces that wait for a Data, each with the token that the Data is sent back with
+-- faces that wait for a Data, each with the token that is sent with the Data
 abbrev pub Askers : Type 0
 Askers = List (ℕ × Token)
 
@@ -163,8 +163,8 @@ RepliesToData seen face whole d answer =
     ((decision : Decision) × IsDecidedAs seen.policy (AData whole d) decision
     × RepliesByDecision seen face whole d answer decision)
 
--- for each in-record a Nack of this reason around its Interest, with its token, in rising order of
--- the faces
+-- for each in-record, in rising order of the faces, a Nack with this reason that contains the
+-- Interest and has the token of the in-record
 abbrev pub nacks_to : InRecords → ℕ → List Send
 nacks_to in_records reason =
     map_list {A = ℕ × InRecord} {B = Send}

@@ -60,9 +60,9 @@ abbrev pub segmented : ListKind → Option ℕ → Option ℕ → Option ListAsk
 segmented kind version None = None
 segmented kind version (Some segment) = versioned kind segment version
 
--- What is asked for by the components after a list's name. With CanBePrefix, no component or a
--- version asks for the first segment; a version and a segment number ask for that segment. Anything
--- else is not a request for a list.
+-- The request that the components after a list's name encode. With CanBePrefix, no components, or
+-- only a version, request the first segment. A version and a segment number request that segment.
+-- Anything else is not a request for a list.
 abbrev pub list_after : ListKind → Bool → List Field → Option ListAsked
 list_after kind can_be_prefix [] =
     if can_be_prefix then Some (record { kind = kind; version = None; segment = 0 }) else None
@@ -102,7 +102,7 @@ named_request p i None =
     if is_some (verb_at p.repo i.name) then ForRepository else
     ForData)
 
--- a request that was read off a name
+-- the request that a name encodes
 abbrev pub request_named : NamedRequest → Request
 request_named (named.ForList asked) = ForList asked
 request_named named.ForTables = ForTables

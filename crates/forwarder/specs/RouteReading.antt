@@ -1,5 +1,5 @@
--- Registered routes as they are read off a run, for one name, one face and one origin (NFD
--- Management, "RIB Management").
+-- The registered route of one name, one face and one origin, as the events and answers of a run
+-- determine it (NFD Management, "RIB Management").
 use Rattle.std.specs.Prelude.{ℕ, List, Bool, Option, None, Some, Result, Ok, Err, max, option_and_then, ◌==◌, ◌&&◌, if◌then◌else◌}
 use Rattle.std.specs.Option.{option_map}
 use Rattle.ndn_tlv.specs.Element.{Field}
@@ -14,13 +14,13 @@ use Rattle.forwarder.specs.Hops.{names_hop}
 use Rattle.forwarder.specs.Outcome.{Outcome, Nothing, InterestPassed, CommandAllowed, DataCame, NackPassed, FaceClosed, outcome_of}
 use Rattle.forwarder.specs.Runs.{Run, Start, Then, now_of}
 
--- a command that came from the face `from` names this route
+-- a command that came from the face `from` is about this route
 abbrev pub names_route : PlainCommand → ℕ → List Field → ℕ → ℕ → Bool
 names_route c from name face origin = names_hop c from name face && (origin == c.origin)
 
--- A command that took effect now. A register gives the route that it names its cost and flags and,
--- if it has a period, a deadline: now plus that period, at most the greatest u64. An unregister
--- removes the route that it names.
+-- The route after a command that took effect at the moment `now`. A register for this route sets
+-- its cost, its flags and, if the command has a period, its deadline: `now` plus that period, at
+-- most the greatest u64. An unregister for this route removes it.
 abbrev pub route_after_command : Result PlainCommand ℕ → ℕ → ℕ → List Field → ℕ → ℕ
     → Option Route → Option Route
 route_after_command (Err status) now from name face origin was = was

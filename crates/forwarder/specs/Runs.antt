@@ -1,5 +1,5 @@
--- Runs of events and answers, and what is read off the past of a run. This needs neither timers nor
--- a cache, and of the PIT only how many keys have records.
+-- Runs of events and answers, and what the past of a run determines. These definitions use neither
+-- timers nor a cache, and of the PIT only the number of keys with records.
 use Rattle.std.specs.Prelude.{◌≡◌, ◌⊎◌, ℕ, Bool, true, false, List, [], ◌∷◌, ◌++◌, Option, None, Some, All, Result, Ok, Err, max, nat_le, ⊤}
 use Rattle.std.specs.FinMap as map
 use Rattle.hmac_keys.specs.KeyFile.{AreApart, NamedKey}
@@ -83,8 +83,8 @@ pub record AreLastRules (past : Run) (rules : List PlainRule) (keys : List Named
 
 -- ---- pending Interests (NFD Developer's Guide, "Pending Interest Table")
 
--- all causes that ended or began records in a run, from the last to the first: for each event the
--- records that are due expire, and then the causes of the event follow
+-- all causes that began or ended records in a run, from the last to the first; each event first
+-- causes expiry at its moment, and then has its own causes
 abbrev pub past_causes : Run → List Cause
 past_causes Start = []
 past_causes (Then before event answer) =

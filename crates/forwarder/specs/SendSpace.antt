@@ -1,4 +1,4 @@
--- The sends of an outbox, and the room for further sends, which then need no memory.
+-- The sends of an outbox, and the memory that is reserved for further sends.
 use Rattle.std.specs.Prelude.{ℕ, ◌+◌, ◌*◌, List, [], length, Bool, Option, None, Some, if◌then◌else◌}
 use Rattle.ndn_packets.specs.declared.fault.WriteFault.{WriteFault}
 use Rattle.ndn_packets.specs.declared.interest_writer.InterestWriter.{InterestWriter}

@@ -39,7 +39,7 @@ pub record IsSound (s : NodeState) : Type 0 where
   pub records : (face : ℕ) → HasRecord s.pending face → is_open face s.policy.faces ≡ true
   pub routes : AllAreUp s.policy.routes (open_faces s.policy)
 
--- time advanced to the moment, and all that was due by then expired
+-- time advanced to the moment, and everything that expires by then was removed
 pub record IsLater (old : NodeState) (moment : ℕ) (new : NodeState) : Type 0 where
   pub policy : new.policy ≡ at_moment old.policy moment
   pub expiry : Follows (Expires (max old.policy.now moment)) old.pending new.pending

@@ -29,7 +29,7 @@ pub data DropReason : Type 0 where
   FaceOpen : DropReason
   FacesFull : DropReason
 
--- Rules are given by their positions, counted from 0.
+-- Rules are given by their indexes in the list of rules.
 pub data Verdict : Type 0 where
   Passed : Verdict
   -- a command that was allowed, with the status of the reply

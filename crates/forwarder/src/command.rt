@@ -29,8 +29,8 @@ use strategies::Choice;
 
 impl State {
     /// Handles a command on routes, strategies or the cache, or a command to the repository (NFD
-    /// Management, "Control Command"). The command is answered in any case, and has its effect if
-    /// the rules allow it and it is fresh.
+    /// Management, "Control Command"). Every command is answered. A command takes effect only if it
+    /// is fresh and the rules allow it.
     pub fn receive_command(
         &mut self,
         arrived: &Arrived<'_, Interest<'_>>,
@@ -74,7 +74,7 @@ impl State {
         }
     }
 
-    /// Answers a command that is not allowed, and lets time pass.
+    /// Answers a command that is not allowed, and advances time.
     fn refuse(
         &mut self,
         arrived: &Arrived<'_, Interest<'_>>,
@@ -146,7 +146,7 @@ impl State {
         Ok(status)
     }
 
-    /// Reserves the memory that the command may need, lets time pass, and applies the command.
+    /// Reserves the memory that the command may need, advances time, and applies the command.
     fn command_read(
         &mut self,
         arrived: &Arrived<'_, Interest<'_>>,
@@ -214,8 +214,8 @@ impl State {
         Ok(reply.status)
     }
 
-    /// Sends an Interest for the Data that `reply` asks to fetch, if any, to the faces that the
-    /// strategy chooses.
+    /// Sends the Interest in `reply.fetch`, if there is one, to the faces that the strategy
+    /// chooses.
     fn fetch(&self, reply: &RepoReply, nonce: [u8; 4], out: &mut Sends) -> Result<(), Memory>
         ensures ok { OnOk result (out.new.sends
             ≡ out.old.sends ++ fetch_sends (policy_of self.entry.now) nonce reply.now.fetch) }

@@ -30,10 +30,10 @@ use ndn_tlv::Memory;
 use pit_fib::{Faces, MAX_FACES};
 
 impl State {
-    /// Handles a Data (NFD Developer's Guide, "Incoming Data Pipeline"). If the rules allow the
-    /// Data, its received octets are sent to each other face with a pending Interest for it; it is
-    /// cached if any face, even the one it came from, has such an Interest; and it is stored if the
-    /// repository wants it.
+    /// Handles a Data (NFD Developer's Guide, "Incoming Data Pipeline"). A Data that the rules
+    /// allow is sent unchanged to each other face with a pending Interest for the Data. It is
+    /// cached if any face, even the incoming face, has a pending Interest for the Data. It is
+    /// stored if the repository wants it.
     pub fn receive_data(
         &mut self,
         arrived: &Arrived<'_, Data<'_>>,
@@ -62,7 +62,7 @@ impl State {
         }
     }
 
-    /// Reserves the memory that an allowed Data may need, lets time pass, and delivers the Data.
+    /// Reserves the memory that an allowed Data may need, advances time, and delivers the Data.
     fn receive_allowed(
         &mut self,
         arrived: &Arrived<'_, Data<'_>>,
@@ -85,9 +85,10 @@ impl State {
         Ok(Verdict::DataAllowed(rule))
     }
 
-    /// Sends an allowed Data to the other faces with a pending Interest for it, caches it if any
-    /// face has such an Interest, and stores it if the repository wants it. This needs no memory:
-    /// room for 64 sends and their octets is reserved, and the offer to the repository is prepared.
+    /// Sends an allowed Data to the other faces with a pending Interest for the Data, caches the
+    /// Data if any face has such an Interest, and stores the Data if the repository wants it.
+    /// Memory does not run out: memory for 64 sends and their octets is already reserved, and the
+    /// offer to the repository is prepared.
     fn deliver(
         &mut self,
         face: u64,
@@ -169,8 +170,9 @@ impl State {
     }
 }
 
-/// Returns the most octets that sending a Data to the faces that asked for it can take: with tokens
-/// each face may get a link packet of its own, and without tokens one copy serves all faces.
+/// Returns the greatest number of octets that are needed to send a Data to the faces that asked for
+/// the Data. With tokens, each face may need its own link packet. Without tokens, all faces share
+/// one copy.
 fn data_room(packet: &Data<'_>, with_tokens: bool) -> usize
     ensures { result ≡ room_for_data packet.now.whole.now with_tokens }
 {

@@ -28,9 +28,9 @@ use std::alloc::Global;
 /// The FreshnessPeriod of a segment, in milliseconds.
 const FRESHNESS: u64 = 1000;
 
-/// Returns the Data of the segment that is asked for (NFD Management, "Status Dataset"), where
-/// `table_number` is the version of the lists once the routes that are due at `now` have expired.
-/// Returns `None` if another version is asked for, or if the list has no such segment.
+/// Returns the Data of the requested segment (NFD Management, "Status Dataset"). `table_number` is
+/// the version of the lists after the routes that expire by `now` are removed. Returns `None` if
+/// another version is requested, or if the list has no such segment.
 pub(crate) fn list_segment(
     alloc: Global,
     tables: &Tables,
@@ -43,7 +43,7 @@ pub(crate) fn list_segment(
         → p.choices ≡ tables.now.strategies.table → p.table_number ≡ table_number
         → list_answer p face token asked
         ≡ answered_with face token (option_map (λ o. o.items) octets)) }
-    // The Data is no longer than a packet may be.
+    // The Data has at most 8,800 octets, the limit for packets.
     ensures short { IfOk result (λ octets. IfSome octets (λ o. length o.items ≤ 8800)) }
 {
     if !is_present(asked.version, table_number) {
@@ -57,7 +57,7 @@ pub(crate) fn list_segment(
     Ok(Some(octets))
 }
 
-/// Returns whether the version that is asked for is the current one, or no version is asked for.
+/// Returns whether the requested version is the current one, or no version is requested.
 fn is_present(asked: Option<u64>, table_number: u64) -> bool
     ensures { (p : Policy) → p.table_number ≡ table_number → result ≡ is_present p asked }
 {
@@ -123,8 +123,9 @@ fn append_number(alloc: Global, name: &mut NameBuf, kind: u16, number: u64) -> R
     name.append(kind, &value).map_err(|_| Memory)
 }
 
-/// Returns a segment as a Data, signed with DigestSha256, whose FinalBlockId names the last
-/// segment. The Data is never too long to be written, so this fails only if memory runs out.
+/// Returns a segment as a Data that is signed with DigestSha256. Its FinalBlockId contains the
+/// number of the last segment. The Data is never too long to be encoded, so this fails only if
+/// memory runs out.
 fn segment_data<'a>(
     alloc: Global,
     name: Name<'a>,
@@ -150,8 +151,8 @@ fn segment_data<'a>(
 }
 
 impl State {
-    /// Sends a segment of a list, as the list is at this moment, to the face that asks for it. The
-    /// segment is made before time passes, since memory may run out.
+    /// Sends a segment of a list, as the list is at this moment, to the face that requests the
+    /// segment. The segment is encoded before time advances, since memory may run out.
     pub fn send_list(
         &mut self,
         arrived: &Arrived<'_, Interest<'_>>,

@@ -14,7 +14,7 @@ use std::alloc::Global;
 /// The status of a command that no rule allows.
 const NOT_AUTHORIZED: u16 = 403;
 
-/// Returns the id of a rule, or an empty string if there is no rule at this position.
+/// Returns the id of the rule at this index, or an empty string if there is none.
 pub fn id_of(rules: &Rules, rule: RuleNo) -> &str
     ensures { result.now ≡ id_of rules.now rule.0 }
 {
@@ -42,8 +42,8 @@ pub(crate) fn denial_text(
     Ok(text)
 }
 
-/// Appends the Content of the reply, of status 403, to a command that is refused. Appends nothing
-/// if memory runs out, or if the request is not a command.
+/// Appends the Content of the reply to a command that is refused. The reply has status 403. Appends
+/// nothing if memory runs out, or if the request is not a command.
 pub(crate) fn put_refusal(
     out: &mut Vec<u8>,
     request: NamedRequest,
@@ -52,7 +52,7 @@ pub(crate) fn put_refusal(
     ensures ok { OnOk result
         (out.new.items ≡ out.old.items ++ refused_content (request_named request) text.now) }
     ensures err { OnErr result (out.new.items ≡ out.old.items) }
-    // If there is room, this does not run out of memory.
+    // If the spare capacity is enough, memory does not run out.
     ensures room { vec_len out.old + length (refused_content (request_named request) text.now)
         ≤ vec_capacity out.old → IsOk result }
     ensures capacity { vec_capacity out.old ≤ vec_capacity out.new }

@@ -12,8 +12,8 @@ pub enum Scope {
     Far,
 }
 
-/// An event, which a node handles in one step. Moments are milliseconds since 1970 and may go
-/// backwards.
+/// An event, which a node handles in one step. Moments are in milliseconds since 1970. An event may
+/// have an earlier moment than the event before it.
 #[derive(Drop)]
 pub enum Event<'a> {
     /// Octets arrived on a face.

@@ -25,7 +25,8 @@ pub(crate) struct Signed<'a> {
     pub seq: Option<u64>,
 }
 
-/// Returns the signer; everything signed with DigestSha256 counts as signed by one signer.
+/// Returns the signer of a signature. All DigestSha256 signatures count as signatures of one
+/// signer.
 fn signer_in<'a>(signature: Signature<'a>) -> Signer<'a>
     ensures { signer_of result ≡ signer_in (plain_signature signature.entry).info }
 {
@@ -38,8 +39,8 @@ fn signer_in<'a>(signature: Signature<'a>) -> Signer<'a>
     }
 }
 
-/// Returns the signer of an Interest and its time, if the Interest has both a signature and a
-/// SignatureTime.
+/// Returns the signer of an Interest, with the SignatureTime and the SignatureSeqNum, if the
+/// Interest has both a signature and a SignatureTime.
 fn signed_by<'a>(interest: &Interest<'a>) -> Option<Signed<'a>>
     ensures { option_map recorded_by result ≡ recorded_of (plain_interest interest.now) }
 {
@@ -53,7 +54,7 @@ fn signed_by<'a>(interest: &Interest<'a>) -> Option<Signed<'a>>
 }
 
 /// Returns whether the time of a command is near `now`, in milliseconds since 1970, and the command
-/// is newer than all that was recorded of its signer.
+/// is newer than all recorded commands of its signer.
 fn is_fresh(guard: &Guard, interest: &Interest<'_>, now: u64) -> bool
     ensures { (p : Policy) → p.guard ≡ guard.now.latest → p.now ≡ now
         → IsTrue result ↔ IsFreshCommand p (plain_interest interest.now) }
@@ -65,8 +66,8 @@ fn is_fresh(guard: &Guard, interest: &Interest<'_>, now: u64) -> bool
 }
 
 /// Returns the decision on a command at the moment `now`, in milliseconds since 1970. This is the
-/// decision of the rules, but a command that the rules allow is denied as a replay if it is not
-/// fresh.
+/// decision of the rules, with one exception: a command that the rules allow is denied as a replay
+/// if the command is not fresh.
 pub(crate) fn decide_command(
     alloc: Global,
     rules: &Rules,

@@ -56,9 +56,9 @@ impl State {
         }
     }
 
-    /// Answers an Interest for Data: by a Nack if it loops, from the cache or the repository, or by
-    /// sending it on. The cache and the repository are looked up first, so that no record is
-    /// prepared for a hit.
+    /// Handles an Interest for Data: sends a Nack if the Interest loops, answers it from the cache
+    /// or the repository, or forwards it. Looks up the cache and the repository first, so that no
+    /// PIT record is prepared for a hit.
     fn answer(
         &mut self,
         arrived: &Arrived<'_, Interest<'_>>,
@@ -144,7 +144,7 @@ impl State {
         Ok(Verdict::Passed)
     }
 
-    /// Sends on an Interest that neither the cache nor the repository answers (NFD Developer's
+    /// Forwards an Interest that neither the cache nor the repository answers (NFD Developer's
     /// Guide, "Content Store Miss Pipeline"), or sends a Nack back.
     fn miss(
         &mut self,
@@ -176,7 +176,7 @@ impl State {
     }
 
     /// Sends a Nack back if an Interest loops (NFD Developer's Guide, "Interest Loop Pipeline"),
-    /// and returns whether it loops. Room for the Nack is reserved.
+    /// and returns whether it loops. Memory for the Nack is already reserved.
     fn nack_loop(
         &self,
         arrived: &Arrived<'_, Interest<'_>>,
@@ -241,7 +241,7 @@ impl State {
         }
     }
 
-    /// Adds the in-record of the face, and sends the face's Interest to these faces.
+    /// Adds the in-record of the incoming face, and forwards the Interest to these faces.
     fn send_on(
         &mut self,
         face: u64,

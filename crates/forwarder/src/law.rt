@@ -45,8 +45,8 @@ pub fn events_have_one_effect()
         → IsAfter old event new → IsAfter old event other → new ≡ other }
 {}
 
-/// Law: two steps of the same node by the same event leave the same policy, whatever the two steps
-/// answer, if the keys of the node's book have different names. Only pending Interests and the
+/// Law: two steps of the same node with the same event lead to the same policy, whatever their
+/// answers are, if the keys of the node's book have different names. Only pending Interests and the
 /// cache may differ.
 pub fn steps_have_one_effect()
     ensures { (old new other : NodeState) (event : PlainEvent) (answer another : Answer)
@@ -54,8 +54,8 @@ pub fn steps_have_one_effect()
         → new.policy ≡ other.policy }
 {}
 
-/// Law: two moments in a row have the effect of the later one: what is due expires, and each route
-/// that expires is counted once.
+/// Law: advancing time to two moments, one after the other, has the same effect as advancing time
+/// to the later moment. Each route that expires is counted once.
 pub fn moments_in_a_row_are_as_the_later()
     ensures { (p : Policy) (m n : ℕ) → at_moment (at_moment p m) n ≡ at_moment p (max m n) }
 {}
@@ -93,10 +93,11 @@ pub fn refused_steps_stand_still()
         → ChangesCacheOnly old new → Stands first past new }
 {}
 
-/// Law: if no book has two keys of the same name, two runs of the same events leave the same
-/// policy. For one more event, both runs allow only the same answer if the event brings a command,
-/// a request for a list, or an Interest that is dropped because of its HopLimit or scope, and only
-/// the same verdict if the event brings a Data. So this is true at each event of two whole runs.
+/// Law: if no book has two keys of the same name, two runs of the same events lead to the same
+/// policy. For the next event, all valid answers after both runs are equal if the event brings a
+/// command, a request for a list, or an Interest that is dropped because of its HopLimit or scope.
+/// Their verdicts are equal if the event brings a Data. So this is true at each event of two whole
+/// runs.
 pub fn histories_decide()
     ensures policy { (first p q : Policy) (past other : Run) → KeysAreApart first past
         → HaveOneHistory past other → IsPolicyOf first past p → IsPolicyOf first other q → p ≡ q }
@@ -110,7 +111,7 @@ pub fn histories_decide()
 {}
 
 /// Law: if ticks at the same moments replace some denied events of a run, the result is still a
-/// run, and it leaves the same policy.
+/// run, and it leads to the same policy.
 pub fn denied_events_change_nothing()
     ensures run { (first : Policy) (past other : Run) → KeysAreApart first past → IsRun first past
         → HasTicksForDenied past other → IsRun first other }
@@ -173,9 +174,9 @@ pub fn every_data_sent_was_asked_for()
         → AnswersItself reply.was event (face, octets) }
 {}
 
-/// Law: each allowed command has a greater time than all commands of its signer that were allowed
-/// before and, if both have a number, a greater number. So no signature is allowed twice, whatever
-/// else the Interest contains.
+/// Law: each allowed command has a greater SignatureTime than each earlier allowed command of its
+/// signer and, if both commands have a SignatureSeqNum, a greater SignatureSeqNum. So no signature
+/// is allowed twice, whatever else the Interest contains.
 pub fn commands_are_allowed_once()
     ensures newer { (first was : Policy) (past : Run) (event : PlainEvent) (whole other : List ℕ)
         (i j : PlainInterest) (r s : Recorded) → KeysAreApart first past
@@ -187,7 +188,7 @@ pub fn commands_are_allowed_once()
         → IsPolicyOf first past was → Allows was event (AnInterest other j)
         → i.signature ≡ j.signature → ⊥ }
     // Conversely, if no command was recorded before the run, a command is fresh if its time is near
-    // the moment and it is newer than all commands of its signer that were allowed.
+    // the moment and it is newer than all allowed commands of its signer in the run.
     ensures fresh { (first was : Policy) (past : Run) (now : ℕ) (i : PlainInterest) (r : Recorded)
         → first.guard ≡ map.empty → IsPolicyOf first past was → recorded_of i ≡ Some r
         → AreNear r.time (at_moment was now).now
@@ -223,9 +224,10 @@ pub fn cached_data_were_allowed()
         × (c.digest ≡ sha256 c.octets) × (c.freshness ≡ d.freshness) }
 {}
 
-/// Law: the records of a key after a run are read off its past, face by face: the last Interest
-/// that the face sent under this key, and the last Interest that was sent to the face, if nothing
-/// has ended the record since.
+/// Law: the causes in the past of a run determine the records of each key, face by face. The
+/// in-record is that of the last Interest that the face sent under this key, and the out-record is
+/// that of the last Interest under this key that was sent to the face, unless a later cause has
+/// ended the record.
 pub fn records_are_read_off_the_run()
     ensures in_records { (past : Run) (key : PlainKey) (face : ℕ)
         → map.get (records_of past key).in_records face
@@ -237,9 +239,9 @@ pub fn records_are_read_off_the_run()
 
 /// Law: an Interest becomes pending exactly if it was passed, nothing was sent back to its face,
 /// and no Nack was sent. An in-record after an event comes from that event's Interest, or was there
-/// before. If the answer is valid, a passed Interest is either sent on to other faces, or to none,
-/// and becomes pending; or one packet is sent back to its face: a Nack, or a Data from the cache,
-/// the repository or the node.
+/// before. If the answer is valid, there are two cases for a passed Interest. Either it becomes
+/// pending and is forwarded to other faces, possibly to none. Or one packet is sent back to its
+/// face: a Nack, or a Data from the cache, the repository or the node.
 pub fn unanswered_interests_wait()
     ensures arrives { (now : ℕ) (event : PlainEvent) (answer : Answer) (key : PlainKey) (face : ℕ)
         (in_record : InRecord) → Contains (causes_of now event answer) (Arrives key face in_record)
@@ -287,10 +289,10 @@ pub fn registered_routes_are_read_off_the_run()
         ≡ route_of past name face origin }
 {}
 
-/// Law: a denial in a valid answer is the decision on the event's packet by the rule that it names,
-/// or states that no rule applies. A denied command is answered by a reply of status 403 that names
-/// the reason and the rule, and a denied Data is not answered. So the kind in the verdict is the
-/// kind of the packet.
+/// Law: a denial in a valid answer is the decision on the event's packet. It gives the rule that
+/// denies the packet, or states that no rule applies. A denied command is answered by a reply with
+/// status 403 that gives the reason and the rule, and a denied Data is not answered. So the kind in
+/// the verdict is the kind of the packet.
 pub fn denials_name_their_rule()
     ensures denied { (first : Policy) (past : Run) (event : PlainEvent) (answer : Answer)
         (kind : Kind) (rule : ℕ) (reason : Reason) (reply : MayReply first past event answer)

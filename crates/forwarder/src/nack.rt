@@ -19,9 +19,9 @@ use ndn_tlv::Memory;
 use pit_fib::{MAX_FACES, Nacked};
 
 impl State {
-    /// Handles a Nack (NFD Developer's Guide, "Incoming Nack Pipeline"). Once each out-record has
-    /// the reason of a Nack, each face with an in-record gets a Nack with the least of these
-    /// reasons.
+    /// Handles a Nack (NFD Developer's Guide, "Incoming Nack Pipeline"). When each out-record has
+    /// the reason of a received Nack, each face with an in-record gets a Nack with the least of
+    /// these reasons.
     pub fn receive_nack(
         &mut self,
         reason: u64,
@@ -56,7 +56,7 @@ impl State {
         }
     }
 
-    /// Returns the most octets that the Nacks to all in-records of a key can take.
+    /// Returns the greatest total length in octets of the Nacks for all in-records of a key.
     fn nack_room(&self, key: Key<'_>) -> Result<usize, Memory>
         ensures { IfOk result (λ room. room
             ≡ nack_room (in_records_at self.entry.now.pit.pending (plain_key key.entry))
@@ -74,8 +74,8 @@ impl State {
         Ok(room)
     }
 
-    /// Sends a Nack of this reason to each face with an in-record of the key, around that face's
-    /// Interest and with its token. Room for the Nacks is reserved.
+    /// Sends a Nack with this reason to each face with an in-record of the key. Each Nack contains
+    /// the Interest and the token of the in-record. Memory for the Nacks is already reserved.
     fn push_nacks(&self, key: Key<'_>, reason: u64, out: &mut Sends) -> Result<(), Memory>
         requires known { (f : ℕ)
             → IsSome (map.get (in_records_at self.now.pit.pending (plain_key key)) f)
@@ -99,7 +99,7 @@ impl State {
     }
 }
 
-/// Returns `room` plus the room for one more Nack, around an Interest of `octets` octets.
+/// Returns `room` plus the number of octets for one more Nack, whose Interest has `octets` octets.
 fn room_with(room: usize, octets: usize) -> Result<usize, Memory>
     ensures { IfOk result (λ sum. sum ≡ room + (octets + LINK_EXTRA)) }
 {

@@ -12,8 +12,8 @@ use hmac_keys::KeyBook;
 use info_rules::Rules;
 
 impl State {
-    /// Puts these rules and keys in force, once time has advanced to the moment. Apart from that,
-    /// only time passes.
+    /// Advances time to the moment, and then puts these rules and keys in force. Nothing else
+    /// changes.
     pub fn replace_rules(&mut self, rules: Rules, keys: KeyBook, now: u64) -> Verdict
         ensures step { IsStep (state_of self.old) (NewRules rules keys now)
             (record { verdict = verdict_of result; sends = [] }) (state_of self.new) }
@@ -23,7 +23,8 @@ impl State {
         self.pass_time(now);
         self.rules = rules;
         self.keys = keys;
-        // From here on, the proof knows what `KeyBook::len` ensures of every book.
+        // This makes the clauses of `KeyBook::len`, which are true of every book, available to the
+        // proof.
         prove!(self.keys.len() <= usize::MAX);
         Verdict::Passed
     }

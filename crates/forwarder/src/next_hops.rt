@@ -26,7 +26,7 @@ impl State {
         }
     }
 
-    /// Returns what the strategy is asked about an Interest that came on this face.
+    /// Returns the input of the strategy for an Interest that came on this face.
     pub fn ask_from(&self, face: u64, interest: &Interest<'_>) -> Ask
         ensures { result ≡ ask_from (policy_of self.entry.now) face (plain_interest interest.now) }
     {
@@ -38,7 +38,7 @@ impl State {
         }
     }
 
-    /// Returns what the strategy is asked about an Interest of the node itself.
+    /// Returns the input of the strategy for an Interest of the node itself.
     pub fn ask_for(&self, name: Name<'_>) -> Ask
         ensures { result ≡ ask_for (policy_of self.entry.now) (components name.entry) }
     {

@@ -35,7 +35,7 @@ use thiserror::Error;
 pub struct NodeParts {
     /// The rules that decide which commands and Data are allowed.
     pub rules: Rules,
-    /// The keys that the rules name.
+    /// The keys that the rules refer to.
     pub keys: KeyBook,
     /// The repository's prefix, neither empty nor under `/localhost`.
     pub repo: NameBuf,
@@ -102,7 +102,7 @@ fn is_bad_prefix(repo: &NameBuf) -> bool
 impl Node {
     /// Returns a node without faces.
     ///
-    /// Fails with the fault that comes first in `NodeFault`.
+    /// If there are several faults, returns the one that comes first in `NodeFault`.
     pub fn new(alloc: Global, parts: NodeParts) -> Result<Node, NodeFault>
         ensures ok { IfOk result
             (λ node. node ≡ first_node parts.rules parts.keys parts.repo parts.cache) }
@@ -144,7 +144,7 @@ impl Node {
         &self.state.rules
     }
 
-    /// Returns the keys that the rules name. No two keys have the same name, as `KeyBook::len`
+    /// Returns the keys that the rules refer to. No two keys have the same name, as `KeyBook::len`
     /// ensures of every book.
     pub fn keys(&self) -> &KeyBook
         ensures { result.now ≡ self.now.policy.keys }
@@ -159,8 +159,8 @@ impl Node {
         self.state.now
     }
 
-    /// Returns the open face at position `i`, counted from 0 in rising order of the numbers, and
-    /// its scope. At most 64 faces are open.
+    /// Returns the number and the scope of the open face at index `i`. The open faces are in rising
+    /// order of their numbers. At most 64 faces are open.
     pub fn open_face(&self, i: usize) -> Option<(u64, Scope)>
         ensures { result ≡ slice_get self.now.policy.faces i }
     {
@@ -201,8 +201,8 @@ impl Node {
     /// If memory runs out, the cache may have dropped Data or changed their order of use; nothing
     /// else changes. These events need no memory: face changes, moments, new rules, packets on
     /// faces that are not open, octets that hold no packet, packets out of scope, Interests of
-    /// HopLimit 0, and Data that the rules do not allow, unless their first rule has a
-    /// hyper-relation.
+    /// HopLimit 0, and Data that the rules do not allow, unless the first rule that applies to the
+    /// Data has a hyper-relation.
     pub fn step(&mut self, event: Event<'_>, outbox: &mut Outbox) -> Result<Verdict, Memory>
         // One step, from received octets to sent octets.
         ensures answered { IfOk result

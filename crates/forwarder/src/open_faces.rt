@@ -56,15 +56,15 @@ impl OpenFaces {
         self.all.len()
     }
 
-    /// Returns the open face at position `i`, counted from 0 in rising order of the numbers.
+    /// Returns the number of the open face at index `i`, in rising order of the numbers.
     pub fn get(&self, i: usize) -> Option<u64>
         ensures { result ≡ slice_get (numbers self.now) i }
     {
         self.all.get(i)
     }
 
-    /// Returns the open face at position `i`, counted from 0 in rising order of the numbers, and
-    /// its scope.
+    /// Returns the number and the scope of the open face at index `i`, in rising order of the
+    /// numbers.
     pub fn entry(&self, i: usize) -> Option<(u64, Scope)>
         ensures { result ≡ slice_get self.now i }
     {

@@ -45,7 +45,7 @@ impl Outbox {
         self.sends.is_empty()
     }
 
-    /// Returns the face and the octets of the send at `i`, counted from 0.
+    /// Returns the face and the octets of the send at index `i`.
     pub fn sent(&self, i: usize) -> Option<(u64, &[u8])>
         ensures { option_map (λ sent. (sent.0, sent.1.now)) result ≡ slice_get self.now i }
     {
@@ -60,7 +60,7 @@ impl Outbox {
         self.sends.push(face, octets)
     }
 
-    /// Removes all sends and their octets. The memory that they took stays reserved.
+    /// Removes all sends and their octets. Their memory stays reserved.
     pub fn clear(&mut self)
         ensures { self.new ≡ [] }
     {

@@ -78,7 +78,7 @@ impl State {
         }
     }
 
-    /// Drops a packet: lets time pass, and does nothing else.
+    /// Drops a packet: advances time, and does nothing else.
     pub fn drop_packet(&mut self, now: u64, reason: DropReason) -> Verdict
         ensures verdict { result ≡ said.Dropped reason }
         ensures later { IsLater (state_of self.old) now (state_of self.new) }

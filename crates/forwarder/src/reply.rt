@@ -12,8 +12,8 @@ use ndn_names::Name;
 use ndn_tlv::Memory;
 use repo_core::{RepoReply, put_repo_reply, repo_status_text};
 
-/// The most octets that a reply has in addition to its name and its Content: the headers and the
-/// signature.
+/// The greatest number of octets of a reply in addition to its name and its Content. These octets
+/// are the headers and the signature.
 const REPLY_EXTRA: usize = 77;
 
 /// Returns a number of octets that is enough for a reply of this name with a token, if its Content
@@ -37,7 +37,7 @@ pub(crate) fn put_status(out: &mut Vec<u8>, status: u16, body: &[u8]) -> Result<
     ensures ok { OnOk result (out.new.items ≡ out.old.items
         ++ response status (unwrap_or (text_of status) []) body.now) }
     ensures err { OnErr result (out.new.items ≡ out.old.items) }
-    // If there is room, this does not run out of memory.
+    // If the spare capacity is enough, memory does not run out.
     ensures room { vec_len out.old
         + length (response status (unwrap_or (text_of status) []) body.now)
         ≤ vec_capacity out.old → IsOk result }
@@ -51,7 +51,7 @@ pub(crate) fn put_repo_status(out: &mut Vec<u8>, reply: &RepoReply) -> Result<()
     ensures ok { OnOk result
         (out.new.items ≡ out.old.items ++ repository_content reply.now) }
     ensures err { OnErr result (out.new.items ≡ out.old.items) }
-    // If there is room, this does not run out of memory.
+    // If the spare capacity is enough, memory does not run out.
     ensures room { vec_len out.old + length (repository_content reply.now) ≤ vec_capacity out.old
         → IsOk result }
 {

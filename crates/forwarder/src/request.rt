@@ -24,7 +24,7 @@ pub(crate) enum ListKind {
 #[derive(Clone, Copy, Debug, PartialEq, Eq)]
 pub(crate) struct ListAsked {
     pub kind: ListKind,
-    /// The version of the list, if the request names one.
+    /// The version of the list, if the request has one.
     pub version: Option<u64>,
     /// The number of the segment, counted from 0.
     pub segment: u64,
@@ -126,8 +126,9 @@ fn numbered(kind: u16, component: Component<'_>) -> Option<u64>
     }
 }
 
-/// Returns what the components after a list's name ask for. With CanBePrefix, no component or a
-/// version asks for the first segment; a version and a segment number ask for that segment.
+/// Returns the request that the components after a list's name encode. With CanBePrefix, no
+/// components, or only a version, request the first segment. A version and a segment number request
+/// that segment.
 fn list_after(kind: ListKind, can_be_prefix: bool, name: Name<'_>) -> Option<ListAsked>
     ensures { result ≡ list_after kind can_be_prefix (drop 4 (components name.entry)) }
 {

@@ -18,8 +18,8 @@ use pit_fib::{Faces, MAX_FACES};
 use std::alloc::Global;
 use std::marker::Model;
 
-/// The most octets by which a link packet is longer than the packet in it: its headers, a token of
-/// 32 octets, and a Nack with its reason.
+/// The greatest number of octets by which a link packet is longer than the packet in it. These
+/// octets are the headers, a token of 32 octets, and a Nack with its reason.
 pub const LINK_EXTRA: usize = 70;
 
 /// One send: the face, and the range of its octets.
@@ -80,7 +80,7 @@ impl Sends {
         self.places.is_empty()
     }
 
-    /// Returns the face and the octets of the send at `i`, counted from 0.
+    /// Returns the face and the octets of the send at index `i`.
     pub fn sent(&self, i: usize) -> Option<(u64, &[u8])>
         ensures { option_map (λ sent. (sent.0, sent.1.now)) result ≡ slice_get self.now.sends i }
     {
@@ -88,7 +88,7 @@ impl Sends {
         Some((sent.face, &self.octets[sent.start..sent.end]))
     }
 
-    /// Removes all sends and their octets. The memory that they took stays reserved.
+    /// Removes all sends and their octets. Their memory stays reserved.
     pub fn clear(&mut self)
         ensures sends { self.new.sends ≡ [] }
         ensures places { self.old.places + length self.old.sends ≤ self.new.places }
@@ -116,10 +116,10 @@ impl Sends {
     pub fn push(&mut self, face: u64, octets: &[u8]) -> Result<(), Memory>
         ensures ok { OnOk result (self.new.sends ≡ self.old.sends ++ (face, octets.now) ∷ []) }
         ensures err { OnErr result (self.new.sends ≡ self.old.sends) }
-        // If there is room, this does not run out of memory.
+        // If enough memory is reserved, memory does not run out.
         ensures promised { 1 ≤ self.old.places → length octets.now ≤ self.old.space
             → IsOk result }
-        // At most the room of this send is used up.
+        // This uses up at most the reserved memory for one send.
         ensures room { self.old.places ≤ self.new.places + 1 }
         ensures space { self.old.space ≤ self.new.space + length octets.now }
     {
@@ -130,7 +130,7 @@ impl Sends {
         Ok(())
     }
 
-    /// Adds a packet that is sent back to a face that asked, with the token of the face's Interest.
+    /// Adds a packet that is sent back to the face of an Interest, with the token of that Interest.
     pub fn push_back(
         &mut self,
         face: u64,
@@ -141,17 +141,18 @@ impl Sends {
         ensures ok { OnOk result (self.new.sends ≡ self.old.sends
             ++ sent_back face (token_of token.entry) packet.now ∷ []) }
         ensures err { OnErr result (self.new.sends ≡ self.old.sends) }
-        // If there is room, this does not run out of memory.
+        // If enough memory is reserved, memory does not run out.
         ensures promised { 1 ≤ self.old.places → length packet.now + LINK_EXTRA ≤ self.old.space
             → IsOk result }
-        // At most the room of this send is used up.
+        // This uses up at most the reserved memory for one send.
         ensures room { self.old.places ≤ self.new.places + 1 }
         ensures space { self.old.space ≤ self.new.space + (length packet.now + LINK_EXTRA) }
     {
         self.push_lp(face, token, None, packet)
     }
 
-    /// Adds a Nack of this reason around the octets of an Interest, with the Interest's token.
+    /// Adds a Nack with this reason, which contains the octets of an Interest and has the
+    /// Interest's token.
     pub fn push_nack(
         &mut self,
         face: u64,
@@ -163,18 +164,18 @@ impl Sends {
         ensures ok { OnOk result (self.new.sends ≡ self.old.sends
             ++ nacked_back face (token_of token.entry) reason interest.now ∷ []) }
         ensures err { OnErr result (self.new.sends ≡ self.old.sends) }
-        // If there is room, this does not run out of memory.
+        // If enough memory is reserved, memory does not run out.
         ensures promised { 1 ≤ self.old.places → length interest.now + LINK_EXTRA ≤ self.old.space
             → IsOk result }
-        // At most the room of this send is used up.
+        // This uses up at most the reserved memory for one send.
         ensures room { self.old.places ≤ self.new.places + 1 }
         ensures space { self.old.space ≤ self.new.space + (length interest.now + LINK_EXTRA) }
     {
         self.push_lp(face, token, Some(reason), interest)
     }
 
-    /// Adds a packet in a link packet with a token, a Nack of a reason, or both (NDNLPv2, "Packet
-    /// Format"). Without a token and a Nack, the packet is sent bare.
+    /// Adds a packet in a link packet with a token, a Nack with a reason, or both (NDNLPv2, "Packet
+    /// Format"). If there is neither a token nor a Nack, the packet is sent without a link packet.
     fn push_lp(
         &mut self,
         face: u64,
@@ -211,11 +212,11 @@ impl Sends {
         ensures ok { OnOk result (self.new.sends ≡ self.old.sends ++ sent_back face
             (token_of token.entry) (reply_text (components name.entry) content.now) ∷ []) }
         ensures err { OnErr result (self.new.sends ≡ self.old.sends) }
-        // If there is room, this does not run out of memory.
+        // If enough memory is reserved, memory does not run out.
         ensures promised { 1 ≤ self.old.places
             → length (reply_text (components name.entry) content.now) + LINK_EXTRA
             ≤ self.old.space → IsOk result }
-        // At most the room of this send is used up.
+        // This uses up at most the reserved memory for one send.
         ensures room { self.old.places ≤ self.new.places + 1 }
         ensures space { self.old.space ≤ self.new.space
             + (length (reply_text (components name.entry) content.now) + LINK_EXTRA) }
@@ -233,7 +234,7 @@ impl Sends {
         ensures ok { OnOk result
             (self.new.sends ≡ self.old.sends ++ to_each faces.now octets.now) }
         ensures err { OnErr result (self.new.sends ≡ self.old.sends) }
-        // If there is room, this does not run out of memory.
+        // If enough memory is reserved, memory does not run out.
         ensures promised { length faces.now ≤ self.old.places → length octets.now ≤ self.old.space
             → IsOk result }
     {
@@ -248,14 +249,15 @@ impl Sends {
         Ok(())
     }
 
-    /// Adds an Interest as it is sent on to each face: its HopLimit, if it has one, is decremented,
-    /// and nothing else changes. The octets are stored once, or not at all if there is no face.
+    /// Adds an Interest as it is forwarded to each face: its HopLimit, if it has one, is
+    /// decremented, and nothing else changes. The octets are stored once, or not at all if there is
+    /// no face.
     pub fn push_interest(&mut self, faces: &Faces, interest: &Interest<'_>) -> Result<(), Memory>
         requires hops { interest.now.hop_limit ≢ Some 0 }
         ensures ok { OnOk result (self.new.sends ≡ self.old.sends
             ++ to_each faces.now (sent_on interest.now.whole.now interest.now.hop_limit)) }
         ensures err { OnErr result (self.new.sends ≡ self.old.sends) }
-        // If there is room, this does not run out of memory.
+        // If enough memory is reserved, memory does not run out.
         ensures promised { length faces.now ≤ self.old.places
             → length interest.now.whole.now ≤ self.old.space → IsOk result }
     {
@@ -270,17 +272,17 @@ impl Sends {
         Ok(())
     }
 
-    /// Adds an Interest of the node itself to each face, or nothing if the Interest cannot be
-    /// written. Its octets are stored once, or not at all if there is no face.
+    /// Adds a send of an Interest of the node itself to each face, or nothing if the Interest
+    /// cannot be encoded. The octets are stored once, or not at all if there is no face.
     pub fn push_fetch(&mut self, faces: &Faces, interest: &InterestWriter<'_>) -> Result<(), Memory>
         ensures ok { OnOk result
             (self.new.sends ≡ self.old.sends ++ fetched faces.now interest.now) }
         ensures err { OnErr result (self.new.sends ≡ self.old.sends) }
-        // If there is room, this does not run out of memory.
+        // If enough memory is reserved, memory does not run out.
         ensures promised { length faces.now ≤ self.old.places
             → (interest_refusal interest.now ≡ None
             → length (interest_text interest.now) ≤ self.old.space) → IsOk result }
-        // No list of faces is longer than this.
+        // A list of faces has at most `MAX_FACES` faces.
         ensures few { length faces.now ≤ MAX_FACES }
     {
         let count = faces.len();
@@ -296,7 +298,7 @@ impl Sends {
     }
 }
 
-/// Adds one send of the octets from `start` to `end`. There is room for it.
+/// Adds one send of the octets from `start` to `end`. Memory for the send is already reserved.
 fn place(places: &mut Vec<Sent>, face: u64, start: usize, end: usize) -> Result<(), Memory>
     requires { vec_len places.old < vec_capacity places.old }
     ensures ok { IsOk result }
@@ -308,7 +310,8 @@ fn place(places: &mut Vec<Sent>, face: u64, start: usize, end: usize) -> Result<
     Ok(())
 }
 
-/// Adds a send of the octets from `start` to `end` to each face. There is room for these sends.
+/// Adds a send of the octets from `start` to `end` to each face. Memory for these sends is already
+/// reserved.
 fn place_each(places: &mut Vec<Sent>, faces: &Faces, start: usize, end: usize) -> Result<(), Memory>
     requires { vec_len places.old + length faces.now ≤ vec_capacity places.old }
     ensures ok { IsOk result }
@@ -362,7 +365,7 @@ fn written(done: Result<(), WriteFault>) -> Result<bool, Memory>
     }
 }
 
-/// Appends an Interest as it is sent on, or nothing if memory runs out.
+/// Appends an Interest as it is forwarded, or nothing if memory runs out.
 fn put_sent_on(out: &mut Vec<u8>, interest: &Interest<'_>) -> Result<(), Memory>
     requires hops { interest.now.hop_limit ≢ Some 0 }
     ensures ok { OnOk result (out.new.items

@@ -30,8 +30,8 @@ pub struct State {
 }
 
 impl State {
-    /// Advances time to `moment`, if it is later than the moments so far; what is due expires. What
-    /// was prepared stays prepared.
+    /// Advances time to `moment`, if `moment` is later than all earlier moments, and removes the
+    /// records, routes and wants that have expired. Preparations remain valid.
     pub fn pass_time(&mut self, moment: u64)
         ensures later { IsLater (state_of self.old) moment (state_of self.new) }
         ensures pit { self.new.pit.prepared ≡ self.old.pit.prepared }
@@ -48,7 +48,7 @@ impl State {
         self.repo.expire(self.now);
     }
 
-    /// Gives the lists their next version, at most the greatest u64.
+    /// Increases the version of the lists by 1, up to the greatest u64.
     pub fn next_version(&mut self)
         ensures { self.new
             ≡ record self.old { table_number = min (self.old.table_number + 1) (2 ^ 64 - 1) } }

@@ -15,7 +15,7 @@ pub enum Verdict {
     Denied(Kind, RuleNo, Reason),
     /// No rule applies to the command or Data, which is denied.
     NoRule(Kind),
-    /// The event had no effect beyond that of its moment.
+    /// The event had no effect, except that time advanced to its moment.
     Dropped(DropReason),
 }
 
@@ -26,7 +26,7 @@ pub enum DropReason {
     NoFace,
     /// The octets are not a packet.
     Malformed(PacketFault),
-    /// The octets are a link packet that holds no packet.
+    /// The octets are a link packet that contains no packet.
     Idle,
     /// The HopLimit of the Interest is 0.
     HopLimit,
@@ -34,9 +34,9 @@ pub enum DropReason {
     Scope,
     /// The Interest came back: its Nonce is already known. A Nack was sent to the face.
     Loop,
-    /// Interests of 4,096 keys are pending.
+    /// The PIT is full: Interests of 4,096 keys are pending.
     PitFull,
-    /// The Nack is for an Interest that is not known to have been sent to this face.
+    /// No Interest with the Nack's key and Nonce is recorded as sent to this face.
     NoPending,
     /// The list has no such segment, or has another version.
     NoSegment,
