@@ -1,4 +1,4 @@
--- The first events of a journal are the journal of a beginning of the run.
+-- The first events of a run's journal are the journal of a prefix of the run.
 use Rattle.std.proofs.Common.{◌≡◌, inl, inr, Bool, true, false, List, [], ◌∷◌, ◌++◌, length, length-append, arith, refl, sym, ap, subst, ◌∙◌}
 use Rattle.std.proofs.lemmas.List.{append-nil}
 use Rattle.std.specs.Prelude.{max}
@@ -13,7 +13,7 @@ pub whole_begins : (past : Run) → IsBeginningOf past past
 whole_begins Start = refl
 whole_begins (Then before event answer) = inl refl
 
--- `left` is a beginning of the journal without its last event
+-- `left` is a prefix of the journal without the journal's last event
 pub record Fewer (left earlier : List PlainEvent) : Type 0 where
   pub rest : List PlainEvent
   pub is : earlier ≡ left ++ rest

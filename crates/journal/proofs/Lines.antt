@@ -1,4 +1,4 @@
--- Whole lines, and an unfinished line after them, have one reading.
+-- Whole lines, and an unfinished line after them, can be read in only one way.
 use Rattle.std.proofs.Common.{◌≡◌, inl, inr, ℕ, List, [], ◌∷◌, ◌++◌, append_assoc, arith, refl, sym, ap, subst, ◌∙◌}
 use Rattle.std.proofs.lemmas.List.{append-nil}
 use Rattle.forwarder.specs.Event.{PlainEvent}

@@ -38,16 +38,16 @@ is_journalled_undecided p (FaceDown face now) = is_open face p.faces
 is_journalled_undecided p (Tick now) = false
 is_journalled_undecided p (NewRules rules keys now) = true
 
--- `chosen` tells whether the event is journalled, by the policy at the event's time
+-- `chosen` tells whether the event is journalled, given the policy at the event's time
 abbrev pub IsChosen : Policy → PlainEvent → Bool → Option PlainFrame → Type 0
 IsChosen p event chosen None = chosen ≡ is_journalled_undecided p event
 IsChosen p event chosen (Some packet) =
     (decision : Decision) × IsDecidedAs p packet decision
     × (chosen ≡ is_journalled_as p packet decision)
 
--- `chosen` tells whether the event is journalled, by the policy before it. If the keys of the
--- policy have different names, each packet has one decision, so the policy and the event determine
--- `chosen`.
+-- `chosen` tells whether the event is journalled, given the policy before the event. If the keys of
+-- the policy have different names, each packet has one decision, so the policy and the event
+-- determine `chosen`.
 abbrev pub IsJournalled : Policy → PlainEvent → Bool → Type 0
 IsJournalled old event chosen =
     let p = at_moment old (moment event) in
@@ -89,20 +89,21 @@ abbrev pub events_of : Run → List PlainEvent
 events_of Start = []
 events_of (Then before event answer) = events_of before ++ (event ∷ [])
 
--- From the time `now` on, the two policies are the same. Before it they may differ in their time
--- and in what expires by then: wants, and routes with their count in the version of the lists.
+-- From the time `now` on, the two policies are the same. Before `now`, they may differ in their
+-- time, in the wants and routes that expire by `now`, and in how many of these routes the version
+-- of the lists counts.
 abbrev pub AreOneFrom : ℕ → Policy → Policy → Type 0
 AreOneFrom now p q = (m : ℕ) → now ≤ m → at_moment p m ≡ at_moment q m
 
--- the first run is a beginning of the other run, or equal to it
+-- the first run is a prefix of the second run, or equal to the second run
 abbrev pub IsBeginningOf : Run → Run → Type 0
 IsBeginningOf part Start = part ≡ Start
 IsBeginningOf part (Then before event answer) =
     (part ≡ Then before event answer) ⊎ IsBeginningOf part before
 
--- The events `left` are the journal of a beginning of the run, called `part`. Each shorter
--- beginning whose whole journal is left is a beginning of `part`. Replaying `left` from the first
--- policy leads to the policy of `part`.
+-- The events `left` are the journal of a prefix of the run, called `part`. Each shorter prefix of
+-- the run whose whole journal is left is a prefix of `part`. Replaying `left` from the first policy
+-- leads to the policy of `part`.
 pub record KeepsBeginning (first : Policy) (past : Run) (left : List PlainEvent) : Type 0 where
   pub part : Run
   pub policy : Policy

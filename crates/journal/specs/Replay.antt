@@ -27,7 +27,8 @@ pub record Plays (lines : List (List ℕ)) (events : List PlainEvent)
   pub goes_on : ExtendsRuns old events (map Answered answers) new
 
 -- Everything was read: whole lines, whose events were answered, and then octets without an LF,
--- which were ignored. If the reader's octets were known, they were these, and none are left.
+-- which were ignored. If the reader's octets were known, they were exactly these octets, and no
+-- octets remain.
 pub record Replays (old new : NodeState) (unread left : Option (List ℕ))
     (done : Replayed) : Type 0 where
   pub lines : List (List ℕ)
@@ -58,9 +59,10 @@ StopsReplay old new unread left fault.Memory =
     × Consumes unread left (joined lines ++ rest)
 
 -- What a replay restores, if a crash left these octets of the text of a run's journal: the policy
--- of a beginning of the run. That beginning includes each shorter one whose whole text is left.
--- From the beginning's last time on, the node has its policy. The node agrees with a run whose
--- journal's text is the whole lines, so lines that are appended after them continue that journal.
+-- of a prefix of the run. That prefix includes each shorter prefix whose whole text is left. From
+-- the prefix's last time on, the node has the policy of the prefix. The node agrees with a run
+-- whose journal's text is the whole lines, so lines that are appended after them continue that
+-- journal.
 pub record Restores (first : Policy) (past : Run) (left : List ℕ) (done : Replayed)
     (new : NodeState) : Type 0 where
   pub survives : Survives first past left

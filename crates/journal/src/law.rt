@@ -67,9 +67,9 @@ pub fn journals_are_one()
         → IsJournalOf first past a → IsJournalOf first past b → a ≡ b }
 {}
 
-/// Law: replaying the events of a run's journal from the first policy leads to the run's policy,
-/// from the run's last time on. The replayed run has the same journal, so the run can be continued
-/// after the replay.
+/// Law: replaying the events of a run's journal from the first policy leads to a policy that is the
+/// run's policy from the run's last time on. The replayed run has the same journal, so the run can
+/// be continued after the replay.
 pub fn journals_keep_policy()
     ensures policy { (first p q : Policy) (past again : Run) (journal : List PlainEvent)
         → KeysAreApart first past → IsPolicyOf first past p → IsJournalOf first past journal
@@ -97,15 +97,16 @@ pub fn rules_at_the_start_are_the_first()
 {}
 
 /// Law: if a crash leaves only the first events of a run's journal, these events are the journal of
-/// a beginning of the run and lead to the policy of that beginning. That beginning includes each
-/// shorter one whose whole journal is left.
+/// a prefix of the run and lead to the policy of that prefix. That prefix includes each shorter
+/// prefix whose whole journal is left.
 pub fn crashes_leave_a_beginning()
     ensures { (first p : Policy) (past : Run) (journal left lost : List PlainEvent)
         → KeysAreApart first past → IsPolicyOf first past p → IsJournalOf first past journal
         → journal ≡ left ++ lost → KeepsBeginning first past left }
 {}
 
-/// Law: the text that a crash may leave of a journal has one reading: its whole lines as a script.
+/// Law: a text that a crash may leave of a journal can be read in only one way: its whole lines are
+/// read as a script.
 pub fn journal_texts_have_one_reading()
     ensures script { (text : List ℕ) (events : List PlainEvent) → IsCutTextOf events text
         → IsScriptSoFar text events }
@@ -113,9 +114,9 @@ pub fn journal_texts_have_one_reading()
         → IsScriptSoFar text b → a ≡ b }
 {}
 
-/// Law: for each prefix of the text of a run's journal, its whole lines are the journal of a
-/// beginning of the run. If `synced` is `None`, as for a file of the operating system, the content
-/// after a crash is not specified.
+/// Law: the whole lines of each prefix of the text of a run's journal are the journal of a prefix
+/// of the run. If `synced` is `None`, as for a file of the operating system, the content after a
+/// crash is not specified.
 pub fn journals_survive_crashes()
     ensures { (first p : Policy) (past : Run) (journal : List PlainEvent) (text left lost : List ℕ)
         → KeysAreApart first past → IsPolicyOf first past p → IsJournalOf first past journal

@@ -8,7 +8,7 @@ use Rattle.ndn_packets.specs.declared.types.TheConstants.{CONGESTION, DUPLICATE,
 use Rattle.ndn_packets.specs.Packet.{PlainLocator, Missing, KeyName, Digest, Other, PlainSignature, PlainFrame, AnInterest, AData, ANack, Idle}
 use Rattle.ndn_packets.specs.FrameReading.{frame_at}
 
--- the frame in the octets, if they are a frame
+-- the frame that the octets encode, if they encode one
 abbrev pub frame_in : List ℕ → Option PlainFrame
 frame_in octets = result_ok (frame_at octets)
 

@@ -5,8 +5,8 @@ use Rattle.jiff.specs.Types.{DateTime}
 use Rattle.jiff.specs.Words.{civil_nanos, datetime_text}
 use Rattle.ndn_log.specs.declared.time.TheConstants.{LAST_DATED}
 
--- the date and time in UTC this many nanoseconds after 1970, with three digits of the fraction of a
--- second, as in `2026-11-27T22:10:00.123Z`
+-- the text of the date and time in UTC that is this many nanoseconds after the start of 1970, with
+-- three digits of the fraction of a second, as in `2026-11-27T22:10:00.123Z`
 abbrev pub IsDateText : ℤ → List ℕ → Type 0
 IsDateText nanosecond text =
     (shown : DateTime) × (civil_nanos shown ≡ nanosecond)

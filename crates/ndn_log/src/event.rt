@@ -16,9 +16,9 @@ use ndn_packets::Frame;
 use ndn_tlv::Memory;
 use std::alloc::Global;
 
-/// Appends the line of an event: its time, the face with its endpoint, what happened with the
-/// packet's name, the verdict by the rules in force, and the octets of a dropped packet. If memory
-/// runs out, nothing is appended.
+/// Appends the line of an event: its time, the face with its endpoint, what happened, the packet's
+/// name, the verdict with the rules in force, and the octets of a dropped packet. If memory runs
+/// out, nothing is appended.
 pub fn put_event(
     alloc: Global,
     text: &mut Vec<u8>,

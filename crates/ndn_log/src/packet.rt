@@ -12,7 +12,7 @@ use ndn_packets::{CONGESTION, DUPLICATE, Frame, Locator, NO_ROUTE, Signature, re
 use ndn_tlv::Memory;
 use std::io::Write;
 
-/// Returns the frame in the octets, if they are a frame.
+/// Returns the frame that the octets encode, if they encode one.
 pub fn frame_in(octets: &[u8]) -> Option<Frame<'_>>
     ensures { option_map plain_frame result ≡ frame_in octets.now }
 {

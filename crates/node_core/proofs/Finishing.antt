@@ -42,13 +42,15 @@ pub made_of_good_parts : {N : Type 0} (P : Type 0) (Q : NodeFault → Type 0) (w
 made_of_good_parts P Q None made node is h p = p
 made_of_good_parts P Q (Some f) made node is h p = let other : Ok node ≡ Err f = sym is ∙ h in absurd cc
 
--- a fact about the octets that were read, whatever follows them, holds for known octets
+-- if a property is true of the octets that were read, whatever octets follow them, it is true of
+-- the unread octets of the reader, if these are known
 known_text : (unread left : Option (List ℕ)) (P : List ℕ → Type 0) (front : List ℕ) → Consumes unread left front → ((more : List ℕ) → P (front ++ more)) → IfSome unread P
 known_text None left P front h k = tt
 known_text (Some xs) None P front h k = absurd h
 known_text (Some xs) (Some ys) P front h k = subst P (sym h) (k ys)
 
--- a fact about all octets up to the end holds for known octets
+-- if a property is true of all octets up to the end, it is true of the unread octets of the reader,
+-- if these are known
 known_end : (unread left : Option (List ℕ)) (P : List ℕ → Type 0) (front : List ℕ) → Consumes unread left front → IsAtEnd left → P front → IfSome unread P
 known_end None left P front h e k = tt
 known_end (Some xs) None P front h e k = absurd h
@@ -174,13 +176,13 @@ module _ (first : NodeState) (fresh : IsNew first) where
       Stops-from_feed fault.Memory unread unread held held [] (Consumes-start unread)
       ([], start first, [], [], Plays-none (start first), AppendsFront-all held held [] (Appends-start held), refl)
 
-  -- the fault of a chunk
+  -- a run that stops with the fault of a chunk
   pub Stops-chunk : (f : RunFault) (unread left held holds new : Option (List ℕ)) (front chunk : List ℕ) (mid : Place) (line : List ℕ) → Fed front (start first) mid line [] held holds
       → Consumes unread left (front ++ chunk) → FeedStops f (line ++ chunk) mid holds new → Stops first f unread left held new
   Stops-chunk f unread left held holds new front chunk mid line fed read h =
       Stops-from_feed f unread left held new (front ++ chunk) read (FeedStops-after f front chunk (start first) mid line held holds new fed h)
 
-  -- the fault of a read
+  -- a run that stops with the fault of a read
   pub Stops-read : (unread left held holds : Option (List ℕ)) (front : List ℕ) (mid : Place) (line : List ℕ) → Fed front (start first) mid line [] held holds
       → Consumes unread left front → Lacks 10 line → Stops first fault.Read unread left held holds
   Stops-read unread left held holds front mid line fed read lacks = (
@@ -193,7 +195,7 @@ module _ (first : NodeState) (fresh : IsNew first) where
     (fed.lines, line, fed.plays.are_lines, lacks, fed.stream_is ∙ ap (λ (t : List ℕ). joined fed.lines ++ t) (append-nil line), fed.plays.say),
   )
 
-  -- the fault of the last line
+  -- a run that stops with the fault of the last line
   pub Stops-last : (f : RunFault) (unread left held holds new : Option (List ℕ)) (front : List ℕ) (mid : Place) (line : List ℕ) → Fed front (start first) mid line [] held holds
       → Consumes unread left front → IsAtEnd left → Lacks 10 line → LineStops f line mid holds new → Stops first f unread left held new
   Stops-last (fault.BadLine n) unread left held holds new front mid line fed read end lacks h =

@@ -11,7 +11,7 @@ use Rattle.std.proofs.lemmas.Slice.Eq.{slice_eq-Decides}
 use Rattle.std.proofs.lemmas.Bool.Decides.{Decides-eqb}
 use Rattle.node_core.specs.Script.Line.{Lacks}
 
--- if no index has the octet, the text lacks it
+-- if the octet is at no index of a text, the text lacks the octet
 pub Lacks-from_places : (octet : ℕ) (text : List ℕ) → ((k : ℕ) → k < length text → get_or text k 0 ≡ octet → ⊥) → Lacks octet text
 Lacks-from_places octet [] h = tt
 Lacks-from_places octet (o ∷ text) h =
@@ -72,7 +72,7 @@ cut_twice_once octet a b c d e f la lb ld le h =
     let two = cut_once octet b c e f lb le one.back in
     record { first = one.front; second = two.front; third = two.back }
 
--- a test for literals: the text does not contain the octet
+-- a Boolean test, for literal texts, that the text does not contain the octet
 abbrev lacks : ℕ → List ℕ → Bool
 lacks octet text = list_all (λ o. not (o == octet)) text
 
@@ -93,11 +93,11 @@ pub full_list : (text : List ℕ) → (length text == 0) ≡ false → 0 < lengt
 full_list [] h = cc h
 full_list (o ∷ text) h = omega arith
 
--- two texts that a test found to differ
+-- two texts are different if their octet-by-octet comparison is false
 pub differ_bytes : (xs ys : List ℕ) (r : Bool) → r ≡ pointwise eqb xs ys → r ≡ false → xs ≡ ys → ⊥
 differ_bytes xs ys r h apart e = let same = (slice_eq-Decides Decides-eqb xs ys r h).1 e in cc (apart, same)
 
--- `n` octets of the remaining text are moved to the front
+-- the front of a text becomes longer by the first `n` octets of the remaining text
 pub front_longer : (whole front rest : List ℕ) (n : ℕ) → whole ≡ front ++ rest → whole ≡ (front ++ take n rest) ++ take (length rest - n) (drop n rest)
 front_longer whole front rest n e =
     e ∙ ap (λ (d : List ℕ). front ++ d) (sym (take-append-drop n rest) ∙ ap (λ (d : List ℕ). take n rest ++ d) (take_rest n rest)) ∙ sym (append_assoc front (take n rest) (take (length rest - n) (drop n rest)))

@@ -10,12 +10,13 @@ use Rattle.info_rules.specs.Tree.{PlainEntry}
 use Rattle.info_rules.specs.TreeGrammar.{TreeOf}
 use Rattle.info_rules.specs.TreeReading.{tree_in, IsTreeFaultOf}
 
--- the octets are UTF-8, and their entries mean these rules
+-- the octets are UTF-8 text whose entries define these rules
 abbrev pub AreRules : List ℕ → List PlainRule → Type 0
 AreRules octets rules =
     IsUtf8 octets × ((entries : List PlainEntry) × TreeOf octets entries × IsRuleFile entries rules)
 
--- the octets spell entries, and `why` is the fault of the entries or that memory ran out
+-- the octets are a text of entries, and `why` is the fault of the entries or reports that memory
+-- ran out
 abbrev pub IsFaultOfEntries : List ℕ → RulesFault → Type 0
 IsFaultOfEntries octets why =
     (entries : List PlainEntry) × TreeOf octets entries

@@ -84,8 +84,9 @@ pub fn run_script<R: Read, W: Write>(
     player.play(chunk.as_mut_slice(), reader, writer)
 }
 
-/// Law: a text spells at most one list of events. A text that is not a script has at most one first
-/// bad line, and at most one list of events before that line. No text is both a script and bad.
+/// Law: a text is a script of at most one list of events. A text that is not a script has at most
+/// one first bad line, and at most one list of events before that line. No text is both a script
+/// and bad.
 pub fn scripts_have_one_reading()
     ensures whole { (text : List ℕ) (a b : List PlainEvent) → IsScript text a → IsScript text b
         → a ≡ b }

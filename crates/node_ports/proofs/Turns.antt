@@ -23,7 +23,7 @@ use Rattle.node_ports.specs.Ports.{Gives, Takes, count_of, cut_to, one_more}
 use Rattle.node_ports.specs.Serving.{Shown, HasEnded, GivesAll, AreSendsTaken, count_after, sends_of, all_sends, refused_count, HasFront, KeepsJournal, Handles, EndsNext, Serves}
 use Rattle.node_core.proofs.Outcomes.{AreOutcomes-append, goes_on_from}
 
--- ---- the packets that were taken
+-- ---- the packets that were accepted
 
 pub AreSendsTaken-append : (a b : List Send) (m n : ℕ) (x y : List Send) → AreSendsTaken a m x → AreSendsTaken b n y → AreSendsTaken (a ++ b) (m + n) (x ++ y)
 AreSendsTaken-append [] b m n x y h k =

@@ -1,4 +1,4 @@
--- The endpoints that have faces, and what is done with a datagram: it is given on its endpoint's
+-- The endpoints that have faces, and what is done with a datagram: it arrives on its endpoint's
 -- face, a face opens for its endpoint, or another face closes first.
 use Rattle.std.specs.Prelude.{◌≡◌, ℕ, ◌+◌, ◌-◌, ◌<◌, ◌≤◌, ◌⊎◌, ◌==◌, List, [], ◌∷◌, ◌++◌, All, find, length, option_map, position, remove, slice_get, unwrap_or, Option, None, Some, if◌then◌else◌}
 use Rattle.std.specs.Option.{option_or}
@@ -16,7 +16,7 @@ use Rattle.node_ports.specs.Ports.{one_more}
 abbrev pub known_count : KnownEndpoints → ℕ
 known_count endpoints = length endpoints.peers + length endpoints.clients.rows
 
--- the endpoint of a peer's face; the number of the face is the peer's position, counted from 1
+-- the endpoint of a peer's face; the faces of the peers have the numbers 1, 2 and so on
 abbrev pub peer_at : List SocketAddr → ℕ → Option SocketAddr
 peer_at peers face = if face == 0 then None else slice_get peers (face - 1)
 
@@ -30,13 +30,13 @@ endpoint_at endpoints face = option_or (peer_at endpoints.peers face)
 abbrev pub peer_place : SocketAddr → KnownEndpoints → Option ℕ
 peer_place endpoint endpoints = position (is_at endpoint) endpoints.peers
 
--- the known endpoints with these clients in place of the others
+-- the known endpoints with the clients replaced by these clients
 abbrev pub with_clients : KnownEndpoints → List Client → KnownEndpoints
 with_clients endpoints rows =
     record endpoints { clients = record endpoints.clients { rows = rows } }
 
--- The endpoint has this face. A peer's face is the peer's position, counted from 1. For a client, a
--- datagram is recorded at `now`.
+-- The endpoint has this face. The faces of the peers have the numbers 1, 2 and so on. If the
+-- endpoint is a client, a datagram from it is recorded at `now`.
 abbrev pub Knows : KnownEndpoints → KnownEndpoints → SocketAddr → ℕ → ℕ → Type 0
 Knows before after endpoint now face =
     ((place : ℕ) × (peer_place endpoint before ≡ Some place) × (face ≡ place + 1)
@@ -59,7 +59,8 @@ OpensNew before after endpoint now face =
       refused = None;
     })
 
--- No face opens for the endpoint. It gets a number, which stays the same until a face opens.
+-- No face opens for the endpoint. The endpoint gets a face number, which stays the same until a
+-- face opens.
 abbrev pub OpensNone : KnownEndpoints → KnownEndpoints → ℕ → Type 0
 OpensNone before after face =
     (face ≡ unwrap_or before.refused before.next)
@@ -85,9 +86,10 @@ NoneGivesWay before now =
 
 -- What is done with a datagram from `endpoint`. If a client is idle, the face of the client that
 -- has been silent longest closes, whatever the endpoint; the datagram is recorded if its endpoint
--- is a client that is not idle. If no client is idle, the datagram is given on the face of its
+-- is a client that is not idle. If no client is idle, the datagram arrives on the face of its
 -- endpoint. If the endpoint has no face and fewer than 64 endpoints are known, a face opens. If 64
--- are known, a face that gives way closes, and without such a face no face opens.
+-- are known, the face of a client that gives way (`GivesWay`) closes; if no client gives way, no
+-- face opens.
 abbrev pub Meets : KnownEndpoints → KnownEndpoints → SocketAddr → ℕ → Met → Type 0
 Meets before after endpoint now (Face face) =
     NoneIsIdle before now × Knows before after endpoint now face

@@ -11,8 +11,9 @@ plain_arrival (owned.FaceDown face now) = FaceDown face now
 plain_arrival (owned.Tick now) = Tick now
 plain_arrival (owned.NewRules renewal now) = NewRules renewal.rules renewal.keys now
 
--- the events still to come, the packets that were taken, and the number of failed calls; for each
--- kind of call, the number of the call that is told to fail, counted from 1, or 0 for none
+-- The events that have not yet arrived, the packets that were accepted, and the number of failed
+-- calls. For each kind of call, the number of the call that is told to fail, where the next call
+-- has number 1, or 0 if no call is told to fail.
 pub record MemoryState : Type 0 where
   pub events : List PlainEvent
   pub sent : List Send

@@ -1,10 +1,10 @@
--- What a port gives and takes.
+-- The arrivals that a port returns, and the packets that it accepts.
 use Rattle.std.specs.Prelude.{◌≡◌, ℕ, ◌+◌, ◌-◌, ◌^◌, ◌≤◌, min, List, [], ◌∷◌, ◌++◌, take, Option, None, Some, ⊤}
 use Rattle.node_ports.specs.declared.ports.Arrival.{Arrival}
 use Rattle.node_ports.specs.declared.ports.Arrival.TheVariants as code
 use Rattle.forwarder.specs.Event.{PlainEvent, Packet, FaceUp, FaceDown, Tick, NewRules, Send}
 
--- the packet of the arrival lies within a buffer of this size
+-- the packet of the arrival is at most as long as a buffer of this size
 abbrev pub LiesWithin : ℕ → Arrival → Type 0
 LiesWithin size code.End = ⊤
 LiesWithin size (code.Packet face now len) = len ≤ size
@@ -30,8 +30,8 @@ cut_to size (FaceDown face now) = FaceDown face now
 cut_to size (Tick now) = Tick now
 cut_to size (NewRules rules keys now) = NewRules rules keys now
 
--- The first event to come was given, truncated to this size, or there was no event to come. Nothing
--- is claimed of the event if the events to come are not known.
+-- The first of the events to come arrived, truncated to this size, or there was no event to come.
+-- If the events to come are not known, nothing is claimed of the event.
 abbrev pub Gives : Option (List PlainEvent) → Option (List PlainEvent) → ℕ → Option PlainEvent
     → Type 0
 Gives None new size event = new ≡ None
@@ -39,7 +39,7 @@ Gives (Some []) new size event = (event ≡ None) × (new ≡ Some [])
 Gives (Some (first ∷ rest)) new size event =
     (event ≡ Some (cut_to size first)) × (new ≡ Some rest)
 
--- these packets were taken as well, if it is known which packets were taken
+-- these packets were added to the accepted packets, if the accepted packets are known
 abbrev pub Takes : Option (List Send) → Option (List Send) → List Send → Type 0
 Takes None new sends = new ≡ None
 Takes (Some old) new sends = new ≡ Some (old ++ sends)
@@ -48,6 +48,6 @@ Takes (Some old) new sends = new ≡ Some (old ++ sends)
 abbrev pub count_of : ℕ → ℕ
 count_of n = min n (2 ^ 64 - 1)
 
--- the count after one more, at most the greatest u64
+-- the count plus 1, at most the greatest u64
 abbrev pub one_more : ℕ → ℕ
 one_more n = count_of (n + 1)

@@ -1,5 +1,5 @@
--- Turns of a node at a port: the events that arrived, their outcomes, and the packets that were
--- taken.
+-- Turns of a node at a port: the events that arrived, their outcomes, and the packets that the port
+-- accepted.
 use Rattle.std.specs.Prelude.{◌≡◌, ℕ, zero, suc, ◌+◌, ◌<◌, ◌⊎◌, Bool, true, false, Option, None, Some, List, [], ◌∷◌, ◌++◌, length, map, ⊤}
 use Rattle.std.specs.List.{flat_map}
 use Rattle.node_ports.specs.declared.serving.ServeFault.{ServeFault}
@@ -17,8 +17,8 @@ use Rattle.forwarder.specs.Verdict.{Answer, verdict_of}
 use Rattle.journal.specs.Journal.{IsJournalOf}
 use Rattle.journal.specs.Text.{IsTextOf}
 
--- the visible state of a port: the number of failed calls and, if they are known, the events still
--- to come, the packets that were taken, and the octets of the journal
+-- the visible state of a port: the number of failed calls and, if they are known, the events that
+-- have not yet arrived, the packets that were accepted, and the octets of the journal
 pub record Shown : Type 0 where
   pub failures : ℕ
   pub coming : Option (List PlainEvent)
@@ -29,7 +29,7 @@ abbrev pub shown : ℕ → Option (List PlainEvent) → Option (List Send) → O
 shown failures coming taken journal =
     record { failures = failures; coming = coming; taken = taken; journal = journal }
 
--- no events are still to come, if the events to come are known
+-- if the events to come are known, there are none
 abbrev pub HasEnded : Option (List PlainEvent) → Type 0
 HasEnded None = ⊤
 HasEnded (Some events) = events ≡ []
@@ -43,7 +43,7 @@ GivesAll (Some old) new size events =
     (came left : List PlainEvent) × (old ≡ came ++ left) × (events ≡ map (cut_to size) came)
     × (new ≡ Some left)
 
--- `taken` is all the sends in order, except `failed` of them
+-- `taken` is the list of sends in order, without `failed` of them
 abbrev pub AreSendsTaken : List Send → ℕ → List Send → Type 0
 AreSendsTaken [] failed taken = (failed ≡ 0) × (taken ≡ [])
 AreSendsTaken (sent ∷ sends) failed taken =

@@ -1,4 +1,4 @@
--- The state of UDP ports and the arrivals that they give. The behavior of a socket is not
+-- The state of UDP ports and the arrivals that they return. The behavior of a socket is not
 -- specified.
 use Rattle.std.specs.Prelude.{◌≡◌, ◌≢◌, ℕ, ◌+◌, ◌<◌, ◌≤◌, ◌==◌, ◌⊎◌, Bool, true, List, [], length, position, take, Option, None, Some, nat_le, if◌then◌else◌}
 use Rattle.std.specs.declared.net.socket_addr.SocketAddr.{SocketAddr}
@@ -15,7 +15,7 @@ use Rattle.node_ports.specs.Clients.{MayHear}
 use Rattle.node_ports.specs.KnownEndpoints.{Meets, with_clients}
 use Rattle.node_ports.specs.Ports.{one_more}
 
--- a datagram that was received and not yet given
+-- a datagram that was received, but whose arrival was not yet returned
 pub record Datagram : Type 0 where
   pub endpoint : SocketAddr
   -- the face that the datagram is for, or None if that is not yet decided
@@ -92,8 +92,8 @@ OpensPeer before after (FaceDown face now) = ⊥
 OpensPeer before after (Tick now) = ⊥
 OpensPeer before after (NewRules renewal now) = ⊥
 
--- The datagram that waited for its face is given unchanged, except that it is truncated to the
--- buffer, in the turn after the opening.
+-- In the turn after the opening of its face, the waiting datagram arrives on that face. It is
+-- unchanged, except that it is truncated to the buffer.
 abbrev pub GivesWaiting : UdpState → UdpState → List ℕ → Arrival → Type 0
 GivesWaiting before after buffer (Packet face now len) =
     (endpoint : SocketAddr) × (octets : List ℕ) × (rows : List Client) × HasOpened before
@@ -119,8 +119,8 @@ kept endpoint face datagram = record {
   octets = take FRAME_ROOM datagram;
 }
 
--- A datagram from this endpoint is given on its face. Or it waits while a face opens for its
--- endpoint, or while another face closes first.
+-- A datagram from this endpoint arrives on the endpoint's face. Or the datagram waits while a face
+-- opens for the endpoint, or while another face closes first.
 abbrev pub Brings : UdpState → UdpState → SocketAddr → List ℕ → List ℕ → Arrival → Type 0
 Brings before after endpoint datagram buffer (Packet face now len) =
     (known : KnownEndpoints) × Meets before.known known endpoint now (Face face)
@@ -169,8 +169,8 @@ GivesReceived before after buffer arrival =
     × DropsStrangers before mid × IsAccepted mid endpoint
     × Brings mid after endpoint (take len buffer) buffer arrival)
 
--- No peer's face was still to open, no datagram waited, and receiving failed, possibly after
--- datagrams from strangers.
+-- Every peer's face was opened, no datagram waited, and receiving failed, possibly after datagrams
+-- from strangers.
 abbrev pub FailsReceiving : UdpState → UdpState → Type 0
 FailsReceiving before after =
     Listens before × ((mid : UdpState) × DropsStrangers before mid
@@ -183,7 +183,7 @@ BringsAfterClosing before after buffer arrival =
     × (before.waiting ≡ Some (record { endpoint = endpoint; face = None; octets = octets }))
     × Brings before after endpoint octets buffer arrival
 
--- the arrivals that may be given, and the state of the ports afterwards
+-- the arrivals that the ports may return, and the state of the ports afterwards
 abbrev pub UdpGives : UdpState → UdpState → List ℕ → Arrival → Type 0
 UdpGives before after buffer arrival =
     OpensPeer before after arrival

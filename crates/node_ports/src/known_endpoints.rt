@@ -14,10 +14,10 @@ use std::net::SocketAddr;
 pub enum Met {
     /// The endpoint has this face.
     Face(u64),
-    /// The endpoint has no face. The datagram is given on the face with this number. The face is
-    /// opened for the endpoint, but if 64 endpoints are already known, no node opens it.
+    /// The endpoint has no face. A face with this number is opened for the endpoint, and the
+    /// datagram arrives on that face. If 64 endpoints are already known, no node opens the face.
     Opening(u64),
-    /// This face must close first.
+    /// This face must close before the datagram is handled.
     Closing(u64),
 }
 
@@ -29,8 +29,8 @@ pub struct KnownEndpoints {
     pub clients: Clients,
     /// The number of the next face to open.
     pub next: u64,
-    /// The number for endpoints that get no face, if it was assigned after the last opening of a
-    /// face.
+    /// The face number for endpoints that get no face, if such a number was assigned after the last
+    /// opening of a face.
     pub refused: Option<u64>,
 }
 
@@ -134,7 +134,7 @@ impl KnownEndpoints {
         face
     }
 
-    /// Returns the number for an endpoint that gets no face.
+    /// Returns the face number for an endpoint that gets no face.
     fn refuse(&mut self) -> u64
         ensures { OpensNone self.old self.new result }
     {

@@ -36,9 +36,10 @@ pub enum OwnedArrival {
     },
 }
 
-/// Ports in memory. They give the events of a list and store the packets that are sent.
+/// Ports in memory. Their arrivals are the events of a list, and they store the packets that are
+/// sent.
 ///
-/// A call that is told to fail fails once. A send also fails if memory runs out.
+/// `fail_next` and `fail_send` each make one later call fail. A send also fails if memory runs out.
 #[derive(Drop)]
 pub struct MemoryPorts {
     arrivals: VecDeque<OwnedArrival>,
@@ -64,7 +65,7 @@ impl Model for MemoryPorts {
 }
 
 impl MemoryPorts {
-    /// Returns ports that give only these events. No call is told to fail.
+    /// Returns ports whose arrivals are these events. No call is told to fail.
     pub fn new(alloc: Global, arrivals: Vec<OwnedArrival>) -> MemoryPorts
         ensures { result ≡ record {
           events = map plain_arrival arrivals.items;
@@ -83,16 +84,16 @@ impl MemoryPorts {
         }
     }
 
-    /// Tells the `k`th call of `next` from now on, counted from 1, to fail. If `k` is 0, none
-    /// fails.
+    /// Tells the `k`th call of `next` from now on to fail, where the next call is the first. If `k`
+    /// is 0, no call fails.
     pub fn fail_next(&mut self, k: u64)
         ensures { self.new ≡ record self.old { next_told = k } }
     {
         self.next_told = k;
     }
 
-    /// Tells the `k`th call of `send` from now on, counted from 1, to fail. If `k` is 0, none is
-    /// told to fail.
+    /// Tells the `k`th call of `send` from now on to fail, where the next call is the first. If `k`
+    /// is 0, no call is told to fail.
     pub fn fail_send(&mut self, k: u64)
         ensures { self.new ≡ record self.old { send_told = k } }
     {
@@ -196,7 +197,8 @@ fn is_told(told: &mut u64) -> bool
     now
 }
 
-// Gives an event. Copies the octets of a packet, as many as fit, to the start of the buffer.
+// Returns the arrival for an event. Copies as many octets of its packet as fit to the start of the
+// buffer.
 fn put_event(event: OwnedArrival, buffer: &mut [u8]) -> Arrival
     ensures fits { LiesWithin (length buffer.new) result }
     ensures event { arrived result buffer.new

@@ -12,8 +12,8 @@ use journal::Coming;
 use ndn_packets::MAX_FRAME;
 use thiserror::Error;
 
-/// The number of octets that are read of a packet or datagram: one more than a node accepts, so
-/// that the node drops a longer packet as too long.
+/// The greatest number of octets that are read of a packet or datagram. It is one more than a node
+/// accepts, so the node drops a longer packet as too long.
 pub const FRAME_ROOM: usize = MAX_FRAME + 1;
 
 /// Law: a buffer has room for 9,001 octets, one more than the longest packet that a node accepts.
@@ -21,10 +21,10 @@ pub fn frame_room_is_as_promised()
     ensures { FRAME_ROOM ≡ 9001 }
 {}
 
-/// What a port gives in one turn. Times are in milliseconds since 1970.
+/// What a port returns in one turn. Times are in milliseconds since 1970.
 #[derive(Drop)]
 pub enum Arrival {
-    /// Nothing more will come.
+    /// There are no more arrivals.
     End,
     /// Octets arrived on a face: the first `len` of the buffer.
     Packet { face: u64, now: u64, len: usize },
@@ -51,16 +51,16 @@ pub trait Ports {
     // The number of failed calls, at most the greatest u64.
     ghost failures: { Self → ℕ };
 
-    // The events that are still to come, if they are known.
+    // The events that have not yet arrived, if they are known.
     ghost coming: { Self → Option (List PlainEvent) };
 
-    // The packets that the port has taken for sending, if it stores them.
+    // The packets that the port has accepted for sending, if the port stores them.
     ghost taken: { Self → Option (List Send) };
 
     // The octets of the journal that survive a crash, if the port has a journal and they are known.
     ghost journal: { Self → Option (List ℕ) };
 
-    /// Gives the next arrival. Copies the octets of a packet to the start of the buffer. A packet
+    /// Returns the next arrival. Copies the octets of a packet to the start of the buffer. A packet
     /// longer than the buffer is truncated.
     fn next(&mut self, buffer: &mut [u8]) -> Result<Arrival, PortFault>
         ensures fits { IfOk result (LiesWithin (length buffer.new)) }
@@ -69,11 +69,11 @@ pub trait Ports {
         ensures takes_none { taken self.new ≡ taken self.old }
         ensures journals_none { journal self.new ≡ journal self.old }
         ensures works { OnOk result (failures self.new ≡ failures self.old) }
-        // A failed call gives no arrival and is counted.
+        // A failed call returns no arrival, and the call is counted.
         ensures failed { OnErr result ((coming self.new ≡ coming self.old)
             × (failures self.new ≡ one_more (failures self.old))) };
 
-    /// Gives the next arrival like `next`, but only if one arrives at once or within some
+    /// Returns the next arrival like `next`, but only if there is one at once or within some
     /// milliseconds. Otherwise returns `None`. A port that cannot wait for so short a time may
     /// always return `None`.
     fn next_soon(&mut self, _buffer: &mut [u8]) -> Option<Arrival>
@@ -111,7 +111,7 @@ pub trait Ports {
         ensures gives_none { coming self.new ≡ coming self.old }
         ensures journals_none { journal self.new ≡ journal self.old }
         ensures works { OnOk result (failures self.new ≡ failures self.old) }
-        // A failed call takes no packet and is counted.
+        // A failed call accepts no packet, and the call is counted.
         ensures failed { OnErr result ((taken self.new ≡ taken self.old)
             × (failures self.new ≡ one_more (failures self.old))) };
 

@@ -17,12 +17,12 @@ use thiserror::Error;
 pub enum Turn {
     /// An event was answered. `failed` is the number of its sends that failed.
     Done { verdict: Verdict, failed: u64 },
-    /// Memory ran out for a step. Its event counts as not having arrived.
+    /// Memory ran out for a step. The event is treated as if it had not arrived.
     Refused,
     /// An event was answered but could not be journalled. None of its packets is sent, and the node
     /// must stop.
     Unwritten,
-    /// Nothing more will come.
+    /// There are no more arrivals.
     End,
 }
 
@@ -167,7 +167,7 @@ pub fn serve_turn_in<P: Ports>(
     Ok(handle(node, ports, arrival, buffer, outbox))
 }
 
-/// Does the same as `serve_turn_in` if the port gives an arrival soon. Otherwise the node and the
+/// Does the same as `serve_turn_in` if `next_soon` returns an arrival. Otherwise the node and the
 /// visible state of the port are unchanged, and the outbox is empty.
 pub fn serve_turn_soon<P: Ports>(
     node: &mut Node,

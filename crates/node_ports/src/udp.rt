@@ -32,10 +32,10 @@ pub trait Moments: Drop {
 ///
 /// The peers' endpoints have the faces 1, 2 and so on. Each of these faces is opened in a turn of
 /// its own before any datagram is received. For an unknown endpoint, a Far face with the next
-/// number is opened before the endpoint's first packet is given. While 64 endpoints are known, the
-/// endpoint is not stored, and the opening and the packet are given with the next number, which is
-/// 65 if no face has closed. A node with 64 faces does not open it. The number of a face that was
-/// opened is not used again. The ports never end.
+/// number is opened before the endpoint's first packet arrives. While 64 endpoints are known, an
+/// unknown endpoint is not stored. The opening and the packet then have the next number, which is
+/// 65 if no face has closed. A node with 64 faces does not open such a face. The number of a face
+/// that was opened is not used again. The ports never end.
 ///
 /// After `close_after`, idle faces close. A peer's face never closes. After `ignore_strangers`,
 /// only datagrams from peers are accepted.
@@ -58,7 +58,8 @@ pub struct UdpPorts<M: Moments> {
     failures: u64,
 }
 
-/// The endpoint of the waiting datagram, and the face that the datagram is for, if that is decided.
+/// The endpoint of the waiting datagram, and the face that the datagram is for, if the face is
+/// decided.
 #[derive(Clone, Copy)]
 struct Waiting {
     endpoint: SocketAddr,
@@ -229,8 +230,8 @@ impl<M: Moments> UdpPorts<M> {
         self.moments.now()
     }
 
-    /// Gives the waiting datagram on its face. Copies its octets to the start of the buffer; octets
-    /// that do not fit are dropped.
+    /// Returns the arrival of the waiting datagram on its face. Copies the datagram to the start of
+    /// the buffer; octets that do not fit are dropped.
     fn give_waiting(&mut self, endpoint: SocketAddr, face: u64, buffer: &mut [u8]) -> Arrival
         requires opened { HasOpened self.old }
         requires waiting { (octets : List ℕ) × (self.old.waiting
@@ -245,7 +246,7 @@ impl<M: Moments> UdpPorts<M> {
         Arrival::Packet { face, now, len }
     }
 
-    /// Continues with the datagram that waited while a face closed.
+    /// Handles the datagram that waited while a face closed.
     fn go_on(&mut self, endpoint: SocketAddr, buffer: &mut [u8]) -> Arrival
         requires opened { HasOpened self.old }
         requires waiting { (octets : List ℕ) × (self.old.waiting
@@ -401,7 +402,7 @@ impl<M: Moments> UdpPorts<M> {
 impl<M: Moments> Ports for UdpPorts<M> {
     ghost failures = { λ u. u.failures };
 
-    // The events to come and the packets that were taken are not known.
+    // The events that have not yet arrived and the packets that were accepted are not known.
     ghost coming = { λ u. None };
 
     ghost taken = { λ u. None };

@@ -1,5 +1,5 @@
--- The ends of a run of a script, described by the unread octets of the reader and the octets of the
--- writer, before and after the run, if these octets are known.
+-- How a run of a script ends. The definitions compare the unread octets of the reader and the
+-- octets of the writer before and after the run, if these octets are known.
 use Rattle.std.specs.Prelude.{◌≡◌, ℕ, Option, IfSome, List, ◌++◌}
 use Rattle.std.specs.Io.KnownBytes.{Appends, Consumes, Keeps, IsAtEnd}
 use Rattle.forwarder.specs.Event.{PlainEvent}

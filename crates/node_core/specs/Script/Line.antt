@@ -25,7 +25,7 @@ abbrev pub scope_word : Scope → List ℕ
 scope_word Local = codes "local"
 scope_word Far = codes "far"
 
--- the word spells the octets in hexadecimal of either case; a dash stands for no octets
+-- the word encodes the octets in hexadecimal of either case; a dash stands for no octets
 abbrev pub HexSpells : List ℕ → List ℕ → Type 0
 HexSpells [] word = word ≡ codes "-"
 HexSpells (o ∷ octets) word = decode_of word ≡ Ok (o ∷ octets)

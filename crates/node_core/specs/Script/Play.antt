@@ -33,7 +33,7 @@ pub record IsStart (place : Place) : Type 0 where
   pub lines : place.lines ≡ 0
   pub events : place.events ≡ 0
 
--- `n` more lines and events can be counted
+-- the numbers of lines and events can increase by `n` without overflow
 abbrev pub HasRoom : Place → ℕ → Type 0
 HasRoom place n = (place.lines + n < 2 ^ 64) × (place.events + n < 2 ^ 64)
 
@@ -72,7 +72,7 @@ LineFails fault.Write line from = ⊥
 LineFails fault.Read line from = ⊥
 LineFails (fault.Node _) line from = ⊥
 
--- the possible faults of running one line, and for each the part of the answer that was written
+-- the possible faults of running one line, and for each fault what was written of the answer
 abbrev pub LineStops : RunFault → List ℕ → Place → Option (List ℕ) → Option (List ℕ) → Type 0
 LineStops (fault.BadLine n) line from held holds =
     (n ≡ from.lines + 1) × IsBadLine line × Keeps held holds
@@ -90,13 +90,13 @@ AddStops fault.Write line from = ⊥
 AddStops fault.Read line from = ⊥
 AddStops (fault.Node _) line from = ⊥
 
--- after these lines comes a bad line, whatever follows the stream
+-- whatever octets follow `stream`, the line after these lines is bad
 abbrev pub TurnsBad : List ℕ → List (List ℕ) → Type 0
 TurnsBad stream lines = (more : List ℕ) → (line rest : List ℕ)
     × (ended (stream ++ more) ≡ joined lines ++ (ended line ++ rest)) × Lacks 10 line
     × IsBadLine line
 
--- the possible faults of running octets from a state on, and for each the text that was written
+-- the possible faults of handling octets in a state, and for each fault the text that was written
 abbrev pub FeedStops : RunFault → List ℕ → Place → Option (List ℕ) → Option (List ℕ) → Type 0
 FeedStops (fault.BadLine n) stream from held holds =
     (lines : List (List ℕ)) × (to : Place) × (text : List ℕ) × Plays lines from to text

@@ -21,8 +21,8 @@ pub enum Line {
     /// An empty line or a comment.
     Skipped,
     Event(OwnedEvent),
-    /// A line that no script has: it has more than 20,000 octets, or it is neither skipped nor an
-    /// event.
+    /// A line that cannot be in a script: it has more than 20,000 octets, or it is neither skipped
+    /// nor an event.
     Bad,
 }
 
@@ -150,8 +150,8 @@ fn new_rules(alloc: Global, text: &[u8]) -> Result<Option<OwnedEvent>, Memory>
     }
 }
 
-/// Reads a rule file whose octets the word spells. Returns `None` if the word does not spell octets
-/// or the rule file has a fault.
+/// Reads the rule file whose octets the word encodes. Returns `None` if the word does not encode
+/// octets or the rule file has a fault.
 fn rules_of(alloc: Global, word: &[u8]) -> Result<Option<Rules>, Memory>
     ensures found { IfOk result (λ read. IfSome read (λ rules. SpellsRules rules word.now)) }
     ensures none { IfOk result
@@ -169,8 +169,8 @@ fn rules_of(alloc: Global, word: &[u8]) -> Result<Option<Rules>, Memory>
     }
 }
 
-/// Reads a key file whose octets the word spells. Returns `None` if the word does not spell octets
-/// or the key file has a fault.
+/// Reads the key file whose octets the word encodes. Returns `None` if the word does not encode
+/// octets or the key file has a fault.
 fn keys_of(alloc: Global, word: &[u8]) -> Result<Option<KeyBook>, Memory>
     ensures found { IfOk result (λ read. IfSome read (λ keys. SpellsKeys keys word.now)) }
     ensures none { IfOk result

@@ -10,8 +10,8 @@ use ndn_tlv::Memory;
 use std::alloc::Global;
 use std::str;
 
-/// Splits the text at the first octet equal to `at`. Returns the octets before it and those after
-/// it.
+/// Splits the text at the first octet equal to `at`. Returns the octets before and after that
+/// octet.
 pub fn cut(text: &[u8], at: u8) -> Option<(&[u8], &[u8])>
     ensures found { IfSome result
         (λ parts. (text.now ≡ parts.0.now ++ (at ∷ parts.1.now)) × Lacks at parts.0.now) }
@@ -25,8 +25,8 @@ pub fn cut(text: &[u8], at: u8) -> Option<(&[u8], &[u8])>
     None
 }
 
-/// Splits the text at the first LF. Returns the octets before it and those after it. Faster than
-/// `cut` for long lines.
+/// Splits the text at the first LF. Returns the octets before and after that LF. Faster than `cut`
+/// for long lines.
 pub fn cut_line(text: &[u8]) -> Option<(&[u8], &[u8])>
     ensures found { IfSome result
         (λ parts. (text.now ≡ parts.0.now ++ (10 ∷ parts.1.now)) × Lacks 10 parts.0.now) }
@@ -36,8 +36,8 @@ pub fn cut_line(text: &[u8]) -> Option<(&[u8], &[u8])>
     Some((&text[..at], &text[at + 1..]))
 }
 
-/// Splits the text at its first two spaces. Returns the two words before them and the octets after
-/// them.
+/// Splits the text at its first two spaces. Returns the words before the two spaces, and the octets
+/// after the second space.
 pub fn three_words(text: &[u8]) -> Option<(&[u8], &[u8], &[u8])>
     ensures found { IfSome result (λ p. (text.now ≡ p.0.now ++ (32 ∷ (p.1.now ++ (32 ∷ p.2.now))))
         × Lacks 32 p.0.now × Lacks 32 p.1.now) }
@@ -66,7 +66,7 @@ pub fn parse_decimal(word: &[u8]) -> Option<u64>
     text.parse::<u64>().ok()
 }
 
-/// Returns the scope that the word names.
+/// Returns the scope for the word `local` or `far`.
 pub fn scope_of(word: &[u8]) -> Option<Scope>
     ensures found { IfSome result (λ scope. word.now ≡ scope_word scope) }
     ensures none { IfNone result ((scope : Scope) → word.now ≡ scope_word scope → ⊥) }
