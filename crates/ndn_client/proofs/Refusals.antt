@@ -1,4 +1,4 @@
--- What the refusals of writers tell about the packet that a job asks for.
+-- What the fault of a packet writer tells about the packet that a job asks for.
 use Rattle.std.proofs.Common.{List, refl, inl, inr}
 use Rattle.hmac_keys.specs.KeyFile.{NamedKey}
 use Rattle.ndn_packets.specs.declared.fault.WriteFault.{WriteFault}

@@ -44,7 +44,7 @@ abbrev pub LacksChosen : Option (List Field) → List NamedKey → Type 0
 LacksChosen None book = ⊥
 LacksChosen (Some name) book = LacksKey name book
 
--- the only fault that choosing a key can have
+-- the only fault of choosing a key: the book does not have the named key
 abbrev pub IsNoKey : Option (List Field) → List NamedKey → ToolFault → Type 0
 IsNoKey key book why = (why ≡ fault.NoKey) × LacksChosen key book
 

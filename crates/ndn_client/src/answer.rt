@@ -130,7 +130,8 @@ pub fn command_packet(alloc: Global, job: &CommandJob, book: &KeyBook) -> Result
     }
 }
 
-/// Returns the packet of a command. `name` is the name of its Interest, without the digest.
+/// Returns the packet of a command. `name` is the name of the command's Interest, without the
+/// parameters digest.
 fn named_command<'a>(
     alloc: Global,
     job: &'a CommandJob,
@@ -150,7 +151,7 @@ fn named_command<'a>(
         nonce: job.stamp.nonce,
         lifetime: None,
         hop_limit: None,
-        // A signed Interest without parameters gets empty ones.
+        // A signed Interest without parameters gets empty ApplicationParameters.
         parameters: None,
         sign: Some(sign),
         time: Some(job.stamp.time),

@@ -16,8 +16,9 @@ use Rattle.ndn_explain.specs.Show.{line}
 
 -- ---- layouts
 
--- The text before each value: the name of a route, its face, its cost, the name of a strategy
--- choice, its strategy. In lines this text is a word, in a table it is a tab.
+-- The text before each value of an entry: before the name, the face and the cost of a route, and
+-- before the name and the strategy of a strategy choice. In the layout `Lines` this text is a word
+-- or a space. In the layout `Table` it is a tab, or nothing before the name.
 pub record Labels : Type 0 where
   pub route : List ℕ
   pub face : List ℕ
@@ -41,7 +42,7 @@ labels_of Table = record {
   strategy = codes "\t";
 }
 
--- The text before each value, in a layout.
+-- `texts` are the labels `l` of a layout.
 pub record AreLabels (l : Labels) (texts : Texts) : Type 0 where
   pub route : texts.route.now ≡ l.route
   pub face : texts.face.now ≡ l.face
@@ -51,8 +52,8 @@ pub record AreLabels (l : Labels) (texts : Texts) : Type 0 where
 
 -- ---- entries
 
--- the last component of the URI for the two strategies of this profile, the whole URI for any other
--- strategy
+-- the short name of the strategy with this URI: the last component of the URI for the two
+-- strategies of this profile, and the whole URI for any other strategy
 abbrev pub short_strategy : List ℕ → List ℕ
 short_strategy uri =
     if bytes_eq uri (codes "/localhost/nfd/strategy/best-route") then codes "best-route" else (

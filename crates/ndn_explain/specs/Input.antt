@@ -16,7 +16,7 @@ use Rattle.ndn_explain.specs.Show.{line, named_line}
 use Rattle.ndn_explain.specs.TagCheck.{MayBeChecked}
 use Rattle.ndn_explain.specs.Explain.{framed_explanation}
 
--- in a script's answers, a line that begins with `>` contains a packet that was sent
+-- whether the line begins with `>`, like the line of a sent packet in a script's answers
 abbrev pub is_send : List ℕ → Bool
 is_send [] = false
 is_send (o ∷ line) = o == 62
@@ -41,7 +41,8 @@ IsExplainedPacket keys octets said =
     ⊎ ((why : PacketFault) × FaultOf octets why
     × (said ≡ named_line (codes "malformed") (packet_name why)))
 
--- the text printed for a line: explained if the line has octets, otherwise the line itself
+-- the text printed for a line: the explanation of its octets or, if it has no octets, the line
+-- itself
 abbrev pub IsExplainedPart : Option (List NamedKey) → List ℕ → List ℕ
     → Result (List ℕ) FromHexError → List ℕ → Type 0
 IsExplainedPart keys text head (Err why) said = said ≡ repeated text

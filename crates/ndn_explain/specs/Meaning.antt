@@ -44,7 +44,7 @@ words_of_flags true false = codes "child-inherit"
 words_of_flags false true = codes "capture"
 words_of_flags true true = codes "child-inherit capture"
 
--- child-inherit is the bit 1 and capture the bit 2; other bits have no effect
+-- the value 1 is child-inherit and the value 2 is capture; other bits have no effect
 abbrev pub flags_word : ℕ → List ℕ
 flags_word flags = words_of_flags (flags % 2 == 1) (flags / 2 % 2 == 1)
 
@@ -101,7 +101,8 @@ abbrev pub or_else : {X : Type 0} → Option X → Option X → Option X
 or_else None other = other
 or_else (Some x) other = Some x
 
--- the fields in a command's parameters, if the value is one element
+-- the fields in a component's value, if it is a single ControlParameters or RepoCommandParameter
+-- element
 abbrev pub parameters_of : List ℕ → Option (List ℕ)
 parameters_of value =
     or_else (single CONTROL_PARAMETERS (elements_of value))
@@ -115,8 +116,7 @@ abbrev pub generic_parameters : Option Field → Option (List ℕ)
 generic_parameters None = None
 generic_parameters (Some c) = if c.0 == GENERIC then parameters_of c.1 else None
 
--- the fields in a command's parameters; the parameters come before the digest of the Interest's
--- ApplicationParameters
+-- the fields in a command's parameters, which are the name component before the parameters digest
 abbrev pub parameters_in : List Field → Option (List ℕ)
 parameters_in name =
     if has_kind PARAMETERS_SHA256_DIGEST (slice_get name (length name - 1))
@@ -162,7 +162,8 @@ node_reply_lines es = status_line STATUS_CODE es ++ body_lines (first_of CONTROL
 abbrev pub repository_reply_lines : Elements → List ℕ
 repository_reply_lines es = status_line REPO_STATUS_CODE es ++ field_lines es
 
--- the lines of a Data with this Content, if it is a reply
+-- the lines of the node's response, if the Content is one, and otherwise of the repository's
+-- response; no lines for any other Content
 abbrev pub or_repository : Option (List ℕ) → Option (List ℕ) → List ℕ
 or_repository (Some fields) other = node_reply_lines (elements_of fields)
 or_repository None (Some fields) = repository_reply_lines (elements_of fields)

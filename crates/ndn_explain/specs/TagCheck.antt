@@ -17,7 +17,7 @@ use Rattle.ndn_explain.specs.Show.{line}
 abbrev pub parts_of : Parts → List ℕ
 parts_of parts = parts.first.now ++ parts.second.now
 
--- the result of comparing a value with the right one
+-- the result of comparing a signature's value with the right value
 abbrev pub IsValueCheck : List ℕ → List ℕ → TagCheck → Type 0
 IsValueCheck value right Right = value ≡ right
 IsValueCheck value right Wrong = value ≢ right
@@ -36,7 +36,8 @@ abbrev pub IsLocatorCheck : PlainLocator → List NamedKey → List ℕ → List
 IsLocatorCheck (KeyName name) book value octets check = IsNamedCheck name book value octets check
 IsLocatorCheck locator book value octets check = check ≡ UnknownKey
 
--- the result of checking a signature over these octets: a digest, an HMAC, or another type
+-- the result of checking a signature over these octets; a signature that is neither a DigestSha256
+-- nor an HMAC is not checked
 abbrev pub IsKindCheck : PlainSignature → List NamedKey → List ℕ → TagCheck → Type 0
 IsKindCheck s book octets check =
     ((s.info.kind ≡ DIGEST_SHA256) × IsValueCheck s.value (sha256 octets) check)

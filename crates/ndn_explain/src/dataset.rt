@@ -15,13 +15,13 @@ use std::alloc::Global;
 /// How the entries of a dataset are laid out.
 #[derive(Clone, Copy, Debug, PartialEq, Eq)]
 pub enum Layout {
-    /// Lines with a word before each value.
+    /// Lines in which words describe the values.
     Lines,
     /// Rows of a table, with tabs between the columns.
     Table,
 }
 
-/// The text before each value.
+/// The text that is printed before each value of an entry.
 #[derive(Clone, Copy)]
 struct Labels {
     route: &'static str,

@@ -99,7 +99,7 @@ fn reason_word(reason: u64) -> &'static str
     }
 }
 
-/// Appends the line of a check.
+/// Appends the line with the result of a signature check.
 fn put_check(text: &mut Vec<u8>, check: Option<TagCheck>) -> Result<(), Memory>
     ensures { OnOk result (text.new.items ≡ text.old.items ++ check_lines check) }
 {

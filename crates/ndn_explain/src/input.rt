@@ -108,7 +108,7 @@ fn parts_of(line: &str) -> (&str, &str)
     }
 }
 
-/// Returns whether the line begins like a sent packet in a script's answers.
+/// Returns whether the line begins with `>`, like the line of a sent packet in a script's answers.
 fn is_send(line: &str) -> bool
     ensures { result ≡ is_send line.now }
 {

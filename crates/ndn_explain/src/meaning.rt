@@ -69,7 +69,8 @@ pub fn parameters_in<'a>(name: Name<'a>) -> Option<&'a [u8]>
     parameters_of(component.value)
 }
 
-/// Returns the fields in a command's parameters, if the value is one element.
+/// Returns the fields in a component's value, if it is a single ControlParameters or
+/// RepoCommandParameter element.
 fn parameters_of(value: &[u8]) -> Option<&[u8]>
     ensures { option_map (λ v. v.now) result ≡ parameters_of value.now }
 {
@@ -185,7 +186,8 @@ fn put_route(alloc: Global, text: &mut Vec<u8>, fields: &[u8]) -> Result<(), Mem
     )
 }
 
-/// Appends the lines of a repository command's own fields.
+/// Appends the lines of the fields that only a repository's command has: CanBePrefix and
+/// InterestLifetime.
 fn put_wanted(alloc: Global, text: &mut Vec<u8>, fields: &[u8]) -> Result<(), Memory>
     ensures { OnOk result (text.new.items
         ≡ text.old.items ++ wanted_lines (elements_of fields.now)) }

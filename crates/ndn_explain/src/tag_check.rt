@@ -20,7 +20,7 @@ pub enum TagCheck {
     Wrong,
     /// The KeyLocator names no key of the key file.
     UnknownKey,
-    /// The signature is of another type, or covers no octets.
+    /// The signature is neither a DigestSha256 nor an HMAC, or it covers no octets.
     Unchecked,
 }
 
@@ -95,7 +95,7 @@ fn digest_of(parts: Parts<'_>) -> [u8; 32]
     hasher.finalize()
 }
 
-/// Compares a signature's value with the right one.
+/// Compares a signature's value with the right value.
 fn compared(value: &[u8], right: &[u8; 32]) -> TagCheck
     ensures { IsValueCheck value.now right.now result }
 {

@@ -1,4 +1,4 @@
--- Which texts are refused when hexadecimal is decoded into room for 4 octets.
+-- Which texts are refused as the hexadecimal digits of 4 octets.
 use Rattle.std.proofs.Common.{◌≡◌, ℕ, ◌*◌, ◌%◌, List, length, Result, Ok, Err, MatchResult, sym, ◌∙◌, arith, inl, inr}
 use Rattle.std.proofs.lemmas.Bool.{cases_eq}
 use Rattle.std.proofs.lemmas.Result.{MatchResult-at_ok}

@@ -1,4 +1,4 @@
--- A repository's prefix that has no room for a verb.
+-- A repository's prefix that has too many components for a verb to follow.
 use Rattle.std.proofs.Common.{◌≡◌, ◌≢◌, ◌⊎◌, ◌≤◌, ℕ, List, [], ◌∷◌, ◌++◌, length, Bool, true, false, refl, Option, Some, Ok, Err, sym, ap, subst, ◌∙◌, arith, inl, inr, codes}
 use Rattle.std.specs.Prelude.{nat_lt, if◌then◌else◌}
 use Rattle.std.proofs.lemmas.List.{length-append}

@@ -1,4 +1,4 @@
--- What the verb of a short form, and its command, mean for the whole command line.
+-- What a short form's verb and command tell about the whole command line.
 use Rattle.std.proofs.Common.{◌≡◌, ℕ, List, Option, None, Some, Result, Ok, Err, sym, ap, subst, ◌∙◌}
 use Rattle.clap.specs.Walk.{Row}
 use Rattle.ndn_jobs.specs.declared.job.CommandJob.{CommandJob}

@@ -38,7 +38,7 @@ is_list rows = is_word (codes "list") (value_at rows (codes "VERB"))
 abbrev pub lacks : List Row → List ℕ → Bool
 lacks rows id = is_none (value_at rows id)
 
--- whether the only options given are those that `list` takes: the Nonce and the ports
+-- whether all options that are given are options of `list`: the Nonce and the ports
 abbrev pub is_alone : List Row → Bool
 is_alone rows =
     lacks rows (codes "PREFIX") && lacks rows (codes "face") && lacks rows (codes "cost")

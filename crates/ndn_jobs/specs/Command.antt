@@ -82,7 +82,7 @@ abbrev pub IsJobOf : ℕ → List (List ℕ) → Job → Type 0
 IsJobOf now arguments job =
     IsJob now (words_of (drop 1 arguments)) (subcommand_of tool arguments) job
 
--- the arguments ask for a text: for help, or for the version
+-- the parser found a request for a text: for the help or for the version
 abbrev pub IsText : ErrorKind → Type 0
 IsText kind = (kind ≡ DisplayHelp) ⊎ (kind ≡ DisplayVersion)
 

@@ -40,8 +40,8 @@ action_of subcommand verb = find (is_named subcommand verb) actions
 abbrev pub IsVerb : List ℕ → List ℕ → Action → Type 0
 IsVerb subcommand verb action = action_of subcommand verb ≡ Some action
 
--- whether an option may be given as it is: it is absent, or the command takes the field of this
--- type
+-- whether the value of an option is allowed: the option is absent, or the command has the field of
+-- this type
 abbrev pub may_give : Action → ℕ → Option (List ℕ) → Bool
 may_give action kind value = takes kind (row_of action) || is_none value
 

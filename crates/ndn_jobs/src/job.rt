@@ -533,7 +533,7 @@ pub fn is_list(options: &ArgMatches<'_>) -> bool
     }
 }
 
-/// Returns whether no option is given that belongs only to the commands of the subcommand.
+/// Returns whether all options that are given are options of `list`: the Nonce and the ports.
 fn is_alone(options: &ArgMatches<'_>) -> bool
     ensures { result ≡ is_alone (rows_in options.now) }
 {

@@ -67,7 +67,7 @@ at_right (x ∷ xs) ys (suc i) k is = at_right xs ys i k (omega arith)
 
 -- ---- names
 
--- a property of all members of a list is a property of all members of each of its parts
+-- if all members of `xs ++ ys` have a property, then all members of `ys` have it
 pub part_right : {X : Type 0} (P : X → Type 0) (xs ys : List X) → AllByRecursion P (xs ++ ys) → AllByRecursion P ys
 part_right P [] ys all = all
 part_right P (x ∷ xs) ys all = part_right P xs ys all.1
@@ -100,7 +100,7 @@ pub optional_of_all : (P : Field → Type 0) (kind : ℕ) (value : Option (List 
 optional_of_all P kind None rest all = tt
 optional_of_all P kind (Some v) rest all = all.0
 
--- a literal type is a valid TLV type
+-- a type from 1 to 2^32 - 1 is a valid TLV type
 pub is_type : (kind : ℕ) (value : List ℕ) → 1 ≤ kind → kind < 2 ^ 32 → IsType (kind, value)
 is_type kind value pos lt = (pos, lt)
 

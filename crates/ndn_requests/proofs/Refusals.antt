@@ -1,4 +1,4 @@
--- What it means for a packet that its writer refuses to write it.
+-- What the fault of a packet writer tells about the packet.
 use Rattle.std.proofs.Common.{◌≡◌, ℕ, List, Option, None, Some, Result, Ok, Err, IfErr, MatchOption, refl, ap}
 use Rattle.ndn_tlv.specs.Element.{Field}
 use Rattle.ndn_packets.specs.declared.fault.WriteFault.{WriteFault}

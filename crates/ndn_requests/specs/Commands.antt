@@ -38,7 +38,7 @@ pub record AreValues (p : Parameters) : Type 0 where
   pub count : Fits64 p.count
   pub lifetime : Fits64 p.lifetime
 
--- fields as they are read back
+-- a field, as the result of reading it
 abbrev pub as_read : Field → Result Field TlvFault
 as_read f = Ok f
 
@@ -60,8 +60,8 @@ node_name action = node_path (row_of action).part (row_of action).verb
 abbrev pub kinds : Parameters → List ℕ
 kinds p = map (λ (f : Field). f.0) (node_fields p)
 
--- whether the parameters suit the command: the command takes the name and each field that is
--- present, and each field that the command needs is present
+-- whether the parameters suit the command: the command allows the name and every field that is
+-- present, and all fields that the command requires are present
 abbrev pub suits : Action → Parameters → Bool
 suits action p =
     list_all (λ kind. takes kind (row_of action)) (kinds p)

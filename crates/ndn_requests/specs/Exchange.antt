@@ -94,7 +94,7 @@ IsPlaced None old list nonce d new progress = (new ≡ old) × (progress ≡ Ign
 IsPlaced (Some place) old list nonce d new progress =
     IsStepped (nat_lt place.0 place.1) old list place.0 nonce d new progress
 
--- a datagram arrived that answers the Interest for a segment
+-- the effect of a datagram that answers the Interest for a segment; anything but a Data is ignored
 abbrev pub IsListed : Exchange → NodeList → Turn → Result PlainFrame PacketFault → Exchange
     → Progress → Type 0
 IsListed old list turn (Ok (AData whole d)) new progress =
@@ -154,8 +154,8 @@ IsNextRefusal why frame = ⊥
 
 -- ---- no answer
 
--- Some segments of the list have been received. If no more come, the node no longer has this
--- version of the list.
+-- Whether segments of the list have been received. If so and no more come, the node no longer has
+-- this version of the list.
 abbrev pub has_begun : Exchange → Bool
 has_begun x = not (is_nil x.contents.items)
 

@@ -66,7 +66,8 @@ parameters_element name p =
 abbrev pub command_name : List Field → Parameters → List Field
 command_name name p = name ++ (GENERIC, parameters_element name p) ∷ []
 
--- the fault is that the name, of 64 components or more, has no room for the parameters
+-- the fault is TooLong, and the name already has 64 components or more, so the parameters cannot
+-- follow
 abbrev pub IsTooLong : List Field → WriteFault → Type 0
 IsTooLong name why = (why ≡ TooLong) × (64 ≤ length name)
 

@@ -41,7 +41,7 @@ abbrev pub is_word : List ℕ → Option Field → Bool
 is_word word None = false
 is_word word (Some c) = c.0 == GENERIC && bytes_eq c.1 word
 
--- whether a command is an insert; the verb comes before the parameters and the digest
+-- whether a command is an insert; its verb is the component before the parameters and the digest
 abbrev pub is_insert : List Field → Bool
 is_insert name = is_word (codes "insert") (slice_get name (length name - 3))
 
@@ -49,8 +49,8 @@ abbrev pub has_repository_fields : Option Field → Bool
 has_repository_fields None = false
 has_repository_fields (Some c) = is_some (single REPO_COMMAND_PARAMETER (elements_of c.1))
 
--- whether a command is for a repository; the type of its parameters tells, which come before the
--- digest
+-- whether a command is for a repository, according to the type of its parameters, which are the
+-- component before the digest
 abbrev pub is_of_repository : List Field → Bool
 is_of_repository name = has_repository_fields (slice_get name (length name - 2))
 
@@ -178,7 +178,8 @@ is_local (Ok (ANack reason whole i)) = false
 is_local (Ok Idle) = false
 is_local (Err why) = false
 
--- why no answer came to a request that was sent from the port `from`, or from a new port
+-- why no answer came to a request that was sent from the port `from`, or from a new port if `from`
+-- is absent; `is_closed` tells whether no program listens on the destination port
 abbrev pub silence_of : List ℕ → Option ℕ → Bool → Silence
 silence_of request from is_closed =
     if is_closed then Closed else (

@@ -23,11 +23,11 @@ use std::alloc::Global;
 pub enum View {
     /// The first datagram, whatever it is, as a line of hexadecimal.
     Hexadecimal,
-    /// The lines of `explain`.
+    /// The lines that `explain` prints for the answer.
     Lines,
     /// Only the Content, unchanged; nothing for a Nack.
     Content,
-    /// A table of all segments of a list.
+    /// A table of the entries in all segments of a list.
     Table(NodeList),
 }
 
@@ -262,8 +262,8 @@ fn turn_of(request: &[u8]) -> Option<Turn>
 }
 
 /// Returns the number of the segment in a Data, and the number of the last segment. Returns `None`
-/// if the Data lacks one of these numbers, or if the first segment was asked for and this is
-/// another one.
+/// if the Data lacks one of these numbers, or if `is_first` is set and the Data is not the first
+/// segment.
 fn place_of(is_first: bool, packet: &Data<'_>) -> Option<(u64, u64)>
     ensures { result
         ≡ place_of is_first (components packet.now.name) packet.now.whole.now }

@@ -19,7 +19,8 @@ ghost use Rattle.ndn_requests.specs.Reply.{content_outcome, done_if, is_insert, 
 ghost use Rattle.ndn_requests.specs.Shown.{node_shown, repository_shown};
 
 /// Law: the node reads the name of a command as exactly the command that was asked for, whatever
-/// digest follows the parameters. It answers 400 exactly if the parameters do not suit the command.
+/// digest follows the parameters. The node answers 400 exactly if the parameters do not suit the
+/// command.
 pub fn nodes_read_what_is_asked()
     ensures { (action : Action) (p : Parameters) (digest : List ℕ) → AreValues p
         → IsWhole (command_name (node_name action) p)

@@ -18,8 +18,8 @@ use ndn_packets::types::{CAN_BE_PREFIX, INTEREST_LIFETIME, NAME};
 use ndn_tlv::{Memory, put_element, put_flag, put_number_field};
 use std::alloc::Global;
 
-/// The parameters of a command for the node or for a repository. Fields that only the other kind of
-/// command has are not written.
+/// The parameters of a command for the node or for a repository. A field that only commands for the
+/// node have is not written for a repository, and vice versa.
 #[derive(Drop)]
 pub struct Parameters {
     /// The name that the command applies to.
@@ -47,7 +47,8 @@ pub struct Parameters {
 /// Returns the name of a command's Interest without the parameters digest: the command's own name,
 /// with the parameters as the last component.
 ///
-/// Returns `TooLong` if the name has no room for the parameters. The only other error is `Memory`.
+/// Returns `TooLong` if the name has too many components for the parameters to follow. The only
+/// other error is `Memory`.
 pub fn command_name(
     alloc: Global,
     name: &NameBuf,

@@ -28,10 +28,10 @@ pub type Outcome = Result<(), Failure>;
 /// answer the request.
 ///
 /// A Nack of the request's Interest is an answer. A Data that answers the Interest is an answer
-/// too, and the request is then done. But if the request is a command, the Data must have the
-/// command's name and a right signature, by DigestSha256 or by a key of the book, or must be
-/// exactly what a node writes as its reply, of any length. A command is done if the status is 200,
-/// or 100 for an insert to a repository.
+/// too, and the request is then done. But if the request is a command, the Data must be exactly
+/// what a node writes as its reply, of any length, or it must have the command's name and a right
+/// signature, by DigestSha256 or by a key of the book. A command is done if the status is 200, or
+/// 100 for an insert to a repository.
 pub fn judge(
     alloc: Global,
     request: &[u8],
@@ -179,8 +179,8 @@ fn repository_outcome(name: Name<'_>, code: Option<u64>) -> Outcome
     }
 }
 
-/// Returns whether a command with this name is for a repository, which the type of its parameters
-/// tells.
+/// Returns whether a command with this name is for a repository, according to the type of its
+/// parameters.
 fn is_of_repository(name: Name<'_>) -> bool
     ensures { result ≡ is_of_repository (components name.entry) }
 {
@@ -274,7 +274,8 @@ fn put_reply(
 }
 
 /// Returns why no answer came to a request that was sent from the port `from`, or from a new port
-/// if there is none; `is_closed` tells whether no program listens on the port.
+/// if `from` is absent. `is_closed` tells whether no program listens on the request's destination
+/// port.
 pub fn silence_of(request: &[u8], from: Option<u16>, is_closed: bool) -> Silence
     ensures { result ≡ silence_of request.now from is_closed }
 {
