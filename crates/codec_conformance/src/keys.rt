@@ -186,7 +186,8 @@ A 00 -> BadLine(1)
     check_rows(&rt, rt.alloc(), rows, key_file);
 }
 
-/// Returns the result of looking up a key with these octets, up to the key itself.
+/// Returns the result of looking up `/A` in a key file that gives these octets to `/A`. The key's
+/// digits at the end of the result are left out.
 fn file_of_key(alloc: Global, input: &str) -> Option<String> {
     let digits = hex::encode(alloc, octets(alloc, input)?).ok()?;
     let file = format!(in alloc; "/A {digits}\n").ok()?;

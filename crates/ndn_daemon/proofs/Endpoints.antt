@@ -23,7 +23,7 @@ localhost_spelled : codes "127.0.0.1" ≡ dotted_text 127 0 0 1
 unfolding digits
 localhost_spelled = refl
 
--- a port alone, as the text of an address and a port
+-- the text `127.0.0.1:` and a port spell this port of 127.0.0.1
 localhost_text : (text : List ℕ) (a : SocketAddr) → IsPort text (socket_port a) → IsLocalhost a → IsSocketText (codes "127.0.0.1:" ++ text) a
 localhost_text text (V4 a) port here = (
   codes "127.0.0.1",

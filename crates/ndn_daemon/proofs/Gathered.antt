@@ -64,7 +64,7 @@ stops_turns old mid new before between after turns number a b c text gathered (J
     (mid, between, number, text, told, h.0, less, Writes-cut a b c text gathered writes h.1)
 stops_turns old mid new before between after turns number a b c text gathered why told writes less h = absurd h
 
--- the consequences of a successful write
+-- if A holds after a successful write, and A implies B, then B holds after a successful write
 pub done_then : {A B : Type 0} (r : Result (Unit {0}) Fault) → OnOk r A → (A → B) → OnOk r B
 done_then (Ok done) h then = then h
 done_then (Err why) h then = tt
@@ -73,7 +73,7 @@ pub cut_then : {A : Type 0} (P : Fault → Type 0) (r : Result (Unit {0}) Fault)
 cut_then P (Ok done) h is then = tt
 cut_then P (Err why) h is then = subst P (sym is) (then h)
 
--- the part of the text that was written, whether or not the write succeeded
+-- a prefix of the text was written, whether or not the write succeeded
 pub front_of_writing : (r : Result (Unit {0}) Fault) (a b : Option (List ℕ)) (text : List ℕ) → OnOk r (Appends a b text) → OnErr r (AppendsFront a b text) → AppendsFront a b text
 front_of_writing (Ok done) a b text all cut = (text, [], sym (append-nil text), all)
 front_of_writing (Err why) a b text all cut = cut

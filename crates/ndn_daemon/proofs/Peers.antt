@@ -52,7 +52,7 @@ pub same_endpoint : (text : Option (List ℕ)) (a b : SocketAddr) → Has text I
 same_endpoint None a b first second = absurd first
 same_endpoint (Some text) a b first second = one_endpoint text a b first second
 
--- the other options apply to the same endpoints
+-- peers that are allowed in one reading of the texts are allowed in every reading
 pub same_suit : (texts : List (List ℕ)) (text : Option (List ℕ)) (a b held : List SocketAddr) (n m : SocketAddr) → AreEndpoints texts a → AreEndpoints texts b → held ≡ b → Has text IsEndpoint n
     → Has text IsEndpoint m → MayBePeersOf n a → MayBePeersOf m held
 same_suit texts text a b held n m first second holds heard spelled may =
@@ -64,11 +64,11 @@ pub same_local : (texts : List (List ℕ)) (a b held : List SocketAddr) (d : Soc
 same_local texts a b held d first second holds text local h = subst (λ ps. IsLocal text ps local) (same_endpoints d texts a b first second ∙ sym holds) h
 
 module _ (texts : List (List ℕ)) (i : ℕ) (text : List ℕ) (is : (d : List ℕ) → slice_index_or texts i d ≡ text) (inside : i < length texts) where
-  -- the endpoint that this text spells, if all texts spell endpoints
+  -- if all texts spell endpoints, then this text spells an endpoint
   pub endpoint_at : (endpoints : List SocketAddr) → AreEndpoints texts endpoints → (e : SocketAddr) × IsEndpoint text e
   endpoint_at endpoints are = let d = some_item endpoints (omega (arith, are.many, inside)) in (slice_index_or endpoints i d, subst (λ t. IsEndpoint t (slice_index_or endpoints i d)) (is []) (spelled_at texts endpoints are i d inside))
 
-  -- if this endpoint was already spelled, the texts have no valid reading
+  -- if an earlier text spells the same endpoint, then the texts do not spell a valid list of peers
   pub twice : (e : SocketAddr) (so_far : List SocketAddr) → SoFar texts i so_far → IsEndpoint text e
       → (k : ℕ) × (k < length so_far) × ((d : SocketAddr) → (socket.ghosts).eq (slice_index_or so_far k d) e ≡ true)
       → (endpoints : List SocketAddr) → AreEndpoints texts endpoints → ⊥
@@ -81,7 +81,7 @@ module _ (texts : List (List ℕ)) (i : ℕ) (text : List ℕ) (is : (d : List �
       one_endpoint text _ _ (subst (λ t. IsEndpoint t (slice_index_or endpoints i e)) (is []) (spelled_at texts endpoints are i e inside)) spells in
       are.different k i e below (omega (arith, are.many, inside)) (first ∙ sym second)
 
-  -- one more endpoint, if it was not yet spelled
+  -- a new endpoint is appended to the endpoints that the first `i` texts spell
   pub pushed : (e : SocketAddr) (so_far : List SocketAddr) → SoFar texts i so_far → IsEndpoint text e
       → ((k : ℕ) (d : SocketAddr) → k < length so_far → (socket.ghosts).eq (slice_index_or so_far k d) e ≡ false)
       → SoFar texts (i + 1) (so_far ++ e ∷ [])

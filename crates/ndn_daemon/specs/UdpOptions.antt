@@ -51,7 +51,7 @@ abbrev pub IsLocal : List ℕ → List SocketAddr → ℕ → Type 0
 IsLocal text peers local =
     IsNumber text local × (local ≤ length peers) × All IsLoopback (take local peers)
 
--- the log level; `--log` without a value means "events", which may also be written
+-- the log level; the parser replaces `--log` without a value by `--log events`
 abbrev pub IsLog : Option (List ℕ) → LogLevel → Type 0
 IsLog None level = level ≡ levels.None
 IsLog (Some text) levels.None = ⊥

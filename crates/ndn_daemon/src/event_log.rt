@@ -13,7 +13,7 @@ use node_core::Verdict;
 use std::alloc::Global;
 use std::net::SocketAddr;
 
-/// The greatest length of buffered text before it is written, in octets, not counting one line.
+/// The length of buffered text, in octets, from which on the text is written.
 const MOST_GATHERED: usize = 65_536;
 
 /// The greatest time that a line stays buffered while events arrive, in milliseconds.
@@ -77,7 +77,7 @@ pub struct EventLog<S: LogSink> {
 }
 
 impl<S: LogSink> EventLog<S> {
-    /// Returns a log without lines. If `shows_all` is not set, it leaves out plain events.
+    /// Returns a log without lines. If `shows_all` is not set, the log leaves out plain events.
     pub fn new(alloc: Global, sink: S, shows_all: bool) -> EventLog<S>
         ensures text { result.text.items ≡ [] }
         ensures later { result.later.items ≡ [] }

@@ -52,9 +52,9 @@ enum Seen {
     NewRules,
 }
 
-/// Ports with a log. They give and take the same as the underlying ports. Log lines are written
-/// before the ports wait, that is, when nothing arrives soon, and every second while packets
-/// arrive.
+/// Ports with a log. They deliver and send the same packets as the underlying ports. If nothing
+/// arrives soon, log lines are written before the ports wait. While packets arrive, log lines are
+/// written every second.
 #[derive(Drop)]
 pub struct LoggedPorts<P: Ports + HasEndpoints + Drop, S: LogSink> {
     ports: P,

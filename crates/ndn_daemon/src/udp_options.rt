@@ -30,12 +30,12 @@ pub struct UdpOptions {
     /// The number of turns that the node takes.
     pub turns: u64,
     /// The addresses and ports of the peers: at most 64, all different, of the same address family
-    /// as `listen`. None is the node's own or has the unspecified address.
+    /// as `listen`. No peer is the node itself, and no peer has the unspecified address.
     pub peers: Vec<SocketAddr>,
-    /// The number of Local peers, at most the number of peers. They are the first peers and are on
-    /// this machine.
+    /// The number of Local peers, at most the number of peers. The Local peers come first in
+    /// `peers`, and they are on this machine.
     pub local: u64,
-    /// The idle time in seconds after which a face that is not a peer's closes. At least 1.
+    /// The idle time in seconds, at least 1, after which a face closes unless it belongs to a peer.
     pub idle: u32,
     /// Whether datagrams from strangers are accepted even if `listen` is not a loopback address.
     pub open: bool,

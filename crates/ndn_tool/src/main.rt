@@ -209,7 +209,7 @@ fn receive<R: Clock>(
 {
     let waited = start.elapsed(rt).map_err(|_| Missed::Clock)?;
     let left = Duration::from_secs(ANSWER_SECONDS).saturating_sub(waited);
-    // A timeout of zero is refused by the system. It means that the time is over.
+    // The system refuses a timeout of zero. If no time remains, the answer is late.
     socket
         .set_read_timeout(Some(left))
         .map_err(|_| Missed::Late)?;

@@ -489,8 +489,8 @@ TooLong
 status 1
 ";
 
-/// Commands with a key that is not in the key file, and with names that have no room for the
-/// parameters.
+/// Commands with a key that is not in the key file, and with names that have too many components
+/// for the parameters to follow.
 #[test]
 fn unwritten_commands(rt: HostRuntime) {
     check_session(&rt, OPS, UNWRITTEN_COMMANDS);
@@ -1242,8 +1242,8 @@ fn refused_memory(rt: HostRuntime) {
     }
 }
 
-/// A command, followed by datagrams, each with the outcome that it gives the command. These packets
-/// and the ones below were made by an independent program.
+/// A command, followed by datagrams, each with the outcome of the command if that datagram arrives.
+/// These packets and the ones below were made by an independent program.
 const ROUTE_ANSWERS: &str =
     "0598075008096c6f63616c686f737408036e66640803666962080b6164642d6e657874686f70080a680807030801416901020220b3efe71974da9dc26e88d0c074c8f0ff34ea85c38b109d9e9c6400b87694f2f20a040102030424002c1a1b01041c0f070d08036f707308034b45590801312804000f42402e20d113cf38056af9bbbec876471f4b51934978ef69345464b05cb762148eaa5dbb
 0684075008096c6f63616c686f737408036e66640803666962080b6164642d6e657874686f70080a680807030801416901020220b3efe71974da9dc26e88d0c074c8f0ff34ea85c38b109d9e9c6400b87694f2f2150965076601c867024f4b16031b01001720b6e80976e9dc6c36e0492f03adf2cda6bfa93df5c7b4489a5fc035173b9449cc done

@@ -82,7 +82,7 @@ prepare digest, ? digest 0 - 0 -> fresh
     check_rows(&rt, rt.alloc(), rows, freshness);
 }
 
-/// A prepared recording has its effect.
+/// A recording that was prepared records its command.
 #[test]
 fn prepared_calls_have_their_effect(rt: HostRuntime) {
     let rows = "
@@ -117,7 +117,7 @@ prepare /k, /l 0 0, /k 0 0, ? /l 0 1 0 -> no
     check_rows(&rt, rt.alloc(), rows, freshness);
 }
 
-/// Of two preparations, the second is in force.
+/// If two recordings are prepared, the second preparation replaces the first.
 #[test]
 fn the_second_of_two_preparations_counts(rt: HostRuntime) {
     let rows = "

@@ -66,7 +66,7 @@ empty_has_none face has = in_none face (subst (λ (r : Records). IsSome (get r.i
 pub none_below : (pending : Pending) → pending ≡ map.empty → AreBelow pending
 none_below pending e face has = absurd (empty_has_none face (subst (λ p. HasRecord p face) e has))
 
--- if some face asks, the records are alive
+-- if a face has an in-record, the records are alive
 pub asks_is_alive : (r : Records) (face : ℕ) → IsSome (get r.in_records face) → is_alive r ≡ true
 asks_is_alive r face some = by_len (len r.in_records) (λ e. empty_of_len r.in_records e)
   where

@@ -238,7 +238,7 @@ left_ours now =
     revised_ours (entry_left_at now)
     (λ e all. unless_vacant_ours (record e { registered = revise (until_due now) e.registered }) (until_due_ours now e all))
 
--- the table after a call that may be refused
+-- a call that may be refused keeps the faces of the table below 63 or at the greatest face number
 pub either_ours : {X Y : Type 0} (answer : Result X Y) (old new after : Routes) → OnOk answer (new ≡ after) → OnErr answer (new ≡ old) → AreOurs old → AreOurs after → AreOurs new
 either_ours (Ok x) old new after ok err all done = subst AreOurs (sym ok) done
 either_ours (Err y) old new after ok err all done = subst AreOurs (sym err) all

@@ -288,7 +288,8 @@ fn greatest_cache(rt: HostRuntime) {
     assert!(rt; is_first_gone(rt.alloc(), 65_536, 17) == Some(true));
 }
 
-/// Returns whether a Data is found exactly if it was cached; it is not cached if memory is refused.
+/// Returns whether a Data is found exactly if it was cached. A Data is not cached if memory runs
+/// out.
 fn is_found_where_kept(alloc: Global) -> Option<bool> {
     let packet = data_of(alloc, "/A", "01", Some(0))?;
     let mut store = Store::new(alloc, 2).ok()?;

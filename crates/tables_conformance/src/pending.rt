@@ -1,4 +1,5 @@
-//! Pending Interests: tables whose faces are all below 64, so that each call has room.
+//! Pending Interests, in tables whose faces are all below 64. Such a table always has capacity for
+//! one more record.
 
 mod askers;
 mod pending_records;
@@ -440,8 +441,8 @@ fn records_of_64_faces(rt: HostRuntime) {
     assert!(rt; played(rt.alloc(), &holds_64_faces) == Some(true));
 }
 
-/// Returns whether a prepared Interest is recorded after removals in between, and is sent on, and
-/// whether a preparation that is refused leaves the records unchanged.
+/// Returns whether a prepared Interest is recorded and sent on, even if other Interests were
+/// removed after the preparation. A preparation that is refused must leave the records unchanged.
 fn keeps_what_is_prepared(
     _alloc: Global,
     table: &mut Table,

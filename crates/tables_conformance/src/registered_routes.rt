@@ -153,7 +153,7 @@ register / 2 cost=1, register /A 2 cost=9 until=5, register /A/B 3, of /A/B, lis
 register /A 2 cost=1 until=5, register /A 2 cost=9 origin=1, of /A, list 5, expire 5, of /A -> 2@1; /A 2@9; 1; 2@9
 ";
 
-/// What is left when a route expires.
+/// The next hops that remain when a route expires.
 #[test]
 fn what_ends_with_a_route(rt: HostRuntime) {
     check_rows(&rt, rt.alloc(), WHAT_ENDS_WITH_A_ROUTE, answers);
@@ -198,8 +198,8 @@ register /A 2, remove /A 2, of /A -> 2@0
 add /A 2, unregister /A 2, of /A -> 2@0
 ";
 
-/// A removal removes the next hop or the route that it names, and removes an entry that then has
-/// neither.
+/// A removal removes the given next hop or route. An entry that then has no next hop and no route
+/// is removed as well.
 #[test]
 fn what_removals_leave(rt: HostRuntime) {
     check_rows(&rt, rt.alloc(), WHAT_REMOVALS_LEAVE, answers);

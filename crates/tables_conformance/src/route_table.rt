@@ -1,5 +1,5 @@
-//! Tables of routes whose faces are below 63 or the greatest face number, so that each call has
-//! room.
+//! Tables of routes whose faces are below 63 or the greatest face number. Such a table always has
+//! capacity for one more face.
 
 ghost use Rattle.std.specs.Prelude.{◌≡◌, ◌<◌, ◌-◌, ◌^◌, ◌⊎◌};
 
@@ -41,7 +41,8 @@ pub struct Route {
 }
 
 impl Route {
-    /// Returns the route with cost 0 on a face, of an origin; it is inherited, and never expires.
+    /// Returns a child-inherit route with this face and this origin. Its cost is 0, and it never
+    /// expires.
     pub fn new(face: u64, origin: u64) -> Route {
         Route {
             face,

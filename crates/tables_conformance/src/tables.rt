@@ -300,8 +300,8 @@ pub fn numbered(alloc: Global, number: u16) -> Option<NameBuf> {
     Some(name)
 }
 
-/// Returns whether 4,096 names with next hops fit, inserted with the greatest name first, and then
-/// no further name fits, but a further next hop of a known name does.
+/// Returns whether 4,096 names with next hops fit, inserted with the greatest name first. A further
+/// name must then be refused, but a further next hop of a known name must be accepted.
 fn holds_4096_routes(alloc: Global) -> Option<bool> {
     let mut routes = RouteTable::new(alloc);
     for number in (0..4096).rev() {

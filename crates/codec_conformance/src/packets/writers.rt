@@ -282,8 +282,8 @@ fn put_both(out: &mut Vec<u8>, name: Name<'_>) -> Option<()> {
     data.write(out).ok()
 }
 
-/// Returns the length and the capacity of an output with room for 200 octets, after all writers
-/// have appended to it.
+/// Returns the length and the capacity of an output with a capacity of 200 octets, after all
+/// writers have appended to it.
 fn filled_room(alloc: Global) -> Option<(usize, usize)> {
     let name = Name::read(b"\x08\x01A").ok()?;
     let mut out = Vec::with_capacity(alloc, 200).ok()?;

@@ -58,8 +58,8 @@ fn serves_version_six(rt: &impl Net, client: &UdpSocket) -> Option<bool> {
     Some(opened && ports.send(1, b"six").is_ok() && hears_octets(client, b"six"))
 }
 
-/// Does the same as `serves_version_six` if the machine has the address ::1. If it does not, there
-/// is nothing to serve.
+/// Does the same as `serves_version_six` if the machine has the address ::1. On a machine without
+/// this address, nothing is tested.
 fn serves_where_there_is_one(rt: &impl Net) -> Option<bool> {
     match UdpSocket::bind(rt, (Ipv6Addr::LOCALHOST, 0)) {
         Ok(client) => serves_version_six(rt, &client),

@@ -130,8 +130,7 @@ fn is_front(text: &[u8], whole: &str) -> bool {
     whole.as_bytes().starts_with(text)
 }
 
-/// Returns whether a text is one of the three possible answers to the script, or the beginning of
-/// one.
+/// Returns whether a text is one of the three possible answers to the script, or a prefix of one.
 fn are_answers(text: &[u8]) -> bool {
     is_front(text, ANSWERS)
         || is_front(text, ANSWERS_TO_DATA)

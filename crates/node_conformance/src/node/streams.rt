@@ -92,7 +92,9 @@ fn a_reader_that_fails(rt: HostRuntime) {
     check_pieces(&rt, script, true, answers);
 }
 
-/// Returns whether the answers to a script fill the room in the output, and writing then fails.
+/// Returns whether the answers to a script are written to an output with capacity for `left`
+/// octets. If the answers are longer, only their first `left` octets are written, and writing
+/// fails.
 fn writes(alloc: Global, script: &str, size: usize, left: usize, answers: &[u8]) -> bool {
     let mut input = script.as_bytes();
     let held = Vec::new(alloc);
@@ -109,7 +111,7 @@ fn writes(alloc: Global, script: &str, size: usize, left: usize, answers: &[u8])
     end == wanted && output.held.as_slice() == &answers[..len]
 }
 
-/// Checks a script whose output has room for 0 to 40 octets of answers.
+/// Checks a script whose output has a capacity of 0 to 40 octets.
 fn check_rooms(rt: &(impl Abort + AllocGlobal), script: &str, size: usize, answers: &[u8]) {
     for left in 0..41 {
         assert!(rt;

@@ -428,7 +428,7 @@ fn udp_silent_peer(rt: HostRuntime) {
 }
 
 /// Returns whether a datagram that came in time is received, although another face closes first and
-/// the time is over by then.
+/// the idle time of the datagram's face is over by then.
 fn hears_what_waits(rt: &impl Net, moment: &Cell<u64>) -> Option<bool> {
     let listen = free_port(rt)?;
     let mut ports = UdpPorts::bind(rt, listen, &[], 0, Handed { moment, last: 0 }).ok()?;

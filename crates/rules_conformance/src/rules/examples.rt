@@ -381,7 +381,7 @@ data /A by digest → allowed 2
 data /A by /ops/KEY/1 key → denied 2 SigType
 ";
 
-/// The rule of the sample that applies to each packet.
+/// For each packet, the rule of the sample that applies to the packet.
 const FOR_SAMPLE: &str = r"
 any interest /localhost/nfd → rule 0
 any interest /repo → rule 1

@@ -50,8 +50,8 @@ fn is_given_while_fresh(store: &mut Store, name: &NameBuf, fresh: &[u8]) -> Opti
     Some(is_given && is_over && is_left && is_gone)
 }
 
-/// Returns whether the only Data that is fresh, for 10 ms, is found among Data that are never
-/// fresh.
+/// Returns whether the only fresh Data, whose FreshnessPeriod is 10 ms, is found among Data that
+/// are never fresh.
 fn is_fresh_found(alloc: Global, at: u32) -> Option<bool> {
     let mut fresh = data_of(alloc, "/n/0000", "02", Some(10))?;
     put_number(&mut fresh, at);

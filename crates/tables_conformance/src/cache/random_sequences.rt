@@ -18,8 +18,8 @@ const NAMES: [&str; 7] = [
     "/AA",
 ];
 
-/// A Data, with the index of its name in `NAMES`, its FreshnessPeriod and its digest. There are two
-/// of each name.
+/// A Data, with the index of its name in `NAMES`, its FreshnessPeriod and its digest. Each name has
+/// two Data.
 #[derive(Drop)]
 struct Made {
     packet: Vec<u8>,

@@ -66,8 +66,8 @@ ask /A 1 7 5000, sent /A 1 2 7 1000, sent /A 1 2 8 1010, sent /A 1 1 8 1010, use
 ask /A 1 7 5000, sent /A 1 2 7 1000, loops /A 1 7, ask /A 1 7 5009, used /A, sent /A 1 2 7 1010, used /A, nack /A 2 7 150, of /A 1 -> yes; yes; no; yes; used 2@1000; yes; used 2@1010; all 150; 00000007
 ";
 
-/// An Interest loops if another face asked with its Nonce, or its Nonce was sent to a face, unless
-/// its own face asked with that Nonce.
+/// An Interest loops if another face asked with the Interest's Nonce, or if that Nonce was sent to
+/// a face. It does not loop if its own face asked with that Nonce before.
 #[test]
 fn loops_and_retries(rt: HostRuntime) {
     check_rows(&rt, rt.alloc(), LOOPS_AND_RETRIES, answers);
@@ -116,7 +116,8 @@ ask /A/B 1 1 9, prepare /A/B/C 4, remove /A/B, ask /A/B/C 2 2 9, of /A/B 1, of /
 ask /A/B 1 1 9, ask /A/D 3 2 9, prepare /A/B/C 4, data /A/B, ask /A/B/C 2 3 9, of /A/B/C 2, data /A/D, data /A/B/C, len -> yes; yes; yes; faces 1; yes; 00000003; faces 3; faces 2; 0 true
 ";
 
-/// A prepared call stays prepared while the Interests along its name are removed.
+/// A prepared call needs no more memory, even if Interests for prefixes of its name are removed
+/// first.
 #[test]
 fn a_preparation_on_a_path_that_empties(rt: HostRuntime) {
     check_rows(

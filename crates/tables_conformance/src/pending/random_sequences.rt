@@ -191,7 +191,8 @@ fn satisfy_agrees(
     Some(agrees)
 }
 
-/// How often a Nack had each result other than the first, and how often an Interest looped.
+/// How often a Nack had the result `Waiting`, how often it had the result `All`, and how often an
+/// Interest looped.
 #[derive(Clone, Copy)]
 struct Seen {
     waiting: u64,

@@ -57,7 +57,8 @@ register /A 2 cost=1, register /A/B 2 cost=9, of /A/B -> 2@9
 register /A 2 cost=1, register /A/B 2 cost=9 flags=0, of /A/B -> 2@9
 ";
 
-/// For each face, next hops take precedence over routes, and routes over what is inherited.
+/// For each face, a name's next hops take precedence over its routes, and its routes take
+/// precedence over inherited routes.
 #[test]
 fn next_hops_come_first(rt: HostRuntime) {
     check_rows(&rt, rt.alloc(), NEXT_HOPS_COME_FIRST, answers);

@@ -205,7 +205,8 @@ impl Plain {
     }
 }
 
-/// How often a name inherited a cost, a capture route prevented this, and routes expired.
+/// How often a name inherited a cost, how often a capture route prevented this, and how often
+/// routes expired.
 #[derive(Clone, Copy)]
 struct Seen {
     inherited: u64,
@@ -441,8 +442,8 @@ fn all_names(alloc: Global) -> Option<Vec<NameBuf>> {
     Some(names)
 }
 
-/// Returns whether 400 sequences agree with the lists, where some costs were inherited, some were
-/// captured, and some routes expired.
+/// Returns whether 400 sequences agree with the lists. In some of them costs must be inherited,
+/// capture routes must prevent this, and routes must expire.
 fn all_agree(alloc: Global) -> Option<bool> {
     let names = all_names(alloc)?;
     let mut state = 0x2545_f491_4f6c_dd1d;

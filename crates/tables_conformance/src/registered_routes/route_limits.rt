@@ -109,7 +109,8 @@ fn takes_known_names(alloc: Global, routes: &mut RouteTable) -> Option<bool> {
     Some(is_routed && is_added)
 }
 
-/// Returns whether a name makes room for another when it loses its last route, and not before.
+/// Returns whether a full table refuses a new name until another name loses its last next hop or
+/// route.
 fn frees_names(alloc: Global, routes: &mut RouteTable) -> Option<bool> {
     let (new, both, routed) = (
         numbered(alloc, 4096)?,
@@ -131,8 +132,8 @@ fn holds_4096_names(alloc: Global, routes: &mut RouteTable) -> Option<bool> {
     Some(holds && frees_names(alloc, routes)?)
 }
 
-/// Returns whether the refusals of a call can be told in advance: for a name of 33 components, and
-/// for one of none.
+/// Returns whether `route_refusal_of` tells in advance that a route for a name of 33 components is
+/// refused, and that a route for the name `/` is not.
 fn tells_refusals(alloc: Global, routes: &mut RouteTable) -> Option<bool> {
     let (deep, root) = (deep_name(alloc, 33)?, deep_name(alloc, 0)?);
     let route = Route::new(1, 0);
