@@ -68,7 +68,7 @@ pub fn heard(
     Some(Progress::Ignored)
 }
 
-/// Returns the result of an exchange when the node answers its present request.
+/// Returns the result of an exchange after the node has answered the exchange's present request.
 pub fn turn(
     alloc: Global,
     scene: &mut Scene,

@@ -7,8 +7,8 @@ use std::alloc::Global;
 use std::test::*;
 use test_support::octets;
 
-/// Returns the HMAC of a text under a key, if it is the same wherever the text is split, and the
-/// same with an `HmacKey`.
+/// Returns the HMAC of a text under a key. Returns `None` if the HMAC of the text in two parts, or
+/// by an `HmacKey`, is another one.
 fn tag(alloc: Global, input: &str) -> Option<String> {
     let (key, text) = input.split_once(" | ")?;
     let key = octets(alloc, key)?;

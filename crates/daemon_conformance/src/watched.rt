@@ -67,8 +67,8 @@ fn closes<P: Ports>(ports: &mut P, closed: u64, at: u64) -> bool {
     matches!(ports.next(&mut [0; 16]), Ok(Arrival::FaceDown { face, now }) if face == closed && now == at)
 }
 
-/// Returns whether the source is checked one second after the start, and its rules are given before
-/// the packet that arrived, which is then given unchanged.
+/// Returns whether the source is checked one second after the start. Its rules must come before the
+/// packet that arrived, and the packet must then come unchanged.
 fn rules_come_first(alloc: Global) -> Option<bool> {
     let renewal = no_rules(alloc)?;
     let source = Once {
@@ -88,8 +88,8 @@ fn new_rules_come_first(rt: HostRuntime) {
     assert!(rt; rules_come_first(rt.alloc()) == Some(true));
 }
 
-/// Returns whether, after a restart, new rules come first and faces close, at the last time of the
-/// journal.
+/// Returns whether the first arrivals after a restart are new rules and the closing of faces, at
+/// the last time of the journal.
 fn restart_comes_first(alloc: Global) -> Option<bool> {
     let mut closing = Vec::new(alloc);
     closing.push(7).ok()?;

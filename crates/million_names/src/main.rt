@@ -1,6 +1,6 @@
 //! Puts a million names into a map, removes each name after 64 further names were put in, and
-//! prints how many names remain. By the map's invariant, a node without a value and without
-//! children is removed, so a map without names has no node.
+//! prints how many names remain. By the map's invariant, each node of the map has a value or a
+//! child, so a map without names has no node.
 #![tactic(auto)]
 
 use name_trie::NameMap;

@@ -16,7 +16,7 @@ use Rattle.node_ports.proofs.Turns.{Gives-none_left, Gives-none_same, Serves-sta
 use Rattle.ndn_daemon.specs.declared.fault.Fault.{Fault}
 use Rattle.ndn_daemon.specs.Turn.{Tells, turn_text}
 
--- each event has one outcome
+-- there are as many outcomes as events
 as_many : (old new : NodeState) (events : List PlainEvent) (outcomes : List Outcome) → AreOutcomes old events outcomes new → length events ≡ length outcomes
 as_many old new [] [] h = refl
 as_many old new [] (outcome ∷ outcomes) h = absurd h
@@ -63,7 +63,7 @@ Tells-turn old mid new before between after number text sends rules Refused goes
 Tells-turn old mid new before between after number text sends rules Unwritten goes_on written h k shown = absurd (written refl)
 Tells-turn old mid new before between after number text sends rules End goes_on written h k shown = absurd (goes_on refl)
 
--- no further event arrived
+-- if no further event arrived, the state of the ports is unchanged
 same_shown : (before after : Shown) → EndsNext before after → after ≡ before
 same_shown before after e = λ i. record { failures = e.failures i; coming = Gives-none_same before.coming after.coming FRAME_ROOM e.coming i; taken = e.taken i; journal = e.journal i }
 

@@ -12,11 +12,11 @@ use Rattle.ndn_log.specs.declared.entry.Came.TheVariants.{Packet, Opened, Closed
 abbrev pub is_left_out : Bool → Came → Result Verdict Memory → Bool
 is_left_out shows_all came outcome = not shows_all && is_plain came outcome
 
--- the line with this time and these words was appended, or nothing
+-- either the line with this time and these words was appended, or nothing was
 abbrev pub MayLog : List ℕ → List ℕ → ℕ → List ℕ → Type 0
 MayLog old new moment words = IsLogged old new moment words ⊎ (new ≡ old)
 
--- the number of faces that closed without a line, after this event
+-- the number of closed faces that have no line in the log, counted after this event
 abbrev pub closed_with : Bool → Came → ℕ → ℕ
 closed_with true (Closed face) count = one_more count
 closed_with left_out came count = count

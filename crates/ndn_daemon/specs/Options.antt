@@ -27,7 +27,7 @@ given_or text (Some given) = given
 abbrev pub IsCapacity : List ℕ → ℕ → Type 0
 IsCapacity text n = IsNumeral 10 text × (digits_value 10 text ≡ n) × (n < 2 ^ 32)
 
--- the path is the given one, if one is given
+-- there is a path exactly if one is given, and then the path is the given one
 abbrev pub MayBePath : {Z : Type 0} → Option (List ℕ) → Option (String Z) → Type 0
 MayBePath None None = ⊤
 MayBePath (Some given) (Some path) = string_bytes path ≡ given

@@ -62,8 +62,7 @@ pub struct LoggedPorts<P: Ports + HasEndpoints + Drop, S: LogSink> {
     // The last arrival and its time.
     seen: Option<Seen>,
     moment: u64,
-    // The number of the last face that was opened, or the number that was given instead of a new
-    // face, and its endpoint.
+    // The face of the last `FaceUp` arrival, and the endpoint of that face.
     opened: u64,
     endpoint: Option<SocketAddr>,
 }

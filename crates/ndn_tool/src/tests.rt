@@ -56,7 +56,8 @@ fn prints(alloc: Global, command: &str, keys: &str, wanted: &str) -> Option<bool
     Some(whole.as_str() == wanted)
 }
 
-/// Checks the commands of a session, each after `$ `, and the text that each prints.
+/// Checks that each command of a session prints the text that follows the command. Commands begin
+/// with `$ `.
 fn check_session(rt: &(impl Abort + AllocGlobal), keys: &str, session: &str) {
     assert!(rt; session.contains("$ ndn_tool"), "there are no commands");
     for part in session.split("$ ") {
@@ -1316,13 +1317,13 @@ const PREFIX_COMMAND_ANSWERS: &str =
 0687075308096c6f63616c686f737408036e66640803666962080b6164642d6e657874686f70080a680807030801416901020220b3efe71974da9dc26e88d0c074c8f0ff34ea85c38b109d9e9c6400b87694f2f2080178150965076601c867024f4b16031b01001720d0d0e633fa38a1d163524163a5943e45b8e2a90e55897bb42e69fc2203e73c09 ignored
 ";
 
-/// A Data, which has no answer, and a datagram that is ignored.
+/// A request that is a Data, to which no datagram is an answer, and a datagram that is ignored.
 const NO_ANSWERS: &str =
     "062f070308014115017816031b01001720e4f0b5aed03446e702356a360c7194c208b8b6a28ff30de430f1baa08ba29266
 062f070308014115017816031b01001720e4f0b5aed03446e702356a360c7194c208b8b6a28ff30de430f1baa08ba29266 ignored
 ";
 
-/// Returns the word for the outcome that a datagram gives a request.
+/// Returns the word for the outcome of a request.
 fn word_of(outcome: Option<Outcome>) -> &'static str {
     match outcome {
         None => "ignored",
@@ -1334,7 +1335,8 @@ fn word_of(outcome: Option<Outcome>) -> &'static str {
     }
 }
 
-/// Returns whether the datagram gives the request the outcome `wanted`, with the key `/ops/KEY/1`.
+/// Returns whether the request has the outcome `wanted` when this datagram arrives, with the key
+/// `/ops/KEY/1`.
 fn comes_to(alloc: Global, request: &[u8], datagram: &[u8], wanted: &str) -> Option<bool> {
     let book = KeyBook::read(alloc, OPS).ok()?;
     let outcome = judge(alloc, request, datagram, &book).ok()?;
@@ -1363,7 +1365,7 @@ fn check_answers(rt: &(impl Abort + AllocGlobal), rows: &str) {
     }
 }
 
-/// The datagrams that answer a request, and the outcomes that they give it.
+/// Datagrams that arrive after a request, and the outcome of the request for each datagram.
 #[test]
 fn answers(rt: HostRuntime) {
     check_answers(&rt, ROUTE_ANSWERS);

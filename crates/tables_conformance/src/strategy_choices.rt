@@ -131,8 +131,8 @@ all: / 2 5, / 3 0; 2 localhost 1000; -> no route
     check_rows(&rt, rt.alloc(), rows, choice);
 }
 
-/// Best-route sends nothing within 10 milliseconds after any face was used. If it has no route, it
-/// says so at once.
+/// Best-route sends nothing within 10 milliseconds after any face was used. If no next hop is
+/// eligible, the result is `no route` even then.
 #[test]
 fn best_route_waits_10_milliseconds(rt: HostRuntime) {
     let rows = "

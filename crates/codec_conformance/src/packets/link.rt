@@ -14,8 +14,8 @@ fn token(alloc: Global, input: &str) -> Option<String> {
     value_text(alloc, read_lp(&packet(alloc, input)?).ok()?.token)
 }
 
-/// Returns what is written around an Interest with a token, and with a Nack for this reason or
-/// without one.
+/// Returns the link packet around an Interest, with a token. The link packet has a Nack if `reason`
+/// is a number.
 fn with_token(alloc: Global, reason: &str) -> Option<String> {
     let interest = b"\x05\x0b\x07\x03\x08\x01\x41\x0a\x04\x01\x02\x03\x04";
     let mut out = Vec::new(alloc);

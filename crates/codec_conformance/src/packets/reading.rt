@@ -130,7 +130,7 @@ fn fields_of_interests(rt: HostRuntime) {
     check_rows(&rt, rt.alloc(), rows, fields);
 }
 
-/// A name with a digest of parameters in an Interest without parameters, and a name with an
+/// An Interest without parameters whose name has a parameters digest, and one whose name has an
 /// implicit digest instead.
 #[test]
 fn digests_without_parameters(rt: HostRuntime) {

@@ -272,8 +272,8 @@ set 682e07030801416b27072508096c6f63616c686f737408036e66640808737472617465677908
     check_rows(&rt, rt.alloc(), rows, answers);
 }
 
-/// An erase removes all Data under a name, or the first ones. The reply contains the Count, if it
-/// was given.
+/// An erase removes all Data under a name, or the first Data up to a Count. The reply contains the
+/// Count, if the command has one.
 #[test]
 fn erased_data_go(rt: HostRuntime) {
     let rows = "

@@ -9,8 +9,7 @@ fn loopback(port: u16) -> SocketAddr {
     SocketAddr::from((Ipv4Addr::LOCALHOST, port))
 }
 
-/// Returns whether the same port at two addresses is two endpoints, each with a face that leads to
-/// it.
+/// Returns whether the same port at two addresses counts as two endpoints, each with its own face.
 fn parts_addresses(rt: &impl Net) -> Option<bool> {
     let listen = free_port(rt)?;
     let mut ports = UdpPorts::bind(rt, listen, &[], 0, Moving { last: 0 }).ok()?;

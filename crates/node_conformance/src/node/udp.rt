@@ -166,15 +166,16 @@ fn takes_soon(alloc: Global, node: &mut Node, ports: &mut UdpPorts<Still>) -> bo
     serve_turn_soon(node, ports, &mut [0; FRAME_ROOM], &mut outbox).is_some()
 }
 
-/// Returns whether turns are taken soon while a datagram waits, and none before or after that.
+/// Returns whether exactly two turns are taken soon: one that opens a face, and one that answers
+/// the packet on that face.
 fn are_taken_soon(alloc: Global, node: &mut Node, ports: &mut UdpPorts<Still>) -> bool {
     let opened = takes_soon(alloc, node, ports);
     let answered = takes_soon(alloc, node, ports);
     opened && answered && !takes_soon(alloc, node, ports)
 }
 
-/// Returns whether a port that is polled for a short time continues to work, and then waits as
-/// before.
+/// Returns whether a port takes turns soon only while a datagram waits, and then still waits for
+/// datagrams as before.
 fn waits_for_a_short_time(rt: &(impl AllocGlobal + Net)) -> Option<bool> {
     let alloc = rt.alloc();
     let listen = free_port(rt)?;
@@ -461,8 +462,8 @@ fn open_all<M: Moments>(ports: &mut UdpPorts<M>, faces: u64, at: u64) -> bool {
     true
 }
 
-/// Returns whether nothing can be sent to a 65th port while the 64th port, a client, was silent for
-/// 9,999 milliseconds, and whether the client's face closes to make room after 10,000 milliseconds.
+/// Returns whether nothing can be sent to a 65th port if the client at the 64th port was silent for
+/// 9,999 milliseconds. After 10,000 milliseconds the client's face must close to make room.
 fn gives_way(
     ports: &mut UdpPorts<Handed<'_>>,
     moment: &Cell<u64>,

@@ -269,7 +269,7 @@ rule {␊ id a␊ for data␊ checker {␊ type customized␊ sig-type hmac-sha2
 data /A by /ops/KEY/1 kez → denied 0 Tag
 ";
 
-/// If several checkers give reasons, the greatest is reported.
+/// If several checkers give reasons, the greatest reason is reported.
 #[test]
 fn the_greatest_reason(rt: HostRuntime) {
     assert_right(&rt, first_wrong_of(rt.alloc(), GREATEST_REASON));
@@ -449,7 +449,7 @@ rule {␊ id a␊ for interest␊ checker {␊ type customized␊ sig-type hmac-
 interest /ops by /ops/KEY/1 key → allowed 0
 "#;
 
-/// A hyper-relation sees an Interest's name without its parameters digest.
+/// For a hyper-relation, an Interest's name does not include its parameters digest.
 #[test]
 fn hyper_relations_of_interests(rt: HostRuntime) {
     assert_right(&rt, first_wrong_of(rt.alloc(), HYPER_OF_INTERESTS));

@@ -125,7 +125,7 @@ impl Records {
     }
 }
 
-/// Returns whether the table shows the same records for a key and a face as these records do.
+/// Returns whether the table has the same records as `records` for a key and a face.
 fn shows(table: &Table, records: &Records, at: usize, key: Key<'_>, face: u64) -> bool {
     let ask = records
         .asks
@@ -144,7 +144,7 @@ fn shows(table: &Table, records: &Records, at: usize, key: Key<'_>, face: u64) -
     interest && table.pit.used(key).get(face) == moment
 }
 
-/// Returns whether the table shows the same records for all keys and faces as these records do.
+/// Returns whether the table has the same records as `records` for all keys and faces.
 fn shows_all(table: &Table, records: &Records, keys: &[OwnedKey]) -> bool {
     for (at, key) in keys.iter().enumerate() {
         for face in 0..3 {
@@ -156,13 +156,13 @@ fn shows_all(table: &Table, records: &Records, keys: &[OwnedKey]) -> bool {
     table.pit.len() == records.len()
 }
 
-/// Returns whether a face has a pending Interest that is answered.
+/// Returns whether a face has a pending Interest whose key is set in `answered`.
 fn is_asking(records: &Records, answered: &[bool], face: u64) -> bool {
     records.asks.iter().any(|ask| ask.face == face && answered.get(ask.key) == Some(&true))
 }
 
-/// Returns whether `faces` are exactly those of the three faces that have a pending Interest that
-/// is answered.
+/// Returns whether `faces` are exactly those of the three faces that have a pending Interest whose
+/// key is set in `answered`.
 fn are_asking(records: &Records, answered: &[bool], faces: &Faces) -> bool {
     let mut asking: usize = 0;
     for face in 0..3 {

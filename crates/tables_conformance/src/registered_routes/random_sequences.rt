@@ -237,8 +237,7 @@ fn are_in_order(hops: &Hops) -> Option<bool> {
     Some(true)
 }
 
-/// Returns whether these are the effective next hops of a name, or there are none if there is no
-/// name.
+/// Returns whether `hops` are the effective next hops of a name, or are empty if `name` is `None`.
 fn hops_agree(plain: &Plain, seen: &mut Seen, name: Option<usize>, hops: &Hops) -> Option<bool> {
     let mut len: usize = 0;
     for face in 0..FACES {

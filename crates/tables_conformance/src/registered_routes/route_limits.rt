@@ -73,7 +73,7 @@ fn holds_16384_routes(alloc: Global, routes: &mut RouteTable) -> Option<bool> {
     Some(holds && takes_one_for_one(alloc, routes)? && takes_many_for_many(alloc, routes)?)
 }
 
-/// Returns whether a table accepts 4,096 names, with next hops and with routes in turn.
+/// Returns whether a table accepts 4,096 names, half of them with a next hop and half with a route.
 fn takes_4096_names(alloc: Global, routes: &mut RouteTable) -> Option<bool> {
     for number in (0..4096).rev() {
         let name = numbered(alloc, number)?;
