@@ -8,7 +8,7 @@ use std::alloc::Global;
 use test_support::{KEYS, SAMPLE, first_wrong};
 
 /// The datagrams that arrive after a command was sent, and how the command ends. `reply` is the
-/// node's reply to the command, `forged` is this reply with a wrong signature, and `earlier` is the
+/// node's reply to the command. `forged` is this reply with a wrong signature. `earlier` is the
 /// node's reply to the previous command, which arrives too late.
 const HEARD: &str = "
 reply => done status 200 OK␊name /A␊face 2␊cost 5␊

@@ -603,7 +603,8 @@ fn component_order(rt: HostRuntime) {
     check_rows(&rt, rt.alloc(), rows, first_components);
 }
 
-/// Returns the number of components after the first one, if a copy of the iterator returns as many.
+/// Returns the number of components after the first one, if a copy of the iterator returns the same
+/// number of components.
 fn count_after_first(name: Name<'_>) -> Option<usize> {
     let mut after_first = name.into_iter();
     after_first.next();

@@ -54,8 +54,8 @@ fits_route action rows =
     && may_give action FLAGS (value_at rows (codes "flags"))
     && may_give action EXPIRATION_PERIOD (value_at rows (codes "expires"))
 
--- whether the options suit the verb: the verb takes all options that are given, and all that it
--- needs are given
+-- whether the options suit the verb: the verb allows all options that are given, and all options
+-- that it requires are given
 abbrev pub fits : Action → List Row → Bool
 fits AddNexthop rows = fits_route AddNexthop rows
 fits RemoveNexthop rows = fits_route RemoveNexthop rows

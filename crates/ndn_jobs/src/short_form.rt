@@ -76,8 +76,8 @@ fn action_of(subcommand: &str, verb: &str) -> Option<Action>
     None
 }
 
-/// Checks that the verb takes all options that are given, and that all options that it needs are
-/// given.
+/// Checks that the verb allows all options that are given, and that all options that the verb
+/// requires are given.
 pub fn check_fit(action: Action, options: &ArgMatches<'_>) -> Result<(), ToolFault>
     ensures { MatchResult result (λ _. fits action (rows_in options.now) ≡ true)
         (λ why. IsUsage why × (fits action (rows_in options.now) ≡ false)) }
@@ -134,7 +134,7 @@ fn takes_origin(action: Action) -> bool
     matches!(action, Action::Register | Action::Unregister)
 }
 
-/// Returns whether the action takes flags and an expiration period.
+/// Returns whether the action allows flags and an expiration period.
 fn is_register(action: Action) -> bool
     ensures flags { result ≡ takes FLAGS (row_of action) }
     ensures expires { result ≡ takes EXPIRATION_PERIOD (row_of action) }

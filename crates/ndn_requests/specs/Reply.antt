@@ -101,7 +101,8 @@ data_outcome asked d check =
     then Some (reply_outcome asked.name d.content) else None)
     else Some (Ok tt)
 
--- a Nack is for the request's Interest if it has the same name and the same Nonce
+-- whether two Interests have the same name and the same Nonce; a Nack of such an Interest answers
+-- the request
 abbrev pub is_same : PlainInterest → PlainInterest → Bool
 is_same asked i = is_same_name asked.name i.name && bytes_eq asked.nonce i.nonce
 

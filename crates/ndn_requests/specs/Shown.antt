@@ -27,8 +27,8 @@ abbrev pub flags_shown : PlainCommand → List ℕ
 flags_shown c =
     words_of_flags (is_child_inherit (route_asked c 0)) (is_capture (route_asked c 0))
 
--- the lines of the fields in the reply to a command from this face; the reply has the fields that
--- the command takes
+-- the lines of the fields in the reply to a command from this face; a field is shown only if the
+-- command's action has this field
 abbrev pub fields_shown : PlainCommand → ℕ → List ℕ
 fields_shown c face =
     named_line (codes "name") (uri_of c.name)

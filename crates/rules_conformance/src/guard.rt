@@ -1,4 +1,4 @@
-//! Tests of the guard that tells which signed commands are new.
+//! Tests of the replay guard, which decides whether a signed command is new.
 
 mod replay_windows;
 

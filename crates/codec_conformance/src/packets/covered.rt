@@ -123,9 +123,9 @@ fn hop_limits_in_place(rt: HostRuntime) {
 /// signature.
 const DATA: &str = "060f0703080141150178 16031b0100 1700";
 
-/// Shows four results: whether the Data answers an Interest for a name without CanBePrefix, and
-/// with CanBePrefix, whether the answers are the same if the digest is given, and whether the name
-/// asks for a digest.
+/// Shows four results for an Interest with this name: whether the Data answers it without
+/// CanBePrefix, whether the Data answers it with CanBePrefix, whether both answers are the same if
+/// the Data's digest is given, and whether the name asks for a digest.
 fn answers(alloc: Global, input: &str) -> Option<String> {
     let asked = NameBuf::from_uri(alloc, input).ok()?;
     let octets = octets(alloc, DATA)?;

@@ -140,7 +140,7 @@ register 680b07030801416901026a0103, register 680f07030801416901026a01036d0203e8
     check_rows(&rt, rt.alloc(), rows, answers);
 }
 
-/// Two routes with the same face and different origins: the least cost counts, and each route is
+/// Two routes with the same face and different origins: the least cost is used, and each route is
 /// removed by its origin.
 #[test]
 fn routes_of_two_origins(rt: HostRuntime) {
@@ -150,7 +150,8 @@ register 680e07030801416901026f01016a0107, register 680e07030801416901026f01026a
     check_rows(&rt, rt.alloc(), rows, answers);
 }
 
-/// A next hop hides the route on the same face. Removing one of them keeps the other.
+/// A next hop hides the route on the same face. Removing the next hop keeps the route, and removing
+/// the route keeps the next hop.
 #[test]
 fn next_hops_beside_routes(rt: HostRuntime) {
     let rows = "

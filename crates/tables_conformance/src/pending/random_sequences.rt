@@ -17,7 +17,8 @@ const KEYS: [&str; 6] = [
     "/A/sha256digest=2d92a383706a615fe67c9a585b00f29c5c06d2abdaec456e9cdc026679eb2479",
 ];
 
-/// Names of Data, each with a flag for each key in `KEYS` that tells whether the Data answers it.
+/// Names of Data. For each key in `KEYS`, a flag tells whether the Data answers an Interest with
+/// that key.
 const ANSWERED: [(&str, [bool; 6]); 3] = [
     ("/A", [true, true, true, false, true, true]),
     ("/A/B", [false, true, false, true, true, false]),

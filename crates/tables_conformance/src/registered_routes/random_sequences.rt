@@ -303,7 +303,8 @@ fn list_agrees(
     Some(rows_agree(&rows, &left, names, seen)? && routes.read().due(now) == due as u64)
 }
 
-/// Returns whether as many routes expire by a moment as in the lists.
+/// Returns whether the number of routes that expire by a moment is the same in the table and in the
+/// lists.
 fn expire_agrees(
     routes: &mut RouteTable,
     plain: &mut Plain,

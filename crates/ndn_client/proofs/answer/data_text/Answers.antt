@@ -9,7 +9,7 @@ use Rattle.ndn_client.proofs.Refusals.{data_refused}
 use Rattle.ndn_client.proofs.answer.data_text.Goals as goal
 use Rattle.ndn_client.proofs.answer.data_text.Goals.{After-octets_in}
 
--- the packet that is asked for
+-- the packet that the job asks for
 abbrev asked : After-octets_in → DataWriter
 asked c = record { name = c.view.result; freshness = c.args.job.now.freshness; last = None; content = c.octets_in.result; sign = c.in_ok-sign.sign }
 

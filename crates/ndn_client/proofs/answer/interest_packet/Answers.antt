@@ -8,7 +8,7 @@ use Rattle.ndn_client.proofs.Refusals.{interest_refused}
 use Rattle.ndn_client.proofs.answer.interest_packet.Goals as goal
 use Rattle.ndn_client.proofs.answer.interest_packet.Goals.{After-octets_in}
 
--- the packet that is asked for
+-- the packet that the job asks for
 abbrev asked : After-octets_in → InterestWriter
 asked c = record { name = c.view.result; can_be_prefix = c.args.job.now.can_be_prefix; must_be_fresh = c.args.job.now.must_be_fresh; nonce = c.args.job.now.nonce; lifetime = c.args.job.now.lifetime; hop_limit = c.args.job.now.hop_limit; parameters = c.octets_in.result; sign = c.in_ok-sign.sign; time = c.args.job.now.time; seq = c.args.job.now.seq }
 
