@@ -1,4 +1,4 @@
-//! Each command line that sends requests, and each status.
+//! Tests with each command line that sends requests, and with each status of a reply.
 
 use super::client::misplayed;
 use test_support::SAMPLE;

@@ -1,4 +1,5 @@
-//! Datagrams that do not answer a command: before the reply, after it, and instead of it.
+//! Tests with datagrams that do not answer a command. They arrive before the reply, after the
+//! reply, or instead of the reply.
 
 use super::client::{ends_as, exchange_of, heard};
 use super::scene::Scene;

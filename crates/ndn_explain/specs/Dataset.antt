@@ -74,7 +74,7 @@ hop_words layout es =
     number_word (labels_of layout).face (first_of FACE_ID es)
     ++ number_word (labels_of layout).cost (first_of COST es)
 
--- one line for each next hop
+-- the line of an element if it is a next hop, and nothing otherwise
 abbrev pub hop_line : Layout → List ℕ → Result Field TlvFault → List ℕ
 hop_line layout name (Err fault) = []
 hop_line layout name (Ok e) =

@@ -460,7 +460,7 @@ fn keeps_what_is_prepared(
     Some(is_kept && table.sent(key, 1, 2, [2; 4], 6) && table.pit.len() == 1)
 }
 
-/// Returns whether an Interest that is refused memory leaves the older Interest unchanged.
+/// Returns whether an Interest for which memory runs out leaves the older Interest unchanged.
 fn leaves_the_older_one(
     _alloc: Global,
     table: &mut Table,

@@ -370,7 +370,7 @@ fn sixty_four_faces(rt: HostRuntime) {
     assert!(rt; take_64_faces());
 }
 
-/// Returns whether a prepared `add` is not refused memory, and a preparation that is refused leaves
+/// Returns whether a prepared `add` does not run out of memory. A preparation that fails must leave
 /// the routes unchanged.
 fn adds_what_is_prepared(alloc: Global) -> Option<bool> {
     let name = numbered(alloc, 1)?;
@@ -382,7 +382,7 @@ fn adds_what_is_prepared(alloc: Global) -> Option<bool> {
     Some(added && list_shown(alloc, routes.read())?.as_str() == "/A 3@5, /%00%01 1@0, ")
 }
 
-/// Returns whether a prepared `set` is not refused memory, and a preparation that is refused leaves
+/// Returns whether a prepared `set` does not run out of memory. A preparation that fails must leave
 /// the strategies unchanged.
 fn sets_what_is_prepared(alloc: Global) -> Option<bool> {
     let (name, other) = (numbered(alloc, 1)?, numbered(alloc, 2)?);

@@ -61,7 +61,7 @@ fn answers(made: &Made, name: usize, can_be_prefix: bool) -> bool {
     made.name == name || (can_be_prefix && begins(name, made.name))
 }
 
-/// Returns the number of objects that answer.
+/// Returns the number of objects that answer an Interest with this name and CanBePrefix.
 fn number(all: &[Made], plain: &Plain, name: usize, can_be_prefix: bool) -> Option<u64> {
     let mut count: u64 = 0;
     for place in &plain.objects {

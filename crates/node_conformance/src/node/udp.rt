@@ -160,22 +160,22 @@ fn udp_route_and_back(rt: HostRuntime) {
     assert!(rt; is_relay(&rt) == Some(true));
 }
 
-/// Returns whether a turn is taken because something arrives soon.
+/// Returns whether `serve_turn_soon` takes a turn.
 fn takes_soon(alloc: Global, node: &mut Node, ports: &mut UdpPorts<Still>) -> bool {
     let mut outbox = Outbox::new(alloc);
     serve_turn_soon(node, ports, &mut [0; FRAME_ROOM], &mut outbox).is_some()
 }
 
-/// Returns whether exactly two turns are taken soon: one that opens a face, and one that answers
-/// the packet on that face.
+/// Returns whether `serve_turn_soon` takes exactly two turns: one that opens a face, and one that
+/// answers the packet on that face.
 fn are_taken_soon(alloc: Global, node: &mut Node, ports: &mut UdpPorts<Still>) -> bool {
     let opened = takes_soon(alloc, node, ports);
     let answered = takes_soon(alloc, node, ports);
     opened && answered && !takes_soon(alloc, node, ports)
 }
 
-/// Returns whether a port takes turns soon only while a datagram waits, and then still waits for
-/// datagrams as before.
+/// Returns whether `serve_turn_soon` takes turns only while a datagram waits. The port must then
+/// still wait for datagrams as before.
 fn waits_for_a_short_time(rt: &(impl AllocGlobal + Net)) -> Option<bool> {
     let alloc = rt.alloc();
     let listen = free_port(rt)?;

@@ -309,7 +309,7 @@ octets 053007250801410220620e59c59d04596b40d4cbe11e875a127f928accec817bec4519ae7
 octets 053307280801410801420220620e59c59d04596b40d4cbe11e875a127f928accec817bec4519ae74d661f47a0a0401020304240170 → no rule
 ";
 
-/// An Interest is matched by its name without its parameters digest.
+/// Filters are matched with an Interest's name without the parameters digest.
 #[test]
 fn interests_that_are_not_signed(rt: HostRuntime) {
     assert_right(&rt, first_wrong_of(rt.alloc(), NOT_SIGNED));
@@ -322,7 +322,7 @@ octets 0567072508014102204b517d4208fcf6ccf88fa54794a0898bf87bd1bd363776b41a1ffc2
 interest /A by /ops/KEY/1 key → denied 0 KeyLocator
 ";
 
-/// Signed Interests without a time, and under a rule without a checker.
+/// Signed Interests without a SignatureTime, and signed Interests under a rule without a checker.
 #[test]
 fn signed_interests(rt: HostRuntime) {
     assert_right(&rt, first_wrong_of(rt.alloc(), SIGNED_INTERESTS));

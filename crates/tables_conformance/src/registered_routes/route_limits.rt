@@ -160,8 +160,8 @@ fn looks_up_64_components(alloc: Global, routes: &mut RouteTable) -> Option<bool
     Some(steps <= 64 && hops.len() == 33 && first.face == 32 && last.face == 0)
 }
 
-/// Returns whether a prepared call is not refused memory: it registers a route for a new name,
-/// after other routes have expired. If the preparation is refused, the routes stay unchanged.
+/// Returns whether a prepared call does not run out of memory. The call registers a route for a new
+/// name, after other routes have expired. A preparation that fails must leave the routes unchanged.
 fn registers_what_is_prepared(alloc: Global, routes: &mut RouteTable) -> Option<bool> {
     let (name, other) = (numbered(alloc, 1)?, numbered(alloc, 2)?);
     let mut route = Route::new(2, 0);
@@ -176,8 +176,8 @@ fn registers_what_is_prepared(alloc: Global, routes: &mut RouteTable) -> Option<
     Some(gone == 1 && is_taken && listed.as_str() == "/%00%01 3@0")
 }
 
-/// Returns whether a prepared call that adds a ninth route to a name with eight is not refused
-/// memory.
+/// Returns whether a prepared call that adds a ninth route to a name with eight routes does not run
+/// out of memory.
 fn registers_a_ninth_route(alloc: Global, routes: &mut RouteTable) -> Option<bool> {
     let name = numbered(alloc, 1)?;
     for face in 1..9 {
@@ -190,8 +190,8 @@ fn registers_a_ninth_route(alloc: Global, routes: &mut RouteTable) -> Option<boo
     Some(is_taken && routes.read().longest(name.view()).len() == 9)
 }
 
-/// Returns whether a prepared call that adds a next hop to a name, which had a route when it was
-/// prepared, is not refused memory.
+/// Returns whether a prepared call that adds a next hop to a name does not run out of memory,
+/// although the name had a route only when the call was prepared.
 fn adds_what_is_prepared(alloc: Global, routes: &mut RouteTable) -> Option<bool> {
     let name = numbered(alloc, 1)?;
     routes.register(name.view(), Route::new(2, 0)).ok()?;
@@ -203,7 +203,7 @@ fn adds_what_is_prepared(alloc: Global, routes: &mut RouteTable) -> Option<bool>
     Some(is_gone && routes.add(name.view(), 3, 0).is_ok() && routes.read().len() == 1)
 }
 
-/// Returns whether a route that is refused memory leaves the older route with its name, face and
+/// Returns whether a route for which memory runs out leaves the older route with its name, face and
 /// origin unchanged.
 fn leaves_the_older_route(alloc: Global, routes: &mut RouteTable) -> Option<bool> {
     let name = numbered(alloc, 1)?;
