@@ -1,4 +1,4 @@
--- What the calls that build a command do to the rules for parsing it.
+-- How the calls that build a command change the rules for parsing it.
 use Rattle.std.proofs.Common.{◌≡◌, ◌<◌, ◌+◌, ◌≤◌, ℕ, List, [], ◌∷◌, ◌++◌, length, get_or, take, map, Option, Some, Bool, true, false, refl, sym, ap, ap₂, subst, ◌∙◌, ◌||◌}
 use Rattle.std.proofs.lemmas.List.{get_or_default, take_more, map-append, take_all}
 use Rattle.std.specs.Borrow.{Bor}
@@ -45,7 +45,7 @@ pub added_below : (old sub new : Command) (app below : App) → HasApp app old �
 added_below old sub new app below c s adds =
     (adds.shape s.1 ∙ ap₂ with_subcommand c.0 (ap (λ (a : App). a.top) s.0), adds.globals ∙ ap₂ (λ a b. a || b) c.1 s.1)
 
--- the rules with one more at the end
+-- adding the rules and then one more rule is the same as adding the longer list of rules
 pub rules_then : (app : App) (rules : List Rule) (rule : Rule) → with_rules app (rules ++ rule ∷ []) ≡ with_rule (with_rules app rules) rule
 rules_then app [] rule = refl
 rules_then app (r ∷ rules) rule = rules_then (with_rule app r) rules rule
@@ -58,7 +58,7 @@ map_more : {A B : Type 0} (f : A → B) (xs : List A) (n : ℕ) (x : A) → n < 
 map_more f xs n x low is =
     ap (map f) (take_more xs n x low) ∙ (map-append f (take n xs) (get_or xs n x ∷ []) ∙ ap (λ y. map f (take n xs) ++ f y ∷ []) (sym is))
 
--- a step of the loop: the argument or the subcommand at index n is added
+-- a step of the loop adds the argument or the subcommand at index `n`
 pub argument_more : (arguments : List Argument) (n : ℕ) (other : Argument) (arg : Arg) (old new : Command) (app : App) → n < length arguments
     → HasApp (with_rules app (map rule_for (take n arguments))) old → HasRule (rule_for (get_or arguments n other)) arg → AddsArg old arg new
     → HasApp (with_rules app (map rule_for (take (n + 1) arguments))) new
@@ -75,7 +75,7 @@ subcommand_more subcommands n other sub old new app low c r adds =
     let more = ap (with_subcommands app) (map_more app_for subcommands n subcommand low (get_or_default subcommands n other subcommand low)) ∙ subcommands_then app (map app_for (take n subcommands)) (app_for subcommand) in
     subst (λ (a : App). HasApp a new) (sym more) (added_below old sub new _ _ c r adds)
 
--- the end of the loop: all arguments or subcommands are added
+-- at the end of the loop, all arguments or subcommands are added
 pub arguments_all : (arguments : List Argument) (n : ℕ) (new : Command) (app : App) → length arguments ≤ n → HasApp (with_rules app (map rule_for (take n arguments))) new → HasApp (with_rules app (map rule_for arguments)) new
 arguments_all arguments n new app past h = subst (λ (xs : List Argument). HasApp (with_rules app (map rule_for xs)) new) (take_all n arguments past) h
 

@@ -214,7 +214,7 @@ subcommand_named word =
     if bytes_eq word (codes "peek") then Some Peek else
     None)))))))))))
 
--- the program's command: a subcommand is required, and none is named `help`
+-- the program's command: a subcommand is required, and no subcommand is named `help`
 unfoldable pub tool : App
 tool = record {
   top = record (new_shape (codes "ndn_tool")) {
@@ -232,7 +232,7 @@ tool = record {
 
 -- ---- the commands that are built
 
--- the command is parsed as `app`, and has no arguments that its subcommands share
+-- `clap` parses the command as `app`, and the command has no arguments that its subcommands share
 abbrev pub HasApp : App → Command → Type 0
 HasApp app command = (app_of command ≡ app) × ((out-Command command).has_globals ≡ false)
 

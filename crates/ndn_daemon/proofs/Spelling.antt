@@ -5,7 +5,7 @@ use Rattle.ndn_daemon.specs.declared.fault.Fault.TheVariants as fault
 use Rattle.ndn_daemon.specs.Options.{IsWrong, IsRefused}
 use Rattle.ndn_daemon.specs.UdpOptions.{IsBadValue}
 
--- every whole value contains a value of the part
+-- every value of `Whole` has a value of `Part`
 
 module _ {A B : Type 0} (Part : A → Type 0) (Whole : B → Type 0) (part : (y : B) → Whole y → (x : A) × Part x) where
   none_whole : ((x : A) → Part x → ⊥) → (y : B) → Whole y → ⊥

@@ -1,4 +1,4 @@
--- A command line spells no whole value if a part of it spells no value.
+-- A command line spells no value if one of its parts spells no value.
 use Rattle.std.proofs.Common.{◌≡◌, ℕ, List, Option, None, Some, Result, Ok, Err, sym, subst, ◌∙◌}
 use Rattle.ndn_jobs.specs.declared.fault.Usage.TheVariants.{CommandLine, BadValue}
 use Rattle.ndn_jobs.specs.declared.fault.ToolFault.{ToolFault}
@@ -6,7 +6,7 @@ use Rattle.ndn_jobs.specs.declared.fault.ToolFault.TheVariants as fault
 use Rattle.ndn_jobs.specs.Value.{IsUsage, IsWrong, IsRefused, ReadsInMemory}
 use Rattle.ndn_jobs.specs.Options.{Has, MayHave}
 
--- a whole in which each value has a part
+-- every value of `Whole` has a value of `Part`
 
 module _ {A B : Type 0} (Part : A → Type 0) (Whole : B → Type 0) (part : (y : B) → Whole y → (x : A) × Part x) where
   none_whole : ((x : A) → Part x → ⊥) → (y : B) → Whole y → ⊥
@@ -36,7 +36,7 @@ module _ {A B : Type 0} (Part : A → Type 0) (Whole : B → Type 0) (part : (y 
   wrong_in_memory (fault.Packet why) h = h
   wrong_in_memory fault.Memory h = absurd h
 
--- the fault BadValue is right if no value is spelled
+-- the fault BadValue is right if the text spells no value
 
 module _ {A : Type 0} (Spell : A → Type 0) (none : (x : A) → Spell x → ⊥) where
   pub usage_wrong : (why : ToolFault) → IsUsage why → IsWrong Spell why

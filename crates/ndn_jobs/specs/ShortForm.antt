@@ -79,8 +79,8 @@ pub record AreShortParameters (rows : List Row) (p : Parameters) : Type 0 where
   pub can_be_prefix : p.can_be_prefix ≡ false
   pub lifetime : p.lifetime ≡ None
 
--- the time is `now` if it is not given, and the Nonce, if it is not given, is computed from the
--- time and the words
+-- the stamp of a short form: if no time is given, the time is `now`; if no Nonce is given, the
+-- Nonce is computed from the time and the words
 pub record IsShortStamp (now : ℕ) (words : List ℕ) (rows : List Row) (stamp : Stamp)
     : Type 0 where
   pub time : HasOr now (value_at rows (codes "time")) IsNumber stamp.time
