@@ -1,4 +1,4 @@
-//! Reading that returns at most as many octets as a limit allows, whatever the source holds.
+//! Reading from sources of any length, with a limit on the number of octets that are returned.
 #![tactic(auto)]
 
 ghost use Rattle.std.specs.Prelude.{◌≤◌, length, IfOk, IfSome, option_map};
@@ -15,8 +15,8 @@ use std::io::{BufRead, Read};
 /// The limit allows 256 such lines, and more than 1,000,000 octets of comments.
 pub const MAX_KEY_FILE: u32 = 8_388_608;
 
-/// Reads all octets of a reader. Returns `None` if there are more than `limit`. A result never has
-/// more than `limit` octets.
+/// Reads all octets of a reader. Returns `None` if the reader has more than `limit` octets. More
+/// than `limit` octets are never returned.
 pub fn read_within<R: Read + Drop>(
     alloc: Global,
     reader: R,

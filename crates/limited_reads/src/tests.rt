@@ -1,7 +1,7 @@
 use super::*;
 use std::io::{BufReader, repeat};
 
-/// The limit of a rule file.
+/// The greatest length of a rule file, in octets.
 const LIMIT: u32 = 65_536;
 
 /// A reader whose reads fail.
@@ -26,7 +26,7 @@ fn refuses_endless(alloc: Global) -> bool {
     read_within(alloc, repeat(b'x'), LIMIT).is_ok_and(|found| found.is_none())
 }
 
-/// Returns whether an error after some octets is reported.
+/// Returns whether a read error that occurs after some octets is reported.
 fn fails_in_the_middle(alloc: Global) -> bool {
     read_within(alloc, repeat(b'x').take(3).chain(Broken), LIMIT).is_err()
 }

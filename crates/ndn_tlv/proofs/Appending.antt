@@ -9,7 +9,7 @@ use Rattle.ndn_tlv.specs.declared.memory.Memory.{Memory}
 use Rattle.ndn_tlv.specs.Writing.{Puts}
 use Rattle.ndn_tlv.proofs.Lengths.{begins_more}
 
--- a call that appends either these octets or nothing
+-- a call that appends either all of these octets or nothing satisfies `Puts`
 pub puts_one : (old new : Vec ℕ) (result : Result (Unit {0}) Memory) (octets : List ℕ)
     → OnOk result (new.items ≡ old.items ++ octets) → OnErr result (new.items ≡ old.items)
     → (vec_len old + length octets ≤ vec_capacity old → IsOk result)
@@ -27,7 +27,7 @@ puts_one old new (Err fault) octets ok err room capacity = record {
   capacity = capacity;
 }
 
--- two calls in sequence
+-- two calls in sequence append the octets of the first call, and then those of the second call
 pub puts_both : (old mid new : Vec ℕ) (before : Unit {0}) (result : Result (Unit {0}) Memory) (front back : List ℕ)
     → Puts old mid (Ok before) front → Puts mid new result back → Puts old new result (front ++ back)
 puts_both old mid new before (Ok done) front back p q = record {
@@ -43,7 +43,7 @@ puts_both old mid new before (Err fault) front back p q = record {
   capacity = omega (arith, p.capacity, q.capacity);
 }
 
--- a call that appends the same octets
+-- `Puts` for some octets implies `Puts` for equal octets
 pub puts_same : (old new : Vec ℕ) (result : Result (Unit {0}) Memory) (octets others : List ℕ)
     → octets ≡ others → Puts old new result octets → Puts old new result others
 puts_same old new result octets others same p = subst (λ (x : List ℕ). Puts old new result x) same p

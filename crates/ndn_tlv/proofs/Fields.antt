@@ -81,7 +81,7 @@ element_is : (bytes : List ℕ) → element_at bytes ≡ (type_at bytes >>= valu
 unfolding element_at
 element_is bytes = refl
 
--- an element at the front is read
+-- if the octets begin with an element, `element_at` returns this element
 pub element_again : (f : Field) (rest : List ℕ) → IsField f → element_at (element f ++ rest) ≡ Ok (f, rest)
 unfolding element_at
 element_again f rest ok =
@@ -89,7 +89,7 @@ element_again f rest ok =
     let long : ltb (length (f.1 ++ rest)) (length f.1) ≡ false = le-ltb _ _ (omega (arith, length-append f.1 rest)) in
     ap element_at regrouped ∙ rw (type_again f.0 (spelling (length f.1) ++ (f.1 ++ rest)) ok.0 ok.1, number_again (length f.1) (f.1 ++ rest) ok.2, long, take_at f.1 rest (length f.1) refl, drop_at f.1 rest (length f.1) refl) refl
 
--- what is read is an element at the front
+-- if `element_at` returns an element, the octets begin with this element
 pub element_found : (bytes : List ℕ) (f : Field) (rest : List ℕ) → IsBytes bytes → element_at bytes ≡ Ok (f, rest) → IsField f × (bytes ≡ element f ++ rest)
 element_found bytes f rest fits e =
     let a = bind_ok (type_at bytes) valued (f, rest) (sym (element_is bytes) ∙ e) in
@@ -158,7 +158,7 @@ element_fault bytes f fits e =
 
 -- ---- elements in sequence
 
--- what holds of both alternatives holds of the chosen one
+-- a property of both alternatives also holds for the chosen alternative
 chosen : {R : Type 0} (c : Bool) (x y : R) (P : R → Type 0) → P x → P y → P (cond c x y)
 chosen true x y P p q = p
 chosen false x y P p q = q
@@ -205,7 +205,7 @@ same_next : (r : Result (Field × List ℕ) TlvFault) (k g : List ℕ → List I
 same_next (Ok x) k g h = ap (λ (l : List Item). Ok x.0 ∷ l) (h x refl)
 same_next (Err f) k g h = refl
 
--- the limit on the number of elements does not matter
+-- every limit that is at least the number of octets gives the same elements
 within_same : (n m : ℕ) (bytes : List ℕ) → length bytes ≤ n → length bytes ≤ m → elements_within n bytes ≡ elements_within m bytes
 unfolding elements_within
 within_same zero zero bytes p q = refl
@@ -343,7 +343,7 @@ elements_of-last bytes f some h = rw elements_of-nil (h (λ e. some (ap length e
 pub length-elements_of-last : (bytes : List ℕ) (f : TlvFault) → elements_of bytes ≡ Err f ∷ elements_of [] → length (elements_of []) < length (elements_of bytes)
 length-elements_of-last bytes f e = rw e (omega arith)
 
--- there are no more elements than octets
+-- `elements_within n` returns at most n items
 length-within : (n : ℕ) (bytes : List ℕ) → length (elements_within n bytes) ≤ n
 unfolding elements_within
 length-within zero bytes = omega arith
@@ -361,7 +361,8 @@ next_refused (Err f) fault e = let same : f ≡ fault = cc in ap (λ (d : TlvFau
 not_nothing : (b : ℕ) (bytes : List ℕ) → b ∷ bytes ≡ [] → ⊥
 not_nothing b bytes e = cc
 
--- The text after the fields `fields` begins with no element, because of this fault.
+-- The text is the fields `fields`, followed by octets at which no element can be read because of
+-- this fault.
 pub record EndsInFault (text : List ℕ) (fields : List Field) (fault : TlvFault) : Type 0 where
   pub rest : List ℕ
   pub parts : text ≡ flat_map element fields ++ rest

@@ -1,4 +1,4 @@
--- NonNegativeIntegers: what is read is one, each one is read, and the shortest one is written.
+-- NonNegativeIntegers: `nni_at` reads exactly the valid encodings, and the shortest one is written.
 use Rattle.std.proofs.Common.{◌≡◌, ℕ, ◌^◌, ◌<◌, ◌≤◌, ◌⊎◌, Bool, true, false, cond, eqb, List, [], ◌∷◌, length, get_or, Result, Ok, Err, refl, sym, ap, ◌∙◌, arith, inl, inr}
 use Rattle.std.specs.Prelude.{IfOk, IfErr}
 use Rattle.std.specs.Int.{Width, w16, w32, w64, byte_len, from_be_bytes, to_be_bytes}
@@ -15,7 +15,7 @@ integer n = Ok n
 integer_is : (n m : ℕ) → integer n ≡ integer m → n ≡ m
 integer_is n m e = cc
 
--- the test that decides which form is read
+-- a conditional equals one of its two alternatives, and its test decides which one
 split : {A : Type 0} (b : Bool) (x y z : A) → cond b x y ≡ z → ((b ≡ true) × (x ≡ z)) ⊎ ((b ≡ false) × (y ≡ z))
 split true x y z e = inl (refl, e)
 split false x y z e = inr (refl, e)
@@ -41,7 +41,7 @@ nni_at-is : (bytes : List ℕ) → nni_at bytes ≡ cond (eqb (length bytes) 1) 
 unfolding nni_at
 nni_at-is bytes = refl
 
--- what is read is a NonNegativeInteger
+-- if `nni_at` returns a number, the octets encode this number as a NonNegativeInteger
 pub nni_found : (bytes : List ℕ) (n : ℕ) → IsBytes bytes → nni_at bytes ≡ Ok n → IsNni bytes n
 nni_found bytes n fits e =
     elim (split (eqb (length bytes) 1) (integer (get_or bytes 0 0)) (from_two bytes) (integer n) (sym (nni_at-is bytes) ∙ e)) [
@@ -76,14 +76,14 @@ nni_at-one : (n : ℕ) → nni_at (n ∷ []) ≡ Ok n
 unfolding nni_at
 nni_at-one n = refl
 
--- each NonNegativeInteger is read
+-- `nni_at` reads each NonNegativeInteger encoding as its number
 pub nni_again : (bytes : List ℕ) (n : ℕ) → IsNni bytes n → nni_at bytes ≡ Ok n
 nni_again bytes n (inl p) = ap nni_at p.1 ∙ nni_at-one n
 nni_again bytes n (inr (inl p)) = ap nni_at p.1 ∙ nni_at-two n ∙ ap integer (wide16.again n p.0)
 nni_again bytes n (inr (inr (inl p))) = ap nni_at p.1 ∙ nni_at-four n ∙ ap integer (wide32.again n p.0)
 nni_again bytes n (inr (inr (inr p))) = ap nni_at p.1 ∙ nni_at-eight n ∙ ap integer (wide64.again n p.0)
 
--- octets are the NonNegativeInteger of at most one number
+-- octets encode at most one number as a NonNegativeInteger
 pub nni_alone : (bytes : List ℕ) (n m : ℕ) → IsNni bytes n → IsNni bytes m → n ≡ m
 nni_alone bytes n m p q = integer_is n m (sym (nni_again bytes n p) ∙ nni_again bytes m q)
 
@@ -105,7 +105,7 @@ shortest_eight : (n : ℕ) → 2 ^ 32 ≤ n → shortest_nni n ≡ to_be_bytes w
 unfolding shortest_nni
 shortest_eight n low = rw (le-ltb n (2 ^ 8) (omega arith), le-ltb n (2 ^ 16) (omega arith), le-ltb n (2 ^ 32) low) refl
 
--- what is written is a NonNegativeInteger
+-- the shortest encoding of a number is a valid NonNegativeInteger encoding
 pub nni_of_shortest : (n : ℕ) → n < 2 ^ 64 → IsNni (shortest_nni n) n
 nni_of_shortest n h =
     elim (cases_lt n (2 ^ 8)) [
@@ -149,7 +149,7 @@ shortest_is_least n text (inr (inl p)) = omega (arith, length-shortest_two n p.0
 shortest_is_least n text (inr (inr (inl p))) = omega (arith, length-shortest_four n p.0, ap length p.1)
 shortest_is_least n text (inr (inr (inr p))) = omega (arith, length-shortest_eight n, ap length p.1)
 
--- what is written reads as the same number
+-- the shortest encoding of a number is read as the same number
 pub shortest_again : (n : ℕ) → n < 2 ^ 64 → nni_at (shortest_nni n) ≡ Ok n
 shortest_again n h = nni_again (shortest_nni n) n (nni_of_shortest n h)
 

@@ -201,7 +201,8 @@ Spells-spelling n h = (form_of_spelling n h, λ other f. (form_beats other n f).
 pub Spells-from : (text : List ℕ) (n : ℕ) → (n < 2 ^ 64) × (text ≡ spelling n) → Spells text n
 Spells-from text n p = rw p.1 (Spells-spelling n p.0)
 
--- no encoding of a number is a prefix of another one
+-- a shortest encoding begins with the number itself, or with 253, 254 or 255, depending on the size
+-- of the number
 pub spelling_head : (n : ℕ) (x : List ℕ) → ((n < 253) × (spelling n ++ x ≡ n ∷ x)) ⊎ (((253 ≤ n) × (n < 2 ^ 16) × (spelling n ++ x ≡ 253 ∷ (to_be_bytes w16 n ++ x))) ⊎ (((2 ^ 16 ≤ n) × (n < 2 ^ 32) × (spelling n ++ x ≡ 254 ∷ (to_be_bytes w32 n ++ x))) ⊎ ((2 ^ 32 ≤ n) × (spelling n ++ x ≡ 255 ∷ (to_be_bytes w64 n ++ x)))))
 spelling_head n x =
     elim (cases_lt n 253) [
@@ -217,7 +218,7 @@ spelling_head n x =
 
 -- ---- reading
 
--- a step succeeds only if the test before it does not refuse
+-- a test followed by a step succeeds only if the test does not return its fault
 pub guard_ok : {A : Type 0} (b : Bool) (d : TlvFault) (r : Result A TlvFault) (y : A) → cond b (Err d) r ≡ Ok y → (b ≡ false) × (r ≡ Ok y)
 guard_ok true d r y e = absurd cc
 guard_ok false d r y e = (refl, e)
@@ -240,7 +241,7 @@ long_again w limit wide least n rest lt le =
     let long : ltb (length (to_be_bytes w n ++ rest)) (byte_len w) ≡ false = le-ltb _ _ (omega (arith, length-append (to_be_bytes w n) rest)) in
     rw (long, take_at (to_be_bytes w n) rest (byte_len w) len, drop_at (to_be_bytes w n) rest (byte_len w) len, wide.again n lt, le-ltb n least le) refl
 
--- the octets at the front are those of the number
+-- the first octets are the big-endian encoding of the number that is read from them
 long_front : (w : Width) (limit : ℕ) (wide : IsWide w limit) (bytes : List ℕ) → IsBytes bytes → byte_len w ≤ length bytes → (from_be_bytes w (take (byte_len w) bytes) < limit) × (bytes ≡ to_be_bytes w (from_be_bytes w (take (byte_len w) bytes)) ++ drop (byte_len w) bytes)
 long_front w limit wide bytes fits long =
     let front = wide.back (take (byte_len w) bytes) (omega (arith, length-take (byte_len w) bytes)) (IsBytes-take (byte_len w) bytes fits) in
@@ -315,7 +316,7 @@ number_at-nil : number_at [] ≡ Err Truncated
 unfolding number_at
 number_at-nil = refl
 
--- an encoded number is read
+-- the shortest encoding of a number is read as this number
 pub number_again : (n : ℕ) (rest : List ℕ) → n < 2 ^ 64 → number_at (spelling n ++ rest) ≡ Ok (n, rest)
 number_again n rest h =
     elim (spelling_head n rest) [
@@ -325,7 +326,7 @@ number_again n rest h =
       | inr (inr (inr a)) ↦ ap number_at a.1 ∙ number_at-255 (to_be_bytes w64 n ++ rest) ∙ long_again w64 (2 ^ 64) wide64 (2 ^ 32) n rest h a.0
     ]
 
--- what is read is the shortest encoding of the number
+-- if a number is read, the octets begin with the shortest encoding of this number
 pub number_found : (bytes : List ℕ) (n : ℕ) (rest : List ℕ) → IsBytes bytes → number_at bytes ≡ Ok (n, rest) → (n < 2 ^ 64) × (bytes ≡ spelling n ++ rest)
 number_found [] n rest fits e = let no = number_at-nil in absurd cc
 number_found (b ∷ bytes) n rest fits e =
@@ -347,7 +348,7 @@ number_found (b ∷ bytes) n rest fits e =
           (t.1, rw (a, spelling_nine n t.2) (ap (λ (x : List ℕ). 255 ∷ x) t.0))
     ]
 
--- a number whose encoding is too long cannot be read
+-- octets that begin with an encoding longer than the shortest one satisfy `BeginsTooLong`
 too_long : (bytes text rest : List ℕ) (n : ℕ) → bytes ≡ text ++ rest → IsForm text n → length (spelling n) < length text → BeginsTooLong bytes
 too_long bytes text rest n e form lt = (text, rest, n, e, form, λ s. omega (arith, ap length (Spells-is text n s).1))
 

@@ -15,10 +15,10 @@ IsField f = (1 ≤ f.0) × (f.0 < 2 ^ 32) × (length f.1 < 2 ^ 64)
 abbrev pub element : Field → List ℕ
 element f = spelling f.0 ++ (spelling (length f.1) ++ f.1)
 
--- the text is exactly one element with this type and value
+-- the octets are exactly one element with this type and value
 abbrev pub IsElement : List ℕ → ℕ → List ℕ → Type 0
 IsElement text kind value = IsField (kind, value) × (text ≡ element (kind, value))
 
--- the text is the concatenation of these elements
+-- the octets are the concatenation of these elements
 abbrev pub IsElements : List ℕ → List Field → Type 0
 IsElements text fields = AllByRecursion IsField fields × (text ≡ flat_map element fields)

@@ -1,5 +1,6 @@
--- The fields of a value, found by their types: the first field of each type counts, and everything
--- from the first element that cannot be read is ignored (NFD Management, "Control Command").
+-- Finding the fields of a value by their types. Only the first field of each type counts.
+-- Everything from the first element that cannot be read onwards is ignored (NFD Management,
+-- "Control Command").
 use Rattle.std.specs.Prelude.{ℕ, List, [], ◌∷◌, Option, None, Some, Result, Ok, Err, ◌==◌, if◌then◌else◌}
 use Rattle.ndn_tlv.specs.declared.fault.TlvFault.{TlvFault}
 use Rattle.ndn_tlv.specs.Element.{Field}
@@ -13,7 +14,7 @@ first_of kind [] = None
 first_of kind (Err fault ∷ es) = None
 first_of kind (Ok e ∷ es) = if e.0 == kind then Some e.1 else first_of kind es
 
--- the value of the only element, if it has this type
+-- the value of the element, if there is exactly one element and it has this type
 abbrev pub single : ℕ → Elements → Option (List ℕ)
 single kind [] = None
 single kind (Err fault ∷ es) = None

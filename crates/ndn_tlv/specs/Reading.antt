@@ -13,8 +13,8 @@ abbrev pub ◌>>=◌ : {A B F : Type 0} → Result A F → (A → Result B F) �
 (Ok x) >>= f = f x
 (Err e) >>= f = Err e
 
--- the number after a first octet of 253, 254 or 255, and the octets after it; numbers below `least`
--- have a shorter form
+-- the number that follows a first octet of 253, 254 or 255, and the octets after the number; a
+-- number below `least` has a shorter form
 abbrev pub long_number_at : Width → ℕ → List ℕ → Result (ℕ × List ℕ) TlvFault
 long_number_at w least bytes =
     if nat_lt (length bytes) (byte_len w) then Err Truncated else (
@@ -30,7 +30,7 @@ number_at (b ∷ bytes) =
     if b == 254 then long_number_at w32 (2 ^ 16) bytes else
     long_number_at w64 (2 ^ 32) bytes))
 
--- the number in a value that is a NonNegativeInteger
+-- the number that a value encodes as a NonNegativeInteger
 unfoldable pub nni_at : List ℕ → Result ℕ TlvFault
 nni_at value =
     if length value == 1 then Ok (slice_index value 0) else (
@@ -107,7 +107,8 @@ ElementFault bytes TypeTooLarge =
     (text rest : List ℕ) × (kind : ℕ) × (bytes ≡ text ++ rest) × Spells text kind × (2 ^ 32 ≤ kind)
 ElementFault bytes BadInteger = ⊥
 
--- the text begins with these elements, and then no element can be read because of this fault
+-- the text is these elements, followed by octets at which no element can be read because of this
+-- fault
 abbrev pub EndsInFault : List ℕ → List Field → TlvFault → Type 0
 EndsInFault text fields fault =
     (rest : List ℕ) × (text ≡ flat_map element fields ++ rest) × AllByRecursion IsField fields

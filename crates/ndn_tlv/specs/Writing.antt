@@ -24,8 +24,8 @@ flag kind false = []
 abbrev pub number : ℕ → Option ℕ → List Field
 number kind n = optional kind (option_map shortest_nni n)
 
--- The octets are appended unless memory runs out. If it does, some octets may still have been
--- appended. If the capacity suffices, memory does not run out.
+-- The octets are appended unless memory runs out. If memory runs out, some octets may still have
+-- been appended. Memory does not run out if the capacity suffices.
 pub record Puts (old new : Vec ℕ) (result : Result (Unit {0}) Memory) (octets : List ℕ) : Type 0
   where
     pub ok : OnOk result (new.items ≡ old.items ++ octets)

@@ -9,8 +9,8 @@ use crate::fault::TlvFault;
 use crate::memory::Memory;
 use crate::number::{leading_number, put_number};
 
-/// A view of an element in a buffer, which the element borrows (NDN Packet Format 0.3,
-/// "Type-Length-Value (TLV) Encoding").
+/// An element that borrows its octets from a buffer (NDN Packet Format 0.3, "Type-Length-Value
+/// (TLV) Encoding").
 #[derive(Clone, Copy, Debug)]
 pub struct Element<'a> {
     /// The TLV-TYPE, at least 1.
@@ -36,7 +36,7 @@ fn leading_type(octets: &[u8]) -> Result<(u32, &[u8]), TlvFault>
     Ok((kind as u32, rest))
 }
 
-/// Returns the type and the value of the first element, and the octets after it.
+/// Returns the type and the value of the first element, and the octets after the element.
 #[tactic(auto, unfolding(crate::specs::Reading::element_at))]
 #[inline(always)]
 fn leading_field(octets: &[u8]) -> Result<(u32, &[u8], &[u8]), TlvFault>
@@ -57,18 +57,19 @@ fn leading_field(octets: &[u8]) -> Result<(u32, &[u8], &[u8]), TlvFault>
 /// `TlvFault`.
 #[inline(always)]
 pub fn first_element<'a>(octets: &'a [u8]) -> Result<(Element<'a>, &'a [u8]), TlvFault>
-    // The octets begin with the element that is read.
+    // The octets are the returned element followed by the returned remaining octets.
     ensures found { IfOk result (λ x. IsElement x.0.whole.now x.0.kind x.0.value.now
         × (octets.now ≡ x.0.whole.now ++ x.1.now) × (length x.1.now < length octets.now)) }
-    // Every element at the front of the octets is read.
+    // If the octets begin with an element, exactly this element is returned.
     ensures only { (kind : ℕ) (value rest : List ℕ) → IsField (kind, value)
         → octets.now ≡ element (kind, value) ++ rest
         → IsOkAnd result (λ x. (x.0.kind ≡ kind) × (x.0.value.now ≡ value) × (x.1.now ≡ rest)) }
-    // The fault is the first one.
+    // A returned fault says why no element can be read at the front of the octets.
     ensures fault { IfErr result (ElementFault octets.now) }
     ensures exact { on_result (λ x. Ok ((x.0.kind, x.0.value.now), x.1.now)) Err result
         ≡ element_at octets.now }
-    // A step of an iteration over all elements of the octets.
+    // Unless the octets are empty, the returned element or fault is the first item of
+    // `elements_of`.
     ensures walk { MatchResult result
         (λ x. elements_of octets.now ≡ Ok (x.0.kind, x.0.value.now) ∷ elements_of x.1.now)
         (λ e. octets.now ≢ [] → elements_of octets.now ≡ Err e ∷ []) }
@@ -78,8 +79,8 @@ pub fn first_element<'a>(octets: &'a [u8]) -> Result<(Element<'a>, &'a [u8]), Tl
     Ok((Element { kind, value, whole }, rest))
 }
 
-/// Appends an element. If memory runs out, `out` keeps its old octets, but others may have been
-/// appended.
+/// Appends an element. If memory runs out, some octets may have been appended after the old octets
+/// of `out`.
 #[inline(always)]
 fn put_parts(out: &mut Vec<u8>, kind: u32, value: &[u8]) -> Result<(), Memory>
     ensures ok { OnOk result (out.new.items ≡ out.old.items ++ element (kind, value.now)) }
@@ -114,7 +115,8 @@ pub fn put_element(out: &mut Vec<u8>, kind: u32, value: &[u8]) -> Result<(), Mem
     done
 }
 
-/// Law: a text is the concatenation of at most one list of elements, which `elements_of` returns.
+/// Law: octets are the concatenation of at most one list of elements. `elements_of` returns this
+/// list.
 pub fn elements_have_one_reading()
     ensures one { (text : List ℕ) (xs ys : List Field) → IsElements text xs → IsElements text ys
         → xs ≡ ys }

@@ -1,4 +1,4 @@
-//! The fields of parameters and replies, found by their types.
+//! Finding fields in the octets of parameters and replies by their TLV-TYPEs.
 
 ghost use Rattle.std.specs.Prelude.{◌≡◌, ◌≤◌, IfSome, length};
 ghost use Rattle.std.specs.Option.{option_map};
@@ -7,7 +7,7 @@ ghost use Rattle.ndn_tlv.specs.Fields.{first_of, single};
 
 use crate::element::first_element;
 
-/// Returns the value of the octets if they are exactly one element of this type.
+/// Returns the element's value if the octets are exactly one element of type `kind`.
 pub fn single_element(octets: &[u8], kind: u32) -> Option<&[u8]>
     ensures exact { option_map (λ v. v.now) result ≡ single kind (elements_of octets.now) }
     ensures short { IfSome result (λ v. length v.now ≤ length octets.now) }
@@ -21,7 +21,8 @@ pub fn single_element(octets: &[u8], kind: u32) -> Option<&[u8]>
     None
 }
 
-/// Returns the value of the first field of this type.
+/// Returns the value of the first field of type `kind`. A field after an element that cannot be
+/// read is not found.
 pub fn first_field(octets: &[u8], kind: u32) -> Option<&[u8]>
     ensures exact { option_map (λ v. v.now) result ≡ first_of kind (elements_of octets.now) }
     ensures short { IfSome result (λ v. length v.now ≤ length octets.now) }

@@ -7,7 +7,8 @@ ghost use Rattle.ndn_tlv.specs.Reading.{number_at, long_number_at, NumberFault, 
 use crate::fault::TlvFault;
 use crate::memory::Memory;
 
-/// Returns the number after the first octet of its encoding, and the octets after the number.
+/// Reads the number in the two octets that follow a first octet of 253. Returns the number and the
+/// octets after these two octets.
 fn two_octets(octets: &[u8]) -> Result<(u64, &[u8]), TlvFault>
     ensures { on_result (λ x. Ok (x.0, x.1.now)) Err result ≡ long_number_at w16 253 octets.now }
 {
@@ -74,13 +75,14 @@ pub(crate) fn leading_number(octets: &[u8]) -> Result<(u64, &[u8]), TlvFault>
 /// Returns `Truncated` if the octets end before the number does, or are empty, and `NotShortest` if
 /// the number has a shorter form.
 pub fn number_of(octets: &[u8]) -> Result<(u64, &[u8]), TlvFault>
-    // The octets begin with the number that is read, in its shortest form.
+    // The octets are the shortest encoding of the returned number, followed by the returned
+    // remaining octets.
     ensures found { IfOk result
         (λ x. (text : List ℕ) × Spells text x.0 × (octets.now ≡ text ++ x.1.now)) }
-    // Every number in its shortest form at the front of the octets is read.
+    // If the octets begin with the shortest encoding of a number, exactly this number is returned.
     ensures only { (n : ℕ) (text rest : List ℕ) → Spells text n → octets.now ≡ text ++ rest
         → IsOkAnd result (λ x. (x.0 ≡ n) × (x.1.now ≡ rest)) }
-    // The fault is the first one.
+    // A returned fault says why no number can be read at the front of the octets.
     ensures fault { IfErr result (NumberFault octets.now) }
     ensures exact { on_result (λ x. Ok (x.0, x.1.now)) Err result ≡ number_at octets.now }
 {
@@ -98,7 +100,8 @@ pub fn each_number_has_one_spelling()
     ensures { (text : List ℕ) (n : ℕ) → Spells text n ↔ ((n < 2 ^ 64) × (text ≡ spelling n)) }
 {}
 
-/// Appends the first octet and the other octets. If memory runs out, nothing is appended.
+/// Appends the octet `first`, and then the octets `others`. If memory runs out, nothing is
+/// appended.
 #[inline(always)]
 fn put_long(out: &mut Vec<u8>, first: u8, others: &[u8]) -> Result<(), Memory>
     requires { length others.now ≤ 8 }
