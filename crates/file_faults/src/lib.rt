@@ -10,7 +10,7 @@ use std::fmt;
 use std::io::ErrorKind;
 
 /// The message for a fault in a key file: the line and the kind of the fault, and on the next line
-/// how to correct it. The message ends with an LF.
+/// how to correct it. The message for `Memory` is a single line. Each message ends with an LF.
 #[derive(Clone, Copy)]
 pub struct KeyMessage(pub KeyFault);
 

@@ -78,7 +78,7 @@ pairs_again i text [] h = ap (decode_pairs i) h
 pairs_again i text (octet ∷ octets) h =
     ap (decode_pairs i) h.3 ∙ decode_pairs-ok_pair i h.0 h.1 octet h.2 (pair_again h.0 h.1 i octet h.4) ∙ ap (cons_byte octet) (pairs_again (i + 2) h.2 octets h.5)
 
--- a test that returns a fault
+-- the result is `Ok` only if the test does not return its fault
 passed : (b : Bool) (fault : FromHexError) (r : Result (List ℕ) FromHexError) (octets : List ℕ) → cond b (Err fault) r ≡ Ok octets → r ≡ Ok octets
 passed true fault r octets e = absurd cc
 passed false fault r octets e = e

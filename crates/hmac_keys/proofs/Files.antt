@@ -46,7 +46,7 @@ ok_of : {A B : Type 0} (r : Result A KeyFault) (f : A → Result B KeyFault) (y 
 ok_of (Ok x) f y e = (x, refl, e)
 ok_of (Err fault) f y e = absurd cc
 
--- The keys that are read are the ones so far, followed by those in the lines.
+-- All keys that are read are the earlier keys, followed by the keys in the lines.
 record AreRead (lines : List (List ℕ)) (keys all : List NamedKey) : Type 0 where
   new : List NamedKey
   whole : all ≡ keys ++ new
@@ -79,7 +79,7 @@ key_is_added n keys more line kept e = from_key (key_in line) refl (sym (rw kept
 pub line_skipped : (n : ℕ) (keys : List NamedKey) (line : List ℕ) → is_skipped line ≡ true → after_line n keys line ≡ Ok keys
 line_skipped n keys line skipped = rw skipped refl
 
--- the lines with one more in front, which is skipped or has a key
+-- one more line in front of the lines, which is skipped or has a key
 skipped_before : (line : List ℕ) (lines : List (List ℕ)) (keys all : List NamedKey) → is_skipped line ≡ true → AreRead lines keys all → AreRead (line ∷ lines) keys all
 skipped_before line lines keys all skipped rest =
     record { new = rest.new; whole = rest.whole; are = inl (skipped, rest.are); apart = rest.apart; few = rest.few }
@@ -113,7 +113,7 @@ keys_read n (line ∷ lines) keys all e apart few =
           key_before line lines keys all added.key kept added.read (keys_read (n + 1) lines more all rest (apart_more keys added.key apart added.other) short)
     ]
 
--- what holds of all keys holds of a key among them
+-- a property of all keys holds for each key in the list
 all_at : (P : NamedKey → Type 0) (front : List NamedKey) (key : NamedKey) (back : List NamedKey) → AllByRecursion P (front ++ key ∷ back) → P key
 all_at P [] key back h = h.0
 all_at P (first ∷ front) key back h = all_at P front key back h.1

@@ -99,7 +99,7 @@ whole_has_none line name kept e = rw (kept, e) refl
 pub skipped_has_none : (line : List ℕ) (name : List Field) → is_skipped line ≡ true → false ≡ line_has_name name line
 skipped_has_none line name skipped = rw skipped refl
 
--- the name is in the first line of the text or in the other lines that are considered
+-- a name in the first `left` lines is in the first line, or in the `left - 1` lines after it
 pub have_first : (name : List Field) (left : ℕ) (rest line after : List ℕ) → BeginsWith rest line after → 0 < left
     → lines_have_name name (take left (lines_of rest)) ≡ (line_has_name name line || lines_have_name name (take (left - 1) (lines_of after)))
 unfolding lines_of

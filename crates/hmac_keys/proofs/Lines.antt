@@ -26,7 +26,7 @@ unfolding lines_of
 last_line [] h = refl
 last_line (o ∷ line) h = rw (ne_eqb o 10 h.0) (ap (in_front o) (last_line line h.1))
 
--- the first line, with or without an LF after it
+-- the first line of a text is the text before its first LF, or the whole text
 pub lines_parts : (text : List ℕ) (line after : Bor (List ℕ)) → IsSplitOnceResult 10 text (Some (line, after)) → lines_of text ≡ line.now ∷ lines_of after.now
 lines_parts text line after split =
     let p = split_parts 10 text (Some (line, after)) split (omega arith) in
@@ -51,7 +51,7 @@ space_again (o ∷ uri) digits h = rw (space_again uri digits h) refl
 abbrev with_octet : ℕ → List ℕ → Option (List ℕ × List ℕ) → Option (List ℕ × List ℕ)
 with_octet o line rest = on_option (λ x. Some (o ∷ x.0, x.1)) (cond (eqb o 32) (Some ([], line)) None) rest
 
--- the parts of the line
+-- a line consists of the two parts that were found, with a space between them
 parts_are : (line : List ℕ) (x y : List ℕ × List ℕ) → Some x ≡ Some y → line ≡ x.0 ++ 32 ∷ x.1 → line ≡ y.0 ++ 32 ∷ y.1
 parts_are line x y e h = let same : x ≡ y = cc in subst (λ (p : List ℕ × List ℕ). line ≡ p.0 ++ 32 ∷ p.1) same h
 

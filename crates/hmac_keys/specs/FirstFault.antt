@@ -4,7 +4,7 @@ use Rattle.hmac_keys.specs.declared.fault.KeyFault.{KeyFault}
 use Rattle.hmac_keys.specs.declared.fault.KeyFault.TheVariants.{BadLine, TwiceNamed, TooMany, Memory}
 use Rattle.hmac_keys.specs.KeyFile.{NamedKey, AreApart, AreKeysOf, IsAmong, IsKeyLine, is_skipped, lines_of}
 
--- Line n is not skipped, and all lines before it are read without a fault, as these keys.
+-- Line n is not skipped. The lines before line n have no fault, and contain these keys.
 pub record IsReached
     (lines : List (List ℕ)) (n : ℕ) (line : List ℕ) (keys : List NamedKey) : Type 0 where
   pub before : List (List ℕ)
@@ -16,13 +16,13 @@ pub record IsReached
   pub apart : AreApart keys
   pub few : length keys ≤ 256
 
--- line n is not the line of a key
+-- line n is the first faulty line: it is not a valid line of a key
 abbrev pub HasBadLine : List (List ℕ) → ℕ → Type 0
 HasBadLine lines n =
     (line : List ℕ) × (keys : List NamedKey) × IsReached lines n line keys
     × ((key : NamedKey) → IsKeyLine line key → ⊥)
 
--- line n has the name of a key before it
+-- line n has a key with the name of an earlier key
 abbrev pub HasNameTwice : List (List ℕ) → ℕ → Type 0
 HasNameTwice lines n =
     (line : List ℕ) × (keys : List NamedKey) × IsReached lines n line keys

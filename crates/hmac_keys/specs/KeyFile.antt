@@ -1,4 +1,4 @@
--- Key files: which keys a text spells, one key per line.
+-- Key files: the keys in a text, with one key per line.
 use Rattle.std.specs.Prelude.{◌≡◌, ◌≢◌, ℕ, ◌≤◌, ◌⊎◌, List, [], ◌∷◌, ◌++◌, length, Bool, true, false, ⊤, ◌==◌, if◌then◌else◌}
 use Rattle.std.specs.List.{AllByRecursion}
 use Rattle.ndn_tlv.specs.Element.{Field}
@@ -49,7 +49,7 @@ abbrev pub AreApart : List NamedKey → Type 0
 AreApart [] = ⊤
 AreApart (key ∷ keys) = AllByRecursion (λ other. other.0 ≢ key.0) keys × AreApart keys
 
--- the keys that a text spells: at most 256, with different names
+-- the text is a key file with these keys: at most 256, with different names
 abbrev pub KeysOf : List ℕ → List NamedKey → Type 0
 KeysOf text keys = AreKeysOf (lines_of text) keys × AreApart keys × (length keys ≤ 256)
 

@@ -78,11 +78,12 @@ IsFaultBeforeMemory read fault =
 
 -- ---- octets
 
--- the octets are UTF-8 text that spells these keys
+-- the octets are the UTF-8 text of a key file with these keys
 abbrev pub AreKeys : List ℕ → List NamedKey → Type 0
 AreKeys octets keys = IsUtf8 octets × KeysOf octets keys
 
--- the fault of the text, or the fault of a bad line with the number 0 if the octets are not UTF-8
+-- the fault of the text, or `Memory` if the text has no fault, or the fault of a bad line with the
+-- number 0 if the octets are not UTF-8
 abbrev pub IsFaultOfOctets : List ℕ → KeyFault → Type 0
 IsFaultOfOctets octets why =
     (IsUtf8 octets × IsFaultBeforeMemory (keys_in octets) why)

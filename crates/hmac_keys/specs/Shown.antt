@@ -1,4 +1,4 @@
--- What a key book shows.
+-- The keys of a key book as plain data.
 use Rattle.std.specs.Prelude.{List, map}
 use Rattle.hmac_keys.specs.declared.key_book.Key.{Key}
 use Rattle.hmac_keys.specs.KeyFile.{NamedKey}

@@ -1,4 +1,4 @@
--- Hashes of HMAC that have read the block of a key.
+-- Hashes of HMAC that have already read the block of a key.
 use Rattle.std.specs.Prelude.{ℕ, List}
 use Rattle.sha2.specs.Hashers.{Holds256}
 use Rattle.hmac_keys.specs.declared.hmac.Blocks.{Blocks}

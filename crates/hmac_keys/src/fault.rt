@@ -5,8 +5,8 @@ use std::alloc::AllocFailed;
 use thiserror::Error;
 
 /// Why a key file is refused: the fault of its first faulty line. Line numbers count all lines from
-/// 1, including skipped ones. If a line has several faults, the first one in this order is
-/// reported. `Memory` is returned only if the file has no fault.
+/// 1, including skipped lines. If a line has several faults, the first one in the order of this
+/// enum is reported. `Memory` is returned only if the file has no fault.
 #[derive(Clone, Copy, Debug, PartialEq, Eq, Error)]
 pub enum KeyFault {
     /// The line is not the URI of a nonempty name, a space, and 1 to 256 octets in hexadecimal.
@@ -38,7 +38,8 @@ impl KeyFault {
         }
     }
 
-    /// Returns the number of the faulty line, counted from 1, if the fault names a line.
+    /// Returns the number of the faulty line, if the fault has one. The first line has number 1.
+    /// The number 0 means that the file is not UTF-8.
     pub fn line(self) -> Option<u64>
         ensures { result ≡ fault_line self }
     {

@@ -8,12 +8,14 @@ use sha2::{Digest, Sha256};
 /// The length of a block of SHA-256, in octets.
 const BLOCK_LEN: usize = 64;
 
-/// The octets with which a key is combined for the outer and the inner hash.
+/// The octet that is combined with each octet of a key for the outer hash. `INNER_PAD` is the octet
+/// for the inner hash.
 const OUTER_PAD: u8 = 0x5c;
 
 const INNER_PAD: u8 = 0x36;
 
-/// The inner and the outer hash of a key. Each has read the key's block.
+/// The inner and the outer hash of a key. Each hash has read the key's block, combined with its
+/// pad.
 #[derive(Drop)]
 pub(crate) struct Blocks {
     inner: Sha256,
@@ -41,7 +43,7 @@ impl Blocks {
         Blocks { inner, outer }
     }
 
-    /// Returns a copy of the hashes, for another text.
+    /// Returns a copy of the hashes, so that the HMAC of another text can be computed.
     pub fn copy(&self) -> Blocks
         ensures { result ≡ self.now }
     {
@@ -70,7 +72,7 @@ impl Blocks {
 }
 
 /// Returns the HMAC with SHA-256 of `first` followed by `second`, under a key of any length (RFC
-/// 2104): 32 octets, not truncated. Nothing is refused or allocated.
+/// 2104): 32 octets, not truncated. The call never fails, and allocates nothing.
 pub fn hmac_sha256(key: &[u8], first: &[u8], second: &[u8]) -> [u8; 32]
     ensures { result ≡ Mac key.now (first.now ++ second.now) }
 {
@@ -107,8 +109,8 @@ fn combine(block: &mut [u8; BLOCK_LEN], pad: u8)
     }
 }
 
-/// Returns whether a signature's value is this tag of 32 octets. A value of another length never
-/// is. A value of 32 octets is always compared as a whole, wherever the first difference is.
+/// Returns whether a signature's value equals the tag. A value that is not 32 octets long never
+/// equals it. All octets of a value of 32 octets are compared, wherever the first difference is.
 pub fn tags_equal(value: &[u8], tag: &[u8; 32]) -> bool
     ensures { IsTrue result ↔ (value.now ≡ tag.now) }
 {

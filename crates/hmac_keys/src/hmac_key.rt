@@ -3,8 +3,8 @@
 use crate::hmac::Blocks;
 use std::marker::Model;
 
-/// A key for HMAC with SHA-256, for signing and checking many texts: its blocks are hashed only
-/// once.
+/// A key for HMAC with SHA-256. Its blocks are hashed only once, even if the key signs or checks
+/// many texts.
 #[derive(Drop)]
 pub struct HmacKey {
     octets: Vec<u8>,
@@ -26,7 +26,8 @@ impl HmacKey {
     ghost use Rattle.std.specs.Prelude.{◌≡◌, ◌++◌};
     ghost use Rattle.hmac_keys.specs.Mac.{Mac};
 
-    /// Returns the key with these octets, of any number. Nothing is allocated.
+    /// Returns the key with these octets. A key may have any number of octets. Nothing is
+    /// allocated.
     pub fn new(octets: Vec<u8>) -> HmacKey
         ensures { result ≡ octets.items }
     {

@@ -86,19 +86,19 @@ impl KeyBook {
 
     /// Reads a key file of at most 256 keys. LF separates its lines. The last space of a line
     /// separates the URI of a nonempty name, as `NameBuf::from_uri` reads it, from the key: 1 to
-    /// 256 octets in hexadecimal digits of either case. A CR belongs to its line. Empty lines, and
-    /// lines that begin with `;`, are skipped, but they are counted.
+    /// 256 octets in hexadecimal digits of either case. A CR is part of its line. Empty lines, and
+    /// lines that begin with `;`, are skipped, but line numbers count them.
     ///
-    /// Returns the fault of the first faulty line, and no keys, if the file is refused: see
-    /// `KeyFault`. Two names are the same if their components are, even if the URIs spell them
-    /// differently. `Memory` is returned only if the text has no fault.
+    /// If the file is refused, returns the fault of the first faulty line, and no keys: see
+    /// `KeyFault`. Two names are the same if their components are the same, even if the spellings
+    /// of their URIs differ. `Memory` is returned only if the text has no fault.
     pub fn read(alloc: Global, text: &str) -> Result<KeyBook, KeyFault>
-        // The text spells the keys that are read.
+        // The text is a key file with exactly the returned keys.
         ensures found { IfOk result (KeysOf text.now) }
-        // All keys that the text spells are read, unless memory runs out.
+        // If the text is a key file, its keys are returned, unless memory runs out.
         ensures only { (keys : List NamedKey) → KeysOf text.now keys
             → (result ≡ Ok keys) ⊎ IsErrOf result KeyFault.Memory }
-        // The fault is the first one of the text, or `Memory`.
+        // A returned fault is the first fault of the text, or `Memory`.
         ensures fault { IfErr result (IsFaultOf (keys_in text.now)) }
         // `Memory` is returned only if the whole text is valid.
         ensures memory { IfErr result (λ fault. fault ≡ KeyFault.Memory
@@ -119,7 +119,8 @@ impl KeyBook {
         read_keys(alloc, text)
     }
 
-    /// Returns the keys in the lines, or their first fault, or `Memory` if memory runs out first.
+    /// Returns the keys in the lines, or the first fault of the lines, or `Memory` if memory runs
+    /// out first.
     fn read_lines(alloc: Global, text: &str) -> Result<KeyBook, KeyFault>
         ensures { MatchResult result (λ book. keys_in text.now ≡ Ok book)
             (IsFaultOf (keys_in text.now)) }
@@ -172,8 +173,8 @@ impl KeyBook {
         Some(self.find_hmac(name)?.octets())
     }
 
-    /// Returns the key with exactly this name, if there is one, for the tags of many texts. Nothing
-    /// is allocated.
+    /// Returns the key with exactly this name, if there is one. The key can compute the HMACs of
+    /// many texts. Nothing is allocated.
     pub fn find_hmac(&self, name: Name<'_>) -> Option<&HmacKey>
         ensures { MatchOption result
             ((octets : List ℕ) → IsAmong (components name.entry, octets) self.now → ⊥)
@@ -187,7 +188,8 @@ impl KeyBook {
         None
     }
 
-    /// Returns the number of keys, at most 256. The clauses other than `exact` hold of every book.
+    /// Returns the number of keys, at most 256. The clauses other than `exact` are true of every
+    /// book.
     pub fn len(&self) -> usize
         ensures exact { result ≡ length self.now }
         ensures apart { AreApart self.now }
@@ -203,8 +205,8 @@ impl KeyBook {
     }
 }
 
-/// If memory runs out, the lines are read once more without allocation, so that a fault in them is
-/// reported first.
+/// If memory runs out, the lines are read once more without allocation, so that a fault in the
+/// lines is reported instead of `Memory`.
 fn read_keys(alloc: Global, text: &str) -> Result<KeyBook, KeyFault>
     ensures { MatchResult result (λ book. keys_in text.now ≡ Ok book)
         (IsFaultBeforeMemory (keys_in text.now)) }
@@ -219,8 +221,8 @@ fn read_keys(alloc: Global, text: &str) -> Result<KeyBook, KeyFault>
     }
 }
 
-/// Law: a text spells the keys of at most one book, which `keys_in` returns. `keys_in` returns a
-/// fault exactly if the first faulty line has that fault.
+/// Law: a text is a key file of at most one list of keys, which `keys_in` returns. `keys_in`
+/// returns a fault exactly if the first faulty line has that fault.
 pub fn key_files_have_one_reading()
     ensures exact { (text : List ℕ) (keys : List NamedKey) → (keys_in text ≡ Ok keys)
         ↔ KeysOf text keys }

@@ -51,7 +51,7 @@ fn key_uri(number: u64, line: &str) -> Result<&str, KeyFault>
     Ok(uri)
 }
 
-/// Returns whether a line has the name that `uri` reads as.
+/// Returns whether the line has, before its last space, the name that `uri` reads as.
 fn has_name(line: &str, uri: &str) -> bool
     ensures { (name : List Field) → name_of uri.now ≡ Some name
         → result ≡ line_has_name name line.now }
@@ -86,8 +86,8 @@ fn have_name(text: &str, lines: u64, uri: &str) -> bool
     false
 }
 
-/// Returns the number of keys after a line of a text. The line follows `before` lines with `keys`
-/// keys.
+/// Returns the number of keys up to and including the line `line` of a text. The `before` lines
+/// before this line have `keys` keys.
 fn check_line(text: &str, before: u64, keys: usize, line: &str) -> Result<usize, KeyFault>
     requires short { before < length text.now }
     requires few { keys ≤ 256 }

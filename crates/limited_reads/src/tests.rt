@@ -42,7 +42,7 @@ fn readers(rt: HostRuntime) {
 }
 
 /// Returns whether the lines of `text`, read with a limit of four octets, are those of `wanted`. A
-/// `-` stands for a line that is too long, and ends the text.
+/// `-` in `wanted` stands for a line that is too long. Lines after such a line are not read.
 fn lines_are(alloc: Global, text: &str, wanted: &str) -> Option<bool> {
     let mut reader = BufReader::new(alloc, text.as_bytes()).ok()?;
     let mut lines = Vec::new(alloc);

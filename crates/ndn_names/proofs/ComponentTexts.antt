@@ -13,8 +13,8 @@ use Rattle.ndn_names.specs.UriReading.{before, pair_in, hex_in, octets_in, unpad
 use Rattle.ndn_names.proofs.Names.{bind_ok}
 use Rattle.ndn_names.proofs.Octets.{HasPut, after_these, put_nothing, put_one, put_pair}
 
--- `text` reads as the octets before `rest`, followed by what `rest` reads as; `count` is the number
--- of the octets before `rest`
+-- the text before `rest` encodes `count` octets, and `has_periods_only` tells whether all of these
+-- octets are periods
 abbrev pub HasCounted : ℕ → Bool → List ℕ → List ℕ → Type 0
 HasCounted count has_periods_only text rest =
     (items : List ℕ) × HasPut octets_in [] items text rest × (count ≡ length items) × (has_periods_only ≡ is_periods items)
@@ -57,7 +57,7 @@ paired_nothing text = ([], put_nothing hex_in [] [] text refl, refl)
 pub paired_one : (i octet : ℕ) (text : List ℕ) → 2 * i + 1 < length text → HasPaired i text → pair_in (get_or text (2 * i) 0) (get_or text (2 * i + 1) 0) ≡ Ok octet → HasPaired (i + 1) text
 paired_one i octet text lt h e = (h.0 ++ octet ∷ [], put_pair h.0 text i octet lt h.1 e, omega (arith, length-append h.0 (octet ∷ []), h.2))
 
--- a component that was read, and its octets
+-- `read` is a component with this type, length and value
 abbrev pub HasRead : Result Field NameFault → ℕ → ℕ → Result (List ℕ) NameFault → Type 0
 HasRead read kind len value =
     (field : Field) × (read ≡ Ok field) × ((kind ≡ field.0) × (len ≡ length field.1) × (value ≡ Ok field.1))
@@ -75,7 +75,7 @@ pub plain_said : (kind found len : ℕ) (text octets : List ℕ) (value : Result
     → component_of (kind, take len octets) ≡ Ok (found, take len octets) → value ≡ Ok (take len octets) → HasRead (plain_in kind text) found len value
 plain_said kind found len text octets value read cut is component e = ((found, take len octets), rw (read, cut, component) refl, (refl, is, e))
 
--- reading the octet at the front succeeds if reading all octets does
+-- if reading `octet` and the octets after it succeeds, reading the octets after it succeeds
 pub before_found : (octet : ℕ) (r : Result (List ℕ) NameFault) (octets : List ℕ) → before octet r ≡ Ok octets → (rest : List ℕ) × (r ≡ Ok rest) × (octets ≡ octet ∷ rest)
 before_found octet (Ok rest) octets e = (rest, refl, cc)
 before_found octet (Err fault) octets e = absurd cc

@@ -1,4 +1,4 @@
--- Texts that are cut once, at an octet.
+-- Texts that are split at the first occurrence of an octet.
 use Rattle.std.proofs.Common.{◌≡◌, ◌≢◌, ℕ, suc, ◌<◌, List, [], ◌∷◌, length, get_or, refl, ap, ◌∙◌, arith}
 use Rattle.std.specs.Prelude.{Some, None}
 use Rattle.std.proofs.Common.{Bor}
@@ -13,7 +13,7 @@ lacks_from_places : (octet : ℕ) (text : List ℕ) → ((i : ℕ) → i < lengt
 lacks_from_places octet [] h = tt
 lacks_from_places octet (o ∷ text) h = (h 0 (omega arith), lacks_from_places octet text (λ i lt. h (suc i) (omega arith)))
 
--- a component with an equals sign, and a component without one
+-- a piece with an equals sign has a type before it; a piece without one is a GenericNameComponent
 pub component_parts : (piece : List ℕ) (front back : Bor (List ℕ)) → IsSplitOnceResult 61 piece (Some (front, back)) → component_in piece ≡ typed_in front.now back.now (kind_of front.now)
 unfolding component_in
 component_parts piece front back split =
@@ -25,7 +25,7 @@ unfolding component_in
 component_whole piece split =
     ap (component_by_cut piece) (cut_lacking 61 piece (lacks_from_places 61 piece (split_parts 61 piece None split (omega arith))))
 
--- the first piece, with a slash after it or without one
+-- the first piece of a text is the text before its first slash, or the whole text
 pub pieces_parts : (text : List ℕ) (front back : Bor (List ℕ)) → IsSplitOnceResult 47 text (Some (front, back)) → pieces_of text ≡ front.now ∷ pieces_of back.now
 pieces_parts text front back split =
     let p = split_parts 47 text (Some (front, back)) split (omega arith) in

@@ -42,7 +42,7 @@ pub record IsFinding (kind n : ℕ) (rest value : List ℕ) (found : Option Firs
 pub begins_finding : (kind : ℕ) (value : List ℕ) → IsFinding kind 0 value value None
 begins_finding kind value = record { front = []; reads = reads_none value; first = tt }
 
--- the search after a component of another type is read
+-- the search result is still correct after a component of another type is read
 found_past : (kind : ℕ) (front : List Field) (rest after : List ℕ) (c : Field) (found : Option FirstOfType) → rest ≢ [] → c.0 ≢ kind → FoundSoFar kind front rest found → FoundSoFar kind (front ++ c ∷ []) after found
 found_past kind front rest after c None some other h = all_and kind front c h other
 found_past kind front rest after c (Some first) some other h = record {
@@ -54,7 +54,7 @@ found_past kind front rest after c (Some first) some other h = record {
   last = (λ t. absurd (some (h.last.0 t).1), λ e. absurd (never_empty h.after c e.0));
 }
 
--- the search after a component of type `kind` is read
+-- the search result is updated after a component of type `kind` is read
 found_more : (kind : ℕ) (front : List Field) (rest after : List ℕ) (c : Field) (found : Option FirstOfType) (is_last : Bool) (first : FirstOfType) → rest ≢ [] → c.0 ≡ kind → (IsTrue is_last ↔ (after ≡ [])) → Further found c.1 is_last first
     → FoundSoFar kind front rest found → FoundSoFar kind (front ++ c ∷ []) after (Some first)
 found_more kind front rest after c None is_last first some is last f h = record {
@@ -93,7 +93,7 @@ finding_more kind n rest after value c found is_last first some is last f step h
   first = found_more kind h.front rest after c found is_last first some is last f h.first;
 }
 
--- the search after all components are read
+-- after all components are read, the search result is that of the whole name
 pub found_all : (kind : ℕ) (front : List Field) (rest : List ℕ) (found : Option FirstOfType) → rest ≡ [] → FoundSoFar kind front rest found → FindsFirst kind front found
 found_all kind front rest None none h = h
 found_all kind front rest (Some first) none h = record {

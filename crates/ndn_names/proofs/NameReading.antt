@@ -19,7 +19,7 @@ use Rattle.ndn_names.proofs.UriCaused.{name_in-caused, piece_in-caused}
 use Rattle.ndn_names.proofs.PieceReading.{alone_found, alone_again}
 use Rattle.ndn_names.proofs.PathReading.{pieces_none, text_found, text_again}
 
--- the components `cs` before the components `others`
+-- the components `cs` followed by the components `others`, or the fault of `others`
 abbrev pub named : List Field → Result (List Field) NameFault → Result (List Field) NameFault
 named cs others = do
   ds ← others
@@ -30,7 +30,7 @@ abbrev pub HasNamed : ℕ → List Field → List ℕ → List ℕ → Type 0
 HasNamed count cs text rest =
     (count ≡ length cs) × (count ≤ 64) × (components_in 0 (pieces_of text) ≡ named cs (components_in count (pieces_of rest)))
 
--- there would be one component more than a name may have
+-- if 64 components have been read and text remains, the fault is `TooManyComponents`
 pub named_full : (count : ℕ) (cs : List Field) (text rest : List ℕ) → HasNamed count cs text rest → count ≡ 64 → rest ≢ [] → components_in 0 (pieces_of text) ≡ Err TooManyComponents
 named_full count cs text rest h full some = h.2 ∙ ap (named cs) (refused (pieces_of rest) (λ none. some (pieces_none rest none)))
   where

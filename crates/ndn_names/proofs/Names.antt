@@ -31,7 +31,7 @@ read_element f = Ok f
 pub done_is : {A : Type 0} (x y : A) → done x ≡ done y → x ≡ y
 done_is x y e = cc
 
--- the tests that a component passes
+-- a component that is read has passed all tests
 passed : (none wide small long : Bool) (c d : Field) → cond (none || wide) (Err BadComponent) (cond (small && not long) (Err BadDigestLength) (Ok c)) ≡ done d → (c ≡ d) × (none ≡ false) × (wide ≡ false) × (small ≡ true → long ≡ true)
 passed true wide small long c d e = absurd cc
 passed false true small long c d e = absurd cc
@@ -73,7 +73,7 @@ element_found n x c e =
     at_found (Err f) c e = absurd cc
     at_found (Ok d) c e = let p = component_found d c e in (ap read_element p.0, p.1)
 
--- the components of a list whose elements were all read
+-- if a list is read as components, all of its elements are valid, and there are at most 64 in all
 pub components_found : (n : ℕ) (es : List (Result Field TlvFault)) (cs : List Field) → n ≤ 64 → components_after n es ≡ Ok cs → (es ≡ map read_element cs) × (n + length cs ≤ 64) × AllByRecursion IsComponent cs
 components_found n [] cs le e = subst (λ (ds : List Field). ([] ≡ map read_element ds) × (n + length ds ≤ 64) × AllByRecursion IsComponent ds) (done_is [] cs e) (refl, omega arith, tt)
 components_found n (x ∷ es) cs le e =
@@ -188,7 +188,7 @@ too_many n rest value full some on =
     let refuses : component_after n s.0 ≡ Err TooManyComponents = rw (le-ltb n 64 (omega arith)) refl in
     ends n rest value s.0 s.1 TooManyComponents s.2 refuses on
 
--- reading does not run out of memory
+-- the result is not the fault `Memory`
 abbrev pub IsCaused : {A : Type 0} → Result A NameFault → Type 0
 IsCaused (Ok x) = Unit {0}
 IsCaused (Err BadComponent) = Unit {0}
@@ -250,7 +250,7 @@ push_shown value after c h room is short e =
     let text : after ≡ octets_of (cs ++ c ∷ []) = e ∙ ap (λ (t : List ℕ). t ++ element c) h.0.1 ∙ ap (λ (t : List ℕ). octets_of cs ++ t) (sym (append-nil (element c))) ∙ sym (flat_map-append element cs (c ∷ [])) in
     is_shown after (cs ++ c ∷ []) ((AllByRecursion-push IsField cs c h.0.0 field, text), (omega (arith, length-append cs (c ∷ [])), AllByRecursion-push IsComponent cs c h.1.1 is))
 
--- the first component of a name, and the others
+-- the components of a name are its first component, followed by those in the remaining octets
 pub front_shown : (rest after : List ℕ) (c : Field) → IsNameValue rest (components_of rest) → rest ≡ element c ++ after → elements_of rest ≡ read_element c ∷ elements_of after
     → (components_of rest ≡ c ∷ components_of after) × IsNameValue after (components_of after)
 unfolding components_of
@@ -260,7 +260,7 @@ front_shown rest after c h front walk =
     let text : element c ++ after ≡ element c ++ octets_of (components_of after) = sym front ∙ g.0.1 in
     (is, ((g.0.0.1, append_cancel_left (element c) after (octets_of (components_of after)) text), (omega (arith, g.1.0), g.1.1.1)))
 
--- if no component can be read, no component is left
+-- a valid name from which no component can be read has no components
 pub end_shown : (rest : List ℕ) (e : NameFault) → IsNameValue rest (components_of rest)
     → (rest ≢ [] → (at : Result Field TlvFault) × (others : List (Result Field TlvFault)) × (elements_of rest ≡ at ∷ others) × (component_at at ≡ Err e))
     → components_of rest ≡ []

@@ -1,5 +1,5 @@
--- The octets of names have the same order as the names: no encoding of a number is a prefix of
--- another one, and encodings are ordered as the numbers are.
+-- The octets of names have the same order as the names. The reasons: no encoding of a number is a
+-- prefix of another one, and encodings are ordered as the numbers are.
 use Rattle.std.proofs.Common.{◌≡◌, ℕ, ◌+◌, ◌*◌, ◌^◌, ◌<◌, ◌≤◌, List, [], ◌∷◌, ◌++◌, length, refl, sym, ap, ◌∙◌, inl, inr, append_assoc, arith}
 use Rattle.std.specs.declared.cmp.Ordering.{Ordering}
 use Rattle.std.specs.declared.cmp.Ordering.TheVariants.{Less as Lt, Equal, Greater}
@@ -31,7 +31,7 @@ then_assoc Lt p q = refl
 then_assoc Equal p q = refl
 then_assoc Greater p q = refl
 
--- comparing two lists whose first parts have equal length
+-- lists whose first parts have equal length compare by their first parts, and then by the others
 cmp_joined : (a b x y : List ℕ) → length a ≡ length b → slice_cmp nat_cmp (a ++ x) (b ++ y) ≡ ordering_then (slice_cmp nat_cmp a b) (slice_cmp nat_cmp x y)
 cmp_joined [] [] x y e = refl
 cmp_joined [] (c ∷ b) x y e = absurd (omega arith)
@@ -51,7 +51,7 @@ digit u v b c hb hc =
     (λ d k. let lt : v * 256 + c < u * 256 + b = omega arith in rw (e, d, nat_more _ _ lt) refl))
     (λ e h. let lt : v * 256 + c < u * 256 + b = omega arith in rw (e, nat_more _ _ lt) refl)
 
--- the number that these octets give after the number u
+-- the number whose digits in base 256 are those of u, followed by these octets
 abbrev number_after : ℕ → List ℕ → ℕ
 number_after u [] = u
 number_after u (b ∷ bs) = number_after (u * 256 + b) bs
@@ -71,7 +71,7 @@ digits u v (b ∷ bs) (c ∷ cs) e p q =
     ∙ ap (λ (o : Ordering). ordering_then o (slice_cmp nat_cmp bs cs)) (digit u v b c p.0 q.0)
     ∙ then_assoc (nat_cmp u v) (nat_cmp b c) (slice_cmp nat_cmp bs cs)
 
--- the big-endian octets of n give the number n
+-- decoding the big-endian octets of n returns n
 record IsSpelled (w : Width) (n : ℕ) : Type 0 where
   octets : AllByRecursion (λ b. b < 256) (to_be_bytes w n)
   value : number_after 0 (to_be_bytes w n) ≡ n
@@ -104,7 +104,7 @@ wide_order w m n p q len =
 abbrev Sorts : List ℕ → List ℕ → ℕ → ℕ → Type 0
 Sorts s t m n = (x y : List ℕ) → slice_cmp nat_cmp (s ++ x) (t ++ y) ≡ ordering_then (nat_cmp m n) (slice_cmp nat_cmp x y)
 
--- the first octets differ, and are ordered as the numbers are
+-- if the first octets are ordered as the numbers are, so are the encodings
 apart_less : (a b : ℕ) (s t : List ℕ) (m n : ℕ) → a < b → m < n → Sorts (a ∷ s) (b ∷ t) m n
 apart_less a b s t m n h k x y = rw (nat_less a b h, nat_less m n k) refl
 
@@ -204,6 +204,6 @@ octets_cmp (f ∷ a) (g ∷ b) p q = element_order f g (octets_of a) (octets_of 
 pub values_cmp : (u v : List ℕ) (a b : List Field) → IsNameValue u a → IsNameValue v b → slice_cmp nat_cmp u v ≡ name_cmp a b
 values_cmp u v a b p q = ap (λ (t : List ℕ). slice_cmp nat_cmp t v) p.0.1 ∙ ap (slice_cmp nat_cmp (octets_of a)) q.0.1 ∙ octets_cmp a b p.0.0 q.0.0
 
--- names are equal exactly where their octets are
+-- names are equal exactly if their octets are equal
 pub values_equal : (u v : List ℕ) (a b : List Field) → IsNameValue u a → IsNameValue v b → bytes_eq u v ≡ eq_by_cmp name_cmp a b
 values_equal u v a b h g = sym (is_eq-slice_cmp u v) ∙ ap is_eq (values_cmp u v a b h g)

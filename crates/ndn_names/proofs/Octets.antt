@@ -5,7 +5,7 @@ use Rattle.ndn_tlv.specs.Reading.{◌>>=◌}
 use Rattle.ndn_names.specs.declared.fault.NameFault.{NameFault}
 use Rattle.ndn_names.specs.UriReading.{before, pair_in, hex_in}
 
--- the octets `front` before the octets `others`
+-- the octets `front` followed by the octets `others`, or the fault of `others`
 abbrev pub after_these : List ℕ → Result (List ℕ) NameFault → Result (List ℕ) NameFault
 after_these front others = do
   octets ← others
@@ -31,7 +31,7 @@ put_one reading old now text rest after octet h e =
     moved front (Ok octets) = ap (λ (t : List ℕ). Ok t) (sym (append_assoc front (octet ∷ []) octets))
     moved front (Err fault) = refl
 
--- two hexadecimal digits
+-- the text from the i-th pair of digits on begins with the two digits of this pair
 pair_at : (text : List ℕ) (i : ℕ) → 2 * i + 1 < length text → drop (2 * i) text ≡ get_or text (2 * i) 0 ∷ get_or text (2 * i + 1) 0 ∷ drop (2 * (i + 1)) text
 pair_at text i lt =
     let next : 2 * i + 1 + 1 ≡ 2 * (i + 1) = omega arith in

@@ -13,7 +13,8 @@ use Rattle.ndn_tlv.specs.Element.{Field}
 use Rattle.ndn_names.specs.Key.{component_cmp-total, component_cmp-antisymmetric, name_cmp-total, name_cmp-antisymmetric}
 use Rattle.ndn_names.specs.Order.{DiffersBelow, IsProperPrefix, OctetsLess, ComponentLess, Less, component_cmp, name_cmp}
 
--- two comparisons in sequence are Less if the first one is, or if it ties and the second one is
+-- two comparisons in sequence return `Less` only if the first one returns `Less`, or if it returns
+-- `Equal` and the second one returns `Less`
 then_less : (o p : Ordering) → ordering_then o p ≡ Lt → (o ≡ Lt) ⊎ ((o ≡ Equal) × (p ≡ Lt))
 then_less Lt p e = inl refl
 then_less Equal p e = inr (refl, e)
@@ -21,7 +22,7 @@ then_less Greater p e = absurd cc
 
 -- ---- lists: what Less means
 
--- the lists have the same first element x
+-- putting the same element x in front of both lists keeps their order
 later : {X : Type 0} {Below : X → X → Type 0} (x : X) (a b : List X) → IsProperPrefix a b ⊎ DiffersBelow Below a b → IsProperPrefix (x ∷ a) (x ∷ b) ⊎ DiffersBelow Below (x ∷ a) (x ∷ b)
 later {X = X} x a b (inl p) = inl (p.0, p.1, ap (λ (t : List X). x ∷ t) p.2)
 later {X = X} x a b (inr d) = inr (x ∷ d.0, d.1, d.2, d.3, d.4, ap (λ (t : List X). x ∷ t) d.5, ap (λ (t : List X). x ∷ t) d.6, d.7)

@@ -51,7 +51,7 @@ each_again n (piece ∷ pieces) (c ∷ cs) each few are =
 abbrev joined : List (List ℕ) → List ℕ
 joined pieces = flat_map (λ p. codes "/" ++ p) pieces
 
--- the text may end with a slash
+-- the end of a text: a slash, or nothing
 abbrev pub IsEnd : List ℕ → Type 0
 IsEnd end = (end ≡ []) ⊎ (end ≡ codes "/")
 
@@ -158,7 +158,7 @@ path_found (o ∷ text) cs e =
           (whole.0, pieces_of text, first ∙ whole.1, whole.2, read.0, (omega (arith, read.1), read.2))
     ]
 
--- the scheme, which is optional
+-- the start of a text: the scheme, or nothing
 abbrev IsStart : List ℕ → Type 0
 IsStart start = (start ≡ []) ⊎ (start ≡ codes "ndn:")
 

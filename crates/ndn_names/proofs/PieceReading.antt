@@ -81,7 +81,7 @@ numbered_again text c h small is = rw (number_again text h small) (ap (λ (v : L
 
 -- ---- components
 
--- a component after a type name or a type number
+-- the component that is read from a piece with an equals sign is in the grammar
 typed_found : (piece type_name text : List ℕ) (c : Field) → Lacks 47 text → piece ≡ type_name ++ 61 ∷ text → typed_in type_name text (kind_of type_name) ≡ Ok c → ReadsComponent piece c × IsComponent c
 typed_found piece type_name text c slash is e =
     elim (kind_of type_name) as (λ r. kind_of type_name ≡ r → typed_in type_name text r ≡ Ok c → ReadsComponent piece c × IsComponent c) [
@@ -117,7 +117,7 @@ piece_found piece c slash e =
           typed_found piece parts.0 parts.1 c lacking.1.1 cut.0 e
     ] (cut_found 61 piece) e
 
--- a piece that is cut after this type name
+-- a piece whose type name contains no equals sign is split after this type name
 piece_cut : (piece type_name text : List ℕ) → piece ≡ type_name ++ 61 ∷ text → Lacks 61 type_name → component_in piece ≡ typed_in type_name text (kind_of type_name)
 unfolding component_in
 piece_cut piece type_name text is lacking = ap (component_by_cut piece) (ap (cut_at 61) is ∙ cut_again 61 type_name text lacking)

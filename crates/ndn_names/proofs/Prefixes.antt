@@ -26,14 +26,14 @@ length-take-le n cs = omega (arith, ap length (take-append-drop n cs), length-ap
 octets_cut : (n : ℕ) (cs : List Field) → octets_of cs ≡ octets_of (take n cs) ++ octets_of (drop n cs)
 octets_cut n cs = ap octets_of (sym (take-append-drop n cs)) ∙ flat_map-append element (take n cs) (drop n cs)
 
--- the octets before the remaining ones
+-- `front` is the octets before the remaining octets `rest`
 front_is : (octets front rest : List ℕ) → octets ≡ front ++ rest → (length rest ≤ length octets) × (take (length octets - length rest) octets ≡ front)
 front_is octets front rest e =
     let lengths : length octets ≡ length front + length rest = ap length e ∙ length-append front rest in
     let place : length octets - length rest ≡ length front = omega arith in
     (omega arith, ap (λ (k : ℕ). take k octets) place ∙ ap (take (length front)) e ∙ take-append_seam front rest)
 
--- the components that an iterator has left after one more step
+-- the components that an iterator has not returned after one more step
 pub left_after : {X : Type 0} (view : X → Field) (r : Option X) (cs left after : List Field) (i : ℕ) → left ≡ drop i cs → i < length cs
     → MatchOption r ((left ≡ []) × (after ≡ [])) (λ x. left ≡ view x ∷ after) → after ≡ drop (i + 1) cs
 left_after view None cs left after i e lt h =
@@ -41,7 +41,7 @@ left_after view None cs left after i e lt h =
 left_after view (Some x) cs left after i e lt h =
     let more = sym h ∙ e ∙ drop_more cs i (0, []) lt in cc
 
--- the first n components, where the octets `rest` hold the others
+-- if `rest` encodes all but the first n components, the octets before `rest` encode the first n
 pub prefix_shown : (octets rest : List ℕ) (n i : ℕ) → IsNameValue octets (components_of octets) → IsNameValue rest (components_of rest) → components_of rest ≡ drop i (components_of octets) → i ≤ n → n ≤ i
     → (length rest ≤ length octets) × (components_of (take (length octets - length rest) octets) ≡ take n (components_of octets))
     × IsNameValue (take (length octets - length rest) octets) (components_of (take (length octets - length rest) octets))
@@ -54,7 +54,7 @@ prefix_shown octets rest n i h g left le ge =
     ((AllByRecursion-take IsField n cs h.0.0, f.1), (omega (arith, length-take-le n cs), AllByRecursion-take IsComponent n cs h.1.1)) in
     (f.0, shown.0, shown.1)
 
--- a name begins with another one if its octets do
+-- a name is a prefix of another name if its octets are a prefix of the octets of the other name
 pub begins_with : (cs ds : List Field) (rest : List ℕ) → AllByRecursion IsField cs → AllByRecursion IsField ds → octets_of ds ≡ octets_of cs ++ rest → IsPrefix cs ds
 begins_with [] ds rest h g e = (ds, refl)
 begins_with (c ∷ cs) [] rest h g e =

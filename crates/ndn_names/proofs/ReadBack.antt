@@ -184,6 +184,6 @@ AreOctets-from_bytes (c ∷ cs) h =
     let sized = IsBytes-back (spelling c.0) (spelling (length c.1) ++ c.1) first in
     (AreBelow256-from_bytes c.1 (IsBytes-back (spelling (length c.1)) c.1 sized), AreOctets-from_bytes cs (IsBytes-back (element c) (octets_of cs) h))
 
--- the text of the name with the value `value`
+-- the text of the name with the TLV-VALUE `value` reads as this name
 pub spelled_reads : (value text : List ℕ) (cs : List Field) → IsBytes value → IsNameValue value cs → text ≡ uri_of cs → ReadsAs text cs
 spelled_reads value text cs fits is written = rw written (name_reads cs is.1 (AreOctets-from_bytes cs (subst IsBytes is.0.1 fits)))

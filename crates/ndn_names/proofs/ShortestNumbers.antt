@@ -16,7 +16,8 @@ use Rattle.ndn_names.specs.TypeName.{shortest_number}
 abbrev pub least_of : ℕ → ℕ
 least_of len = cond (eqb len 1) 0 (cond (eqb len 2) (2 ^ 8) (cond (eqb len 4) (2 ^ 16) (2 ^ 32)))
 
--- octets are the shortest encoding exactly if their number is at least `least_of` their length
+-- octets are the shortest encoding of their number if the number is at least `least_of` their
+-- length
 shortest_from : (value : List ℕ) (n : ℕ) → IsNni value n → least_of (length value) ≤ n → shortest_nni n ≡ value
 unfolding shortest_nni
 shortest_from value n (inl p) le = rw (p.1, lt-ltb n (2 ^ 8) p.0) refl
@@ -50,7 +51,7 @@ tested value n is nni =
       | inr le ↦ rw (is, le-leb (least_of (length value)) n le, (bytes_eq-Decides (shortest_nni n) value).1 (shortest_from value n nni le)) refl
     ]
 
--- the result of a reader of a number
+-- one comparison gives the `shortest_number` of a value that was read as a number
 pub shortest_number-is : (value : List ℕ) (r : Result ℕ TlvFault) (n least : ℕ) → r ≡ nni_at value → IfOk r (IsNni value) → Some n ≡ result_ok r → least ≡ least_of (length value)
     → then_some (leb least n) n ≡ shortest_number value
 shortest_number-is value (Ok m) n least e nni is l =

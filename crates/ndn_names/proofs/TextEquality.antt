@@ -18,13 +18,13 @@ use Rattle.ndn_names.proofs.NameReading.{named, HasNamed, named_full}
 
 -- ---- octets
 
--- the first octet that a reading returns
+-- the first octet that a reading returns, and the octets after it
 pub said_first : (said rest octets : List ℕ) (first octet : ℕ) → said ≡ first ∷ rest → take (suc (length octets)) said ≡ octet ∷ octets → (first ≡ octet) × (take (length octets) rest ≡ octets)
 said_first said rest octets first octet e h =
     let both : first ∷ take (length octets) rest ≡ octet ∷ octets = sym (ap (take (suc (length octets))) e) ∙ h in
     (cc, cc)
 
--- the first octet that the reading of a text returns
+-- the first octet that the reading of a text returns, and the octets after it
 pub read_first : (reading : List ℕ → Result (List ℕ) NameFault) (text rest octets : List ℕ) (first octet : ℕ) → reading text ≡ before first (reading rest) → (said : List ℕ) → reading text ≡ Ok said
     → take (suc (length octets)) said ≡ octet ∷ octets → (first ≡ octet) × ((others : List ℕ) × (reading rest ≡ Ok others) × (take (length octets) others ≡ octets))
 read_first reading text rest octets first octet e said read h =
@@ -32,7 +32,8 @@ read_first reading text rest octets first octet e said read h =
     let here = said_first said found.0 octets first octet found.2 h in
     (here.0, (found.0, found.1, here.1))
 
--- `x` and `y` are the octets left of two values, and the octets that were passed are equal.
+-- The values `x` and `y` are equal exactly if their last `left` octets, in the texts `a` and `b`,
+-- are.
 pub record AreLeft (left : ℕ) (a b : ValueText) (x y : List ℕ) : Type 0 where
   pub x_left : List ℕ
   pub y_left : List ℕ
@@ -119,7 +120,7 @@ named_ok : (cs : List Field) (r : Result (List Field) NameFault) (all : List Fie
 named_ok cs (Ok ds) all e = (ds, refl, sym (done_is (cs ++ ds) all e))
 named_ok cs (Err fault) all e = absurd cc
 
--- The name of the whole text, whose next piece is still to be read.
+-- The name `all` consists of the components `cs`, the component of the next piece, and others.
 pub record HasNext (cs : List Field) (piece : List ℕ) (all : List Field) : Type 0 where
   pub c : Field
   pub ds : List Field

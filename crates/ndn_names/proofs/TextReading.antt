@@ -68,7 +68,7 @@ pub Lacks-parts : (octet : ℕ) (a b : List ℕ) → Lacks octet (a ++ b) → La
 Lacks-parts octet [] b h = (tt, h)
 Lacks-parts octet (o ∷ a) b h = let parts = Lacks-parts octet a b h.1 in ((h.0, parts.0), parts.1)
 
--- an octet that stands for itself
+-- an octet other than a percent sign encodes itself
 octets_plain : (a : ℕ) (text : List ℕ) → a ≢ 37 → octets_in (a ∷ text) ≡ before a (octets_in text)
 octets_plain a [] sign = rw (ne_eqb a 37 sign) refl
 octets_plain a (b ∷ []) sign = rw (ne_eqb a 37 sign) refl
@@ -80,7 +80,7 @@ plain_found a text octets e sign slash found =
     let b = before_found a (octets_in text) octets (sym (octets_plain a text sign) ∙ e) in
     subst (StandsFor (a ∷ text)) (sym b.2) (a ∷ [], text, refl, inl (refl, sign, slash), found b.0 b.1)
 
--- an octet after a percent sign
+-- a percent sign and two hexadecimal digits encode an octet
 escaped_found : (a b c : ℕ) (text octets : List ℕ) → octets_in (a ∷ b ∷ c ∷ text) ≡ Ok octets → a ≡ 37
     → ((others : List ℕ) → octets_in text ≡ Ok others → StandsFor text others) → StandsFor (a ∷ b ∷ c ∷ text) octets
 escaped_found a b c text octets e is found =
@@ -146,7 +146,7 @@ hex_no_slash text (o ∷ octets) h =
 
 -- ---- three additional periods
 
--- the last three of a sequence of periods
+-- a sequence of at least three periods ends with three periods
 periods_end : (n : ℕ) (octets : List ℕ) → is_periods octets ≡ true → length octets ≡ n + 3 → take n octets ++ codes "..." ≡ octets
 periods_end zero (a ∷ b ∷ c ∷ []) all is =
     let first = and_parts (a == 46) (is_periods (b ∷ c ∷ [])) all in

@@ -57,12 +57,12 @@ type_again kind some narrow =
 
 -- ---- type names for types
 
--- one test in a chain
+-- a property holds for the result of a test if it holds for each of the two alternatives
 tested : {A : Type 0} (b : Bool) (x : A) (others : Option A) (y : A) (P : A → Type 0) → (b ≡ true → P x) → (others ≡ Some y → P y) → cond b (Some x) others ≡ Some y → P y
 tested true x others y P here after e = let same : x ≡ y = cc in subst P same (here refl)
 tested false x others y P here after e = after e
 
--- a property holds of all types with names if it holds of each of the seven
+-- a property holds for all types with type names if it holds for each of the seven
 type_name_by_cases : (kind : ℕ) (type_name : List ℕ) (P : ℕ → List ℕ → Type 0)
     → P 1 (codes "sha256digest") → P 2 (codes "params-sha256") → P 50 (codes "seg") → P 52 (codes "off") → P 54 (codes "v") → P 56 (codes "t") → P 58 (codes "seq")
     → type_name_of kind ≡ Some type_name → P kind type_name
@@ -97,7 +97,7 @@ type_name_found type_name kind =
 pub type_name_again : (kind : ℕ) (type_name : List ℕ) → type_name_of kind ≡ Some type_name → kind_of type_name ≡ Some kind
 type_name_again kind type_name = type_name_by_cases kind type_name (λ k w. kind_of w ≡ Some k) refl refl refl refl refl refl refl
 
--- the types that have type names
+-- a type that has a type name is from 1 to 65535
 pub type_name_kind : (kind : ℕ) (type_name : List ℕ) → type_name_of kind ≡ Some type_name → (1 ≤ kind) × (kind < 65536)
 type_name_kind kind type_name =
     type_name_by_cases kind type_name (λ k w. (1 ≤ k) × (k < 65536))

@@ -19,12 +19,12 @@ value_in len (Escaped text) = do
 value_in len (Hexadecimal text) = hex_in text.now
 value_in len (Number n) = Ok (shortest_nni n)
 
--- the text is that of the component `c`
+-- `text` is a text of the component `c`
 abbrev pub IsTextOf : Field → ComponentText → Type 0
 IsTextOf c text =
     (text.kind ≡ c.0) × (text.len ≡ length c.1) × (value_in text.len text.value ≡ Ok c.1)
 
--- the octets that a text encodes one by one; a number does not encode its octets so
+-- the octets that a text encodes one by one, or a fault for the text of a number
 abbrev pub octets_said : ValueText → Result (List ℕ) NameFault
 octets_said (Plain octets) = Ok octets.now
 octets_said (Escaped text) = octets_in text.now

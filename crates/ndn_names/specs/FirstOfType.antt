@@ -22,8 +22,8 @@ abbrev pub FindsFirst : ℕ → List Field → Option FirstOfType → Type 0
 FindsFirst kind cs None = NoneOfType kind cs
 FindsFirst kind cs (Some first) = IsFirstOfType kind cs first
 
--- the updated result of a search, after one more component of the type was read: the first one
--- stays
+-- the search result after one more component of the type was read; the first component that was
+-- found stays the result
 abbrev pub Further : Option FirstOfType → List ℕ → Bool → FirstOfType → Type 0
 Further None value is_last first =
     (first.value.now ≡ value) × (first.is_only ≡ true) × (first.is_last ≡ is_last)

@@ -22,11 +22,11 @@ component_cmp-total =
 pub name_cmp-total : IsTotalOrder name_cmp
 name_cmp-total = lists_total component_cmp-total
 
--- an encoding of names for models
+-- an encoding of names, for types that have a name as their model
 abbrev pub name_code : Coded (List Field)
 name_code = coded_list (coded× coded_ℕ (coded_list coded_ℕ))
 
--- two comparisons in sequence tie only if both tie
+-- two comparisons in sequence return `Equal` only if both of them return `Equal`
 pub both_tie : (o p : Ordering) → ordering_then o p ≡ Equal → (o ≡ Equal) × (p ≡ Equal)
 both_tie Less p e = absurd cc
 both_tie Equal p e = (refl, e)

@@ -7,8 +7,8 @@ use Rattle.ndn_tlv.specs.Element.{Field, IsField, element, IsElements}
 use Rattle.ndn_tlv.specs.Reading.{elements_of}
 use Rattle.ndn_names.specs.declared.component_type.TheConstants.{PARAMETERS_SHA256_DIGEST}
 
--- A component has a type from 1 to 65535 and octets. The two digests, which have the least types,
--- have 32 octets.
+-- A component has a type from 1 to 65535, and a value. The value of a digest, which has type 1 or
+-- 2, has 32 octets.
 abbrev pub IsComponent : Field → Type 0
 IsComponent c = (1 ≤ c.0) × (c.0 < 65536) × (c.0 ≤ PARAMETERS_SHA256_DIGEST → length c.1 ≡ 32)
 
@@ -24,11 +24,11 @@ octets_of cs = flat_map element cs
 abbrev pub IsNameValue : List ℕ → List Field → Type 0
 IsNameValue value cs = IsElements value cs × IsName cs
 
--- b begins with a, or equals it
+-- a is a prefix of b, or equal to b
 abbrev pub IsPrefix : List Field → List Field → Type 0
 IsPrefix a b = (rest : List Field) × (b ≡ a ++ rest)
 
--- the elements at the front of the octets that can be read
+-- the elements at the front of the octets, up to the first one that cannot be read
 unfoldable pub components_of : List ℕ → List Field
 components_of value = filter_map result_ok (elements_of value)
 
@@ -36,7 +36,7 @@ components_of value = filter_map result_ok (elements_of value)
 abbrev pub IsNameOctets : List ℕ → Type 0
 IsNameOctets value = IsNameValue value (components_of value)
 
--- two proofs that octets are a name's value are equal
+-- any two proofs that a field is valid are equal; the same holds for components and names below
 IsField-prop : (f : Field) → IsProp (IsField f)
 IsField-prop f p q = λ i. (le_prop p.0 q.0 i, le_prop p.1 q.1 i, le_prop p.2 q.2 i)
 

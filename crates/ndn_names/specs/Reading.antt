@@ -24,21 +24,21 @@ abbrev pub IsFirst : List ℕ → Field → List ℕ → Type 0
 IsFirst octets c rest =
     (elements_of octets ≡ Ok c ∷ elements_of rest) × (component_of c ≡ Ok c)
 
--- unless the octets are empty, they do not begin with a component, and `fault` says why
+-- octets that are not empty do not begin with a component, for the reason `fault`
 abbrev pub IsNoFirst : List ℕ → NameFault → Type 0
 IsNoFirst octets fault =
     octets ≢ [] → (at : Result Field TlvFault) × (others : List (Result Field TlvFault))
     × (elements_of octets ≡ at ∷ others) × (component_at at ≡ Err fault)
 
--- the fault of what was found, or `Memory` if it had none
+-- the fault of the component `found`, or `Memory` if this component is valid
 abbrev pub IsFaultOrMemory : Result Field NameFault → Field → NameFault → Type 0
 IsFaultOrMemory found c fault = (found ≡ Err fault) ⊎ ((fault ≡ Memory) × (found ≡ Ok c))
 
--- the component after n others
+-- the component that follows n other components, or its fault
 abbrev pub component_after : ℕ → Result Field TlvFault → Result Field NameFault
 component_after n e = if nat_lt n 64 then component_at e else Err TooManyComponents
 
--- the components of these elements, which follow n others
+-- these elements as components of a name, after n other components
 abbrev pub components_after : ℕ → List (Result Field TlvFault) → Result (List Field) NameFault
 components_after n [] = Ok []
 components_after n (e ∷ es) = do

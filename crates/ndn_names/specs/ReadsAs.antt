@@ -23,8 +23,8 @@ IsHex text (o ∷ octets) =
     (high low : ℕ) × (rest : List ℕ) × (text ≡ high ∷ low ∷ rest) × IsHexPair high low o
     × IsHex rest octets
 
--- The text of an octet: the octet itself, unless it is a percent sign or a slash; or a percent sign
--- and two hexadecimal digits.
+-- The text of an octet is a percent sign and two hexadecimal digits. An octet other than a percent
+-- sign or a slash may also be its own text.
 abbrev pub IsOctetText : List ℕ → ℕ → Type 0
 IsOctetText text octet =
     ((text ≡ octet ∷ []) × (octet ≢ 37) × (octet ≢ 47))
@@ -43,20 +43,20 @@ IsValueText text value = StandsFor text (padded value)
 abbrev pub IsGeneric : List ℕ → Field → Type 0
 IsGeneric piece c = AllByRecursion (λ o. o ≢ 61) piece × (c.0 ≡ GENERIC) × IsValueText piece c.1
 
--- a piece of a type number without leading zeros, an equals sign, and the value
+-- the piece is a type number without leading zeros, an equals sign, and the text of the value
 abbrev pub IsTyped : List ℕ → Field → Type 0
 IsTyped piece c =
     (text : List ℕ) × (piece ≡ decimal c.0 ++ 61 ∷ text) × (1 ≤ c.0) × (c.0 < 65536)
     × IsValueText text c.1
 
--- a piece of the type name of a digest, an equals sign, and 64 hexadecimal digits
+-- the piece is the type name of a digest, an equals sign, and 64 hexadecimal digits
 abbrev pub IsDigest : List ℕ → Field → Type 0
 IsDigest piece c =
     (type_name text : List ℕ) × (piece ≡ type_name ++ 61 ∷ text)
     × (type_name_of c.0 ≡ Some type_name) × (c.0 ≤ PARAMETERS_SHA256_DIGEST)
     × (length text ≡ 64) × IsHex text c.1
 
--- a piece of a type name, an equals sign, and a number below 2^64 in decimal digits
+-- the piece is another type name, an equals sign, and a number below 2^64 in decimal digits
 abbrev pub IsNumbered : List ℕ → Field → Type 0
 IsNumbered piece c =
     (type_name text : List ℕ) × (piece ≡ type_name ++ 61 ∷ text)

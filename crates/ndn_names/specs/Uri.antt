@@ -35,8 +35,8 @@ abbrev pub plain_text : Field → List ℕ
 plain_text c =
     if c.0 == GENERIC then value_text c.1 else decimal c.0 ++ (codes "=" ++ value_text c.1)
 
--- the text of a component whose type stands for a number: the number, if the value is its shortest
--- NonNegativeInteger encoding
+-- the text of a component whose type name stands for a number: the type name and the number, if the
+-- value is a shortest NonNegativeInteger encoding
 abbrev pub number_text : List ℕ → Field → Option ℕ → List ℕ
 number_text type_name c (Some n) = type_name ++ (codes "=" ++ decimal n)
 number_text type_name c None = plain_text c
@@ -57,7 +57,7 @@ abbrev pub path_of : List (List ℕ) → List ℕ
 path_of [] = codes "/"
 path_of (piece ∷ pieces) = flat_map (λ p. codes "/" ++ p) (piece ∷ pieces)
 
--- the values of the components consist of octets
+-- every octet of the components' values is below 256
 abbrev pub AreOctets : List Field → Type 0
 AreOctets cs = AllByRecursion (λ c. AllByRecursion (λ o. o < 256) c.1) cs
 

@@ -15,13 +15,13 @@ use Rattle.ndn_names.specs.Reading.{component_of}
 use Rattle.ndn_names.specs.TypeName.{kind_of}
 use Rattle.ndn_names.specs.Uri.{is_periods}
 
--- the octet of two hexadecimal digits
+-- the octet that two hexadecimal digits encode
 abbrev pub pair_in : ℕ → ℕ → Result ℕ NameFault
 pair_in high low =
     if nat_lt (digit_value high) 16 && nat_lt (digit_value low) 16
     then Ok (16 * digit_value high + digit_value low) else Err BadUri
 
--- the octet `o` before the others
+-- the octet `o` followed by the octets `others`, or the fault of `others`
 abbrev pub before : ℕ → Result (List ℕ) NameFault → Result (List ℕ) NameFault
 before o others = do
   octets ← others
@@ -35,7 +35,7 @@ hex_in (high ∷ low ∷ text) = do
   o ← pair_in high low
   before o (hex_in text)
 
--- the octets that text with percent escapes encodes
+-- the octets that a text with percent escapes encodes
 abbrev pub octets_in : List ℕ → Result (List ℕ) NameFault
 octets_in [] = Ok []
 octets_in (a ∷ []) = if a == 37 then Err BadUri else Ok (a ∷ [])
@@ -46,7 +46,7 @@ octets_in (a ∷ b ∷ c ∷ text) =
       before o (octets_in text))
     else before a (octets_in (b ∷ c ∷ text))
 
--- the value; three periods are removed if it consists of periods only
+-- the value whose text encodes these octets: three periods are removed if all octets are periods
 abbrev pub unpadded : List ℕ → Result (List ℕ) NameFault
 unpadded octets =
     if not (is_periods octets) then Ok octets else (
@@ -59,13 +59,13 @@ plain_in kind text = do
   value ← unpadded octets
   component_of (kind, value)
 
--- the number below 2^64 in decimal digits, without a sign
+-- the number below 2^64 that a text represents in decimal digits, without a sign
 abbrev pub number_in : List ℕ → Result ℕ NameFault
 number_in text =
     if all_ascii_digits text && (nat_lt 0 (length text) && nat_lt (digits_value 10 text) (2 ^ 64))
     then Ok (digits_value 10 text) else Err BadUri
 
--- the type number in decimal digits, without leading zeros
+-- the type number that a text represents in decimal digits, without leading zeros
 abbrev pub type_in : List ℕ → Result ℕ NameFault
 type_in type_name = do
   kind ← number_in type_name
@@ -82,8 +82,8 @@ numbered_in kind text = do
   n ← number_in text
   Ok (kind, shortest_nni n)
 
--- the component with `type_name` before its first equals sign and `text` after it; the last
--- argument is the type that `type_name` names, if any
+-- the component with `type_name` before its first equals sign and `text` after this sign; the last
+-- argument is the type with this type name, if there is one
 abbrev pub typed_in : List ℕ → List ℕ → Option ℕ → Result Field NameFault
 typed_in type_name text (Some kind) =
     if nat_le kind PARAMETERS_SHA256_DIGEST then digest_in kind text else numbered_in kind text
@@ -104,15 +104,15 @@ abbrev pub component_by_cut : List ℕ → Option (List ℕ × List ℕ) → Res
 component_by_cut piece None = plain_in GENERIC piece
 component_by_cut piece (Some parts) = typed_in parts.0 parts.1 (kind_of parts.0)
 
--- the component of a piece
+-- the component that a piece reads as
 unfoldable pub component_in : List ℕ → Result Field NameFault
 component_in piece = component_by_cut piece (cut_at 61 piece)
 
--- the component of a text without slashes
+-- the component that a text reads as, or a fault if the text contains a slash
 abbrev pub piece_in : List ℕ → Result Field NameFault
 piece_in text = if list_any (λ o. o == 47) text then Err BadUri else component_in text
 
--- the components of these pieces, which follow n others
+-- the components that these pieces read as, after n other components
 abbrev pub components_in : ℕ → List (List ℕ) → Result (List Field) NameFault
 components_in n [] = Ok []
 components_in n (piece ∷ pieces) = do
@@ -125,7 +125,7 @@ abbrev pub at_front : ℕ → List (List ℕ) → List (List ℕ)
 at_front o [] = (o ∷ []) ∷ []
 at_front o (piece ∷ pieces) = (o ∷ piece) ∷ pieces
 
--- the pieces between slashes; a slash at the end begins no piece
+-- the pieces between slashes; after a slash at the end there is no piece
 abbrev pub pieces_of : List ℕ → List (List ℕ)
 pieces_of [] = []
 pieces_of (o ∷ text) = if o == 47 then [] ∷ pieces_of text else at_front o (pieces_of text)
@@ -134,7 +134,8 @@ pieces_of (o ∷ text) = if o == 47 then [] ∷ pieces_of text else at_front o (
 abbrev pub without_scheme : List ℕ → List ℕ
 without_scheme text = if bytes_eq (take 4 text) (codes "ndn:") then drop 4 text else text
 
--- the name in the text after its first slash; a slash alone ends the empty name
+-- the name in the text after the first slash of a URI; if this text is a single slash, the name is
+-- empty
 abbrev pub name_after_slash : List ℕ → Result (List Field) NameFault
 name_after_slash text = components_in 0 (if bytes_eq text (codes "/") then [] else pieces_of text)
 
@@ -155,7 +156,7 @@ IsFaultBeforeMemory {A} read fault =
 abbrev pub IsFaultOf : {A : Type 0} → Result A NameFault → NameFault → Type 0
 IsFaultOf read fault = (read ≡ Err fault) ⊎ (fault ≡ Memory)
 
--- the octets of the reading are appended to `old`
+-- `read` has succeeded, and `new` is `old` followed by the octets of its result
 abbrev pub Adds : {A : Type 0} → (A → List ℕ) → Result A NameFault → List ℕ → List ℕ → Type 0
 Adds {A} octets_of read old new = (x : A) × (read ≡ Ok x) × (new ≡ old ++ octets_of x)
 
@@ -165,7 +166,6 @@ AreCounted read count =
     (octets : List ℕ) × (read ≡ Ok octets) × (count.0 ≡ length octets)
     × (count.1 ≡ is_periods octets)
 
--- `len` is the number of octets that are left after three periods are removed from a value of
--- periods only
+-- `len` is the number of octets after three periods are removed from a value of periods only
 abbrev pub AreLeft : List ℕ → ℕ → Type 0
 AreLeft octets len = (unpadded octets ≡ Ok (take len octets)) × (len ≡ length (take len octets))

@@ -1,4 +1,4 @@
--- What views of names and components show.
+-- Names and components as plain data.
 use Rattle.std.specs.Prelude.{List}
 use Rattle.ndn_tlv.specs.Element.{Field}
 use Rattle.ndn_names.specs.declared.component.Component.{Component}
@@ -14,6 +14,6 @@ field_of c = (c.kind, c.value.now)
 abbrev pub components : Name → List Field
 components name = components_of name.octets.now
 
--- the components that an iterator has left
+-- the components that an iterator has not returned yet
 abbrev pub components_left : Components → List Field
 components_left it = components_of it.rest.now

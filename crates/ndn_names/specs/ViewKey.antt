@@ -1,5 +1,5 @@
--- Views of names and components as keys of maps: they compare and hash as the values that they
--- show.
+-- Borrowed names and components as keys of maps. Their comparison and hash only depend on the types
+-- and values of the components.
 use Rattle.std.specs.Prelude.{◌≡◌, true, ◌++◌}
 use mathlib.Core.Path.{ap}
 use Rattle.std.specs.declared.cmp.Ordering.{Ordering}
@@ -13,7 +13,7 @@ use Rattle.ndn_names.specs.Order.{component_cmp, name_cmp}
 use Rattle.ndn_names.specs.Key.{component_cmp-total, component_cmp-antisymmetric, name_cmp-total, name_writes, name_writes-alike}
 use Rattle.ndn_names.specs.View.{field_of, components}
 
--- views of names compare as the names that they show
+-- borrowed names compare in the canonical order of names
 abbrev pub view_cmp : Name → Name → Ordering
 view_cmp = on components name_cmp
 
@@ -27,7 +27,7 @@ pub view_writes-alike : (a b : Name) → eq_by_cmp view_cmp a b ≡ true
     → view_writes a ≡ view_writes b
 view_writes-alike a b e = name_writes-alike (components a) (components b) e
 
--- views of components compare by type, then length, then octets
+-- borrowed components compare by type, then length, then octets
 abbrev pub component_view_cmp : Component → Component → Ordering
 component_view_cmp = on field_of component_cmp
 

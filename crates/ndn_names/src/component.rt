@@ -11,7 +11,7 @@ use ndn_tlv::first_element;
 /// The length of a digest, in octets.
 pub(crate) const SHA256_LEN: usize = 32;
 
-/// A component of a name, which borrows its octets (NDN Packet Format 0.3, "Name").
+/// A name component that borrows its octets (NDN Packet Format 0.3, "Name").
 #[derive(Clone, Copy, Debug)]
 pub struct Component<'a> {
     /// The TLV-TYPE, for example 8 for a GenericNameComponent.
@@ -20,7 +20,7 @@ pub struct Component<'a> {
     pub value: &'a [u8],
 }
 
-/// Returns `kind` as the type of a component with this value.
+/// Returns `kind` as a `u16`, if a component may have this type and value.
 #[inline(always)]
 pub(crate) fn component_kind(kind: u32, value: &[u8]) -> Result<u16, NameFault>
     ensures { on_result (λ k. Ok (k, value.now)) Err result ≡ component_of (kind, value.now) }
@@ -28,7 +28,7 @@ pub(crate) fn component_kind(kind: u32, value: &[u8]) -> Result<u16, NameFault>
     kind_by_len(kind, value.len())
 }
 
-/// Returns `kind` as the type of a component whose value has `len` octets.
+/// Returns `kind` as a `u16`, if a component may have this type and a value of `len` octets.
 pub(crate) fn kind_by_len(kind: u32, len: usize) -> Result<u16, NameFault>
     ensures { (value : List ℕ) → len ≡ length value
         → on_result (λ k. Ok (k, value)) Err result ≡ component_of (kind, value) }

@@ -26,7 +26,8 @@ pub enum ValueText<'a> {
     Number(u64),
 }
 
-/// The text of a component: its type, and the text of its value, which is the first `len` octets.
+/// A component in text form: its type, and the text that encodes its value. The value is the first
+/// `len` octets that this text encodes.
 #[derive(Clone, Copy)]
 pub struct ComponentText<'a> {
     pub kind: u16,
@@ -34,7 +35,7 @@ pub struct ComponentText<'a> {
     pub value: ValueText<'a>,
 }
 
-/// Returns the octet of two hexadecimal digits.
+/// Returns the octet that two hexadecimal digits encode.
 pub fn octet_of(high: u8, low: u8) -> Result<u8, NameFault>
     ensures { result ≡ read.pair_in high low }
 {
@@ -44,7 +45,8 @@ pub fn octet_of(high: u8, low: u8) -> Result<u8, NameFault>
     }
 }
 
-/// Returns the octet that the front of the text encodes, and the text after it.
+/// Returns the first octet that a text encodes, and the remaining text. The text is `first`
+/// followed by `after`.
 #[inline(always)]
 pub fn first_octet<'a>(first: u8, after: &'a [u8]) -> Result<(u8, &'a [u8]), NameFault>
     ensures read { MatchResult result
@@ -61,8 +63,8 @@ pub fn first_octet<'a>(first: u8, after: &'a [u8]) -> Result<(u8, &'a [u8]), Nam
     }
 }
 
-/// Returns the number of octets that text with percent escapes encodes, and whether all of them are
-/// periods.
+/// Returns the number of octets that a text with percent escapes encodes, and whether all of these
+/// octets are periods.
 fn count_octets(text: &[u8]) -> Result<(usize, bool), NameFault>
     ensures { MatchResult result (read.AreCounted (read.octets_in text.now))
         (λ fault. read.octets_in text.now ≡ Err fault) }
@@ -79,7 +81,8 @@ fn count_octets(text: &[u8]) -> Result<(usize, bool), NameFault>
     Ok((count, has_periods_only))
 }
 
-/// Returns the number of octets in the value. Three are subtracted if all octets are periods.
+/// Returns the number of octets in a value whose text encodes `count` octets. Three octets are
+/// subtracted if all of the encoded octets are periods.
 fn unpadded_len(count: usize, has_periods_only: bool) -> Result<usize, NameFault>
     ensures shorter { IfOk result (λ len. len ≤ count) }
     ensures read { (octets : List ℕ) → count ≡ length octets
@@ -95,7 +98,7 @@ fn unpadded_len(count: usize, has_periods_only: bool) -> Result<usize, NameFault
     Ok(count - 3)
 }
 
-/// Returns the number in decimal digits.
+/// Returns the number that `text` represents in decimal digits.
 fn decimal_number(text: &str) -> Result<u64, NameFault>
     ensures { result ≡ read.number_in text.now }
 {
@@ -108,7 +111,7 @@ fn decimal_number(text: &str) -> Result<u64, NameFault>
     }
 }
 
-/// Returns the type number in decimal digits, without leading zeros.
+/// Returns the type number that `type_name` represents in decimal digits, without leading zeros.
 fn type_of(type_name: &str) -> Result<u16, NameFault>
     ensures { result ≡ read.type_in type_name.now }
 {
@@ -121,7 +124,7 @@ fn type_of(type_name: &str) -> Result<u16, NameFault>
     }
 }
 
-/// Returns the component of this type whose value is `text`.
+/// Returns the component of type `kind` whose value `text` encodes, with percent escapes.
 fn plain_text(kind: u16, text: &[u8]) -> Result<ComponentText<'_>, NameFault>
     ensures { MatchResult result
         (λ c. (field : Field) × (read.plain_in kind text.now ≡ Ok field) × IsTextOf field c)
@@ -134,7 +137,7 @@ fn plain_text(kind: u16, text: &[u8]) -> Result<ComponentText<'_>, NameFault>
     Ok(ComponentText { kind, len, value })
 }
 
-/// Returns the text of the first `len` octets that `text` encodes.
+/// Returns the text of a value: the first `len` of the `count` octets that `text` encodes.
 fn value_text(text: &[u8], count: usize, len: usize) -> ValueText<'_>
     requires { len ≤ count }
     ensures { (octets : List ℕ) → read.octets_in text.now ≡ Ok octets → count ≡ length octets
@@ -146,7 +149,7 @@ fn value_text(text: &[u8], count: usize, len: usize) -> ValueText<'_>
     ValueText::Escaped(text)
 }
 
-/// Returns the digest component of this type whose value is `text`, in hexadecimal digits.
+/// Returns the digest component of type `kind` whose value `text` encodes in hexadecimal digits.
 fn digest_text(kind: u16, text: &[u8]) -> Result<ComponentText<'_>, NameFault>
     ensures { MatchResult result
         (λ c. (field : Field) × (read.digest_in kind text.now ≡ Ok field) × IsTextOf field c)
@@ -166,7 +169,8 @@ fn digest_text(kind: u16, text: &[u8]) -> Result<ComponentText<'_>, NameFault>
     })
 }
 
-/// Returns the component of this type whose value is the number `text`, in decimal digits.
+/// Returns the component of type `kind` whose value is the number that `text` represents in decimal
+/// digits.
 fn number_text(kind: u16, text: &str) -> Result<ComponentText<'_>, NameFault>
     ensures { MatchResult result
         (λ c. (field : Field) × (read.numbered_in kind text.now ≡ Ok field) × IsTextOf field c)
@@ -181,7 +185,8 @@ fn number_text(kind: u16, text: &str) -> Result<ComponentText<'_>, NameFault>
     })
 }
 
-/// Returns the component with these texts before and after its first equals sign.
+/// Returns the component whose text has `type_name` before its first equals sign, and `text` after
+/// this equals sign.
 fn typed_text<'a>(type_name: &str, text: &'a str) -> Result<ComponentText<'a>, NameFault>
     ensures { let typed = read.typed_in type_name.now text.now (kind_of type_name.now) in
         MatchResult result (λ c. (field : Field) × (typed ≡ Ok field) × IsTextOf field c)
@@ -194,7 +199,7 @@ fn typed_text<'a>(type_name: &str, text: &'a str) -> Result<ComponentText<'a>, N
     }
 }
 
-/// Returns the component of a piece of text without slashes.
+/// Returns the component that `piece`, a text without slashes, reads as.
 pub fn component_text(piece: &str) -> Result<ComponentText<'_>, NameFault>
     ensures { MatchResult result
         (λ c. (field : Field) × (read.component_in piece.now ≡ Ok field) × IsTextOf field c)
@@ -206,7 +211,7 @@ pub fn component_text(piece: &str) -> Result<ComponentText<'_>, NameFault>
     }
 }
 
-/// Appends the octets that text with percent escapes encodes.
+/// Appends the octets that a text with percent escapes encodes.
 fn put_escaped(out: &mut Vec<u8>, text: &[u8]) -> Result<(), NameFault>
     ensures { let found = read.octets_in text.now in
         MatchResult result (λ _. read.Adds (λ octets. octets) found out.old.items out.new.items)

@@ -18,7 +18,8 @@ pub struct FirstOfType<'a> {
     pub is_last: bool,
 }
 
-/// Returns the first component of type `kind`, if the octets are a name.
+/// Returns the first component of type `kind` in a name, or `None` if the name has no such
+/// component. Returns a fault if the octets are not a name.
 #[inline(always)]
 pub(crate) fn first_of_type(octets: &[u8], kind: u16) -> Result<Option<FirstOfType<'_>>, NameFault>
     ensures { MatchResult result
@@ -42,7 +43,7 @@ pub(crate) fn first_of_type(octets: &[u8], kind: u16) -> Result<Option<FirstOfTy
     Ok(found)
 }
 
-/// Returns the updated search result, after one more component of the type was read.
+/// Returns the new search result after one more component of the type was read.
 #[inline(always)]
 fn with_another<'a>(
     found: Option<FirstOfType<'a>>,

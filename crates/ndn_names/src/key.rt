@@ -62,7 +62,7 @@ impl Hash for NameBuf {
     }
 }
 
-/// Two names are equal exactly if `NameBuf`s with their components are equal.
+/// Two `Name`s are equal exactly if their components are equal, as with `NameBuf`s.
 impl PartialEq for Name<'_> {
     ghost eq = { eq_by_cmp view_cmp };
 

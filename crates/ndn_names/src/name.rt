@@ -12,7 +12,7 @@ use std::cmp::Ordering;
 /// The greatest number of components of a name.
 pub const MAX_COMPONENTS: usize = 64;
 
-/// A name: the TLV-VALUE of a Name element, which it borrows, of at most 64 components (NDN Packet
+/// A name of at most 64 components, which borrows the TLV-VALUE of a Name element (NDN Packet
 /// Format 0.3, "Name").
 #[derive(Clone, Copy, Debug)]
 pub struct Name<'a> {
@@ -49,15 +49,15 @@ impl<'a> Name<'a> {
 
     /// Reads the TLV-VALUE of a Name element, from left to right.
     ///
-    /// Returns the first fault if the value is not a name's: see `NameFault`. `Memory` never
-    /// occurs.
+    /// Returns the first fault if the octets are not the TLV-VALUE of a name: see `NameFault`.
+    /// `Memory` is never returned.
     pub fn read(value: &'a [u8]) -> Result<Name<'a>, NameFault>
-        // The octets are the TLV-VALUE of the name that is read.
+        // The octets are the TLV-VALUE of the returned name.
         ensures found { IfOk result (λ name. IsNameValue value.now (components name)) }
-        // Every name's TLV-VALUE is read.
+        // If the octets are the TLV-VALUE of a name, exactly this name is returned.
         ensures only { (cs : List Field) → IsNameValue value.now cs
             → IsOkAnd result (λ name. components name ≡ cs) }
-        // The fault is the first one.
+        // A returned fault is the first fault from the left.
         ensures exact { on_result (λ name. Ok (components name)) Err result ≡ name_at value.now }
         ensures takes_no_memory { ¬ IsErrOf result NameFault.Memory }
     {
@@ -141,7 +141,7 @@ impl<'a> Name<'a> {
         self.as_octets().is_empty()
     }
 
-    /// Returns the component at index `i`, counted from 0.
+    /// Returns the component at index `i`. The first component has index 0.
     pub fn component(&self, i: usize) -> Option<Component<'a>>
         ensures exact { option_map field_of result ≡ slice_get (components self.now) i }
         // The position of the component in the name's octets.

@@ -9,8 +9,7 @@ use ndn_tlv::{Memory, put_element};
 use std::alloc::Global;
 use std::marker::Model;
 
-/// A name with its own copy of the octets, of at most 64 components (NDN Packet Format 0.3,
-/// "Name").
+/// A name of at most 64 components that owns its octets (NDN Packet Format 0.3, "Name").
 #[derive(Debug, Drop)]
 pub struct NameBuf {
     octets: Vec<u8>,
@@ -60,7 +59,7 @@ impl NameBuf {
         NameBuf::from_name(alloc, self.view())
     }
 
-    /// Appends a component with this type and these octets.
+    /// Appends a component with this type and value.
     ///
     /// Returns the first fault in this order and changes nothing if the component is refused:
     /// `TooManyComponents` if the name has 64 components, `BadComponent` for type 0,
@@ -68,7 +67,7 @@ impl NameBuf {
     pub fn append(&mut self, kind: u16, value: &[u8]) -> Result<(), NameFault>
         ensures ok { OnOk result (self.new ≡ self.old ++ (kind, value.now) ∷ []) }
         ensures err { OnErr result (self.new ≡ self.old) }
-        // The fault is the reason for a refusal or, if there is none, that memory ran out.
+        // The fault is the reason for a refusal, or `Memory` if the component is valid.
         ensures exact { let next = component_after (length self.old) (Ok (kind, value.now)) in
             MatchResult result (λ _. next ≡ Ok (kind, value.now))
             (IsFaultOrMemory next (kind, value.now)) }
@@ -92,7 +91,7 @@ impl NameBuf {
         Ok(())
     }
 
-    /// Returns a view of the name.
+    /// Borrows the name as a `Name`.
     pub fn view(&self) -> Name<'_>
         ensures { components result ≡ self.now }
     {

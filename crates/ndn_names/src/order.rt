@@ -10,7 +10,8 @@ ghost use Rattle.ndn_tlv.specs.Element.{Field};
 ghost use Rattle.ndn_names.specs.Name.{IsNameValue};
 ghost use Rattle.ndn_names.specs.Order.{Less, name_cmp};
 
-/// Law: what each result of comparing two names means.
+/// Law: the result `Less`, `Equal` or `Greater` of a comparison is the canonical order of two
+/// names.
 pub fn comparison_tells_the_order()
     ensures less { (a b : List Field) → (name_cmp a b ≡ answers.Less) ↔ Less a b }
     ensures equal { (a b : List Field) → (name_cmp a b ≡ answers.Equal) ↔ (a ≡ b) }
@@ -30,7 +31,8 @@ pub fn names_can_be_keys()
     ensures antisymmetric { IsAntisymmetric name_cmp }
 {}
 
-/// Law: the TLV-VALUEs of names, compared octet by octet, are in canonical order.
+/// Law: comparing the TLV-VALUEs of two names octet by octet gives the canonical order of the
+/// names.
 pub fn octets_are_in_canonical_order()
     ensures { (u v : List ℕ) (a b : List Field) → IsNameValue u a → IsNameValue v b
         → slice_cmp nat_cmp u v ≡ name_cmp a b }

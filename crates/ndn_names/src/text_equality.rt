@@ -30,7 +30,8 @@ fn nni_octets(number: u64) -> [u8; 8]
     octets
 }
 
-/// Returns the octets of a value if it is a number, padded with zeros at the end.
+/// Returns the octets of a value that is a number, padded with zeros at the end. Returns zeros for
+/// any other value.
 fn number_octets(value: ValueText<'_>) -> [u8; 8]
     ensures { IsNumberIn result value.entry }
 {
@@ -40,8 +41,8 @@ fn number_octets(value: ValueText<'_>) -> [u8; 8]
     }
 }
 
-/// Returns a text that encodes the octets of the value one by one. If the value is a number,
-/// `number` begins with its octets.
+/// Returns a text that encodes the component's value octet by octet. If the value is a number, its
+/// octets are at the front of `number`.
 fn spelled_out<'a>(component: ComponentText<'a>, number: &'a [u8; 8]) -> ValueText<'a>
     requires { IsNumberIn number.now component.value }
     ensures { (c : Field) → IsTextOf c component.entry → SaysFirst result c.1 }
@@ -136,7 +137,8 @@ fn pieces_are_equal(a: &str, b: &str) -> bool
     components_are_equal(a, b)
 }
 
-/// Returns whether two texts of pieces between slashes read as the same name.
+/// Returns whether two texts, each a sequence of pieces separated by slashes, read as the same
+/// name.
 fn paths_are_equal(a: &str, b: &str) -> bool
     ensures { IsTrue result ↔ ((cs : List Field)
         × (read.components_in 0 (read.pieces_of a.now) ≡ Ok cs)
@@ -161,8 +163,8 @@ fn paths_are_equal(a: &str, b: &str) -> bool
     b_rest.is_empty()
 }
 
-/// Returns whether two URI texts read as the same name, even if they spell it differently. Nothing
-/// is allocated. A text that `NameBuf::from_uri` refuses reads as no name.
+/// Returns whether two URI texts read as the same name, even if their spellings differ. Nothing is
+/// allocated. A text that `NameBuf::from_uri` refuses is not equal to any text.
 pub fn uris_are_equal(a: &str, b: &str) -> bool
     ensures { IsTrue result ↔ ((cs : List Field) × ReadsAs a.now cs × ReadsAs b.now cs) }
 {

@@ -10,7 +10,7 @@ use crate::component_type::{
 };
 use ndn_tlv::nni_of;
 
-/// Returns the name of a type.
+/// Returns the URI type name of a component type, for example `seg`.
 pub fn type_name_of(kind: u16) -> Option<&'static str>
     ensures { option_map (λ type_name. type_name.now) result ≡ spec.type_name_of kind }
 {
@@ -26,7 +26,7 @@ pub fn type_name_of(kind: u16) -> Option<&'static str>
     }
 }
 
-/// Returns the type with this name.
+/// Returns the component type with this URI type name.
 pub fn kind_of(type_name: &str) -> Option<u16>
     ensures { result ≡ spec.kind_of type_name.now }
 {

@@ -13,8 +13,8 @@ use crate::name_buf::NameBuf;
 use ndn_tlv::put_number;
 use std::alloc::Global;
 
-/// Spare capacity for a name, in octets. A component has two octets in addition to its value, for
-/// type and length, while its text only has a slash.
+/// Spare capacity for a name, in octets. In addition to its value, a component usually needs two
+/// octets for type and length, but its text only needs a slash.
 const SPARE: usize = 16;
 
 /// Reads the URI text of one component, for example `A` or `seg=5`. Returns its type and its
@@ -24,14 +24,14 @@ const SPARE: usize = 16;
 /// `2=` with other than 32 octets, and `BadUri` for everything else, including a slash. Returns
 /// `Memory` only if the text reads as a component.
 pub fn component_from_uri(alloc: Global, text: &str) -> Result<(u16, Vec<u8>), NameFault>
-    // The returned component is the one that the text reads as.
+    // The text reads as the returned component.
     ensures found { IfOk result
         (λ c. ReadsComponent text.now (c.0, c.1.items) × IsComponent (c.0, c.1.items)) }
-    // Every text that reads as a component is read, unless memory runs out.
+    // If the text reads as a component, this component is returned, unless memory runs out.
     ensures only { (c : Field) → ReadsComponent text.now c → IsComponent c
         → MatchResult result (λ component. (component.0, component.1.items) ≡ c)
         (λ fault. fault ≡ NameFault.Memory) }
-    // The fault is the first one of the text, or `Memory`.
+    // A returned fault is the first fault of the text, or `Memory`.
     ensures exact { MatchResult result (λ c. read.piece_in text.now ≡ Ok (c.0, c.1.items))
         (λ fault. read.IsFaultOf (read.piece_in text.now) fault) }
     // `Memory` is returned only if the whole text is valid.
@@ -61,7 +61,8 @@ fn without_scheme(text: &str) -> &str
     text.strip_prefix("ndn:").unwrap_or(text)
 }
 
-/// Returns the first piece, and the text after the slash that ends it.
+/// Returns the text before the first slash, and the text after this slash. Without a slash, returns
+/// the whole text and an empty text.
 pub(crate) fn first_piece(text: &str) -> (&str, &str)
     requires { text.now ≢ [] }
     ensures pieces { read.pieces_of text.now ≡ result.0.now ∷ read.pieces_of result.1.now }
@@ -73,8 +74,8 @@ pub(crate) fn first_piece(text: &str) -> (&str, &str)
     }
 }
 
-/// Returns the number of a name's components, or the fault of pieces between slashes that are not a
-/// name.
+/// Returns the number of components in the name that the pieces between slashes read as. Returns
+/// the first fault if the pieces are not a name.
 fn count_pieces(text: &str) -> Result<usize, NameFault>
     ensures { let name_in = read.components_in 0 (read.pieces_of text.now) in
         MatchResult result (λ n. (cs : List Field) × (name_in ≡ Ok cs) × (n ≡ length cs))
@@ -94,7 +95,7 @@ fn count_pieces(text: &str) -> Result<usize, NameFault>
     Ok(count)
 }
 
-/// Appends the TLV-VALUE of the name in a text of pieces between slashes.
+/// Appends the TLV-VALUE of the name that the pieces between slashes read as.
 fn put_pieces(out: &mut Vec<u8>, text: &str) -> Result<(), NameFault>
     ensures { let name_in = read.components_in 0 (read.pieces_of text.now) in
         MatchResult result (λ _. read.Adds octets_of name_in out.old.items out.new.items)
@@ -114,7 +115,7 @@ fn put_pieces(out: &mut Vec<u8>, text: &str) -> Result<(), NameFault>
     Ok(())
 }
 
-/// Appends the component of a piece.
+/// Appends the component that a piece reads as, including its type and length.
 fn put_component(out: &mut Vec<u8>, piece: &str) -> Result<(), NameFault>
     ensures { let found = read.component_in piece.now in
         MatchResult result (λ _. read.Adds element found out.old.items out.new.items)
@@ -126,7 +127,7 @@ fn put_component(out: &mut Vec<u8>, piece: &str) -> Result<(), NameFault>
     put_value(out, component)
 }
 
-/// Returns the text after the first slash, or an empty text if only a slash follows it.
+/// Returns the text after the scheme and the first slash, or an empty text if this text is a slash.
 pub(crate) fn pieces_text(text: &str) -> Result<&str, NameFault>
     ensures { MatchResult result
         (λ rest. read.name_in text.now ≡ read.components_in 0 (read.pieces_of rest.now))
@@ -139,7 +140,8 @@ pub(crate) fn pieces_text(text: &str) -> Result<&str, NameFault>
     }
 }
 
-/// Returns the name in the text, or its first fault, or `Memory` if memory runs out first.
+/// Returns the name that the text reads as, or the first fault of the text, or `Memory` if memory
+/// runs out first.
 fn put_name(alloc: Global, text: &str) -> Result<NameBuf, NameFault>
     ensures { MatchResult result (λ name. read.name_in text.now ≡ Ok name)
         (read.IsFaultOf (read.name_in text.now)) }
@@ -151,7 +153,7 @@ fn put_name(alloc: Global, text: &str) -> Result<NameBuf, NameFault>
 }
 
 /// If memory runs out, the text is read once more without allocation, so that a fault of the text
-/// is reported first.
+/// is reported instead of `Memory`.
 fn read_name(alloc: Global, text: &str) -> Result<NameBuf, NameFault>
     ensures { MatchResult result (λ name. read.name_in text.now ≡ Ok name)
         (read.IsFaultBeforeMemory (read.name_in text.now)) }
@@ -170,12 +172,12 @@ fn read_name(alloc: Global, text: &str) -> Result<NameBuf, NameFault>
 ///
 /// Returns the first fault if the text is not a name, as `NameBuf::from_uri` does.
 pub fn uri_len(text: &str) -> Result<usize, NameFault>
-    // The returned number is that of the name that the text reads as.
+    // The text reads as a name with the returned number of components.
     ensures found { IfOk result
         (λ n. (cs : List Field) × ReadsAs text.now cs × (n ≡ length cs)) }
-    // Every text that reads as a name is read.
+    // If the text reads as a name, the number of its components is returned.
     ensures only { (cs : List Field) → ReadsAs text.now cs → result ≡ Ok (length cs) }
-    // The fault is the first one of the text.
+    // A returned fault is the first fault of the text.
     ensures fault { IfErr result (λ fault. read.name_in text.now ≡ Err fault) }
 {
     let pieces = pieces_text(text)?;
@@ -186,16 +188,17 @@ impl NameBuf {
     /// Reads URI text from left to right, for example `/A/seg=5`. The text may begin with the
     /// scheme `ndn:` and end with a slash.
     ///
-    /// Returns the first fault in text order: `TooManyComponents` at the 65th component, whatever
-    /// it is, `BadDigestLength` for `1=` or `2=` with other than 32 octets, and `BadUri` for
-    /// everything else. Returns `Memory` only if the text reads as a name.
+    /// Returns the first fault in text order. The fault of the 65th component is always
+    /// `TooManyComponents`. The fault of `1=` or `2=` with other than 32 octets is
+    /// `BadDigestLength`. Every other fault of the text is `BadUri`. Returns `Memory` only if the
+    /// text reads as a name.
     pub fn from_uri(alloc: Global, text: &str) -> Result<NameBuf, NameFault>
-        // The returned name is the one that the text reads as.
+        // The text reads as the returned name.
         ensures found { IfOk result (λ name. ReadsAs text.now name) }
-        // Every text that reads as a name is read, unless memory runs out.
+        // If the text reads as a name, this name is returned, unless memory runs out.
         ensures only { (cs : List Field) → ReadsAs text.now cs
             → MatchResult result (λ name. name ≡ cs) (λ fault. fault ≡ NameFault.Memory) }
-        // The fault is the first one of the text, or `Memory`.
+        // A returned fault is the first fault of the text, or `Memory`.
         ensures exact { MatchResult result (λ name. read.name_in text.now ≡ Ok name)
             (λ fault. read.IsFaultOf (read.name_in text.now) fault) }
         // `Memory` is returned only if the whole text is valid.
