@@ -182,7 +182,7 @@ repeat_passed (o ∷ text) found e =
           ]
     ]
 
--- an atom is skipped
+-- the search for a closing parenthesis skips an atom
 pub atom_passed : (text : List ℕ) (found : FrontPart PlainAtom) → atom_in text ≡ Some found → is_closed false text ≡ is_closed false found.rest
 unfolding atom_in
 atom_passed text found e =
@@ -192,7 +192,7 @@ atom_passed text found e =
     (λ bounds. Some (record { part = record { test = test.0.part; bounds = bounds.0 }; is_inner = test.0.is_inner; rest = bounds.1 })) found test.2 in
     test_passed text test.0 test.1 ∙ repeat_passed test.0.rest bounds.0 bounds.1 ∙ ap (λ (found : FrontPart PlainAtom). is_closed false found.rest) (same_Some _ _ bounds.2)
 
--- the text begins with a closing parenthesis
+-- a text that begins with a closing parenthesis contains one outside all < and >
 pub closed_here : (o : ℕ) (text : List ℕ) → o ≡ 41 → is_closed false (o ∷ text) ≡ true
 unfolding is_closed
 closed_here o text is = rw (eq-eqb o 41 is) refl

@@ -12,12 +12,12 @@ use Rattle.name_patterns.proofs.Rows.{count_by_places}
 use Rattle.name_patterns.proofs.Splits.{no_greatest, IsGreatest, some_greatest}
 
 -- the k components from a position on pass, and the later atoms have a split from the position
--- after them
+-- after these components
 abbrev pub takes : ℕ → ℕ → ℕ → ℕ → Bool
 takes passed after place zero = has_place after place
 takes passed after place (suc k) = has_place passed place && takes passed after (place + 1) k
 
--- one of the counts from `least` up to, but not including, n can be taken
+-- `takes` is true of one of the counts from `least` up to, but not including, n
 abbrev pub takes_some : ℕ → ℕ → ℕ → ℕ → ℕ → Bool
 takes_some passed after place least zero = false
 takes_some passed after place least (suc n) = takes_some passed after place least n || (not (ltb n least) && takes passed after place n)
@@ -37,14 +37,14 @@ and_false : (a : Bool) → a && false ≡ false
 and_false true = refl
 and_false false = refl
 
--- a count within the bounds is considered
+-- the positions for the count n are added if n is at least `least`
 pub some_step : (passed after begins split least n : ℕ) → ((p : ℕ) → has_place begins p ≡ takes passed after p n)
     → ((p : ℕ) → has_place split p ≡ takes_some passed after p least n) → least ≤ n
     → (p : ℕ) → has_place (bit_or split begins) p ≡ takes_some passed after p least (n + 1)
 some_step passed after begins split least n are some low p =
     rw (add-one, le-ltb n least low) (in_either split begins p ∙ rw (some p, are p) refl)
 
--- a count below the bounds is skipped
+-- no positions are added for a count n below `least`
 pub few_step : (passed after split least n : ℕ) → ((p : ℕ) → has_place split p ≡ takes_some passed after p least n) → n < least
     → (p : ℕ) → has_place split p ≡ takes_some passed after p least (n + 1)
 few_step passed after split least n some few p =
@@ -165,7 +165,7 @@ same_tests true b h k = sym (h refl)
 same_tests false true h k = k refl
 same_tests false false h k = refl
 
--- one of the counts can be taken from exactly those positions from which there is a split
+-- `takes_some` is true of exactly those positions from which there is a split
 pub split_by_counts : (atom : PlainAtom) (atoms : List PlainAtom) (cs : List Field) (bounds : Bounds) (passed after place : ℕ) → bounds ≡ atom.bounds
     → ArePassed atom.test cs passed → AreSplit atoms cs after → length cs ≤ 64 → place ≤ length cs
     → takes_some passed after place bounds.least (at_most bounds.most 64 + 1) ≡ is_some (first_count (atom ∷ atoms) (drop place cs))

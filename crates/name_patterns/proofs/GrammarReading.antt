@@ -115,7 +115,7 @@ abbrev IsLeft : PlainDraft → Option OpenGroup → List ℕ → PlainPattern �
 IsLeft draft None text pattern = IsRest draft.atoms draft.written draft.groups text pattern
 IsLeft draft (Some group) text pattern = IsInGroup group.first draft.atoms draft.written draft.groups text pattern
 
--- an atom comes before the remaining text
+-- an atom, followed by text that completes the pattern after the atom, completes the pattern
 atom_before : (atoms : List PlainAtom) (written : ℕ) (groups : List (ℕ × ℕ)) (text front rest : List ℕ) (atom : PlainAtom) (pattern : PlainPattern)
     → text ≡ front ++ rest → IsAtom front atom → IsRest (atoms ++ atom ∷ []) (written + 1) groups rest pattern → IsRest atoms written groups text pattern
 atom_before atoms written groups text front rest atom pattern is h r =
@@ -133,7 +133,7 @@ atom_before atoms written groups text front rest atom pattern is h r =
       few_groups = r.few_groups;
     }
 
--- a parenthesis and a group come before the remaining text
+-- an opening parenthesis, followed by text that completes the group, completes the pattern
 group_before : (atoms : List PlainAtom) (written : ℕ) (groups : List (ℕ × ℕ)) (text : List ℕ) (pattern : PlainPattern)
     → IsInGroup (length atoms) atoms written groups text pattern → IsRest atoms written groups (40 ∷ text) pattern
 group_before atoms written groups text pattern h =
@@ -170,7 +170,7 @@ atom_inside first atoms written groups text front rest atom pattern is h g =
           (append_assoc atoms (atom ∷ []) g.2) counted,
     )
 
--- the parenthesis that closes the group
+-- a closing parenthesis, followed by text that completes the pattern, completes the group
 group_end : (first : ℕ) (atoms : List PlainAtom) (written : ℕ) (groups : List (ℕ × ℕ)) (text : List ℕ) (pattern : PlainPattern)
     → IsRest atoms written (groups ++ (first, length atoms) ∷ []) text pattern → IsInGroup first atoms written groups (41 ∷ text) pattern
 group_end first atoms written groups text pattern r =
@@ -266,7 +266,7 @@ item_step draft at (o ∷ text) next room e =
           ]
     ]
 
--- the end of the text, or its last anchor
+-- the end of the text, or its last anchor, completes the pattern
 end_found : (draft : PlainDraft) (text end : List ℕ) (after : List PlainAtom) (group : Option OpenGroup) (pattern : PlainPattern) → text ≡ end → IsAnchor (codes "$") end after → HasRoom draft group
     → whole_of (record draft { atoms = draft.atoms ++ after }) group ≡ Ok pattern → IsLeft draft group text pattern
 end_found draft text end after (Some group) pattern is ends room e = absurd cc
@@ -405,7 +405,7 @@ not_end o text h =
     let some : eqb (length (o ∷ text)) 0 ≡ false = ne_eqb (length (o ∷ text)) 0 (omega arith) in
     rw (some, ne_eqb o 36 h) refl
 
--- the atom at the front of the text is read again
+-- the atom at the front of the text is read and added to the draft
 one_again : (draft : PlainDraft) (at : ℕ) (front rest : List ℕ) (atom : PlainAtom) → IsAtom front atom → begins_other rest ≡ false → draft.written < 32
     → with_atom draft at (front ++ rest) ≡ Ok (with_one draft atom, rest)
 one_again draft at front rest atom h free few =
@@ -451,7 +451,7 @@ unfolding items_within
 step_close n len atoms written groups group text free =
     rw (not_end 41 text (λ e. absurd (omega arith)), other_repeat text free) refl
 
--- reading goes on after the group is closed
+-- `read` is the result of reading `rest` after the group is closed
 abbrev IsOn : (len : ℕ) → List PlainAtom → ℕ → List (ℕ × ℕ) → OpenGroup → List PlainAtom → List ℕ → Result PlainPattern PatternFault → Type 0
 IsOn len atoms written groups group more rest read =
     (m : ℕ) × (length rest ≤ m)
@@ -569,7 +569,7 @@ pattern_is pattern before items start after atoms groups is =
     let same = ap (λ (first : List PlainAtom). whole first [] items after) (sym is) in
     same ∙ (λ i. record { atoms = sym atoms i; groups = sym groups i })
 
--- a text that does not begin with an anchor
+-- in a text that does not begin with an anchor, the first atom is implied
 unanchored : (len : ℕ) (text : List ℕ) → begins_other text ≡ false → pattern_after len text ≡ items_in len (with_implied begun) text
 unanchored len [] h = refl
 unanchored len (o ∷ text) h =
@@ -603,12 +603,12 @@ pattern_again text pattern h =
 pub one_pattern : (text : List ℕ) (a b : PlainPattern) → IsPattern text a → IsPattern text b → a ≡ b
 one_pattern text a b p q = done_is a b (sym (pattern_again text a p) ∙ pattern_again text b q)
 
--- the text spells the pattern that is read
+-- the text denotes the pattern that is read
 pub read_spelled : (text : List ℕ) (r : Result PlainPattern PatternFault) → MatchResult r (λ read. pattern_in text ≡ Ok read) (IsFaultOf (pattern_in text)) → IfOk r (IsPattern text)
 read_spelled text (Ok read) e = pattern_found text read e
 read_spelled text (Err fault) e = tt
 
--- the pattern that the text spells is read, unless memory runs out
+-- the pattern that the text denotes is read, unless memory runs out
 pub pattern_only : (text : List ℕ) (r : Result PlainPattern PatternFault) → MatchResult r (λ read. pattern_in text ≡ Ok read) (IsFaultOf (pattern_in text))
     → (pattern : PlainPattern) → IsPattern text pattern → MatchResult r (λ read. read ≡ pattern) (λ fault. fault ≡ Memory)
 pattern_only text (Ok read) e pattern h = done_is read pattern (sym e ∙ pattern_again text pattern h)

@@ -21,7 +21,7 @@ given_is x y e = cc
 pub given_to : {A : Type 0} (P : A → Type 0) (x y : A) → given x ≡ given y → P x → P y
 given_to P x y e p = subst P (given_is x y e) p
 
--- a test whose failure returns nothing
+-- the result is `Some` only if the test passes
 pub passed : {A : Type 0} (b : Bool) (r : Option A) (y : A) → cond b r None ≡ Some y → (b ≡ true) × (r ≡ Some y)
 passed true r y e = (refl, e)
 passed false r y e = absurd cc
@@ -37,7 +37,7 @@ pub ok_is : {A B : Type 0} (r : Result A PatternFault) (f : A → Result B Patte
 ok_is (Ok x) f y e = (x, refl, e)
 ok_is (Err fault) f y e = absurd cc
 
--- a step whose fault may be replaced by another one
+-- a sequence of two steps succeeds only if the first step does, even if its fault is replaced
 pub result_is : {A B : Type 0} (f : A → Result B PatternFault) (g : PatternFault → PatternFault) (r : Result A PatternFault) (y : B) → on_result f (λ fault. Err (g fault)) r ≡ Ok y
     → (x : A) × (r ≡ Ok x) × (f x ≡ Ok y)
 result_is f g (Ok x) y e = (x, refl, e)
@@ -56,7 +56,7 @@ done_is x y e = cc
 pub done_to : {A : Type 0} (P : A → Type 0) (x y : A) → done x ≡ done y → P x → P y
 done_to P x y e p = subst P (done_is x y e) p
 
--- a test that returns a fault
+-- the result is `Ok` only if the test does not return its fault
 pub not_refused : {A : Type 0} (b : Bool) (fault : PatternFault) (r : Result A PatternFault) (y : A) → cond b (Err fault) r ≡ Ok y → (b ≡ false) × (r ≡ Ok y)
 not_refused true fault r y e = absurd cc
 not_refused false fault r y e = (refl, e)

@@ -110,7 +110,7 @@ items_end len begun items draft rest h ends = h.2 ∙ last h.0
     last zero = refl
     last (suc n) = rw ends refl
 
--- the end of the text, or its last anchor
+-- at the end of a text without a last anchor, an atom is implied
 pub end_implied : (draft : PlainDraft) (rest : List ℕ) → length rest ≡ 0 → at_end draft rest ≡ whole_of (with_implied draft) draft.open_group
 end_implied draft [] none = refl
 end_implied draft (o ∷ rest) none = absurd (omega arith)

@@ -8,7 +8,7 @@ use Rattle.name_patterns.specs.PatternReading.{◌>>=◌, FrontPart, has_special
 use Rattle.name_patterns.proofs.Steps.{fault_on}
 use Rattle.name_patterns.proofs.TextParts.{BeginsNot, first_other}
 
--- the components `cs` before the others
+-- the components `cs` followed by the other components of a list
 abbrev pub before_others : List Field → Bool → Option (FrontPart (List Field)) → Option (FrontPart (List Field))
 before_others cs is_inner listed =
     listed >>= λ others. Some (record { part = cs ++ others.part; is_inner = is_inner || others.is_inner; rest = others.rest })
@@ -42,7 +42,7 @@ listed_one cs is_inner text rest front after c (suc n, few, h) e shorter read =
     moved true b (Some others) = ap (λ (ds : List Field). Some (record { part = ds; is_inner = true; rest = others.rest })) (sym (append_assoc cs (c ∷ []) others.part))
     moved false b (Some others) = ap (λ (ds : List Field). Some (record { part = ds; is_inner = b || others.is_inner; rest = others.rest })) (sym (append_assoc cs (c ∷ []) others.part))
 
--- a text that is not a component
+-- a text in a list that is not a component makes the whole list faulty
 pub listed_faulty : (at : ℕ) (cs : List Field) (is_inner : Bool) (text rest front after : List ℕ) (fault : PatternFault) → HasListed cs is_inner text rest
     → quoted_in rest ≡ Some (front, after) → length after < length rest → IsFaultOf (read_at at (text_in front)) fault
     → IsFaultOf (read_at at (listed_within (length text) text)) fault

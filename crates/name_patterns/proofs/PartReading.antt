@@ -13,7 +13,7 @@ pub part_is_single : (groups at : ℕ) (text : List ℕ) → BeginsNot 92 text �
 part_is_single groups at [] other = refl
 part_is_single groups at (o ∷ text) other = rw (first_other 92 o text other) refl
 
--- the parts `front` before the others
+-- the parts `front` followed by the other parts
 abbrev pub before_others : List PlainPart → Result (List PlainPart) PatternFault → Result (List PlainPart) PatternFault
 before_others front parts = on_result (λ others. Ok (front ++ others)) Err parts
 

@@ -37,7 +37,7 @@ count_lacks octet out text n h = digits-Lacks octet out text h.0.1
 abbrev IsRangeOf : List ℕ → Bounds → Type 0
 IsRangeOf text bounds = IsRange text bounds.least bounds.most
 
--- a number followed by a comma
+-- a number followed by a comma is a range without a greatest number
 least_found : (text low high : List ℕ) (bounds : Bounds) → text ≡ low ++ (44 ∷ high) → length high ≡ 0
     → (count_in low >>= λ least. Some (record { least = least; most = None })) ≡ Some bounds → IsRangeOf text bounds
 least_found text low high bounds is none e =
@@ -80,7 +80,7 @@ range_found text bounds e =
       | Some parts ↦ λ cut e. comma_found text parts.0 parts.1 bounds cut.0 e
     ] (cut_found 44 text) e
 
--- a text that is cut at its comma
+-- a range with a comma is read from the texts before and after the comma
 range_cut : (text low high : List ℕ) → text ≡ low ++ (44 ∷ high) → Lacks 44 low → range_in text ≡ range_by_comma low high
 unfolding range_in
 range_cut text low high is h = ap (range_by_cut text) (ap (cut_at 44) is ∙ cut_again 44 low high h)
@@ -137,7 +137,7 @@ braced_found text found e =
     given_to (IsRepeatAt (123 ∷ text)) (b.0, a.0.1) found b.2
     (123 ∷ (a.0.0 ++ codes "}"), ap (λ (t : List ℕ). 123 ∷ t) whole, inr (inr (inr (inr (a.0.0, refl, range_found a.0.0 b.0 b.1)))))
 
--- a repeat of one character
+-- a repeat of one character is in the grammar
 sign_found : (o sign : ℕ) (text : List ℕ) (bounds : Bounds) (found : Bounds × List ℕ) → o ≡ sign → IsRepeat (sign ∷ []) bounds → Some (bounds, text) ≡ Some found → IsRepeatAt (o ∷ text) found
 sign_found o sign text bounds found is h e =
     given_to (IsRepeatAt (o ∷ text)) (bounds, text) found e (sign ∷ [], ap (λ (first : ℕ). first ∷ text) is, inr h)
@@ -187,7 +187,7 @@ repeat_again front rest bounds (inr (inr (inr h))) =
     ap (λ (t : List ℕ). repeat_in (t ++ rest)) h.1 ∙ ap braced_in (append_assoc h.0 (codes "}") rest)
     ∙ rw (cut_again 125 h.0 rest (range_no_brace h.0 bounds.least bounds.most h.2), range_again h.0 bounds.least bounds.most h.2) refl
 
--- a text that does not begin with a repeat
+-- without a repeat at the front of the text, an atom matches one component
 pub repeat_none : (rest : List ℕ) → begins_repeat rest ≡ false → repeat_in rest ≡ Some (once, rest)
 unfolding repeat_in
 repeat_none [] h = refl

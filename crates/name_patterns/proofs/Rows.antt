@@ -87,7 +87,7 @@ none_from (atom ∷ atoms) cs zero (suc i) from low none = none_in_front atom at
 none_from (atom ∷ atoms) cs (suc first) zero from low none = absurd (omega arith)
 none_from (atom ∷ atoms) cs (suc first) (suc i) from low none = none_from atoms cs first i (omega arith) (omega arith) none
 
--- no position is left from which the atoms have a split
+-- if the set of positions is empty, the atoms have no split from any position
 pub none_there : (atoms : List PlainAtom) (cs : List Field) (place : ℕ) → AreSplit atoms cs 0 → place ≤ length cs → first_count atoms (drop place cs) ≡ None
 none_there atoms cs place none low = of_test (first_count atoms (drop place cs)) (sym (none place low) ∙ no_place place)
   where

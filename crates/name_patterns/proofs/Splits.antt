@@ -164,7 +164,7 @@ some_greatest can least (suc n) k e =
 
 -- ---- splits
 
--- what the first count tells about the splits
+-- without a first count there is no split; otherwise `greedy` returns the greatest split
 abbrev pub IsSearched : List PlainAtom → List Field → Option ℕ → Type 0
 IsSearched atoms cs None = HasNoSplit atoms cs × (greedy atoms cs ≡ None)
 IsSearched atoms cs (Some k) = (counts : List ℕ) × (greedy atoms cs ≡ Some counts) × IsGreatestSplit atoms cs counts
@@ -181,7 +181,7 @@ some_splits atoms cs (Some k) counts h split = refl
 abbrev AreSearched : List PlainAtom → Type 0
 AreSearched atoms = (cs : List Field) → IsSearched atoms cs (first_count atoms cs)
 
--- the count of a split can be taken, and is within the bounds
+-- the first count of a split is within the bounds, and the other atoms have a split after it
 taken : (atom : PlainAtom) (atoms : List PlainAtom) (cs : List Field) (count : ℕ) (counts : List ℕ) → AreSearched atoms → IsSplit (atom ∷ atoms) cs (count ∷ counts)
     → (count ≤ at_most atom.bounds.most (run_of atom.test cs)) × (is_some (first_count atoms (drop count cs)) ≡ true)
 taken atom atoms cs count counts following split = (
@@ -305,7 +305,7 @@ none_first atom atoms cs once_is no_run =
     let most : min 1 0 ≡ 0 = omega arith in
     rw (once_is, no_run, most) (greatest_no_one (λ count. is_some (first_count atoms (drop count cs))))
 
--- an atom that takes exactly one component cannot take one that does not pass
+-- if an atom matches exactly one component, and the next one does not pass, there is no split
 pub no_single : (atom : PlainAtom) (atoms : List PlainAtom) (cs : List Field) → atom.bounds ≡ once → run_of atom.test cs ≡ 0 → greedy (atom ∷ atoms) cs ≡ None
 no_single atom atoms cs once_is no_run = greedy_none atom atoms cs (none_first atom atoms cs once_is no_run)
 
@@ -317,7 +317,7 @@ single_first atom atoms c cs once_is is =
     let most : min 1 (1 + run_of atom.test cs) ≡ 1 = omega arith in
     rw (once_is, run, most) (greatest_one (λ count. is_some (first_count atoms (drop count (c ∷ cs)))))
 
--- an atom that takes exactly one component adds the count 1
+-- an atom that matches exactly one component adds the count 1
 pub single_taken : (done : List ℕ) (atom : PlainAtom) (atoms : List PlainAtom) (c : Field) (cs : List Field) → atom.bounds ≡ once → passes atom.test c ≡ true
     → after_counts done (greedy (atom ∷ atoms) (c ∷ cs)) ≡ after_counts (done ++ 1 ∷ []) (greedy atoms cs)
 single_taken done atom atoms c cs once_is is = by_rest (first_count atoms cs) refl
@@ -350,7 +350,7 @@ some_found atoms cs counts e = some_by atoms cs (first_count atoms cs) counts (s
 sum_by_cons : (n : ℕ) (ns : List ℕ) → sum (n ∷ ns) ≡ n + sum ns
 sum_by_cons n ns = omega (arith, sum_by-append (λ x. x) (n ∷ []) ns)
 
--- a split takes all components
+-- the counts of a split add up to the number of components
 pub split_takes_all : (atoms : List PlainAtom) (cs : List Field) (counts : List ℕ) → IsSplit atoms cs counts → sum counts ≡ length cs
 split_takes_all [] cs counts split = rw (split.0, split.1) refl
 split_takes_all (atom ∷ atoms) cs [] split = absurd split

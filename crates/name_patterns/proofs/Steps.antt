@@ -13,7 +13,7 @@ fault_on at None next fault (inr memory) = inr memory
 fault_on at (Some x) next fault (inl e) = absurd cc
 fault_on at (Some x) next fault (inr memory) = inr memory
 
--- the first step returns nothing
+-- if the first step returns nothing, the fault is `Syntax`
 pub fault_at : {A B : Type 0} (at : ℕ) (first : Option A) (next : A → Option B) → first ≡ None → IsFaultOf (read_at at (first >>= next)) (Syntax at)
 fault_at at first next none = rw none (inl refl)
 

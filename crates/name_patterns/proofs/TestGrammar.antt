@@ -165,7 +165,7 @@ test_found (o ∷ text) found e none =
       | inr other ↦ quoted_test_found (o ∷ text) found (rw (ne_eqb o 91 other) at e) none
     ]
 
--- a text that stands for one component
+-- a quoted text is read as the test for its component
 one_again : (front rest : List ℕ) (c : Field) → IsQuoted front c → test_in (front ++ rest) ≡ Some (record { part = OneOf (c ∷ []); is_inner = false; rest = rest })
 unfolding test_in
 one_again front rest c h =

@@ -18,7 +18,7 @@ pub some_of : {X : Type 0} (P : X → Type 0) (o : Option X) → IsSomeAnd o P �
 some_of P None h = absurd h
 some_of P (Some x) h = (x, refl, h)
 
--- the row of an atom
+-- the table has a valid row for each atom from `first` on
 pub row_at : (atoms : List PlainAtom) (cs : List Field) (rows : List Row) (first i : ℕ) (d : Row) → IsTable first atoms cs rows → first ≤ i → i ≤ length atoms → IsRow (drop i atoms) cs (get_or rows i d)
 row_at atoms cs rows first i d table from low =
     let row = some_of (IsRow (drop i atoms) cs) (slice_get rows i) (table i from low) in
@@ -66,7 +66,7 @@ taken_none atoms cs i place starts done w none = w.rest ∙ rw none refl
 sum_push : (xs : List ℕ) (n : ℕ) → sum (xs ++ n ∷ []) ≡ sum xs + n
 sum_push xs n = sum_by_push (λ x. x) xs n
 
--- one more count is taken
+-- one more count is added to the counts `done`
 take_step : (atoms : List PlainAtom) (cs : List Field) (i place : ℕ) (starts done : List ℕ) (k : ℕ) → IsTaken atoms cs i place starts done
     → i + 1 < length starts → place + k ≤ length cs
     → after_counts done (greedy (drop i atoms) (drop place cs)) ≡ after_counts (done ++ k ∷ []) (greedy (drop (i + 1) atoms) (drop (place + k) cs))
@@ -90,7 +90,7 @@ take_step atoms cs i place starts done k w room low e =
       ];
     }
 
--- the first count of an atom is taken
+-- the first count of the next atom is added to the counts `done`
 pub walk_step : (atoms : List PlainAtom) (cs : List Field) (i place : ℕ) (starts done : List ℕ) (k : ℕ) → IsTaken atoms cs i place starts done → i < length atoms
     → i + 1 < length starts → first_count (drop i atoms) (drop place cs) ≡ Some k
     → IsTaken atoms cs (i + 1) (place + k) (slice_set starts (i + 1) (place + k)) (done ++ k ∷ [])
@@ -102,7 +102,7 @@ walk_step atoms cs i place starts done k w low room e =
     take_step atoms cs i place starts done k w room (omega (arith, length-drop place cs, left, w.fits))
     (rw a.1 (greedy_some done a.0 (drop (i + 1) atoms) (drop place cs) k first ∙ rw moved refl))
 
--- no component is left for an atom that takes exactly one
+-- if an atom matches exactly one component, and no next one passes, there is no split
 pub single_none : (atoms : List PlainAtom) (cs : List Field) (i : ℕ) (starts done : List ℕ) (atom : PlainAtom) → IsTaken atoms cs i i starts done
     → drop i atoms ≡ atom ∷ drop (i + 1) atoms → atom.bounds ≡ once → run_of atom.test (drop i cs) ≡ 0 → greedy atoms cs ≡ None
 single_none atoms cs i starts done atom w cut once_is no_run =
@@ -119,7 +119,7 @@ drop_next (y ∷ xs) (suc i) x rest e =
     let next : suc i + 1 ≡ suc (i + 1) = omega arith in
     (rw next more.0, omega (arith, more.1))
 
--- an atom that takes exactly one component takes it
+-- an atom that matches exactly one component matches the next one if it passes
 pub single_step : (atoms : List PlainAtom) (cs : List Field) (i : ℕ) (starts done : List ℕ) (atom : PlainAtom) (c : Field) → IsTaken atoms cs i i starts done
     → drop i atoms ≡ atom ∷ drop (i + 1) atoms → drop i cs ≡ c ∷ drop (i + 1) cs → i + 1 < length starts → i + 1 ≤ length cs
     → atom.bounds ≡ once → passes atom.test c ≡ true → IsTaken atoms cs (i + 1) (i + 1) (slice_set starts (i + 1) (i + 1)) (done ++ 1 ∷ [])

@@ -1,4 +1,4 @@
--- Which texts spell which patterns.
+-- Which texts denote which patterns.
 use Rattle.std.specs.Prelude.{◌≡◌, ◌≢◌, ℕ, ◌+◌, ◌≤◌, ◌⊎◌, List, [], ◌∷◌, ◌++◌, length, Option, Some, None, codes, Bool, false, ◌==◌}
 use Rattle.std.specs.List.{flat_map, list_any, AllByRecursion}
 use Rattle.std.specs.Str.Parse.{IsNumeral, digits_value}
@@ -27,8 +27,8 @@ AreQuoted text [] = text ≡ []
 AreQuoted text (c ∷ cs) =
     (front rest : List ℕ) × (text ≡ front ++ rest) × IsQuoted front c × AreQuoted rest cs
 
--- The text of a test: <> for any component, one text for that component, a list for any component
--- in it, and a list that begins with ^ for any component not in it.
+-- The text of a test: <> for any component, a quoted text for the component with that text, a list
+-- for any component in the list, and a list that begins with ^ for any component not in the list.
 abbrev pub IsTestText : List ℕ → PlainTest → Type 0
 IsTestText text Anything = text ≡ codes "<>"
 IsTestText text (OneOf cs) =
@@ -42,8 +42,7 @@ IsTestText text (NoneOf cs) =
 abbrev pub IsCount : List ℕ → ℕ → Type 0
 IsCount text n = IsNumeral 10 text × (digits_value 10 text ≡ n) × (n ≤ 64)
 
--- the text between the braces of a range: n, or n and a comma, or a comma and m, or n, a comma and
--- m
+-- the text between the braces of a range, in one of four forms: `n`, `n,`, `,m` or `n,m`
 abbrev pub IsRange : List ℕ → ℕ → Option ℕ → Type 0
 IsRange text least None = (low : List ℕ) × (text ≡ low ++ codes ",") × IsCount low least
 IsRange text least (Some most) =
@@ -61,7 +60,7 @@ IsRepeat text bounds =
     ⊎ ((inner : List ℕ) × (text ≡ codes "{" ++ (inner ++ codes "}"))
     × IsRange inner bounds.least bounds.most)))
 
--- the text of an atom: a test, and an optional repeat; without a repeat the atom takes one
+-- the text of an atom: a test, and an optional repeat; without a repeat the atom matches one
 -- component
 abbrev pub IsAtom : List ℕ → PlainAtom → Type 0
 IsAtom text atom =
@@ -92,7 +91,7 @@ abbrev pub item_atoms : Item → List PlainAtom
 item_atoms (Alone atom) = atom ∷ []
 item_atoms (Group atoms) = atoms
 
--- the groups of items that follow n atoms
+-- the groups among these items, where n atoms come before the items
 abbrev pub groups_from : ℕ → List Item → List (ℕ × ℕ)
 groups_from n [] = []
 groups_from n (Alone atom ∷ items) = groups_from (n + 1) items
@@ -102,7 +101,7 @@ groups_from n (Group atoms ∷ items) = (n, n + length atoms) ∷ groups_from (n
 abbrev pub IsAnchor : List ℕ → List ℕ → List PlainAtom → Type 0
 IsAnchor sign text atoms = ((text ≡ sign) × (atoms ≡ [])) ⊎ ((text ≡ []) × (atoms ≡ anything ∷ []))
 
--- The text spells the pattern: items between anchors, with at most 32 atoms and 9 groups.
+-- The text denotes the pattern: items between anchors, with at most 32 written atoms and 9 groups.
 pub record IsPattern (text : List ℕ) (pattern : PlainPattern) : Type 0 where
   pub start : List ℕ
   pub middle : List ℕ

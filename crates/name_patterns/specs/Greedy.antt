@@ -22,7 +22,7 @@ at_most (Some most) n = min most n
 abbrev pub run_of : PlainTest → List Field → ℕ
 run_of test cs = prefix_len (passes test) cs
 
--- the greatest number from `least` up to n that can be taken
+-- the greatest number from `least` up to n for which `can_take` is true
 unfoldable pub greatest : (ℕ → Bool) → ℕ → ℕ → Option ℕ
 greatest can_take least zero = if (least == 0) && can_take 0 then Some 0 else None
 greatest can_take least (suc n) =
@@ -64,8 +64,8 @@ AreSplit atoms cs places =
     (place : ℕ) → place ≤ length cs
     → has_place places place ≡ is_some (first_count atoms (drop place cs))
 
--- The row of the first of these atoms: which components pass its test, at positions below 64, and
--- from which positions there is a split.
+-- The row of the first of these atoms. `row.passed` are the positions of the components that pass
+-- its test, all below 64. `row.split` are the positions from which the atoms have a split.
 abbrev pub IsRow : List PlainAtom → List Field → Row → Type 0
 IsRow [] cs row = AreSplit [] cs row.split
 IsRow (atom ∷ atoms) cs row = ArePassed atom.test cs row.passed × (row.passed < 2 ^ 64)
@@ -81,12 +81,12 @@ abbrev pub AreStarts : List PlainAtom → List ℕ → List ℕ → Type 0
 AreStarts atoms counts starts =
     (i : ℕ) → i ≤ length atoms → slice_get starts i ≡ Some (sum (take i counts))
 
--- the counts `done` before the later ones
+-- the counts `done` followed by the later counts, if there are later counts
 abbrev pub after_counts : List ℕ → Option (List ℕ) → Option (List ℕ)
 after_counts done later = option_map (λ counts. done ++ counts) later
 
--- The counts `done` are those of the first i atoms in the greatest split, if there is a split. The
--- components that these atoms take end before `place`.
+-- The counts `done` are those of the first i atoms in the greatest split, if there is a split.
+-- These atoms match the first `place` components.
 pub record IsTaken (atoms : List PlainAtom) (cs : List Field) (i place : ℕ)
     (starts done : List ℕ) : Type 0 where
   pub len : length done ≡ i

@@ -20,9 +20,9 @@ abbrev pub IsAtMost : ℕ → Option ℕ → Type 0
 IsAtMost count None = ⊤
 IsAtMost count (Some most) = count ≤ most
 
--- A split gives each atom in order a number of components. That count is within the atom's bounds,
--- enough components are left, and each of them passes the atom's test. The later atoms split the
--- remaining components.
+-- A split gives each atom in order a count of components. The count is within the atom's bounds,
+-- and each of these components passes the atom's test. The later atoms split the remaining
+-- components. No component remains after the last atom.
 abbrev pub IsSplit : List PlainAtom → List Field → List ℕ → Type 0
 IsSplit [] cs counts = (cs ≡ []) × (counts ≡ [])
 IsSplit (atom ∷ atoms) cs [] = ⊥

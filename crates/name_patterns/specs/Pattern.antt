@@ -10,7 +10,7 @@ pub data PlainTest : Type 0 where
   OneOf : List Field → PlainTest
   NoneOf : List Field → PlainTest
 
--- How many components an atom takes: from the least number to the greatest, which may be absent.
+-- How many components an atom matches: a least number, and a greatest number that may be absent.
 pub record Bounds : Type 0 where
   pub least : ℕ
   pub most : Option ℕ
@@ -21,12 +21,12 @@ once = record { least = 1; most = Some 1 }
 abbrev pub any_number : Bounds
 any_number = record { least = 0; most = None }
 
--- A test, and how many consecutive components must pass it.
+-- An atom of a pattern: a test, and how many consecutive components must pass this test.
 pub record PlainAtom : Type 0 where
   pub test : PlainTest
   pub bounds : Bounds
 
--- the atom that takes any number of any components
+-- the atom that matches any number of any components
 abbrev pub anything : PlainAtom
 anything = record { test = Anything; bounds = any_number }
 

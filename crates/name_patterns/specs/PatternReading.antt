@@ -27,8 +27,8 @@ has_special text = list_any is_special text
 abbrev pub text_in : List ℕ → Option Field
 text_in text = on_result (λ c. Some c) (λ _. None) (piece_in text)
 
--- What is read at the front of a text, whether a component's text in it contains a special
--- character, and the remaining text.
+-- A part that is read at the front of a text, whether a component's text in this part contains a
+-- special character, and the remaining text.
 pub record FrontPart (A : Type 0) : Type 0 where
   pub part : A
   pub is_inner : Bool
@@ -66,7 +66,7 @@ list_in test text = do
   if length listed.part == 0 then None
       else Some (record { part = test listed.part; is_inner = listed.is_inner; rest = listed.rest })
 
--- the test of a list, after its opening bracket
+-- the test of a list, read from the text after its opening bracket
 abbrev pub bracketed_in : List ℕ → Option (FrontPart PlainTest)
 bracketed_in [] = list_in OneOf []
 bracketed_in (o ∷ text) = if o == 94 then list_in NoneOf text else list_in OneOf (o ∷ text)
@@ -85,13 +85,14 @@ unfoldable pub test_in : List ℕ → Option (FrontPart PlainTest)
 test_in [] = None
 test_in (o ∷ text) = if o == 91 then bracketed_in text else quoted_test_in (o ∷ text)
 
--- the number from 0 to 64 in decimal digits
+-- the number from 0 to 64 that a text represents in decimal digits
 abbrev pub count_in : List ℕ → Option ℕ
 count_in text =
     if all_ascii_digits text && (nat_lt 0 (length text) && nat_le (digits_value 10 text) 64)
     then Some (digits_value 10 text) else None
 
--- the range with these texts before and after its comma; at most one of them is empty
+-- the range whose text has `low` before its comma and `high` after it; at most one of these texts
+-- is empty
 abbrev pub range_by_comma : List ℕ → List ℕ → Option Bounds
 range_by_comma low high =
     if length high == 0 then (do
@@ -108,7 +109,7 @@ range_by_cut text None = do
   n ← count_in text
   Some (record { least = n; most = Some n })
 
--- the range between braces
+-- the range whose text, without the braces, is this text
 unfoldable pub range_in : List ℕ → Option Bounds
 range_in text = range_by_cut text (cut_at 44 text)
 
@@ -117,14 +118,14 @@ abbrev pub begins_repeat : List ℕ → Bool
 begins_repeat [] = false
 begins_repeat (o ∷ text) = list_any (λ sign. sign == o) (codes "*+?{")
 
--- a repeat in braces, after its opening brace
+-- a repeat in braces, read from the text after its opening brace, and the remaining text
 abbrev pub braced_in : List ℕ → Option (Bounds × List ℕ)
 braced_in text = do
   parts ← cut_at 125 text
   bounds ← range_in parts.0
   Some (bounds, parts.1)
 
--- the repeat at the front of the text; without a repeat, one component is taken
+-- the repeat at the front of the text; without a repeat, an atom matches one component
 unfoldable pub repeat_in : List ℕ → Option (Bounds × List ℕ)
 repeat_in [] = Some (once, [])
 repeat_in (o ∷ text) =
@@ -145,8 +146,8 @@ atom_in text = do
     rest = bounds.1;
   })
 
--- What has been read of a pattern: its atoms, the number of written atoms, its groups, and the
--- group that is open.
+-- The part of a pattern that has been read: its atoms, the number of atoms written in the text, its
+-- closed groups, and its open group.
 pub record PlainDraft : Type 0 where
   pub atoms : List PlainAtom
   pub written : ℕ
@@ -213,13 +214,13 @@ is_closed is_inside [] = false
 is_closed is_inside (o ∷ text) =
     if is_inside then is_closed (not (o == 62)) text else ((o == 41) || is_closed (o == 60) text)
 
--- The fault to report when an item before this text is faulty: if the open group is never closed,
--- its parenthesis comes first.
+-- The fault to report when the item at the front of this text is faulty. If the open group is never
+-- closed, the fault of its parenthesis comes first.
 abbrev pub first_fault : Option OpenGroup → List ℕ → PatternFault → PatternFault
 first_fault None text fault = fault
 first_fault (Some group) text fault = if is_closed false text then fault else Syntax group.place
 
--- the pattern at the end of the text
+-- the complete pattern at the end of its text, or a fault if a group is still open
 abbrev pub whole_of : PlainDraft → Option OpenGroup → Result PlainPattern PatternFault
 whole_of draft (Some group) = Err (Syntax group.place)
 whole_of draft None = Ok (record { atoms = draft.atoms; groups = draft.groups })
@@ -228,7 +229,7 @@ whole_of draft None = Ok (record { atoms = draft.atoms; groups = draft.groups })
 abbrev pub with_implied : PlainDraft → PlainDraft
 with_implied draft = record draft { atoms = draft.atoms ++ anything ∷ [] }
 
--- the pattern at the end of the text, or before its last anchor
+-- the complete pattern, where the remaining text is empty or is the last anchor
 abbrev pub at_end : PlainDraft → List ℕ → Result PlainPattern PatternFault
 at_end draft [] = whole_of (with_implied draft) draft.open_group
 at_end draft (o ∷ text) = whole_of draft draft.open_group
@@ -236,7 +237,7 @@ at_end draft (o ∷ text) = whole_of draft draft.open_group
 abbrev pub is_end : List ℕ → Bool
 is_end text = (length text == 0) || bytes_eq text (codes "$")
 
--- the pattern of a text of length `len`, the end of which is still to be read; at most n more items
+-- the pattern of a text of length `len`, of which `text` is still to be read; at most n more items
 -- are read
 unfoldable pub items_within : ℕ → ℕ → PlainDraft → List ℕ → Result PlainPattern PatternFault
 items_within zero len draft text = at_end draft text
@@ -253,7 +254,7 @@ items_in len draft text = items_within (length text) len draft text
 abbrev pub begun : PlainDraft
 begun = record { atoms = []; written = 0; groups = []; open_group = None }
 
--- the pattern of a text of length `len`, at its first anchor
+-- the pattern of a text of length `len`, read from its first anchor on
 abbrev pub pattern_after : ℕ → List ℕ → Result PlainPattern PatternFault
 pattern_after len [] = items_in len (with_implied begun) []
 pattern_after len (o ∷ text) =

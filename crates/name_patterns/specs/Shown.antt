@@ -1,4 +1,4 @@
--- What private types show.
+-- Private types as plain data.
 use Rattle.std.specs.Prelude.{map}
 use Rattle.ndn_tlv.specs.Element.{Field}
 use Rattle.name_patterns.specs.declared.text.Text.{Text}

@@ -1,4 +1,4 @@
--- Templates: which texts spell them, and which names they expand to.
+-- Templates: their texts, and the names that templates expand to.
 use Rattle.std.specs.Prelude.{◌≡◌, ℕ, ◌+◌, ◌-◌, ◌≤◌, List, [], ◌∷◌, ◌++◌, length, take, drop, slice_get, IsSomeAnd, ⊤}
 use Rattle.std.specs.List.{flat_map, AllByRecursion}
 use Rattle.std.specs.Option.{option_map_or}
@@ -7,7 +7,7 @@ use Rattle.ndn_names.specs.Name.{IsComponent}
 use Rattle.name_patterns.specs.Pattern.{LiesIn}
 use Rattle.name_patterns.specs.Grammar.{IsQuoted}
 
--- A part of a template: a group, by its number, or a component.
+-- A part of a template: the number of a group, or a component.
 pub data PlainPart : Type 0 where
   OfGroup : ℕ → PlainPart
   Single : Field → PlainPart
@@ -18,7 +18,7 @@ abbrev pub IsPart : ℕ → List ℕ → PlainPart → Type 0
 IsPart groups text (OfGroup n) = (text ≡ 92 ∷ (48 + n) ∷ []) × (n ≤ 9) × (n ≤ groups)
 IsPart groups text (Single c) = IsQuoted text c
 
--- the text spells the template with these parts, for a pattern with this many groups
+-- the text denotes the template with these parts, for a pattern with `groups` groups
 abbrev pub IsTemplate : ℕ → List ℕ → List PlainPart → Type 0
 IsTemplate groups text [] = text ≡ []
 IsTemplate groups text (part ∷ parts) =
@@ -44,7 +44,7 @@ part_len captures (OfGroup n) =
     option_map_or (λ places. places.1 - places.0) (slice_get captures n) 0
 part_len captures (Single c) = 1
 
--- the part's group is among the captures, and lies within the name
+-- the captures contain the group of the part, at positions within the name
 abbrev pub IsThere : List (ℕ × ℕ) → List Field → PlainPart → Type 0
 IsThere captures cs (OfGroup n) = IsSomeAnd (slice_get captures n) (LiesIn (length cs))
 IsThere captures cs (Single c) = ⊤

@@ -13,14 +13,14 @@ use crate::test_reader::read_test;
 use crate::text::FrontPart;
 use std::alloc::Global;
 
-/// A test, and how many consecutive components must pass it.
+/// An atom of a pattern: a test, and how many consecutive components must pass this test.
 #[derive(Debug, Drop)]
 pub struct Atom {
     pub test: Test,
     pub repeat: Repeat,
 }
 
-/// Returns the atom that takes any number of any components.
+/// Returns the atom that matches any number of any components.
 pub fn any_components() -> Atom
     ensures { atom_of result ≡ anything }
 {
@@ -33,7 +33,7 @@ pub fn any_components() -> Atom
     }
 }
 
-/// Reads the atom at the front of the text. `at` is its offset in the pattern.
+/// Reads the atom at the front of the text. `at` is the offset of the atom in the pattern.
 pub fn read_atom(alloc: Global, at: usize, text: &str) -> Result<FrontPart<'_, Atom>, PatternFault>
     ensures read { let atom = read.atom_in text.now in
         MatchResult result (λ found. atom

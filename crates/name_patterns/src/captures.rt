@@ -35,7 +35,7 @@ impl Captures {
         }
     }
 
-    /// Appends the next group.
+    /// Appends the positions of the next group.
     pub(crate) fn push(&mut self, places: (usize, usize))
         requires { length self.old < 10 }
         ensures { self.new ≡ self.old ++ places ∷ [] }
@@ -44,8 +44,9 @@ impl Captures {
         self.count += 1;
     }
 
-    /// Returns the index of a group's first component, and the index after its last one, counted
-    /// from 0. Group 0 is the whole name, and the other groups are numbered from 1.
+    /// Returns the index of the first component of group `i`, and the index after its last
+    /// component. The first component of a name has index 0. Group 0 is the whole name. The other
+    /// groups are numbered from 1.
     pub fn group(&self, i: usize) -> Option<(usize, usize)>
         ensures { result ≡ slice_get self.now i }
     {

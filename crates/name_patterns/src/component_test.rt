@@ -38,7 +38,7 @@ impl Test {
         }
     }
 
-    /// Returns the test that the components with these texts pass.
+    /// Returns the test that only the components in `texts` pass.
     pub fn one_of(texts: Vec<Text>) -> Test
         ensures { test_of result ≡ OneOf (map field_of texts.items) }
     {
@@ -47,7 +47,7 @@ impl Test {
         }
     }
 
-    /// Returns the test that all components pass except those with these texts.
+    /// Returns the test that all components except those in `texts` pass.
     pub fn none_of(texts: Vec<Text>) -> Test
         ensures { test_of result ≡ NoneOf (map field_of texts.items) }
     {
@@ -56,7 +56,7 @@ impl Test {
         }
     }
 
-    /// Returns whether every component passes, so that no component needs a test.
+    /// Returns whether every component passes. If so, no component needs to be tested.
     #[inline(always)]
     pub fn is_anything(&self) -> bool
         ensures { IsTrue result ↔ (test_of self.now ≡ Anything) }

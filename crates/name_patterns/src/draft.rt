@@ -1,4 +1,4 @@
-//! Patterns that have been read in part.
+//! Patterns of which only the front has been read.
 
 use crate::atom::{Atom, any_components, read_atom};
 use crate::fault::PatternFault;
@@ -12,16 +12,17 @@ const MAX_WRITTEN: usize = 32;
 /// The greatest number of groups of a pattern.
 const MAX_GROUPS: usize = 9;
 
-/// A group that is still open: the offset of its parenthesis, and the number of atoms before it.
+/// A group that is still open: the offset of its opening parenthesis in the pattern, and the number
+/// of atoms before the group.
 #[derive(Clone, Copy, Debug)]
 pub struct OpenGroup {
     pub place: usize,
     pub first: usize,
 }
 
-/// What has been read of a pattern: its atoms, the number of written atoms, its groups, and the
-/// group that is open. A group is a pair: the number of atoms before its first atom, and the number
-/// of atoms before its end.
+/// The part of a pattern that has been read: its atoms, the number of atoms written in the text,
+/// its closed groups, and its open group. A closed group is a pair: the number of atoms before its
+/// first atom, and the number of atoms before its end.
 #[derive(Debug, Drop)]
 pub struct Draft {
     pub atoms: Vec<Atom>,
@@ -81,7 +82,8 @@ impl Draft {
         Ok(found.rest)
     }
 
-    /// Opens a group. Its parenthesis is at offset `at`, and `text` follows it.
+    /// Opens a group whose opening parenthesis is at offset `at`. `text` is the text after this
+    /// parenthesis.
     fn open_group(&mut self, at: usize, text: &str) -> Result<(), PatternFault>
         ensures { let next = with_open (draft_of self.old) at text.now self.old.open_group in
             MatchResult result (λ _. next ≡ Ok (draft_of self.new, text.now)) (IsFaultOf next) }
@@ -99,7 +101,8 @@ impl Draft {
         Ok(())
     }
 
-    /// Closes the open group. Its parenthesis is at offset `at`, and `text` follows it.
+    /// Closes the open group, whose closing parenthesis is at offset `at`. `text` is the text after
+    /// this parenthesis.
     fn close_group(&mut self, at: usize, text: &str) -> Result<(), PatternFault>
         requires { at + 1 < 2 ^ 64 }
         ensures { let next = with_closed (draft_of self.old) at text.now self.old.open_group in
@@ -143,7 +146,7 @@ impl Draft {
         self.add_atom(alloc, at, text)
     }
 
-    /// Returns the pattern at the end of the text.
+    /// Returns the complete pattern at the end of its text, or a fault if a group is still open.
     pub fn finish(self) -> Result<Pattern, PatternFault>
         requires { IsDraft 2 (draft_of self) }
         ensures { result ≡ whole_of (draft_of self) self.open_group }

@@ -5,8 +5,9 @@ use std::alloc::AllocFailed;
 use thiserror::Error;
 
 /// Why a text is not a pattern, or not a template: the fault of the leftmost faulty item, with the
-/// offset of its first octet, counted from 0. If an item has several faults, the first one in this
-/// order is reported. `Memory` may be returned in place of any other fault.
+/// offset of this item's first octet. The first octet of the text has offset 0. If an item has
+/// several faults, the first one in the order of this enum is reported. `Memory` may be returned in
+/// place of any other fault.
 #[derive(Clone, Copy, Debug, PartialEq, Eq, Error)]
 pub enum PatternFault {
     /// The text at this offset is not in the grammar, or is the 33rd atom.

@@ -44,14 +44,15 @@ impl Pattern {
         self.groups.len() as u8
     }
 
-    /// Returns what the groups capture, if the pattern matches the name. Each atom in order takes
-    /// as many components as a match allows. Nothing is allocated.
+    /// Returns what the groups capture, if the pattern matches the name. From left to right, each
+    /// atom matches as many components as a match of the whole name allows. Nothing is allocated.
     pub fn matches(&self, name: Name<'_>) -> Option<Captures>
-        // The captures in the result are those of the match.
+        // The returned captures are those of the match.
         ensures found { IfSome result (Match self.now (components name.entry)) }
-        // If the result is `None`, there is no match.
+        // If the result is `None`, the pattern does not match the name.
         ensures none { IfNone result (HasNoSplit self.now.atoms (components name.entry)) }
-        // Templates that need at most this many groups can be expanded.
+        // A template that only uses groups of this pattern can be expanded with the returned
+        // captures.
         ensures there { IfSome result
             (λ captures. (parts : List PlainPart) → NeedAtMost (length self.now.groups) parts
             → AreThere captures (components name.entry) parts) }

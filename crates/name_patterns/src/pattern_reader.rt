@@ -29,8 +29,8 @@ fn is_closed(text: &[u8]) -> bool
     false
 }
 
-/// Returns the fault to report when an item before this text is faulty. If the open group is never
-/// closed, its parenthesis is the leftmost faulty item.
+/// Returns the fault to report when the item at the front of this text is faulty. If the open group
+/// is never closed, its parenthesis is the leftmost faulty item.
 fn first_fault(open_group: Option<OpenGroup>, text: &str, fault: PatternFault) -> PatternFault
     ensures { result ≡ read.first_fault open_group text.now fault }
 {
@@ -40,8 +40,8 @@ fn first_fault(open_group: Option<OpenGroup>, text: &str, fault: PatternFault) -
     }
 }
 
-/// Reads the rest of a pattern, `items`, including its last anchor. The whole text of the pattern
-/// has length `len`.
+/// Reads the items and the last anchor of a pattern. `items` is the text after the first anchor,
+/// and `len` is the length of the whole text.
 fn read_items(alloc: Global, begun: Draft, len: usize, items: &str) -> Result<Pattern, PatternFault>
     requires limits { read.IsDraft 1 (draft_of begun) }
     requires rest { length items.now ≤ len }
@@ -64,7 +64,7 @@ fn read_items(alloc: Global, begun: Draft, len: usize, items: &str) -> Result<Pa
     draft.finish()
 }
 
-/// Reads the pattern of a text.
+/// Reads a pattern from its text.
 fn read_pattern(alloc: Global, text: &str) -> Result<Pattern, PatternFault>
     ensures { MatchResult result (λ pattern. read.pattern_in text.now ≡ Ok pattern)
         (IsFaultOf (read.pattern_in text.now)) }
@@ -79,23 +79,24 @@ fn read_pattern(alloc: Global, text: &str) -> Result<Pattern, PatternFault>
 
 impl Pattern {
     /// Reads a pattern: `^`, items and `$`. If an anchor is missing, `<>*` is implied in its place.
-    /// An item is an atom, or a group: atoms between `(` and `)`. An atom is `<>` for any
-    /// component, the URI text of a component between `<` and `>` for that component, or a list of
-    /// such texts between `[` and `]` for any of them, or between `[^` and `]` for none of them. A
-    /// repeat may follow the atom: `*`, `+`, `?`, `{2}`, `{2,}`, `{,4}` or `{2,4}`, with numbers up
-    /// to 64. A pattern has at most 32 written atoms and 9 groups.
+    /// An item is an atom, or a group: atoms between `(` and `)`. The atom `<>` matches any
+    /// component. The URI text of a component between `<` and `>` matches that component. A list of
+    /// such texts between `[` and `]` matches any component in the list. A list between `[^` and
+    /// `]` matches any component that is not in the list. A repeat may follow the atom: `*`, `+`,
+    /// `?`, `{2}`, `{2,}`, `{,4}` or `{2,4}`, with numbers up to 64. A pattern has at most 32
+    /// written atoms and 9 groups.
     ///
     /// Returns the fault of the leftmost faulty item if the text is not a pattern: see
-    /// `PatternFault`. An item is an atom with its repeat, a repeat that follows another repeat or
-    /// a group, a parenthesis, or a misplaced anchor. A group that is never closed is faulty at its
-    /// parenthesis. `Memory` may be returned for any text.
+    /// `PatternFault`. A faulty item is an atom with its repeat, a repeat that follows another
+    /// repeat or a group, a parenthesis, or a misplaced anchor. A group that is never closed is
+    /// faulty at its parenthesis. `Memory` may be returned for any text.
     pub fn read(alloc: Global, text: &str) -> Result<Pattern, PatternFault>
-        // The text spells the pattern that is read.
+        // The text denotes the returned pattern.
         ensures found { IfOk result (IsPattern text.now) }
-        // Every pattern that the text spells is read, unless memory runs out.
+        // If the text denotes a pattern, this pattern is returned, unless memory runs out.
         ensures only { (pattern : PlainPattern) → IsPattern text.now pattern
             → MatchResult result (λ read. read ≡ pattern) (λ fault. fault ≡ PatternFault.Memory) }
-        // The fault is the first one of the text, or `Memory`.
+        // A returned fault is the first fault of the text, or `Memory`.
         ensures exact { MatchResult result (λ pattern. read.pattern_in text.now ≡ Ok pattern)
             (IsFaultOf (read.pattern_in text.now)) }
     {
@@ -103,7 +104,7 @@ impl Pattern {
     }
 }
 
-/// Law: a text spells at most one pattern, which `pattern_in` returns.
+/// Law: a text denotes at most one pattern, which `pattern_in` returns.
 pub fn patterns_have_one_reading()
     ensures exact { (text : List ℕ) (pattern : PlainPattern) → (read.pattern_in text ≡ Ok pattern)
         ↔ IsPattern text pattern }

@@ -1,4 +1,4 @@
-//! How many components an atom takes.
+//! Repeats: how many components an atom matches.
 
 ghost use Rattle.std.specs.Prelude.{◌≡◌, ◌↔◌, ◌≤◌, IsTrue, IfSome, option_map, length};
 ghost use Rattle.name_patterns.specs.Pattern.{once};
@@ -16,7 +16,7 @@ pub struct Repeat {
 }
 
 impl Repeat {
-    /// Returns whether the atom takes exactly one component.
+    /// Returns whether the atom matches exactly one component.
     #[inline(always)]
     pub fn is_once(self) -> bool
         ensures { IsTrue result ↔ (bounds_of self ≡ once) }
@@ -25,7 +25,7 @@ impl Repeat {
     }
 }
 
-/// Returns the number from 0 to 64 in decimal digits.
+/// Returns the number from 0 to 64 that `text` represents in decimal digits.
 fn count_of(text: &str) -> Option<u8>
     ensures { result ≡ read.count_in text.now }
 {
@@ -38,7 +38,8 @@ fn count_of(text: &str) -> Option<u8>
     }
 }
 
-/// Returns the range with these texts before and after its comma. One of them may be empty.
+/// Returns the range whose text has `low` before its comma and `high` after it. One of these two
+/// texts may be empty.
 fn range_by_comma(low: &str, high: &str) -> Option<Repeat>
     ensures { option_map bounds_of result ≡ read.range_by_comma low.now high.now }
 {
@@ -57,7 +58,7 @@ fn range_by_comma(low: &str, high: &str) -> Option<Repeat>
     })
 }
 
-/// Returns the range between braces.
+/// Returns the range whose text, without the braces, is `text`.
 fn range_of(text: &str) -> Option<Repeat>
     ensures { option_map bounds_of result ≡ read.range_in text.now }
 {
@@ -83,7 +84,8 @@ pub fn begins_repeat(text: &str) -> bool
     }
 }
 
-/// Returns the repeat in braces, after its opening brace, and the remaining text.
+/// Reads a repeat in braces from the text after its opening brace. Returns the repeat and the
+/// remaining text.
 fn braced_repeat(text: &str) -> Option<(Repeat, &str)>
     ensures read { option_map (λ found. (bounds_of found.0, found.1.now)) result
         ≡ read.braced_in text.now }
@@ -93,8 +95,8 @@ fn braced_repeat(text: &str) -> Option<(Repeat, &str)>
     Some((range_of(range)?, rest))
 }
 
-/// Returns the repeat at the front of the text, and the remaining text. Without a repeat, one
-/// component is taken. Returns `None` for braces that do not enclose a range.
+/// Returns the repeat at the front of the text, and the remaining text. Without a repeat, an atom
+/// matches one component. Returns `None` for braces that do not enclose a range.
 pub fn first_repeat(text: &str) -> Option<(Repeat, &str)>
     ensures read { option_map (λ found. (bounds_of found.0, found.1.now)) result
         ≡ read.repeat_in text.now }

@@ -12,21 +12,23 @@ use crate::component_test::Test;
 use crate::repeat::{MAX_COUNT, Repeat};
 use ndn_names::{Components, Name};
 
-/// At most 32 written atoms, one implied atom for each of the two anchors, and the end.
+/// The greatest number of positions in a split: one for each of at most 32 written atoms, one for
+/// each of at most two implied atoms, and one for the end.
 const MAX_STARTS: usize = 35;
 
-/// The positions before each atom, and after the last one.
+/// The positions in a name before each atom, and after the last atom.
 pub type Starts = [usize; MAX_STARTS];
 
-/// A set of positions in a name, including the one after the last component: one bit for each.
+/// A set of positions in a name, with one bit for each position. The position after the last
+/// component is one of them.
 type Places = u128;
 
 /// What the search knows about an atom.
 #[derive(Clone, Copy)]
 struct Row {
-    /// The positions of the components that pass its test.
+    /// The positions of the components that pass the atom's test.
     passed: Places,
-    /// The positions from which this atom and the later ones have a split.
+    /// The positions from which this atom and the later atoms can match all remaining components.
     split: Places,
 }
 
@@ -70,7 +72,7 @@ fn passed(test: &Test, name: Name<'_>, len: usize, tests: &mut u64) -> Places
     passed
 }
 
-/// Returns the length of the run of components that pass, from position `place` on.
+/// Returns the number of consecutive components from position `place` on that pass.
 #[inline(always)]
 fn run_at(passed: Places, place: usize) -> u8
     requires { (passed < 2 ^ 64) × (place ≤ 64) }
@@ -81,7 +83,8 @@ fn run_at(passed: Places, place: usize) -> u8
     (passed >> place).trailing_ones() as u8
 }
 
-/// Returns the greatest count that an atom's bounds allow for a run of components that pass.
+/// Returns the greatest number of components that an atom may match, if `run` consecutive
+/// components pass its test.
 #[inline(always)]
 fn most_of(repeat: Repeat, run: u8) -> u8
     ensures { result ≡ at_most repeat.most run }
@@ -92,8 +95,8 @@ fn most_of(repeat: Repeat, run: u8) -> u8
     }
 }
 
-/// Returns the greatest count from `least` to `most` after which, counted from `place`, the later
-/// atoms have a split.
+/// Returns the greatest count from `least` to `most` for which the position `place` plus the count
+/// is in `after`.
 #[inline(always)]
 fn greatest(least: u8, most: u8, after: Places, place: usize) -> Option<u8>
     requires { most + place ≤ 64 }
@@ -107,8 +110,9 @@ fn greatest(least: u8, most: u8, after: Places, place: usize) -> Option<u8>
     None
 }
 
-/// Returns the first count of an atom from position `place` on. `passed` are the components that
-/// pass its test, and `after` the positions from which the later atoms have a split.
+/// Returns the greatest number of components that an atom can match from position `place` on.
+/// `passed` are the positions of the components that pass its test. `after` are the positions from
+/// which the later atoms can match all remaining components.
 #[inline(always)]
 fn first_count(repeat: Repeat, passed: Places, after: Places, place: usize) -> Option<u8>
     requires { (passed < 2 ^ 64) × (place ≤ 64) }
@@ -120,14 +124,15 @@ fn first_count(repeat: Repeat, passed: Places, after: Places, place: usize) -> O
     greatest(repeat.least, most, after, place)
 }
 
-/// Returns the positions from which an atom and the later ones have a split.
+/// Returns the positions from which an atom and the later atoms can match all remaining components.
 fn split_before(repeat: Repeat, passed: Places, after: Places) -> Places
     ensures { (atom : PlainAtom) → (atoms : List PlainAtom) → (cs : List Field)
         → bounds_of repeat ≡ atom.bounds → ArePassed atom.test cs passed → AreSplit atoms cs after
         → length cs ≤ 64 → AreSplit (atom ∷ atoms) cs result }
 {
     let most = most_of(repeat, MAX_COUNT);
-    // From these positions on, `count` components pass and the later atoms have a split after them.
+    // From the positions in `begins` on, `count` components pass, and the later atoms can match the
+    // components after these.
     let mut begins = after;
     let mut split = 0;
     for count in 0..most + 1 {
@@ -135,7 +140,7 @@ fn split_before(repeat: Repeat, passed: Places, after: Places) -> Places
             split |= begins;
         }
         begins = passed & begins >> 1;
-        // If this count can be taken from no position, no greater count can.
+        // If the count `count + 1` is not possible from any position, no greater count is possible.
         if begins == 0 {
             return split;
         }
@@ -143,10 +148,10 @@ fn split_before(repeat: Repeat, passed: Places, after: Places) -> Places
     split
 }
 
-/// Fills the table from its last row back to that of the atom `first`, for a name of `len`
-/// components. If some atoms have no split from any position, the atoms before them have none
-/// either: the function then stops and returns false. Each atom is tested against each component at
-/// most once.
+/// Fills the table from its last row back to the row of the atom `first`, for a name of `len`
+/// components. If an atom and the later atoms cannot match from any position, the atoms before them
+/// cannot match either: the function then stops and returns false. Each atom is tested against each
+/// component at most once.
 fn fill(
     atoms: &[Atom],
     first: usize,
@@ -180,9 +185,9 @@ fn fill(
     true
 }
 
-/// Gives one component to each atom at the front that takes exactly one, up to the first other
-/// atom. No table is needed, since these atoms have no choice. Returns their number, or `None` if
-/// one of them does not accept its component.
+/// Matches the atoms at the front that match exactly one component each, up to the first other
+/// atom. These atoms need no table, because their counts are fixed. Returns the number of these
+/// atoms, or `None` if a component is missing or does not pass.
 fn take_singles(
     atoms: &[Atom],
     components: &mut Components<'_>,
@@ -217,9 +222,9 @@ fn take_singles(
     Some(atoms.len())
 }
 
-/// Distributes the remaining components among the atoms from `first` on, with a table. The name has
-/// `len` components. Returns the position after the last component taken, or `None` if there is no
-/// split.
+/// Matches the atoms from `first` on with the remaining components, by means of a table. The name
+/// has `len` components. Returns the position after the last matched component, or `None` if there
+/// is no split.
 fn take_others(
     atoms: &[Atom],
     first: usize,
@@ -264,9 +269,9 @@ fn count_left(components: Components<'_>) -> usize
     components.count()
 }
 
-/// Returns the positions before each atom and after the last one in the greatest split of a name,
-/// and the number of components. In the greatest split, each atom in order takes as many components
-/// as possible. Each atom is tested against each component at most once.
+/// Finds the greatest split of a name, in which each atom from left to right matches as many
+/// components as possible. Returns the positions before each atom and after the last atom, and the
+/// number of components. Each atom is tested against each component at most once.
 pub fn first_split(atoms: &[Atom], name: Name<'_>, tests: &mut u64) -> Option<(Starts, usize)>
     requires few { length atoms.now ≤ 34 }
     requires room { tests.old + 100000 < 2 ^ 64 }

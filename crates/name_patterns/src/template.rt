@@ -15,7 +15,7 @@ use std::marker::Model;
 /// A part of a template.
 #[derive(Debug, Drop)]
 pub enum Part {
-    /// The number of a group, for what the group captures.
+    /// The number of a group, which stands for the components that the group captures.
     Group(u8),
     /// A component.
     Single(Text),
@@ -39,7 +39,7 @@ impl Part {
     }
 }
 
-/// A template for names: a sequence of groups of a pattern and of components.
+/// A template for names: a sequence of parts, each of which is a group of a pattern or a component.
 #[derive(Debug, Drop)]
 pub struct Template {
     pub(crate) parts: Vec<Part>,
@@ -65,7 +65,8 @@ impl Template {
     ghost use Rattle.ndn_names.specs.View.{components};
     ghost use Rattle.name_patterns.specs.Template.{expansion_of, part_len, AreThere};
 
-    /// Returns the name that the template makes from the groups that `captures` finds in `name`.
+    /// Returns the name that the template expands to. `captures` are the positions of the groups in
+    /// `name`.
     ///
     /// Returns `TooManyComponents`, before any allocation, if the name would be too long, or
     /// `Memory` if memory runs out.
@@ -94,8 +95,8 @@ impl Template {
         Ok(expanded)
     }
 
-    /// Returns whether the name that the template makes would have more than 64 components, so that
-    /// `expand` refuses it. Nothing is allocated.
+    /// Returns whether the expanded name would have more than 64 components, so that `expand`
+    /// refuses it. Nothing is allocated.
     pub fn is_too_long(&self, captures: &Captures) -> bool
         ensures { result ≡ nat_lt 64 (sum_by (part_len captures.now) self.now) }
     {

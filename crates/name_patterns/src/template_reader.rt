@@ -71,7 +71,7 @@ fn read_part(alloc: Global, at: usize, text: &str, groups: u8) -> Result<(Part, 
     }
 }
 
-/// Reads the parts of a text.
+/// Reads the parts of a template from its text.
 fn read_parts(alloc: Global, text: &str, groups: u8) -> Result<Vec<Part>, PatternFault>
     ensures { let parts_in = read.template_in groups text.now in
         MatchResult result (λ parts. parts_in ≡ Ok (map part_of parts.items)) (IsFaultOf parts_in) }
@@ -87,22 +87,22 @@ fn read_parts(alloc: Global, text: &str, groups: u8) -> Result<Vec<Part>, Patter
 }
 
 impl Template {
-    /// Reads a template for a pattern with `groups` groups: a sequence of `\0` to `\9`, each for
-    /// what that group captures, and of URI texts of components between `<` and `>`. `\0` is the
-    /// whole name.
+    /// Reads a template for a pattern with `groups` groups. Each part of a template is one of `\0`
+    /// to `\9`, for the components that this group captures, or the URI text of a component between
+    /// `<` and `>`. `\0` is the whole name.
     ///
     /// Returns the fault of the leftmost faulty part if the text is not a template: see
-    /// `PatternFault`. `Nested` never occurs. `Memory` may be returned for any text.
+    /// `PatternFault`. `Nested` is never returned. `Memory` may be returned for any text.
     pub fn read(alloc: Global, text: &str, groups: u8) -> Result<Template, PatternFault>
-        // The text spells the template that is read.
+        // The text denotes the returned template.
         ensures found { IfOk result (IsTemplate groups text.now) }
-        // Every template that the text spells is read, unless memory runs out.
+        // If the text denotes a template, this template is returned, unless memory runs out.
         ensures only { (parts : List PlainPart) → IsTemplate groups text.now parts
             → MatchResult result (λ read. read ≡ parts) (λ fault. fault ≡ PatternFault.Memory) }
-        // The fault is the first one of the text, or `Memory`.
+        // A returned fault is the first fault of the text, or `Memory`.
         ensures exact { MatchResult result (λ parts. read.template_in groups text.now ≡ Ok parts)
             (IsFaultOf (read.template_in groups text.now)) }
-        // The template uses only groups that the pattern has.
+        // The returned template only uses groups that the pattern has.
         ensures groups { IfOk result (NeedAtMost groups) }
     {
         let parts = read_parts(alloc, text, groups)?;
@@ -110,7 +110,7 @@ impl Template {
     }
 }
 
-/// Law: a text spells at most one template, which `template_in` returns.
+/// Law: a text denotes at most one template, which `template_in` returns.
 pub fn templates_have_one_reading()
     ensures exact { (groups : ℕ) (text : List ℕ) (parts : List PlainPart)
         → (read.template_in groups text ≡ Ok parts) ↔ IsTemplate groups text parts }

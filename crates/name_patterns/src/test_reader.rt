@@ -43,7 +43,7 @@ fn read_texts(
     }
 }
 
-/// Reads the test of a list, after its opening bracket.
+/// Reads the test of a list from the text after its opening bracket.
 fn read_list(alloc: Global, at: usize, text: &str) -> Result<FrontPart<'_, Test>, PatternFault>
     ensures read { let listed = read.bracketed_in text.now in
         MatchResult result (λ found. listed ≡ Some (record {
@@ -79,7 +79,7 @@ fn read_list(alloc: Global, at: usize, text: &str) -> Result<FrontPart<'_, Test>
     })
 }
 
-/// Reads the test of a text between `<` and `>`, which may be empty.
+/// Reads the test of a text between `<` and `>`. This text may be empty.
 fn read_quoted(alloc: Global, at: usize, text: &str) -> Result<FrontPart<'_, Test>, PatternFault>
     ensures read { let quoted = read.quoted_test_in text.now in
         MatchResult result (λ found. quoted ≡ Some (record {

@@ -1,4 +1,4 @@
-//! Components' texts in patterns and templates.
+//! Texts of components in patterns and templates.
 
 ghost use Rattle.std.specs.Prelude.{◌≡◌, ◌<◌, Some, IfSome, option_map, length, MatchResult};
 ghost use Rattle.name_patterns.specs.Grammar.{is_special};
@@ -10,7 +10,7 @@ use crate::fault::PatternFault;
 use ndn_names::{Component, NameFault, component_from_uri};
 use std::alloc::Global;
 
-/// The characters that a component's text may not contain here.
+/// The characters that a component's text in a pattern or a template may not contain.
 const SPECIAL: &[u8; 13] = b"\\()[]{}*+?^$|";
 
 /// A component, as read from its text.
@@ -32,8 +32,8 @@ impl Text {
     }
 }
 
-/// What was read at the front of a text, whether a component's text in it contains a special
-/// character, and the remaining text.
+/// A part that was read at the front of a text, whether a component's text in this part contains a
+/// special character, and the remaining text.
 #[derive(Debug, Drop)]
 pub struct FrontPart<'a, T> {
     pub part: T,
@@ -64,7 +64,7 @@ pub fn first_quoted(text: &str) -> Option<(&str, &str)>
     text.strip_prefix('<')?.split_once('>')
 }
 
-/// Reads the component of a text. `at` is the offset of its item in the pattern.
+/// Reads a component from its text. `at` is the offset of the item with this text in the pattern.
 pub fn read_text(alloc: Global, at: usize, text: &str) -> Result<Text, PatternFault>
     ensures { let component = read.text_in text.now in
         MatchResult result (λ text. component ≡ Some (field_of text))
