@@ -356,7 +356,7 @@ pattern_found (o ∷ text) pattern e =
 
 -- ---- a pattern that the text spells is read
 
--- the text after an item begins with neither an anchor nor a repeat, but is not empty
+-- the text begins with ^ or with a repeat; the text after an item never does
 abbrev begins_other : List ℕ → Bool
 begins_other [] = false
 begins_other (o ∷ text) = list_any (λ sign. sign == o) (codes "^*+?{")
@@ -373,7 +373,7 @@ test_other text rest h =
       | inr is ↦ ap (λ (first : ℕ). begins_other (first ∷ (h.1 ++ rest))) is
     ]
 
--- the text after an atom in a group
+-- the text of atoms in a group, with the closing parenthesis, does not begin with ^ or a repeat
 inside_other : (text rest : List ℕ) (atoms : List PlainAtom) → AreAtoms text atoms → begins_other (text ++ (41 ∷ rest)) ≡ false
 inside_other text rest [] h = ap (λ (t : List ℕ). begins_other (t ++ (41 ∷ rest))) h
 inside_other text rest (atom ∷ atoms) h =
@@ -384,7 +384,7 @@ end_other : (end : List ℕ) (after : List PlainAtom) → IsAnchor (codes "$") e
 end_other end after (inl h) = ap begins_other h.0
 end_other end after (inr h) = ap begins_other h.0
 
--- the text after an item outside all groups
+-- the text of items, with the end of the pattern, does not begin with ^ or a repeat
 items_other : (text end : List ℕ) (items : List Item) (after : List PlainAtom) → AreItems text items → IsAnchor (codes "$") end after → begins_other (text ++ end) ≡ false
 items_other text end [] after h ends = ap (λ (t : List ℕ). begins_other (t ++ end)) h ∙ end_other end after ends
 items_other text end (Alone atom ∷ items) after h ends =

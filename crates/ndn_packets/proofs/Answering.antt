@@ -66,7 +66,7 @@ prefix_of_full (c ∷ asked) (d ∷ name) x p =
       | inr same ↦ inr (λ k. sym first k ∷ same k)
     ]
 
--- an Interest name that ends in an implicit digest is answered exactly where that digest is right
+-- an Interest name that ends in an implicit digest is answered exactly if this digest is correct
 pub answers_by_digest : (name asked : List Field) (digest value : List ℕ) (flag r : Bool) → asked ≡ full_name name value → IsTrue r ↔ (value ≡ digest) → IsTrue r ↔ Answers name digest asked flag
 answers_by_digest name asked digest value flag r is same = (
   λ t. inr (inl (is ∙ ap (λ (d : List ℕ). full_name name d) (same.0 t))),

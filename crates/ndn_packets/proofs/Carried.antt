@@ -1,4 +1,4 @@
--- The PIT token that the octets of a link carry: 1 to 32 octets.
+-- The PIT token in the octets of a frame has 1 to 32 octets.
 use Rattle.std.proofs.Common.{◌≡◌, ℕ, true, false, cond, not, eqb, ltb, List, [], ◌∷◌, ◌++◌, length, Option, None, Some, Result, Ok, Err, refl, sym, ap, subst, ◌∙◌, inl, inr}
 use Rattle.std.specs.Prelude.{IfOk, IfSome, is_some}
 use Rattle.std.specs.Option.{option_map}
@@ -89,7 +89,7 @@ framed_sized text f e =
           subst (λ (g : PlainFramed). IfSome g.token IsToken) (ok_is (framed_with None q.0) f q.2) tt
     ] b.2
 
--- a text with a token is a frame with that token
+-- if `token_at` finds a token, the text is a frame with this token
 pub framed_of_token : (text t : List ℕ) → token_at text ≡ Some t → (f : PlainFramed) × (framed_at text ≡ Ok f) × (f.token ≡ Some t)
 unfolding token_at
 framed_of_token text t e = of_result (framed_at text) refl e

@@ -104,7 +104,7 @@ Cuts value = (from_parameters from_info from_signature : List ℕ) × IsCutAt va
 abbrev HasBoth : List Field → Type 0
 HasBoth fields = Has 44 fields × Has 46 fields
 
--- the octets can be cut exactly where there is an InterestSignatureInfo and an
+-- the octets can be cut for a signature exactly if there is an InterestSignatureInfo and an
 -- InterestSignatureValue
 abbrev Decided : List ℕ → List Field → Type 0
 Decided value fields = (Cuts value × HasBoth fields) ⊎ ((Cuts value → ⊥) × (HasBoth fields → ⊥))
@@ -112,7 +112,7 @@ Decided value fields = (Cuts value × HasBoth fields) ⊎ ((Cuts value → ⊥) 
 has_met : (ignores : ℕ → Bool) (kind : ℕ) (later : List ℕ) (elements fields : List Field) (m : Met ignores kind later elements fields) → Has kind fields
 has_met ignores kind later elements fields m = subst (Has kind) (sym m.fields_are) (has_following kind m.early ((kind, m.value) ∷ m.late) (inl refl))
 
--- a field of type `k` after the field of type `kind` is among the elements that follow that field
+-- a field of type `k` after the field of type `kind` is one of the fields
 later_met : (ignores : ℕ → Bool) (kind k : ℕ) (later : List ℕ) (elements fields : List Field) (m : Met ignores kind later elements fields) → Has k m.late → Has k fields
 later_met ignores kind k later elements fields m h = subst (Has k) (sym m.fields_are) (has_following k m.early ((kind, m.value) ∷ m.late) (inr h))
 
@@ -320,7 +320,7 @@ begins ignores kind later octets before from first elements fields m other is si
     (cut_among kind m.value (first ∷ elements) (first ∷ m.front) m.back sizes (ap (λ (es : List Field). first ∷ es) m.elements_are) (other, m.none)) in
     sym (cut_is kind octets (flat_map element ((kind, m.value) ∷ m.back)) before from (cut_read kind octets _ _ own) cut)
 
--- octets that begin with a field which follows another field
+-- octets that begin with the first field of a type begin with it as well if other fields come first
 begins_following : (kind k : ℕ) (from : List ℕ) (v : List ℕ) (early late fields : List Field) → fields ≡ early ++ (k, v) ∷ late → Others kind early → k ≢ kind → Begins kind from late → Begins kind from fields
 begins_following kind k from v early late fields is others other b = record {
   value = b.value;
@@ -460,7 +460,7 @@ never_empty : {A : Type 0} (xs : List A) (x : A) → xs ++ x ∷ [] ≡ [] → �
 never_empty [] x e = cc
 never_empty (a ∷ xs) x e = cc
 
--- the digest at the end of a name is the right one
+-- the digest at the end of a name is the correct one
 digest_is : (name elements components : List Field) (digest : List ℕ) (parameters : Option (List ℕ)) → name ≡ components ++ (2, digest) ∷ [] → IsDigested name elements parameters
     → digest ≡ sha256 (flat_map element (from_parameters elements))
 digest_is name elements components digest None is h =
@@ -490,8 +490,7 @@ interest_ends text i s first second h signed c =
 
 -- ---- the covered part that a reader of an Interest notes
 
--- if a name has a digest of parameters as its last component and no other one, any digest of
--- parameters in the name is that one
+-- if a name ends in a digest of parameters, the last digest of parameters is its last component
 last_one : (front back components : List Field) (v d : List ℕ) → NoneOfType 2 back → front ++ (2, v) ∷ back ≡ components ++ (2, d) ∷ [] → back ≡ []
 last_one [] back [] v d none e = cc
 last_one [] back (c ∷ components) v d none e =
@@ -582,7 +581,7 @@ first_is_front octets text first second name h c =
     let front : length first ≡ length octets - 34 = omega arith in
     (omega arith, sym (ap (take (length octets - 34)) all ∙ take_at first (element (2, c.digest)) (length octets - 34) front))
 
--- positions that were noted in the octets after the Name hold in the whole value as well
+-- positions of a signature in the octets after the Name are also its positions in the whole value
 pub noted_after : (value rest p v : List ℕ) → ((kind : ℕ) → kind ≢ 7 → from_first kind value ≡ from_first kind rest) → IsSignedAt rest p v → IsSignedAt value p v
 noted_after value rest p v place at = (at.0, place 36 (eqb-false 36 7 refl) ∙ at.1, at.2, at.3)
 

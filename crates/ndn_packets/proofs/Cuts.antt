@@ -28,7 +28,7 @@ no_step (Err f) kind octets further h = refl
 nothing_in : (kind : ℕ) (further : List ℕ → Option (List ℕ)) → step kind [] further (element_at []) ≡ None
 nothing_in kind further = no_step (element_at []) kind [] further (λ x e. (let none : length x.1 < 0 = element_leaves [] x e in absurd (omega arith)))
 
--- the limit on the number of elements does not matter
+-- every limit that is at least the number of octets gives the same result
 within_same : (n m kind : ℕ) (octets : List ℕ) → length octets ≤ n → length octets ≤ m → from_within n kind octets ≡ from_within m kind octets
 unfolding from_within
 within_same zero zero kind octets p q = refl
@@ -72,7 +72,7 @@ pub cut_read : (kind : ℕ) (octets before from : List ℕ) → IsCut kind octet
 cut_read kind octets before from h =
     ap (from_first kind) (h.octets_are ∙ (λ k. h.before_is k ++ h.from_is k)) ∙ cut_there kind h.others h.value h.after h.sizes.0 h.sizes.1 h.first_one ∙ ap (λ (t : List ℕ). Some t) (sym h.from_is)
 
--- there is no other cut
+-- the cut that the reader finds is the only cut
 pub cut_is : (kind : ℕ) (octets from before other : List ℕ) → from_first kind octets ≡ Some from → IsCut kind octets before other → from ≡ other
 cut_is kind octets from before other read h = some_is from other (sym read ∙ cut_read kind octets before other h)
 

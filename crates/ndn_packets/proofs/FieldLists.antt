@@ -33,8 +33,8 @@ in_nothing kind later h = at_front h.0 h.1
     at_front [] e = cc
     at_front (k ∷ front) e = cc
 
--- a type other than the first one of a schema counts after that first type, and needs no previous
--- field
+-- a type that may come next, but is not the first type of a schema, may come next after the first
+-- type as well, and needs no previous field
 past_first : (kind first : ℕ) (later schema : List ℕ) → first ≢ kind → Counts kind later (first ∷ schema) → Counts kind later schema × (needs_previous_field kind ≡ false)
 past_first kind first later schema other h = at_front h.0 h.1 h.2 h.3
   where
@@ -159,7 +159,7 @@ fields_in ignores schema (e ∷ plain) fields (inl h) =
     subst (InSchema schema) (sym h.3) (subst (λ (ks : List ℕ). InSchema ks (e ∷ h.1)) (sym h.2.1) inside)
 fields_in ignores schema (e ∷ plain) fields (inr h) = fields_in ignores schema plain fields h.2
 
--- the state after an optional field is taken
+-- the state after an optional field is read
 abbrev pub Took : {S : Type 0} → (S → Field → Result S PacketFault) → S → ℕ → Option (List ℕ) → S → Type 0
 Took take s kind None t = t ≡ s
 Took take s kind (Some value) t = take s (kind, value) ≡ Ok t
@@ -170,7 +170,7 @@ took_first take s t kind None fields others is e = (s, refl, subst (λ (fs : Lis
 took_first take s t kind (Some v) fields others is e =
     bind_ok (take s (kind, v)) (λ u. read_fields take u (map good others)) t (subst (λ (fs : List Field). read_fields take s (map good fs) ≡ Ok t) is e)
 
--- an optional field that was taken is read again with the same result
+-- reading an optional field and then others gives the state `mid` first
 pub took_again : {S : Type 0} (take : S → Field → Result S PacketFault) (s mid : S) (kind : ℕ) (value : Option (List ℕ)) (others : List Field) → Took take s kind value mid
     → read_fields take s (map good (optional kind value ++ others)) ≡ read_fields take mid (map good others)
 took_again take s mid kind None others took = ap (λ u. read_fields take u (map good others)) (sym took)

@@ -103,7 +103,7 @@ packet_fault_again text e fault (inr (inr h)) = rw (ne_eqb e.0 5 h.0, ne_eqb e.0
 
 -- ---- a Fragment
 
--- the packet in a Fragment, which is one element, with a Nack or without one
+-- the packet in a Fragment that is one element; with the reason of a Nack, it must be an Interest
 abbrev inside : Option ℕ → List ℕ → Field → Result PlainFrame PacketFault
 inside None text = packet_of text
 inside (Some reason) text = nacked_of reason text
@@ -498,7 +498,7 @@ stops s (Ok x ∷ elements) fault e =
       ]
     ] refl e
 
--- after header fields in the grammar, the reading reaches the elements at which it stops
+-- after valid header fields, the fault of the remaining elements is returned
 after_again : (s : LinkSoFar) (headers : List Field) (rest : List (Result Field TlvFault)) (fault : PacketFault) → Met s headers → AfterHeaders headers s.nack rest fault → link_from s rest ≡ Err fault
 after_again s headers [] fault met h = no_fragment_again s.token s.nack fault h.0 h.1
 after_again s headers (Err f ∷ after) fault met h = told PlainFramed (Tlv f) fault h

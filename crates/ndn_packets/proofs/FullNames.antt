@@ -21,7 +21,7 @@ use Rattle.ndn_names.proofs.Prefixes.{begins_with}
 use Rattle.ndn_packets.specs.Answers.{full_name}
 use Rattle.ndn_packets.specs.FullName.{name_octets, name_in, digest_in, full_name_in, IsFullName}
 
--- a list of fields with one more at its end is a list of fields
+-- a list of valid fields stays valid if a valid field is appended
 fields_more : (name : List Field) (f : Field) → AllByRecursion IsField name → IsField f → AllByRecursion IsField (name ++ f ∷ [])
 fields_more [] f h g = (g, tt)
 fields_more (c ∷ name) f h g = (h.0, fields_more name f h.1 g)
@@ -78,7 +78,8 @@ pub one_name : (a b : List Field) → AllByRecursion IsField a → AllByRecursio
 one_name a b h g e =
     name_cmp-antisymmetric a b (sym (octets_cmp a b h g) ∙ ap (λ (t : List ℕ). slice_cmp nat_cmp t (octets_of b)) e ∙ octets_cmp b b g g ∙ tied_itself name_cmp-total b)
 
--- a full name has a name as prefix exactly where its octets begin with the octets of that name
+-- a name is a prefix of a full name exactly if its octets are a prefix of the octets of the full
+-- name
 pub under : (u value : List ℕ) (name : List Field) (r : Bool) → IsFullName u → IsNameValue value name → r ≡ starts_with nat_eq u value → IsTrue r ↔ IsPrefix name (full_name_in u)
 under u value name r h g e =
     let s = starts_is unsigned_Decides u value r e in (
@@ -91,8 +92,8 @@ fields_front : (name : List Field) (f : Field) → AllByRecursion IsField (name 
 fields_front [] f h = tt
 fields_front (c ∷ name) f h = (h.0, fields_front name f h.1)
 
--- octets of a name equal those of a full name, or those of the name without its digest, exactly
--- where the names are equal
+-- octets of a name equal those of a full name, or those of the name without its digest, exactly if
+-- the names are equal
 pub is_full : (u value : List ℕ) (name : List Field) → IsFullName u → IsNameValue value name → (value ≡ u) ↔ (name ≡ full_name_in u)
 is_full u value name h g = (
   λ e. one_name name (full_name_in u) g.0.0 h.fields (sym g.0.1 ∙ e ∙ h.whole),

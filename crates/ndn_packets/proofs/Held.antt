@@ -78,8 +78,8 @@ parts_some i octets second some named =
     let front = first_is_front octets i.whole.now there.0 second (components i.name) named there.1 in
     (front.0, subst (λ (first : List ℕ). CoversInterest (components i.name) i.whole.now first second) front.1 there.1)
 
--- an Interest has covered octets exactly where it is signed and its digest of parameters is the
--- last component
+-- an Interest has covered octets exactly if it is signed and its digest of parameters is the last
+-- component
 pub covers_where : (i : Interest) → ((first second : List ℕ) → CoversInterest (components i.name) i.whole.now first second → IsSome i.signature × EndsInDigest (components i.name))
     × (IsSome i.signature × EndsInDigest (components i.name) → (first second : List ℕ) × CoversInterest (components i.name) i.whole.now first second)
 covers_where i =

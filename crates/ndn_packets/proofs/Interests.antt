@@ -110,7 +110,7 @@ parameters_taken : (value : Option (List ℕ)) (front s t : InterestSoFar) → s
 parameters_taken None front s t is took = took ∙ is
 parameters_taken (Some v) front s t is took = sym (ok_is _ t (subst (λ (u : InterestSoFar). take_interest_field u (36, v) ≡ Ok t) is took))
 
--- an optional InterestSignatureInfo with its meaning
+-- an optional InterestSignatureInfo, and its plain data
 abbrev SaysInfo : Option (List ℕ) → Option PlainSignatureInfo → Type 0
 SaysInfo None said = said ≡ None
 SaysInfo (Some value) said = (info : PlainSignatureInfo) × IsSignatureInfo value info × (said ≡ Some info)

@@ -1,4 +1,4 @@
--- Lengths of what is written, and the octets that remain after some are appended.
+-- Lengths of what is written, and octets that stay unchanged when others are appended.
 use Rattle.std.proofs.Common.{◌≡◌, ℕ, ◌+◌, ◌-◌, ◌^◌, ◌<◌, min, List, [], ◌∷◌, ◌++◌, length, refl, sym, ap, subst, ◌∙◌, append_assoc, arith, inl, inr, Option}
 use Rattle.std.proofs.lemmas.Bool.{cases_lt}
 use Rattle.std.proofs.lemmas.List.{length-append}
@@ -32,7 +32,7 @@ sum_is_long m n front back p q = omega (arith, length-append front back)
 pub name_is_long : (n : ℕ) (value : List ℕ) (name : List Field) → IsNameValue value name → IsLength n value → IsLength n (octets name)
 name_is_long n value name is long = subst (λ (x : List ℕ). IsLength n x) is.0.1 long
 
--- a length is exact if the octets are in memory
+-- a length is exact if there are fewer than 2^63 octets
 pub in_memory_is_exact : (n : ℕ) (octets : List ℕ) → IsLength n octets → length octets < 2 ^ 63 → n ≡ length octets
 in_memory_is_exact n octets is small = omega arith
 
@@ -77,7 +77,7 @@ info_after_octets old kind len signed time seq =
     regrouped : (a b c d e : List ℕ) → (((a ++ b) ++ c) ++ d) ++ e ≡ a ++ (((b ++ c) ++ d) ++ e)
     regrouped a b c d e = simp append_assoc
 
--- the appended parts are the SignatureInfo, if they are in memory
+-- the appended parts are the SignatureInfo, if there are fewer than 2^63 octets
 pub info_put : (old : List ℕ) (kind len : ℕ) (signed : Sign) (time seq : Option ℕ) (new : List ℕ) → IsLength len (octets (info_fields signed time seq)) → new ≡ info_after old kind len signed time seq → length new < 2 ^ 63
     → new ≡ old ++ element (kind, octets (info_fields signed time seq))
 info_put old kind len signed time seq new long is small =

@@ -272,7 +272,7 @@ header_again s e headers token nack (inr (inr (inr (inr (inr is))))) = ignored_a
 
 -- ---- the elements of a link packet
 
--- the content of an optional Fragment, with a token and a Nack or without them
+-- the content of a link packet with an optional token, an optional Nack and an optional Fragment
 abbrev pub held : Option (List ℕ) → Option ℕ → Option (List ℕ) → Result PlainFramed PacketFault
 held token nack None = no_fragment token nack
 held token nack (Some text) = fragment_at nack text >>= λ frame. good (framed_with token frame)

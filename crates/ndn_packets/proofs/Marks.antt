@@ -14,7 +14,7 @@ use Rattle.ndn_packets.specs.Covered.{from_first, IsSignedAt}
 use Rattle.ndn_packets.proofs.Steps.{some_is, none_is_not_some}
 use Rattle.ndn_packets.proofs.Cuts.{next_is, next_other}
 
--- an element whose type does not count in the schema has none of the types that may still come
+-- an element that is not a field has none of the types that may still come
 pub skipped : (kind k : ℕ) (schema whole value octets after : List ℕ) → None ≡ schema_after k schema → schema ≡ whole → IsSome (schema_after kind whole) → Ok ((k, value), after) ≡ element_at octets → from_first kind octets ≡ from_first kind after
 skipped kind k schema whole value octets after none same comes read =
     next_other kind octets (k, value) after read

@@ -12,12 +12,12 @@ use Rattle.ndn_packets.proofs.FieldLists.{Lacks}
 abbrev pub Others : ℕ → List Field → Type 0
 Others kind fields = AllByRecursion (λ f. f.0 ≢ kind) fields
 
--- the type of no field is in `schema`
+-- no field has a type in `schema`
 abbrev pub Earlier : List ℕ → List Field → Type 0
 Earlier schema fields = AllByRecursion (λ f. Lacks f.0 schema) fields
 
--- `kind` in a schema: no type in `before` recurs from `kind` on, and `before` is empty if `kind`
--- needs the previous field
+-- No type in `before` occurs again as `kind` or in `later`. If `kind` needs the previous field,
+-- `before` is empty.
 pub record IsAround (before : List ℕ) (kind : ℕ) (later : List ℕ) : Type 0 where
   pub apart : AllByRecursion (λ k. Lacks k (kind ∷ later)) before
   pub near : needs_previous_field kind ≡ true → before ≡ []

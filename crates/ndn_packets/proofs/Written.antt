@@ -143,7 +143,7 @@ pub in_order : (ignores : ℕ → Bool) (schema : List ℕ) (fields : List Field
 in_order ignores schema [] h = refl
 in_order ignores schema (f ∷ fields) h = inl (h.0, fields, h.1, refl, in_order ignores h.0 fields h.2)
 
--- what holds of each type in a schema holds of the types after one of them
+-- a property of each type in a schema holds for a type and for the types after this type
 all_following : (P : ℕ → Type 0) (front : List ℕ) (kind : ℕ) (later : List ℕ) → AllByRecursion P (front ++ kind ∷ later) → P kind × AllByRecursion P later
 all_following P [] kind later h = h
 all_following P (k ∷ front) kind later h = all_following P front kind later h.1

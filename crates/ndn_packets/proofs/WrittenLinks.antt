@@ -161,7 +161,7 @@ data_written None None whole d sizes bytes is none = (is, inl (refl, refl))
 data_written (Some token) None whole d sizes bytes is none =
     (is, inr (link_written ((98, token) ∷ []) (Some token) None whole (token_written token sizes bytes) is.fields.short is.fields.octets))
 
--- what holds of a borrowed token holds of its value
+-- a property of a borrowed token holds for its value
 pub token_now : (P : List ℕ → Type 0) (token : Option (Bor (List ℕ))) → IfSome token (λ t. P t.now) → IfSome (option_map (λ t. t.now) token) P
 token_now P None h = tt
 token_now P (Some t) h = h

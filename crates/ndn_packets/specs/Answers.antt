@@ -11,8 +11,8 @@ use Rattle.ndn_names.specs.declared.component_type.TheConstants.{IMPLICIT_SHA256
 abbrev pub full_name : List Field → List ℕ → List Field
 full_name name digest = name ++ (IMPLICIT_SHA256_DIGEST, digest) ∷ []
 
--- The Interest's name is the Data's name, the Data's full name or, if the Interest has CanBePrefix,
--- a prefix of either.
+-- The Interest's name is the Data's name or the Data's full name. If the Interest has CanBePrefix,
+-- its name may also be a prefix of one of these two names.
 abbrev pub Answers : List Field → List ℕ → List Field → Bool → Type 0
 Answers name digest asked can_be_prefix =
     (asked ≡ name) ⊎ ((asked ≡ full_name name digest)
@@ -29,7 +29,7 @@ abbrev pub AsksFor : List Field → List Field → Option (List ℕ) → Type 0
 AsksFor name asked None = (digest : List ℕ) → asked ≡ full_name name digest → ⊥
 AsksFor name asked (Some digest) = asked ≡ full_name name digest
 
--- `IsPrefix` as a test: whether the second name begins with the first
+-- `IsPrefix` as a test: whether the first name is a prefix of the second
 abbrev pub begins_with : List Field → List Field → Bool
 begins_with [] b = true
 begins_with (c ∷ a) [] = false

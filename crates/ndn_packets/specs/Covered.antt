@@ -10,8 +10,8 @@ use Rattle.ndn_names.specs.declared.first_of_type.FirstOfType.{FirstOfType}
 use Rattle.ndn_packets.specs.Packet.{PlainSignature, PlainFrame, AnInterest, AData, ANack, Idle}
 use Rattle.ndn_packets.specs.declared.types.TheConstants.{APPLICATION_PARAMETERS, DATA, INTEREST, INTEREST_SIGNATURE_INFO, INTEREST_SIGNATURE_VALUE, SIGNATURE_VALUE}
 
--- The cut before the first element of this type: before it are whole elements of other types, after
--- it any octets.
+-- The octets are cut before the first element of type `kind`. `before` consists of whole elements
+-- of other types. `from` begins with the element of type `kind`.
 pub record IsCut (kind : ℕ) (octets before from : List ℕ) : Type 0 where
   pub others : List Field
   pub value : List ℕ
@@ -22,7 +22,7 @@ pub record IsCut (kind : ℕ) (octets before from : List ℕ) : Type 0 where
   pub from_is : from ≡ element (kind, value) ++ after
   pub octets_are : octets ≡ before ++ from
 
--- The octets from the cut on. The reader looks at no more than n elements.
+-- The octets from the first element of type `kind` on, if it is among the first n elements.
 unfoldable pub from_within : ℕ → ℕ → List ℕ → Option (List ℕ)
 from_within zero kind octets = None
 from_within (suc n) kind octets =
@@ -42,9 +42,9 @@ pub record CoversData (text covered : List ℕ) : Type 0 where
 
 -- The signature of an Interest covers two parts. The first part is the components of its name
 -- before the digest of parameters, which is the last component. The second part is the octets from
--- the ApplicationParameters up to, but not including, the InterestSignatureValue. The first
--- ApplicationParameters, the first InterestSignatureInfo after them, and the first
--- InterestSignatureValue after that count.
+-- the ApplicationParameters up to, but not including, the InterestSignatureValue. If there are
+-- several, these are the first ApplicationParameters, the first InterestSignatureInfo after them,
+-- and the first InterestSignatureValue after that.
 pub record CoversInterest (name : List Field) (text first second : List ℕ) : Type 0 where
   pub components : List Field
   pub digest : List ℕ
@@ -71,8 +71,8 @@ Covered (AData whole d) first second = CoversData whole first × (second ≡ [])
 Covered (ANack reason whole i) first second = ⊥
 Covered Idle first second = ⊥
 
--- the two parts are what the signature of the packet covers; with `None`, the signature covers
--- nothing
+-- the two parts are the octets that the signature of the packet covers; if there are no parts, the
+-- signature covers nothing
 abbrev pub AreParts : PlainFrame → Option Parts → Type 0
 AreParts packet None = (first second : List ℕ) → Covered packet first second → ⊥
 AreParts packet (Some parts) = Covered packet parts.first.now parts.second.now
@@ -107,8 +107,8 @@ pub record EndsAtSignature (name : List Field) (value text first second : List �
 
 -- ---- covered octets as a reader notes them
 
--- `second` is the second part that the signature of an Interest with this name covers; with `None`,
--- the signature covers nothing
+-- `second` is the second part that the signature of an Interest with this name covers; if `second`
+-- is absent, the signature covers nothing
 abbrev pub HoldsSecond : List Field → List ℕ → Option (List ℕ) → Type 0
 HoldsSecond name text None = (first second : List ℕ) → CoversInterest name text first second → ⊥
 HoldsSecond name text (Some second) = (first : List ℕ) × CoversInterest name text first second

@@ -28,7 +28,7 @@ IsNextField before after (Ok (Some e)) =
 IsNextField before after (Err fault) = fields_left before ≡ Err fault ∷ []
 
 -- The position of the field `e` that the reader just returned. `here` is the octets from `e` on. No
--- element before `e` has a type that could still come.
+-- element that was skipped before `e` has a type that could still come.
 pub record StandsHere (before after : FieldReader) (e : Element) : Type 0 where
   pub here : Ok ((e.kind, e.value.now), after.rest.now) ≡ element_at after.here.now
   pub schema : schema_after e.kind before.schema.now ≡ Some after.schema.now

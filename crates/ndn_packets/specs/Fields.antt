@@ -35,12 +35,12 @@ abbrev pub info_schema : List ℕ
 info_schema =
     SIGNATURE_TYPE ∷ KEY_LOCATOR ∷ SIGNATURE_NONCE ∷ SIGNATURE_TIME ∷ SIGNATURE_SEQ_NUM ∷ []
 
--- InterestSignatureInfo and InterestSignatureValue count only if the field before them has the
--- preceding type of the schema. Ignored elements in between do not matter.
+-- A field of type InterestSignatureInfo or InterestSignatureValue may come only after the field of
+-- the preceding type in the schema. Ignored elements between the two fields do not matter.
 abbrev pub needs_previous_field : ℕ → Bool
 needs_previous_field kind = kind == INTEREST_SIGNATURE_INFO || kind == INTEREST_SIGNATURE_VALUE
 
--- the type `kind` counts in the schema, and the types in `later` come after it
+-- a field of type `kind` may come next in the schema, and the types in `later` may come after it
 abbrev pub Counts : ℕ → List ℕ → List ℕ → Type 0
 Counts kind later schema =
     (front : List ℕ) × (schema ≡ front ++ kind ∷ later) × AllByRecursion (λ k. k ≢ kind) front

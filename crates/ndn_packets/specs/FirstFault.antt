@@ -36,7 +36,7 @@ HasFault take ignores schema s (Ok e) fault =
     × (fault ≡ CriticalUnknown))
     ⊎ ((next : List ℕ) × Counts e.0 next schema × (take s e ≡ Err fault))
 
--- All elements before the first one with a fault are fields or ignored.
+-- The first fault among the elements. All elements before the faulty element are fields or ignored.
 pub record FirstFault {S : Type 0} (take : S → Field → Result S PacketFault) (ignores : ℕ → Bool)
     (schema : List ℕ) (s : S) (elements : List (Result Field TlvFault))
     (fault : PacketFault) : Type 0 where
@@ -49,7 +49,7 @@ pub record FirstFault {S : Type 0} (take : S → Field → Result S PacketFault)
   pub passes : Passes take ignores schema s before later taken
   pub faulty : HasFault take ignores later taken next fault
 
--- reading the fields of a schema returns a fault exactly where it is the first fault
+-- reading the fields of a schema returns a fault exactly if this fault is the first fault
 abbrev pub TellsFirstFault : {S : Type 0} → (S → Field → Result S PacketFault) → (ℕ → Bool)
     → List ℕ → S → Type 0
 TellsFirstFault take ignores schema s =

@@ -38,7 +38,7 @@ NoInterest text e fault = LongOr text fault (InterestFault (elements_of e.1) fau
 abbrev pub NoData : List ℕ → Field → PacketFault → Type 0
 NoData text e fault = LongOr text fault (DataFault (elements_of e.1) fault)
 
--- the octets are exactly the element `e`, which is neither a valid Interest nor a valid Data
+-- the octets are exactly the element `e`, which is no valid packet because of this fault
 abbrev pub NoPacket : List ℕ → Field → PacketFault → Type 0
 NoPacket text e fault =
     ((e.0 ≡ INTEREST) × NoInterest text e fault)
@@ -89,14 +89,15 @@ HeaderFault before h fault =
     (IsRefused before h × (fault ≡ LpField))
     ⊎ ((IsRefused before h → ⊥) × HeaderValueFault h fault)
 
--- no element may follow a Fragment
+-- the fault of an element after a Fragment, where no element may follow
 abbrev pub FollowerFault : List (Result Field TlvFault) → PacketFault → Type 0
 FollowerFault [] fault = ⊥
 FollowerFault (Err unreadable ∷ after) fault = fault ≡ Tlv unreadable
 FollowerFault (Ok e ∷ after) fault = fault ≡ LpField
 
--- The fault of what follows valid header fields, where `nack` is the reason of the Nack among them,
--- if any. A Nack needs a Fragment. A fault inside a Fragment is reported before a fault after it.
+-- The fault of the elements after valid header fields. `nack` is the reason of the Nack among the
+-- header fields, if there is a Nack. A Nack needs a Fragment. A fault inside a Fragment is reported
+-- before a fault after it.
 abbrev pub AfterHeaders : List Field → Option ℕ → List (Result Field TlvFault) → PacketFault
     → Type 0
 AfterHeaders headers nack [] fault = IsSome nack × (fault ≡ BadField)

@@ -14,7 +14,7 @@ use Rattle.ndn_packets.specs.declared.types.TheConstants.{DATA, FRAGMENT, FRAG_C
 
 -- ---- packets
 
--- the only element of a text
+-- the element, if a text is exactly one element
 abbrev pub only_element : List ℕ → Result Field PacketFault
 only_element text =
     on_result (λ x. if is_nil x.1 then Ok x.0 else Err BadField) (λ f. Err (Tlv f))
@@ -50,7 +50,7 @@ unfoldable pub nack_at : List ℕ → Result ℕ PacketFault
 nack_at value =
     read_fields take_nack_field 0 (fields_from is_even_high nack_schema (elements_of value))
 
--- the state after header fields: which have been read, the token, and the Nack's reason
+-- the state of a reader of header fields: which have been read, the token, and the reason of a Nack
 pub record LinkSoFar : Type 0 where
   pub sequence : Bool
   pub frag_index : Bool
@@ -98,12 +98,12 @@ with_header s h =
 abbrev pub take_header : LinkSoFar → Field → Result LinkSoFar PacketFault
 take_header s h = if is_refused_header s h then Err LpField else with_header s h
 
--- the packet in a Fragment, with a Nack of this reason or without one
+-- the packet in a Fragment; with the reason of a Nack, the packet must be an Interest
 abbrev pub fragment_at : Option ℕ → List ℕ → Result PlainFrame PacketFault
 fragment_at None text = only_element text >>= packet_of text
 fragment_at (Some reason) text = only_element text >>= nacked_of reason text
 
--- no element may follow a Fragment
+-- the content of a link packet, or a fault if an element follows the Fragment
 abbrev pub last_of : PlainFramed → List (Result Field TlvFault) → Result PlainFramed PacketFault
 last_of framed [] = Ok framed
 last_of framed (Err f ∷ elements) = Err (Tlv f)

@@ -44,7 +44,7 @@ NamesKey value name =
 abbrev pub DigestsKey : List ℕ → Type 0
 DigestsKey value = (digest : List ℕ) × IsElement value KEY_DIGEST digest
 
--- the key that an optional KeyLocator names
+-- an optional KeyLocator, and its plain data
 abbrev pub IsLocator : Option (List ℕ) → PlainLocator → Type 0
 IsLocator None locator = locator ≡ Missing
 IsLocator (Some value) Missing = ⊥
@@ -86,15 +86,16 @@ pub record IsSignatureInfo (text : List ℕ) (s : PlainSignatureInfo) : Type 0 w
   pub time : IsNumber time_value s.time
   pub seq : IsNumber seq_value s.seq
 
--- the elements from the first ApplicationParameters, which count, to the end of the packet
+-- the elements from the first ApplicationParameters to the end of the packet
 abbrev pub from_parameters : List Field → List Field
 from_parameters [] = []
 from_parameters (e ∷ elements) =
     if e.0 == APPLICATION_PARAMETERS then e ∷ elements else from_parameters elements
 
 -- The name of an Interest without parameters has no digest of parameters. The name of an Interest
--- with parameters has exactly one, at any position: SHA-256 of the octets from the parameters to
--- the end of the packet. `elements` are all elements after the Name.
+-- with parameters has exactly one digest of parameters, at any position. This digest is SHA-256 of
+-- the octets from the parameters to the end of the packet. `elements` are all elements after the
+-- Name.
 abbrev pub IsDigested : List Field → List Field → Option (List ℕ) → Type 0
 IsDigested name elements None = digests_in name ≡ []
 IsDigested name elements (Some parameters) =

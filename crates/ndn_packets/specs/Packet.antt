@@ -58,7 +58,7 @@ pub record PlainFramed : Type 0 where
 abbrev pub framed_with : Option (List ℕ) → PlainFrame → PlainFramed
 framed_with token frame = record { token = token; frame = frame }
 
--- an Interest, with a Nack or without one
+-- an Interest as a frame, or a Nack for the Interest if a reason is given
 abbrev pub interest_frame : Option ℕ → List ℕ → PlainInterest → PlainFrame
 interest_frame None whole i = AnInterest whole i
 interest_frame (Some reason) whole i = ANack reason whole i

@@ -52,8 +52,8 @@ DigestFault name elements (Some parameters) fault =
     ⊎ ((digests_in name ≢ []) × (IsDigested name elements (Some parameters) → ⊥)
     × (fault ≡ DigestWrong))
 
--- All elements after the Name pass, but something is missing or wrong. A missing Nonce is reported
--- before a fault of the digests.
+-- All elements after the Name pass, but the Nonce is missing, or the digests of parameters have a
+-- fault. A missing Nonce is reported before a fault of the digests.
 pub record InterestEndsWrong (name : List Field) (later : List (Result Field TlvFault))
     (fault : PacketFault) : Type 0 where
   pub plain : List Field
@@ -63,7 +63,7 @@ pub record InterestEndsWrong (name : List Field) (later : List (Result Field Tlv
   pub faulty : ((taken.nonce ≡ None) × (fault ≡ NoNonce))
       ⊎ ((taken.nonce ≢ None) × DigestFault name plain taken.parameters fault)
 
--- The fault after the Name of an Interest, or that the Name is empty.
+-- The fault of an Interest after its Name, or the fault that the Name is empty.
 abbrev pub AfterInterestName : List Field → List (Result Field TlvFault) → PacketFault → Type 0
 AfterInterestName name later fault =
     ((name ≡ []) × (fault ≡ NoName))

@@ -17,7 +17,7 @@ use Rattle.ndn_packets.specs.Fields.{is_even_high, is_ignored_in_meta_info, is_i
 use Rattle.ndn_packets.specs.Packet.{digests_in, PlainLocator, Missing, KeyName, Digest, Other, PlainSignatureInfo, PlainSignature, PlainInterest, PlainData}
 use Rattle.ndn_packets.specs.declared.types.TheConstants.{APPLICATION_PARAMETERS, CAN_BE_PREFIX, CONTENT, CONTENT_TYPE, FRESHNESS_PERIOD, HOP_LIMIT, INTEREST_LIFETIME, INTEREST_SIGNATURE_INFO, INTEREST_SIGNATURE_VALUE, KEY_DIGEST, KEY_LOCATOR, META_INFO, MUST_BE_FRESH, NAME, NONCE, SIGNATURE_INFO, SIGNATURE_SEQ_NUM, SIGNATURE_TIME, SIGNATURE_TYPE}
 
--- the part of a schema after the type `kind`, if `kind` counts in the schema
+-- the types of a schema after the type `kind`, if a field of type `kind` may come next
 abbrev pub schema_after : ℕ → List ℕ → Option (List ℕ)
 schema_after kind [] = None
 schema_after kind (first ∷ schema) =
@@ -35,7 +35,7 @@ fields_from ignores schema (Ok e ∷ elements) =
     (if ignores e.0 then fields_from ignores schema elements else Err CriticalUnknown ∷ [])
     (schema_after e.0 schema)
 
--- the state after all fields are taken in order
+-- the state after all fields are read in order, or the first fault
 abbrev pub read_fields : {S : Type 0} → (S → Field → Result S PacketFault) → S
     → List (Result Field PacketFault) → Result S PacketFault
 read_fields take s [] = Ok s
@@ -73,8 +73,8 @@ abbrev pub found_or : {A : Type 0} → PacketFault → Option A → Result A Pac
 found_or fault None = Err fault
 found_or fault (Some x) = Ok x
 
--- Takes a field of a MetaInfo and keeps the FreshnessPeriod. A ContentType must be a number. The
--- only other type that comes here is 26 (FinalBlockId).
+-- Reads a field of a MetaInfo. Only the value of a FreshnessPeriod is kept. A ContentType must be a
+-- number. The only other type that is possible here is 26 (FinalBlockId).
 abbrev pub take_meta_field : ℕ → Field → Result ℕ PacketFault
 take_meta_field freshness f =
     if f.0 == CONTENT_TYPE then (nni_value_at f.1 >>= λ _. Ok freshness) else (
@@ -170,14 +170,16 @@ take_interest_field s f =
     if f.0 == INTEREST_SIGNATURE_VALUE then Ok (record s { value = Some f.1 }) else
     Ok s)))))))
 
--- the elements from the first ApplicationParameters on, up to one that cannot be read
+-- the elements from the first ApplicationParameters on, or no elements if one before them cannot be
+-- read
 abbrev pub parameters_on : List (Result Field TlvFault) → List (Result Field TlvFault)
 parameters_on [] = []
 parameters_on (Err f ∷ elements) = []
 parameters_on (Ok e ∷ elements) =
     if e.0 == APPLICATION_PARAMETERS then Ok e ∷ elements else parameters_on elements
 
--- the octets of the elements that can be read, as received: each number has only one encoding
+-- the octets of the elements that can be read; these are the received octets, because each number
+-- has only one encoding
 abbrev pub octets_of_read : List (Result Field TlvFault) → List ℕ
 octets_of_read elements = flat_map element (filter_map result_ok elements)
 
@@ -190,8 +192,8 @@ digest_fault (Some parameters) (d ∷ []) right =
     if bytes_eq d.1 right then None else Some DigestWrong
 digest_fault (Some parameters) (d ∷ e ∷ digests) right = Some DigestWrong
 
--- the fault of the digests of parameters in a name, given the first of them, where `right` is the
--- correct digest
+-- the fault of the digests of parameters in a name, given only the first of these digests, where
+-- `right` is the correct digest
 abbrev pub fault_by : Option (List ℕ) → Option FirstOfType → List ℕ → Option PacketFault
 fault_by None None right = None
 fault_by None (Some first) right = Some DigestWithout

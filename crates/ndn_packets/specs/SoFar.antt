@@ -1,4 +1,4 @@
--- What readers have found so far, without its positions in memory.
+-- The states of readers as plain data, without their positions in memory.
 use Rattle.std.specs.Option.{option_map}
 use Rattle.ndn_packets.specs.declared.data.DataFields.{DataFields}
 use Rattle.ndn_packets.specs.declared.interest.InterestFields.{InterestFields}

@@ -1,4 +1,4 @@
--- What the views of packets show, and what holds of every packet in memory.
+-- Packets in memory as plain data, and what is true of every packet in memory.
 use Rattle.std.specs.Prelude.{option_map}
 use Rattle.ndn_names.specs.View.{components}
 use Rattle.ndn_packets.specs.declared.interest.Interest.{Interest}
@@ -38,8 +38,8 @@ plain_frame frames.Idle = Idle
 abbrev pub plain_framed : Framed → PlainFramed
 plain_framed f = record { token = option_map (λ t. t.now) f.token; frame = plain_frame f.frame }
 
--- The received octets are this Interest, or this Data. This holds of every packet in memory,
--- because it was read.
+-- The received octets are this Interest, or this Data. This is true of every packet in memory,
+-- because only reading creates packets.
 abbrev pub IsReadInterest : Interest → Type 0
 IsReadInterest i = IsInterest i.whole.now (plain_interest i)
 

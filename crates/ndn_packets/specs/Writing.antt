@@ -111,7 +111,7 @@ interest_fields w =
 abbrev pub interest_text : InterestWriter → List ℕ
 interest_text w = element (INTEREST, octets (interest_fields w))
 
--- the Interest that the writer is asked for
+-- the Interest that is requested of the writer
 abbrev pub interest_asked : InterestWriter → PlainInterest
 interest_asked w = record {
   name = interest_name w;
@@ -127,7 +127,7 @@ interest_asked w = record {
   }) w.sign;
 }
 
--- the signature of the written Interest is over the octets that it covers
+-- the signature of the written Interest was computed over exactly the octets that it covers
 abbrev pub SignsInterest : InterestWriter → Sign → Type 0
 SignsInterest w signed =
     Covered (AnInterest (interest_text w) (interest_asked w)) (octets (components w.name))
@@ -136,7 +136,7 @@ SignsInterest w signed =
 abbrev pub is_bad_name : List Field → Bool
 is_bad_name name = is_nil name || not (is_nil (digests_in name))
 
--- why an Interest is not written, except when memory runs out
+-- why an Interest is refused, if it is refused; a lack of memory is not considered
 abbrev pub interest_refusal : InterestWriter → Option WriteFault
 interest_refusal w =
     if is_bad_name (components w.name) then Some BadName else (
@@ -215,7 +215,7 @@ data_asked w =
     plain_data_of w.sign (components w.name) (unwrap_or w.freshness 0) (meta_asked w)
     (content_asked w)
 
--- why a Data is not written, except when memory runs out
+-- why a Data is refused, if it is refused; a lack of memory is not considered
 abbrev pub data_refusal : DataWriter → Option WriteFault
 data_refusal w = if nat_lt 8800 (length (data_text w)) then Some TooLong else None
 
@@ -235,7 +235,7 @@ reply_of name content = record {
   sign = sign.Digest;
 }
 
--- the signature of the reply is over the octets that it covers
+-- the signature of the reply was computed over exactly the octets that it covers
 abbrev pub SignsReply : List Field → List ℕ → Type 0
 SignsReply name content =
     Covered (AData (reply_text name content) (reply_asked name content))
@@ -276,8 +276,8 @@ in_link (h ∷ headers) packet =
 abbrev pub lp_text : Option (List ℕ) → Option ℕ → List ℕ → List ℕ
 lp_text token nack packet = in_link (lp_headers token nack) packet
 
--- the value of a link packet with an optional token and an optional Nack, and the link packet
--- itself, which exists even without both
+-- the value of a link packet with an optional token and an optional Nack, and the whole link
+-- packet; it is a link packet even with neither of them
 abbrev pub link_value : Option (List ℕ) → Option ℕ → List ℕ → List ℕ
 link_value token nack packet =
     (octets (optional PIT_TOKEN token) ++ octets (nack_headers nack)) ++ element (FRAGMENT, packet)

@@ -24,9 +24,10 @@ impl Data<'_> {
         Sha256::digest(self.whole)
     }
 
-    /// Returns whether the Data answers an Interest for the name `asked`. It does if `asked` is the
-    /// Data's name, its full name (the name and the implicit digest) or, with CanBePrefix, a prefix
-    /// of either. The digest is computed only if the answer depends on it.
+    /// Returns whether the Data answers an Interest with the name `asked`. `asked` must be the name
+    /// of the Data or its full name, which is the name followed by the implicit digest. With
+    /// CanBePrefix, `asked` may also be a prefix of the name or of the full name. The digest is
+    /// computed only if the answer depends on it.
     pub fn answers(&self, asked: Name<'_>, can_be_prefix: bool) -> bool
         ensures exact { IsTrue result
             ↔ Answers (components self.now.name) (sha256 self.now.whole.now)
@@ -34,7 +35,7 @@ impl Data<'_> {
         ensures test { result
             ≡ answers (components self.now.name) (sha256 self.now.whole.now)
             (components asked.entry) can_be_prefix }
-        // The name and the digest belong to the same Data.
+        // The octets of `self.whole` are the Data, so its name and its digest belong together.
         ensures packet { IsReadData self.now }
     {
         match self.asked_digest(asked) {
@@ -43,9 +44,9 @@ impl Data<'_> {
         }
     }
 
-    /// Returns what `answers` returns, if `digest` is the implicit digest. A caller that looks at
-    /// many Interests can thus compute the digest once. If `asked_digest` returns `None` for all of
-    /// them, any 32 octets will do.
+    /// Returns what `answers` returns, if `digest` is the implicit digest. A caller with many
+    /// Interests can thus compute the digest only once. If `asked_digest` returns `None` for an
+    /// Interest, `digest` may be any 32 octets.
     pub fn answers_with(&self, digest: &[u8; 32], asked: Name<'_>, can_be_prefix: bool) -> bool
         ensures exact { IsTrue result
             ↔ Answers (components self.now.name) digest.now (components asked.entry)
@@ -60,8 +61,9 @@ impl Data<'_> {
         }
     }
 
-    /// Returns the last component of `asked`, right or wrong, if it is an implicit digest that
-    /// follows the Data's name. For any other name the answer does not depend on the digest.
+    /// Returns the last component of `asked`, if it is an implicit digest and the components before
+    /// it are the Data's name. Whether this digest is correct is not checked. For any other name,
+    /// the answer does not depend on the digest.
     pub fn asked_digest<'n>(&self, asked: Name<'n>) -> Option<&'n [u8]>
         ensures { AsksFor (components self.now.name) (components asked.entry)
             (option_map (λ digest. digest.now) result) }
@@ -89,8 +91,8 @@ impl Data<'_> {
     }
 }
 
-/// Law: what the tests `answers` and `begins_with` mean. If a name is not the Data's name followed
-/// by a digest, the answer is the same for every digest.
+/// Law: the test `answers` decides `Answers`, and the test `begins_with` decides `IsPrefix`. If a
+/// name is not the Data's name followed by a digest, the answer is the same for every digest.
 pub fn answers_can_be_tested()
     ensures answers { (name asked : List Field) (digest : List ℕ) (can_be_prefix : Bool)
         → IsTrue (answers name digest asked can_be_prefix)

@@ -1,5 +1,5 @@
-//! Numbers that the standards assign to commands, their replies and datasets: TLV-TYPEs. The types
-//! of the Name, and of other fields that packets have too, are in `types`.
+//! TLV-TYPEs that the standards assign to commands, to their replies and to datasets. The types of
+//! the Name and of other fields that packets also have are in `types`.
 
 ghost use Rattle.std.specs.Prelude.{◌≡◌};
 

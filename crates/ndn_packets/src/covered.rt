@@ -23,8 +23,9 @@ impl<'a> Data<'a> {
     ghost use Rattle.ndn_packets.specs.View.{plain_data};
     ghost use Rattle.ndn_packets.specs.Covered.{Covered};
 
-    /// Returns the octets that the signature covers, as received: those from the Name up to the
-    /// SignatureValue, all in the first part. A Data always has them.
+    /// Returns the octets that the signature covers, as received: the octets from the Name up to,
+    /// but not including, the SignatureValue. All of these octets are in the first part. The result
+    /// is never `None`.
     pub fn signed_parts(&self) -> Option<Parts<'a>>
         ensures { IsSomeAnd result (λ parts. Covered
             (AData self.now.whole.now (plain_data self.now)) parts.first.now parts.second.now) }
@@ -76,7 +77,7 @@ pub(crate) fn from_first(octets: &[u8], kind: u32) -> Option<&[u8]>
     None
 }
 
-/// Returns `octets` without its last octets, as many as `end` has.
+/// Removes as many octets from the end of `octets` as `end` has.
 #[inline(always)]
 pub(crate) fn octets_before<'a>(octets: &'a [u8], end: &[u8]) -> &'a [u8]
     requires { length end.now ≤ length octets.now }
@@ -85,10 +86,11 @@ pub(crate) fn octets_before<'a>(octets: &'a [u8], end: &[u8]) -> &'a [u8]
     &octets[..octets.len() - end.len()]
 }
 
-/// Law: a Data has covered octets, and an Interest has them exactly if it is signed and the digest
-/// of its parameters is the last component. The covered octets end where the element of the
-/// signature's value begins. The covered octets of an Interest are all of its name before the
-/// digest, followed by a second part that begins where the octets covered by the digest begin.
+/// Law: a Data has covered octets. An Interest has covered octets exactly if it is signed and the
+/// digest of its parameters is the last component of its name. The covered octets end where the
+/// element of the signature's value begins. The covered octets of an Interest are all components of
+/// its name before the digest, followed by a second part. The second part begins where the octets
+/// covered by the digest begin.
 pub fn signed_packets_have_covered_octets()
     ensures data { (text : List ℕ) (d : PlainData) → IsData text d
         → (covered : List ℕ) × Covered (AData text d) covered [] }

@@ -19,7 +19,7 @@ use crate::types::{CONTENT, META_INFO, SIGNATURE_INFO, SIGNATURE_VALUE};
 use ndn_names::Name;
 use ndn_tlv::Element;
 
-/// A Data: a view of the octets that it was read from (NDN Packet Format 0.3, "Data Packet").
+/// A Data, which borrows the octets that it was read from (NDN Packet Format 0.3, "Data Packet").
 #[derive(Clone, Copy, Debug, PartialEq, Eq)]
 pub struct Data<'a> {
     /// The name, which may be empty.

@@ -48,14 +48,15 @@ impl DataWriter<'_> {
     ghost use Rattle.ndn_packets.specs.Writing.{fields_covered, fields_asked, meta_fields, meta_asked, data_text, data_asked, data_refusal, IsLength, IsU64, SoundData};
 
     /// Appends the Data with only the requested fields, in the standard's order and in their
-    /// shortest forms. Without a FreshnessPeriod and a last segment there is no MetaInfo.
+    /// shortest forms. If neither a FreshnessPeriod nor a last segment is requested, no MetaInfo is
+    /// written.
     ///
     /// If the Data is refused, returns the first fault in the order of `WriteFault` and appends
-    /// nothing. `BadName` never occurs.
+    /// nothing. `BadName` is never returned.
     pub fn write(&self, out: &mut Vec<u8>) -> Result<(), WriteFault>
         ensures ok { OnOk result (out.new.items ≡ out.old.items ++ data_text self.now) }
         ensures err { OnErr result (out.new.items ≡ out.old.items) }
-        // The fault is the reason for a refusal or, if there is none, that memory ran out.
+        // The fault is the reason for a refusal, or `Memory` if the Data is not refused.
         ensures fault { MatchOption (data_refusal self.now)
             (IfErr result (λ fault. fault ≡ WriteFault.Memory))
             (λ fault. result ≡ Err fault) }
@@ -63,10 +64,10 @@ impl DataWriter<'_> {
         ensures room { data_refusal self.now ≡ None
             → vec_len out.old + length (data_text self.now) ≤ vec_capacity out.old → IsOk result }
         ensures capacity { vec_capacity out.old ≤ vec_capacity out.new }
-        // The written Data is in the grammar, and is what was asked for.
+        // The written octets are in the grammar, and are the requested Data.
         ensures reads_back { data_refusal self.now ≡ None
             → IsData (data_text self.now) (data_asked self.now) }
-        // The signature is over the octets that it covers.
+        // The signature was computed over exactly the octets that it covers.
         ensures signed { data_refusal self.now ≡ None
             → Covered (AData (data_text self.now) (data_asked self.now))
             (octets (fields_covered self.now)) [] }
@@ -106,7 +107,8 @@ impl DataWriter<'_> {
     /// Returns the length in octets of what the signature covers, at most `usize::MAX`.
     fn covered_len(&self) -> usize
         ensures len { IsLength result (octets (fields_covered self.now)) }
-        // The proofs that a written Data is in the grammar need `SoundData`.
+        // The octets and numbers of the writer are within the ranges of their types. Proofs about
+        // the written Data use this fact.
         ensures sound { SoundData self.now }
     {
         name_element_len(self.name)
@@ -118,7 +120,8 @@ impl DataWriter<'_> {
     /// Returns the length of the packet's value in octets, at most `usize::MAX`.
     fn value_len(&self) -> usize
         ensures len { IsLength result (octets (fields_asked self.now)) }
-        // The proofs that a written Data is in the grammar need `SoundData`.
+        // The octets and numbers of the writer are within the ranges of their types. Proofs about
+        // the written Data use this fact.
         ensures sound { SoundData self.now }
     {
         self.covered_len()
@@ -153,8 +156,8 @@ impl DataWriter<'_> {
         Ok(())
     }
 
-    /// Appends the Data. If memory runs out, some octets may have been appended. The length is
-    /// reserved first, so a length beyond any memory is refused at once.
+    /// Appends the Data. If memory runs out, some octets may have been appended. Capacity for the
+    /// whole Data is reserved first, so a Data that is longer than any memory is refused at once.
     fn put_parts(&self, out: &mut Vec<u8>, value_len: usize) -> Result<(), Memory>
         requires { IsLength value_len (octets (fields_asked self.now)) }
         ensures { Puts out.old out.new result (data_text self.now) }
@@ -211,8 +214,8 @@ fn put_last(out: &mut Vec<u8>, last: Option<u64>) -> Result<(), Memory>
     Ok(())
 }
 
-/// Appends a Data with this name and Content, without MetaInfo, signed with DigestSha256, of any
-/// length. If memory runs out, nothing is appended.
+/// Appends a Data with this name and Content. The Data has no MetaInfo, is signed with
+/// DigestSha256, and may have any length. If memory runs out, nothing is appended.
 pub fn put_reply(out: &mut Vec<u8>, name: Name<'_>, content: &[u8]) -> Result<(), Memory>
     ensures ok { OnOk result
         (out.new.items ≡ out.old.items ++ reply_text (components name.entry) content.now) }
@@ -221,11 +224,11 @@ pub fn put_reply(out: &mut Vec<u8>, name: Name<'_>, content: &[u8]) -> Result<()
     ensures room { vec_len out.old + length (reply_text (components name.entry) content.now)
         ≤ vec_capacity out.old → IsOk result }
     ensures capacity { vec_capacity out.old ≤ vec_capacity out.new }
-    // The written Data is in the grammar, if it is no longer than a packet may be.
+    // If the written Data has at most 8,800 octets, it is in the grammar.
     ensures reads_back { length (reply_text (components name.entry) content.now) ≤ 8800
         → IsData (reply_text (components name.entry) content.now)
         (reply_asked (components name.entry) content.now) }
-    // The signature is over the octets that it covers.
+    // The signature was computed over exactly the octets that it covers.
     ensures signed { length (reply_text (components name.entry) content.now) ≤ 8800
         → SignsReply (components name.entry) content.now }
 {

@@ -51,7 +51,7 @@ pub enum PacketFault {
     /// is not from 800 to 959 and divisible by 4.
     #[error("the link packet has a header field that it may not have")]
     LpField,
-    /// The octets are more than 9,000, or a packet has more than 8,800.
+    /// The frame has more than 9,000 octets, or a packet has more than 8,800 octets.
     #[error("the packet is longer than 8800 octets, or the frame than 9000")]
     TooLong,
 }

@@ -68,7 +68,7 @@ impl<'a> FieldReader<'a> {
     }
 }
 
-/// Returns the part of `schema` after the type `kind`, if `kind` counts in it.
+/// Returns the types of `schema` after the type `kind`, if a field of type `kind` may come next.
 #[inline(always)]
 fn rest_of_schema(schema: &[u32], kind: u32) -> Option<&[u32]>
     ensures { option_map (λ s. s.now) result ≡ schema_after kind schema.now }
@@ -84,7 +84,7 @@ fn rest_of_schema(schema: &[u32], kind: u32) -> Option<&[u32]>
     None
 }
 
-/// Returns the value of the first element, which must be a Name, and the octets after it.
+/// Returns the value of the first element, which must be a Name, and the octets after this element.
 #[inline(always)]
 fn leading_value(value: &[u8]) -> Result<(&[u8], &[u8]), PacketFault>
     ensures exact { on_result (λ x. Ok (x.0.now, elements_of x.1.now)) Err result
@@ -101,7 +101,7 @@ fn leading_value(value: &[u8]) -> Result<(&[u8], &[u8]), PacketFault>
     Ok((first.value, rest))
 }
 
-/// Returns the name in the first element, which must be a Name, and the octets after it.
+/// Returns the name in the first element, which must be a Name, and the octets after this element.
 #[inline(always)]
 pub fn leading_name(value: &[u8]) -> Result<(Name<'_>, &[u8]), PacketFault>
     ensures exact { on_result (λ x. Ok (components x.0, elements_of x.1.now)) Err result
@@ -116,7 +116,7 @@ pub fn leading_name(value: &[u8]) -> Result<(Name<'_>, &[u8]), PacketFault>
 }
 
 /// Returns the name in the first element, which must be a Name, the first digest of parameters in
-/// it, and the octets after it.
+/// this name, and the octets after the element.
 #[inline(always)]
 pub fn digested_name(
     value: &[u8],
@@ -142,8 +142,8 @@ pub fn number(value: &[u8]) -> Result<u64, PacketFault>
     nni_of(value).map_err(|_| PacketFault::BadField)
 }
 
-/// Law: among the fields of packets, and of values that have fields, the first fault is reported.
-/// All elements before it are valid fields or are ignored.
+/// Law: readers of the fields of a packet, or of a value that has fields, report the first fault.
+/// All elements before the faulty element are valid fields or are ignored.
 pub fn fields_tell_the_first_fault()
     ensures interest { TellsFirstFault take_interest_field is_even_high interest_schema
         no_fields_yet }
@@ -155,8 +155,8 @@ pub fn fields_tell_the_first_fault()
 {}
 
 /// Law: the first fault of the value of a packet or of a SignatureInfo is reported. In an Interest
-/// or a Data a fault of the Name comes first, then the first fault among the fields, then a missing
-/// field; in an Interest a fault of the digest of its parameters comes last.
+/// or a Data, a fault of the Name comes first, then the first fault among the fields, then a
+/// missing field. In an Interest, a fault of the digest of its parameters comes last.
 pub fn packets_tell_the_first_fault()
     ensures interest { (value : List ℕ) (fault : PacketFault) → (interest_at value ≡ Err fault)
         ↔ InterestFault (elements_of value) fault }

@@ -28,7 +28,7 @@ pub const DIGEST_COMPONENT_LEN: usize = 34;
 #[inline(always)]
 pub fn octets_len(octets: &[u8]) -> usize
     ensures len { IsLength result octets.now }
-    // The proofs that a written packet is in the grammar need that octets are below 256.
+    // Octets are below 256. Proofs about the grammar of written packets use this fact.
     ensures sound { AreOctets octets.now }
 {
     octets.len()

@@ -17,8 +17,8 @@ use crate::link::read_link;
 use crate::types::{DATA, INTEREST, LINK_PACKET};
 use ndn_tlv::{Element, first_element};
 
-/// The content of a frame: a view of the received octets, which allocates nothing (NDN Packet
-/// Format 0.3, "Interest Packet" and "Data Packet"; NDNLPv2, "Network Nack").
+/// The content of a frame, which borrows the received octets (NDN Packet Format 0.3, "Interest
+/// Packet" and "Data Packet"; NDNLPv2, "Network Nack"). Nothing is allocated.
 #[derive(Clone, Copy, Debug, PartialEq, Eq)]
 pub enum Frame<'a> {
     /// An Interest, an element of type 5.
@@ -36,7 +36,7 @@ pub enum Frame<'a> {
     Idle,
 }
 
-/// A frame with its PIT token: a view of the received octets, which allocates nothing.
+/// A frame with its PIT token. Both borrow the received octets, and nothing is allocated.
 #[derive(Clone, Copy, Debug, PartialEq, Eq)]
 pub struct Framed<'a> {
     /// The PIT token of the link packet, 1 to 32 octets (NDNLPv2, "PIT Token").
@@ -61,12 +61,12 @@ pub const MAX_PACKET: usize = 8800;
 /// Returns the first fault from the left for anything else: see `PacketFault`. Signatures are not
 /// verified. A PIT token is checked but not returned: `read_lp` returns it.
 pub fn read_frame(octets: &[u8]) -> Result<Frame<'_>, PacketFault>
-    // Every frame that is read is in the grammar.
+    // If a frame is returned, the octets are this frame in the grammar.
     ensures found { IfOk result (λ frame. IsFrame octets.now (plain_frame frame)) }
-    // Every frame in the grammar is read.
+    // If the octets are a frame in the grammar, this frame is returned.
     ensures only { (frame : PlainFrame) → IsFrame octets.now frame
         → on_result (λ f. Ok (plain_frame f)) Err result ≡ Ok frame }
-    // The fault is the first one.
+    // A returned fault is the first fault of the octets.
     ensures fault { IfErr result (FaultOf octets.now) }
     ensures exact { on_result (λ f. Ok (plain_frame f)) Err result ≡ frame_at octets.now }
 {
@@ -94,18 +94,18 @@ fn frame_of(octets: &[u8]) -> Result<Frame<'_>, PacketFault>
 
 /// Reads a frame as `read_frame` does, and returns it with its PIT token (NDNLPv2, "PIT Token").
 /// The token has 1 to 32 octets. A link packet has at most one token, at any position among its
-/// header fields. A packet outside a link packet has no token. The token is a view of the octets,
-/// and nothing is allocated.
+/// header fields. A packet outside a link packet has no token. The token borrows the octets, and
+/// nothing is allocated.
 ///
 /// Returns the first fault from the left for anything else: see `PacketFault`. A token of another
 /// length, or a second token, is an `LpField`.
 pub fn read_lp(octets: &[u8]) -> Result<Framed<'_>, PacketFault>
-    // Every frame that is read is in the grammar.
+    // If a frame is returned, the octets are this frame, with this token, in the grammar.
     ensures found { IfOk result (λ framed. IsFramed octets.now (plain_framed framed)) }
-    // Every frame in the grammar is read.
+    // If the octets are a frame in the grammar, this frame is returned with its token.
     ensures only { (framed : PlainFramed) → IsFramed octets.now framed
         → on_result (λ f. Ok (plain_framed f)) Err result ≡ Ok framed }
-    // The fault is the first one.
+    // A returned fault is the first fault of the octets.
     ensures fault { IfErr result (FaultOf octets.now) }
     ensures exact { on_result (λ f. Ok (plain_framed f)) Err result ≡ framed_at octets.now }
     ensures frame { on_result (λ f. Ok (plain_frame f.frame)) Err result ≡ frame_at octets.now }
@@ -155,7 +155,7 @@ pub(crate) fn only_element(octets: &[u8]) -> Result<Element<'_>, PacketFault>
 #[inline(always)]
 pub(crate) fn is_too_long(whole: &[u8]) -> bool
     ensures exact { result ≡ nat_lt 8800 (length whole.now) }
-    // The proof that every packet in memory was read needs that octets are below 256.
+    // Octets are below 256. The proof that every packet in memory was read uses this fact.
     ensures octets { (i : ℕ) → slice_index whole.now i < 256 }
 {
     whole.len() > MAX_PACKET
@@ -174,7 +174,7 @@ pub(crate) fn packet_of(outer: Element<'_>) -> Result<Frame<'_>, PacketFault>
     }
 }
 
-/// Reads the Interest in this element as that of a Nack.
+/// Reads the Interest in this element, which is the Interest of a Nack.
 pub(crate) fn nacked_of(reason: u64, outer: Element<'_>) -> Result<Frame<'_>, PacketFault>
     ensures { on_result (λ f. Ok (plain_frame f)) Err result
         ≡ nacked_of reason outer.entry.whole.now (outer.entry.kind, outer.entry.value.now) }
@@ -206,8 +206,8 @@ pub fn frames_tell_the_first_fault()
         → ((frame_at text ≡ Err fault) ↔ FaultOf text fault) }
 {}
 
-/// Law: the received octets of every Interest and every Data in memory are that packet, even if it
-/// came in a link packet, because only `read_frame` and `read_lp` create these values.
+/// Law: the received octets of every Interest and every Data in memory are that packet, even if the
+/// packet came in a link packet. The reason: only `read_frame` and `read_lp` create these values.
 pub fn packets_in_hand_are_read()
     ensures interest { (i : Interest) → IsReadInterest i }
     ensures data { (d : Data) → IsReadData d }

@@ -12,16 +12,15 @@ use crate::frame::{Frame, read_frame};
 use crate::types::HOP_LIMIT;
 use ndn_tlv::first_element;
 
-/// Borrows the HopLimit's octet, so that the caller can change it, if the octets are one Interest
-/// that has a HopLimit.
+/// Mutably borrows the HopLimit's octet, if the octets are one Interest that has a HopLimit.
 pub fn hop_limit_mut(octets: &mut [u8]) -> Option<&mut u8>
     // All other octets stay unchanged.
     ensures* lends { sem 𝓛 (LendsHopLimit octets.entry result) }
-    // The result is `Some` exactly if the octets are an Interest with a HopLimit, and its value is
-    // that HopLimit.
+    // The result is `Some` exactly if the octets are an Interest with a HopLimit. The borrowed
+    // octet is the value of this HopLimit.
     ensures found { IfSome result (λ limit. HasHopLimit octets.entry.now limit.now) }
     ensures only { (limit : ℕ) → HasHopLimit octets.entry.now limit → IsSome result }
-    // Whatever octet is written, the octets are still that Interest, with the new HopLimit.
+    // After any octet is written there, the octets are the same Interest with the new HopLimit.
     ensures still { (i : PlainInterest) (old limit : ℕ) → limit < 256
         → IsInterest octets.entry.now i → i.hop_limit ≡ Some old
         → IsInterest (with_octet octets.entry.now limit) (with_limit i limit) }
@@ -39,7 +38,7 @@ pub fn hop_limit_mut(octets: &mut [u8]) -> Option<&mut u8>
 /// no HopLimit.
 fn hop_place(octets: &[u8]) -> usize
     ensures exact { result ≡ hop_place octets.now }
-    // The proof of `hop_limit_mut` needs that octets are below 256.
+    // Octets are below 256. The proof of `hop_limit_mut` uses this fact.
     ensures octets { (i : ℕ) → slice_index octets.now i < 256 }
 {
     let end = octets.len();

@@ -26,7 +26,7 @@ use ndn_names::{FirstOfType, Name};
 use ndn_tlv::Element;
 use sha2::{Digest, Sha256};
 
-/// An Interest: a view of the octets that it was read from (NDN Packet Format 0.3, "Interest
+/// An Interest, which borrows the octets that it was read from (NDN Packet Format 0.3, "Interest
 /// Packet").
 #[derive(Clone, Copy, Debug, PartialEq, Eq)]
 pub struct Interest<'a> {
@@ -104,7 +104,7 @@ impl<'a> Interest<'a> {
     ghost use Rattle.ndn_packets.specs.FrameReading.{interest_of};
     ghost use Rattle.ndn_packets.specs.declared.types.TheConstants.{INTEREST};
 
-    /// Returns the key of the Interest.
+    /// Returns the key of the Interest: its name, CanBePrefix and MustBeFresh.
     pub fn key(&self) -> Key<'a>
         ensures { plain_key result ≡ key_of (plain_interest self.now) }
     {
@@ -154,8 +154,8 @@ impl<'a> Interest<'a> {
     }
 }
 
-/// Returns the fault of the digests of parameters in a name. `digest` is the first of these
-/// digests. `from_parameters` are the octets from the ApplicationParameters on.
+/// Returns the fault of the digests of parameters in a name, if they have a fault. `digest` is the
+/// first of these digests. `from_parameters` are the octets from the ApplicationParameters on.
 #[inline(always)]
 fn digest_fault(
     digest: Option<FirstOfType<'_>>,

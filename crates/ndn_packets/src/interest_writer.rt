@@ -37,8 +37,8 @@ pub struct InterestWriter<'a> {
     pub lifetime: Option<u64>,
     /// The HopLimit, in hops.
     pub hop_limit: Option<u8>,
-    /// The value of the ApplicationParameters. A signed Interest without parameters gets empty
-    /// ones.
+    /// The value of the ApplicationParameters. A signed Interest without parameters is written with
+    /// empty ApplicationParameters.
     pub parameters: Option<&'a [u8]>,
     /// How the Interest is signed, if at all.
     pub sign: Option<Sign<'a>>,
@@ -74,7 +74,7 @@ impl InterestWriter<'_> {
     pub fn write(&self, out: &mut Vec<u8>) -> Result<(), WriteFault>
         ensures ok { OnOk result (out.new.items ≡ out.old.items ++ interest_text self.now) }
         ensures err { OnErr result (out.new.items ≡ out.old.items) }
-        // The fault is the reason for a refusal or, if there is none, that memory ran out.
+        // The fault is the reason for a refusal, or `Memory` if the Interest is not refused.
         ensures fault { MatchOption (interest_refusal self.now)
             (IfErr result (λ fault. fault ≡ WriteFault.Memory))
             (λ fault. result ≡ Err fault) }
@@ -83,10 +83,10 @@ impl InterestWriter<'_> {
             → vec_len out.old + length (interest_text self.now) ≤ vec_capacity out.old
             → IsOk result }
         ensures capacity { vec_capacity out.old ≤ vec_capacity out.new }
-        // The written Interest is in the grammar, and is what was asked for.
+        // The written octets are in the grammar, and are the requested Interest.
         ensures reads_back { interest_refusal self.now ≡ None
             → IsInterest (interest_text self.now) (interest_asked self.now) }
-        // The signature, if there is one, is over the octets that it covers.
+        // The signature, if there is one, was computed over exactly the octets that it covers.
         ensures signed { interest_refusal self.now ≡ None
             → IfSome self.now.sign (SignsInterest self.now) }
     {
@@ -102,7 +102,8 @@ impl InterestWriter<'_> {
         Ok(done?)
     }
 
-    /// Returns why the Interest is not written, except when memory runs out.
+    /// Returns why the Interest is refused, or `None` if it is not refused. A lack of memory is not
+    /// considered.
     #[inline(always)]
     fn refusal(&self, lengths: Lengths) -> Option<WriteFault>
         requires { IsLength lengths.value (octets (interest_fields self.now)) }
@@ -192,7 +193,8 @@ impl InterestWriter<'_> {
         }
     }
 
-    /// Returns the value of the ApplicationParameters, empty if none were given.
+    /// Returns the value of the ApplicationParameters, which is empty if no parameters were
+    /// requested.
     #[inline(always)]
     fn parameter_octets(&self) -> &[u8]
         ensures { result.now ≡ unwrap_or (option_map (λ p. p.now) self.now.parameters) [] }
@@ -208,7 +210,8 @@ impl InterestWriter<'_> {
     fn lengths(&self) -> Lengths
         ensures name { IsLength result.name (octets (interest_name self.now)) }
         ensures value { IsLength result.value (octets (interest_fields self.now)) }
-        // The proofs that a written Interest is in the grammar need `SoundInterest`.
+        // The octets and numbers of the writer are within the ranges of their types. Proofs about
+        // the written Interest use this fact.
         ensures sound { SoundInterest self.now }
     {
         let name = self.name_len();

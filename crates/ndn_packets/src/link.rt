@@ -25,14 +25,14 @@ use ndn_tlv::{
     put_element, put_header, put_nni_element,
 };
 
-/// The greatest type of a header field that is ignored.
+/// The greatest TLV-TYPE of an unknown header field that is ignored.
 const MAX_IGNORED: u32 = 959;
 
 /// The greatest length of a PitToken, in octets.
 const MAX_TOKEN: usize = 32;
 
-/// The header fields that have been read so far: whether Sequence, FragIndex and FragCount were
-/// there, the PIT token, and the reason of a Nack.
+/// The header fields that have been read so far: whether there was a Sequence, a FragIndex and a
+/// FragCount, the PIT token, and the reason of a Nack.
 #[derive(Clone, Copy)]
 struct Headers<'a> {
     sequence: bool,
@@ -63,7 +63,8 @@ impl<'a> Headers<'a> {
         }
     }
 
-    /// Returns the header fields in `self` and `field`, which is allowed after them.
+    /// Returns the header fields in `self` with `field` added. The field must be allowed after
+    /// them.
     fn with(self, field: Element<'a>) -> Result<Headers<'a>, PacketFault>
         ensures { on_result (λ h. Ok (link_so_far h)) Err result
             ≡ with_header (link_so_far self.entry) (field.entry.kind, field.entry.value.now) }
@@ -156,7 +157,8 @@ pub(crate) fn read_link(value: &[u8]) -> Result<Framed<'_>, PacketFault>
     }
 }
 
-/// Reads the packet in a Fragment, with a Nack of this reason or without one.
+/// Reads the packet in a Fragment. If `nack` is the reason of a Nack, the packet must be an
+/// Interest.
 fn fragment_of(nack: Option<u64>, fragment: &[u8]) -> Result<Frame<'_>, PacketFault>
     ensures { on_result (λ f. Ok (plain_frame f)) Err result ≡ fragment_at nack fragment.now }
 {
@@ -180,10 +182,10 @@ fn check_last(after: &[u8]) -> Result<(), PacketFault>
     Err(PacketFault::LpField)
 }
 
-/// Appends a packet with a PIT token and a Nack, each if given, in a link packet (NDNLPv2, "PIT
-/// Token", "Network Nack"). Without both, appends the packet alone. The token has 1 to 32 octets,
-/// and comes before the Nack. The NackReason is always written, even if it is 0. If memory runs
-/// out, nothing is appended.
+/// Appends a link packet around a packet, with the PIT token and the Nack that are given (NDNLPv2,
+/// "PIT Token", "Network Nack"). If neither is given, appends the packet alone. The token has 1 to
+/// 32 octets, and comes before the Nack. The NackReason is always written, even if it is 0. If
+/// memory runs out, nothing is appended.
 pub fn put_lp(
     out: &mut Vec<u8>,
     token: Option<&[u8]>,
@@ -216,9 +218,9 @@ pub fn put_lp(
     done
 }
 
-/// Wraps the packet in `out` from index `start` on in a link packet with a PIT token of 1 to 32
-/// octets (NDNLPv2, "PIT Token"). Without a token, `out` stays unchanged. If memory runs out, the
-/// octets stay unchanged.
+/// Puts a link packet with a PIT token of 1 to 32 octets around the packet at the end of `out`
+/// (NDNLPv2, "PIT Token"). The packet begins at index `start`. Without a token, `out` stays
+/// unchanged. If memory runs out, the octets stay unchanged.
 pub fn wrap(out: &mut Vec<u8>, start: usize, token: Option<&[u8]>) -> Result<(), Memory>
     requires start { start ≤ vec_len out.old }
     requires is_token { IfSome token (λ t. IsToken t.now) }
@@ -237,7 +239,8 @@ pub fn wrap(out: &mut Vec<u8>, start: usize, token: Option<&[u8]>) -> Result<(),
 }
 
 #[tactic(auto, using(crate::proofs::Wrapping::wrapped, crate::proofs::Wrapping::wrapped_len))]
-/// Wraps the packet in `out` from index `start` on in a link packet with a PIT token.
+/// Puts a link packet with a PIT token around the packet at the end of `out`, which begins at index
+/// `start`.
 fn wrap_with(out: &mut Vec<u8>, start: usize, token: &[u8]) -> Result<(), Memory>
     requires start { start ≤ vec_len out.old }
     requires is_token { IsToken token.now }
@@ -311,8 +314,8 @@ fn put_lp_parts(
 }
 
 #[tactic(auto, using(crate::proofs::NackWriting::link_put, crate::proofs::NackWriting::link_parts))]
-/// Appends a link packet. If memory runs out, some octets may have been appended. The length is
-/// reserved first, so a length beyond any memory is refused at once.
+/// Appends a link packet. If memory runs out, some octets may have been appended. Capacity for the
+/// whole link packet is reserved first, so one that is longer than any memory is refused at once.
 fn put_link(
     out: &mut Vec<u8>,
     token: Option<&[u8]>,

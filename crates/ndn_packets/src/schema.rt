@@ -4,8 +4,8 @@ ghost use Rattle.ndn_packets.specs.FieldReader.{ignored_by};
 
 use crate::types::{INTEREST_SIGNATURE_INFO, INTEREST_SIGNATURE_VALUE, VALIDITY_PERIOD};
 
-/// The value that contains elements. It decides which elements are ignored (NDN Packet Format 0.3,
-/// "Considerations for Evolvability of TLV-Based Encoding").
+/// The kind of value that contains elements. This kind decides which elements are ignored (NDN
+/// Packet Format 0.3, "Considerations for Evolvability of TLV-Based Encoding").
 #[derive(Clone, Copy)]
 pub enum Rules {
     /// The value of a packet after its Name: even types from 32 on are ignored.
@@ -31,8 +31,8 @@ impl Rules {
     }
 }
 
-/// Returns whether a type counts only if the field before it has the preceding type of the schema.
-/// Ignored elements in between do not matter.
+/// Returns whether a field of this type may come only after the field of the preceding type in the
+/// schema. Ignored elements between the two fields do not matter.
 #[inline(always)]
 pub fn needs_previous_field(kind: u32) -> bool
     ensures { result ≡ needs_previous_field kind }

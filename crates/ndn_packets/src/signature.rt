@@ -17,7 +17,7 @@ use ndn_names::Name;
 use ndn_tlv::first_element;
 use sha2::{Digest, Sha256};
 
-/// The key that a SignatureInfo names (NDN Packet Format 0.3, "KeyLocator").
+/// The KeyLocator of a SignatureInfo, which identifies a key (NDN Packet Format 0.3, "KeyLocator").
 #[derive(Clone, Copy, Debug, PartialEq, Eq)]
 pub enum Locator<'a> {
     /// There is no KeyLocator.
@@ -128,7 +128,7 @@ const FIELDS: [u32; 5] = [
 ];
 
 #[tactic(auto, unfolding(crate::specs::Reading::locator_at))]
-/// Returns the key that the value of a KeyLocator names.
+/// Reads the value of a KeyLocator.
 fn locator_of(value: &[u8]) -> Locator<'_>
     ensures { plain_locator result ≡ locator_at value.now }
 {
