@@ -115,8 +115,8 @@ impl Store {
     /// used. It replaces a cached Data with the same full name. If no cached Data has this full
     /// name and the store is full, the least recently used Data is evicted. A Data that is already
     /// cached needs no memory, and is never refused. Returns false and leaves the store unchanged
-    /// if memory runs out, or if a cached Data with the same full name has other octets. After 2^64
-    /// - 1 full names, the next new full name empties the store without being cached, and the
+    /// if memory runs out, or if a cached Data with the same full name has other octets. After
+    /// 2^64 - 1 full names, the next new full name empties the store without being cached, and the
     /// result is false.
     pub fn put(&mut self, packet: &Data<'_>, arrival: u64) -> bool
         ensures ok { IsTrue result
