@@ -8,7 +8,7 @@ use Rattle.std.proofs.lemmas.List.{get_or_default, take_all}
 use Rattle.replay_guard.specs.Freshness.{Signer}
 use Rattle.replay_guard.specs.Freshness.{AreNear}
 use Rattle.replay_guard.specs.Guard.{Latest, Table, signer_cmp, raised, with_recorded, IsAfterLatest, IsFresh}
-use Rattle.replay_guard.specs.Rows.{Row, IsFirst}
+use Rattle.replay_guard.specs.Rows.{Row, HasAll, IsFirst}
 use Rattle.replay_guard.proofs.Signers.{signer_cmp-total, signer_cmp-antisymmetric, one_signer, same_signer}
 
 abbrev same : Signer → Signer → Bool
@@ -157,3 +157,34 @@ place_tells table rows s (Some at) shown first =
     let row = row_at rows at in
     let got : map.get table s ≡ Some row.1 = ap (λ (m : Table). map.get m s) (sym shown) ∙ get_first s rows at row first (row_at_is rows at first.within) in
     (λ _. rw got refl, λ _. refl)
+
+-- one more of the other rows is in `rows`
+pub all_more : (rows others : List Row) (at : ℕ) (x : Row) → at < length others → x ≡ get_or others at x → find signer_cmp x.0 rows ≡ Some x.1
+    → HasAll rows (take at others) → HasAll rows (take (at + 1) others)
+all_more rows [] at x lt is found all = absurd (omega arith)
+all_more rows (e ∷ es) zero x lt is found all = (subst (λ (y : Row). find signer_cmp y.0 rows ≡ Some y.1) is found, tt)
+all_more rows (e ∷ es) (suc n) x lt is found all = rw add-one (all.0, subst (λ (m : ℕ). HasAll rows (take m es)) (add-one n) (all_more rows es n x (omega arith) is found all.1))
+
+pub all_taken : (rows others : List Row) (n : ℕ) → length others ≤ n → HasAll rows (take n others) → HasAll rows others
+all_taken rows others n le all = subst (HasAll rows) (take_all n others le) all
+
+found_too : (rows others : List Row) (q : Signer) (v : Latest) → HasAll rows others → find signer_cmp q others ≡ Some v → find signer_cmp q rows ≡ Some v
+found_too rows [] q v all found = absurd cc
+found_too rows (e ∷ es) q v all found = split (found_too rows es q v all.1) (same q e.0) refl found
+  where
+    split : (find signer_cmp q es ≡ Some v → find signer_cmp q rows ≡ Some v) → (b : Bool) → same q e.0 ≡ b → cond b (Some e.1) (find signer_cmp q es) ≡ Some v → find signer_cmp q rows ≡ Some v
+    split later true tied h = ap (λ (k : Signer). find signer_cmp k rows) (one_signer q e.0 tied) ∙ all.0 ∙ h
+    split later false other h = later h
+
+found_alike : (rows others : List Row) (q : Signer) → HasAll rows others → HasAll others rows → find signer_cmp q rows ≡ find signer_cmp q others
+found_alike rows others q ours theirs = split (find signer_cmp q rows) (find signer_cmp q others) refl refl
+  where
+    split : (a b : Option Latest) → find signer_cmp q rows ≡ a → find signer_cmp q others ≡ b → find signer_cmp q rows ≡ find signer_cmp q others
+    split (Some v) b is other = is ∙ sym (found_too others rows q v theirs is)
+    split None (Some v) is other = found_too rows others q v ours other ∙ sym other
+    split None None is other = is ∙ sym other
+
+-- rows that have all of each other represent the same map
+pub same_table : (rows others : List Row) → HasAll rows others → HasAll others rows → from_entries {R = signer_cmp} rows ≡ from_entries others
+same_table rows others ours theirs = same_map signer_cmp-total signer_cmp-antisymmetric _ _ (λ q.
+    get-from_entries signer_cmp-total rows q ∙ found_alike rows others q ours theirs ∙ sym (get-from_entries signer_cmp-total others q))

@@ -2,7 +2,7 @@ ghost use Rattle.std.specs.Prelude.{◌≡◌, ◌↔◌, ◌<◌, None, Some, l
 ghost use Rattle.std.specs.FinMap as map;
 ghost use Rattle.replay_guard.specs.Freshness.{AreNear};
 ghost use Rattle.replay_guard.specs.Guard.{signer_of, signer_cmp, raised, with_recorded, IsFresh, IsPrepared};
-ghost use Rattle.replay_guard.specs.Rows.{Row as PlainRow, IsFirst};
+ghost use Rattle.replay_guard.specs.Rows.{Row as PlainRow, HasAll, IsFirst};
 
 use crate::row::{Row, is_key, key_of};
 use crate::signer::Signer;
@@ -126,6 +126,31 @@ impl Guard {
         self.spare = Some(key);
         Ok(())
     }
+}
+
+impl Guard {
+    /// Returns whether both guards have the same signers, each with the same time and number. The
+    /// contract states the case `true` alone.
+    pub fn has_same_times(&self, other: &Guard) -> bool
+        ensures { IsTrue result → self.now.latest ≡ other.now.latest }
+    {
+        has_all(&self.rows, &other.rows) && has_all(&other.rows, &self.rows)
+    }
+}
+
+/// Returns whether `rows` has each signer of `others`, with the same time and number.
+fn has_all(rows: &[Row], others: &[Row]) -> bool
+    ensures { IsTrue result → HasAll rows.now others.now }
+{
+    for other in others.iter() {
+        let Some(at) = place_of(rows, other.signer()) else {
+            return false;
+        };
+        if !rows[at].is_same_time(other) {
+            return false;
+        }
+    }
+    true
 }
 
 /// Returns whether two moments differ by at most `WINDOW`.

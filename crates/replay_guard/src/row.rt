@@ -35,6 +35,23 @@ impl Row {
         Row { key, time, number }
     }
 
+    /// Returns the signer of the row.
+    pub fn signer(&self) -> Signer<'_>
+        ensures { signer_of result ≡ self.now.0 }
+    {
+        match &self.key {
+            None => Signer::Digest,
+            Some(key) => Signer::Key(key.view()),
+        }
+    }
+
+    /// Returns whether both rows have the same time and number.
+    pub fn is_same_time(&self, other: &Row) -> bool
+        ensures { IsTrue result → self.now.1 ≡ other.now.1 }
+    {
+        self.time == other.time && self.number == other.number
+    }
+
     pub fn is_of(&self, signer: Signer<'_>) -> bool
         ensures { result ≡ eq_by_cmp signer_cmp (signer_of signer.entry) self.now.0 }
     {

@@ -58,16 +58,46 @@ fn is_fresh(alloc: Global, guard: &Guard, command: &str) -> Option<bool> {
 /// Shows whether a command is fresh after the commands that were recorded before it.
 fn freshness(alloc: Global, row: &str) -> Option<String> {
     let (past, command) = row.split_once("? ")?;
-    let mut guard = Guard::new(alloc);
-    for recorded in past.split_terminator(", ") {
-        record(alloc, &mut guard, recorded.trim())?;
-    }
+    let guard = guard_of(alloc, past.trim())?;
     let answer = if is_fresh(alloc, &guard, command)? {
         "fresh"
     } else {
         "no"
     };
     String::from_str(alloc, answer).ok()
+}
+
+/// Returns the guard in which these commands were recorded.
+fn guard_of(alloc: Global, past: &str) -> Option<Guard> {
+    let mut guard = Guard::new(alloc);
+    for recorded in past.split_terminator(", ") {
+        record(alloc, &mut guard, recorded)?;
+    }
+    Some(guard)
+}
+
+/// Shows whether two guards, each given by its commands, have the same times and numbers.
+fn sameness(alloc: Global, row: &str) -> Option<String> {
+    let (past, other) = row.split_once("; ")?;
+    let guard = guard_of(alloc, past)?;
+    let other = guard_of(alloc, other)?;
+    format!(in alloc; "{}", guard.has_same_times(&other)).ok()
+}
+
+/// Two guards are the same if they have the same signers with the same times and numbers.
+#[test]
+fn same_times(rt: HostRuntime) {
+    let rows = "
+/k 5 5, digest 7 -; digest 7 -, /k 4 5, /k 5 - -> true
+/k 5 5; /k 5 5, prepare /l -> true
+/k 5 5; /k 6 5 -> false
+/k 5 5; /k 5 6 -> false
+/k 5 5; /k 5 - -> false
+/k 5 5; /l 5 5 -> false
+/k 5 5; /k 5 5, /l 5 5 -> false
+/k 5 5, /l 5 5; /k 5 5 -> false
+";
+    check_rows(&rt, rt.alloc(), rows, sameness);
 }
 
 /// A preparation does not record a command.
