@@ -172,6 +172,47 @@ fn put_answer(alloc: Global, shown: &mut String, repo: &mut Repo, call: &str) ->
     shown.push_str(&text).ok()
 }
 
+/// Shows whether two repositories, each given by its calls, have the same objects and wants.
+fn sameness(alloc: Global, row: &str) -> Option<String> {
+    let (calls, others) = row.split_once("; ")?;
+    let (mut repo, mut other) = (empty_repo(alloc)?, empty_repo(alloc)?);
+    answers_of(alloc, &mut repo, calls)?;
+    answers_of(alloc, &mut other, others)?;
+    format!(in alloc; "{}", repo.holds_same(&other)).ok()
+}
+
+#[test]
+fn same_repositories(rt: HostRuntime) {
+    let rows = "
+insert /A 0, insert /B 0, offer /B x; insert /B 0, offer /B x, insert /C 0, delete /C 0, insert /A 0 -> true
+insert /A 0; insert /A* 0 -> false
+insert /A 0; insert /B 0 -> false
+insert /A 0; insert /A 1 -> false
+insert /A 0; check /A 0 -> false
+insert /A 0, offer /A x; insert /A 0, offer /A y -> false
+insert /A 0, offer /A x; check /A 0 -> false
+";
+    check_rows(&rt, rt.alloc(), rows, sameness);
+}
+
+/// Shows whether repositories with these prefixes have the same prefix.
+fn same_prefix(alloc: Global, row: &str) -> Option<String> {
+    let (uri, other) = row.split_once(' ')?;
+    let repo = Repo::new(alloc, NameBuf::from_uri(alloc, uri).ok()?).ok()?;
+    let other = Repo::new(alloc, NameBuf::from_uri(alloc, other).ok()?).ok()?;
+    format!(in alloc; "{}", repo.has_same_prefix(&other)).ok()
+}
+
+#[test]
+fn same_prefixes(rt: HostRuntime) {
+    let rows = "
+/A/B /A/B -> true
+/A /A/B -> false
+/A /B -> false
+";
+    check_rows(&rt, rt.alloc(), rows, same_prefix);
+}
+
 /// A want is pending before its deadline, but not at its deadline.
 #[test]
 fn want_deadline(rt: HostRuntime) {

@@ -8,3 +8,4 @@ pub mod Spares
 pub mod Limits
 pub mod Verbs
 pub mod Stored
+pub mod SameNames

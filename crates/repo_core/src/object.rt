@@ -86,6 +86,13 @@ impl Object {
         self.stored.full_name.is(octets)
     }
 
+    /// Returns whether both objects have the same full name and the same octets.
+    pub fn is_same(&self, other: &Object) -> bool
+        ensures { IsTrue result → self.now ≡ other.now }
+    {
+        self.is(other.full_name()) && self.octets() == other.octets()
+    }
+
     /// Returns whether this object is the Data `packet`.
     pub fn is_of(&self, packet: &Data<'_>) -> bool
         ensures { IsTrue result ↔ (self.now ≡ object_of packet.now) }

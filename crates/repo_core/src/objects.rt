@@ -59,6 +59,13 @@ impl Objects {
         self.rows.len()
     }
 
+    /// Returns whether both have the same objects.
+    pub fn is_same(&self, other: &Objects) -> bool
+        ensures { IsTrue result → self.now.table ≡ other.now.table }
+    {
+        are_same(&self.rows, &other.rows)
+    }
+
     /// Returns the number of objects that answer an Interest with this name and CanBePrefix.
     pub fn number(&self, name: Name<'_>, can_be_prefix: bool) -> usize
         ensures { result ≡ number_answering (components name.entry) can_be_prefix self.now.table }
@@ -187,4 +194,19 @@ fn first_of<'a>(objects: &'a [Object], name: Name<'_>, can_be_prefix: bool) -> O
         }
     }
     None
+}
+
+/// Returns whether two lists have the same objects in the same order.
+fn are_same(rows: &[Object], others: &[Object]) -> bool
+    ensures { IsTrue result → rows.now ≡ others.now }
+{
+    if rows.len() != others.len() {
+        return false;
+    }
+    for at in 0..rows.len() {
+        if !rows[at].is_same(&others[at]) {
+            return false;
+        }
+    }
+    true
 }

@@ -1,4 +1,4 @@
-ghost use Rattle.std.specs.Prelude.{◌≡◌, ◌+◌, ◌≤◌, ℕ, List, true, false, nat_lt, None, Some, IfOk, IfSome, IsOk, OnErr, OnOk, length};
+ghost use Rattle.std.specs.Prelude.{◌≡◌, ◌+◌, ◌≤◌, ℕ, List, true, false, nat_lt, None, Some, IfOk, IfSome, IsOk, IsTrue, OnErr, OnOk, length};
 ghost use Rattle.std.specs.FinMap as map;
 ghost use Rattle.std.specs.Option.{option_map};
 ghost use Rattle.sha2.specs.Sha256.{sha256};
@@ -231,6 +231,23 @@ impl Repo {
         ensures objects { AreObjects self.now.held.objects }
     {
         self.objects.len() + self.wants.len()
+    }
+
+    #[tactic(auto, using(crate::proofs::SameNames::same_name))]
+    /// Returns whether both repositories have the same prefix. The contract states the case `true`
+    /// alone.
+    pub fn has_same_prefix(&self, other: &Repo) -> bool
+        ensures { IsTrue result → self.now.start ≡ other.now.start }
+    {
+        self.start == other.start
+    }
+
+    /// Returns whether both repositories have the same objects and the same wants. The contract
+    /// states the case `true` alone.
+    pub fn holds_same(&self, other: &Repo) -> bool
+        ensures { IsTrue result → self.now.held ≡ other.now.held }
+    {
+        self.objects.is_same(&other.objects) && self.wants.is_same(&other.wants)
     }
 
     /// Prepares the command with this name, including its reply. The command then cannot run out of

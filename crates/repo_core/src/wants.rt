@@ -126,12 +126,46 @@ impl Wants {
             .retain(|row| !packet.answers(row.0.0.view(), row.0.1));
     }
 
+    /// Returns whether both have the same wants with the same deadlines.
+    pub fn is_same(&self, other: &Wants) -> bool
+        ensures { IsTrue result → self.now ≡ other.now }
+    {
+        are_same(&self.rows, &other.rows)
+    }
+
     /// Removes all wants that have expired by `now`.
     pub fn expire(&mut self, now: u64)
         ensures { self.new ≡ wants_after now self.old }
     {
         self.rows.retain(|row| now < row.1);
     }
+}
+
+/// Returns whether two lists have the same wants with the same deadlines, in the same order.
+fn are_same(rows: &[Row], others: &[Row]) -> bool
+    ensures { IsTrue result → rows.now ≡ others.now }
+{
+    if rows.len() != others.len() {
+        return false;
+    }
+    for at in 0..rows.len() {
+        if !is_same_want(&rows[at], &others[at]) {
+            return false;
+        }
+    }
+    true
+}
+
+#[tactic(auto, using(crate::proofs::SameNames::same_want))]
+/// Returns whether two wants have the same name, CanBePrefix and deadline.
+fn is_same_want(want: &Row, other: &Row) -> bool
+    ensures { IsTrue result → want.now ≡ other.now }
+{
+    let is_same_name = want.0.0 == other.0.0;
+    if !is_same_name || want.0.1 != other.0.1 {
+        return false;
+    }
+    want.1 == other.1
 }
 
 /// Compares the key of a want with the key that consists of this name and CanBePrefix.
