@@ -38,3 +38,4 @@ pub mod Inheritance
 pub mod FibShown
 pub mod Effective
 pub mod LongestRoutes
+pub mod SameNames

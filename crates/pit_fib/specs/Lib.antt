@@ -23,3 +23,4 @@ pub mod Last
 pub mod Prepared
 pub use Rattle.name_trie.specs.ByName
 pub use Rattle.name_trie.specs.NameTable
+pub mod SameEntries

@@ -55,6 +55,14 @@ impl Used {
         &self.places[..self.len]
     }
 
+    #[tactic(auto, using(crate::proofs::SameNames::same_numbers))]
+    /// Returns whether both have the same faces with the same numbers.
+    pub(crate) fn is_same(&self, other: &Used) -> bool
+        ensures { IsTrue result → self.now ≡ other.now }
+    {
+        are_same(self.as_slice(), other.as_slice())
+    }
+
     /// Returns how many faces have a number.
     pub fn len(&self) -> usize
         ensures exact { result ≡ map.len self.now }
@@ -162,4 +170,25 @@ pub fn place_of<V>(places: &[(u64, V)], face: u64) -> Result<usize, usize>
         }
     }
     Err(places.len())
+}
+
+/// Returns whether two lists have the same faces with the same numbers.
+fn are_same(rows: &[(u64, u64)], others: &[(u64, u64)]) -> bool
+    ensures { IsTrue result → rows.now ≡ others.now }
+{
+    if rows.len() != others.len() {
+        return false;
+    }
+    for at in 0..rows.len() {
+        if !is_same_row(rows[at], others[at]) {
+            return false;
+        }
+    }
+    true
+}
+
+fn is_same_row(row: (u64, u64), other: (u64, u64)) -> bool
+    ensures { IsTrue result → row ≡ other }
+{
+    row.0 == other.0 && row.1 == other.1
 }

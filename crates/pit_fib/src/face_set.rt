@@ -1,4 +1,4 @@
-ghost use Rattle.std.specs.Prelude.{◌≡◌, [], ◌<◌, ◌≤◌, length, insert, slice_get, IfOk, IfErr, true, false};
+ghost use Rattle.std.specs.Prelude.{◌≡◌, [], ◌<◌, ◌≤◌, length, insert, slice_get, IfOk, IfErr, IsTrue, true, false};
 ghost use Rattle.pit_fib.specs.FaceSet.{IsRising, has_face, with_face, adding};
 
 use crate::array_list::insert_at;
@@ -75,6 +75,13 @@ impl Faces {
         ensures { result ≡ slice_get self.now i }
     {
         self.places[..self.len].get(i).copied()
+    }
+
+    /// Returns whether both sets have the same faces. The contract states the case `true` alone.
+    pub fn is_same(&self, other: &Faces) -> bool
+        ensures { IsTrue result → self.now ≡ other.now }
+    {
+        self.places[..self.len] == other.places[..other.len]
     }
 }
 

@@ -1,4 +1,4 @@
-ghost use Rattle.std.specs.Prelude.{◌≡◌, ◌≢◌, ◌+◌, ◌-◌, ◌^◌, ◌<◌, ◌≤◌, [], length, vec_len, None, Some, Err, IsSome, IsOk, IfOk, IfErr, OnOk, OnErr, MatchOption};
+ghost use Rattle.std.specs.Prelude.{◌≡◌, ◌≢◌, ◌+◌, ◌-◌, ◌^◌, ◌<◌, ◌≤◌, [], length, vec_len, None, Some, Err, IsSome, IsTrue, IsOk, IfOk, IfErr, OnOk, OnErr, MatchOption};
 ghost use Rattle.std.specs.FinMap as map;
 ghost use Rattle.std.specs.Vec.{vec_capacity};
 ghost use Rattle.ndn_names.specs.View.{components};
@@ -10,6 +10,7 @@ ghost use Rattle.pit_fib.specs.Fib.{HasRoomFor, LeadsTo, due_count, is_full_for_
 ghost use Rattle.pit_fib.specs.Hops.{hops_of};
 ghost use Rattle.pit_fib.specs.Limits.{AreShallow, HaveSome, IsTallied};
 ghost use Rattle.pit_fib.specs.Refusal.{refusal};
+ghost use Rattle.pit_fib.specs.SameEntries.{AreSame, plain_row};
 
 use crate::fault::TableFault;
 use crate::fib_entry::{
@@ -322,6 +323,17 @@ impl Fib {
         Ok(list)
     }
 
+    #[tactic(auto, using(crate::proofs::SameNames::same_routes))]
+    /// Returns whether both tables have the same next hops and routes. The contract states the case
+    /// `true` alone.
+    pub fn has_same_routes(&self, alloc: Global, other: &Fib) -> Result<bool, Memory>
+        ensures { IfOk result (λ same. IsTrue same → self.now.table ≡ other.now.table) }
+    {
+        let entries = self.entries.list(alloc)?;
+        let others = other.entries.list(alloc)?;
+        Ok(are_same(&entries, &others))
+    }
+
     /// Shows all names in canonical order, each with the effective next hops that it has after the
     /// routes that expire by `now` are removed.
     pub fn show_all<S: Show<Hops> + Drop>(&self, now: u64, show: S) -> Result<S, Memory>
@@ -407,6 +419,30 @@ impl Fib {
         self.entries.see_along(name, &mut steps, &mut way);
         hops_in_order(way.costs.as_slice())
     }
+}
+
+/// Returns whether two lists have the same names, each with the same next hops and routes.
+fn are_same(entries: &[(NameBuf, &Entry)], others: &[(NameBuf, &Entry)]) -> bool
+    ensures { IsTrue result → AreSame entries.now others.now }
+{
+    if entries.len() != others.len() {
+        return false;
+    }
+    for at in 0..entries.len() {
+        if !is_same_row(&entries[at], &others[at]) {
+            return false;
+        }
+    }
+    true
+}
+
+#[tactic(auto, using(crate::proofs::SameNames::same_row))]
+/// Returns whether two names are the same and have the same next hops and routes.
+fn is_same_row(row: &(NameBuf, &Entry), other: &(NameBuf, &Entry)) -> bool
+    ensures { IsTrue result → plain_row row.now ≡ plain_row other.now }
+{
+    let is_same_name = row.0 == other.0;
+    is_same_name && row.1.is_same(other.1)
 }
 
 /// Returns the vector `room`, if it has capacity for `len` routes and one more. Otherwise returns a

@@ -1,4 +1,4 @@
-ghost use Rattle.std.specs.Prelude.{◌≡◌, is_some, unwrap_or};
+ghost use Rattle.std.specs.Prelude.{◌≡◌, IsTrue, is_some, unwrap_or};
 ghost use Rattle.std.specs.Vec.{vec_capacity};
 ghost use Rattle.pit_fib.specs.Fib.{entry_left_at, no_entry, unless_vacant};
 ghost use Rattle.pit_fib.specs.Within.{entry_with_hop_within, entry_with_route_within};
@@ -54,6 +54,13 @@ impl Entry {
         ensures { result ≡ is_some (entry_left_at now self.now) }
     {
         self.hops.len() > 0 || left_of(self.registered.rows(), now) > 0
+    }
+
+    /// Returns whether both entries have the same next hops and routes.
+    pub fn is_same(&self, other: &Entry) -> bool
+        ensures { IsTrue result → self.now ≡ other.now }
+    {
+        self.hops.is_same(&other.hops) && self.registered.is_same(&other.registered)
     }
 
     /// Returns the entry, or `None` if it has neither next hops nor routes.

@@ -1,4 +1,4 @@
-ghost use Rattle.std.specs.Prelude.{◌≡◌, ◌+◌, ◌<◌, ◌≤◌, ℕ, length, insert, slice_set, slice_index_or, IfOk, IfErr, Some, None, not, ◌==◌, vec_len};
+ghost use Rattle.std.specs.Prelude.{◌≡◌, ◌+◌, ◌<◌, ◌≤◌, ℕ, length, insert, slice_set, slice_index_or, IfOk, IfErr, IsTrue, Some, None, not, ◌==◌, vec_len};
 ghost use lib.Dec.{T};
 ghost use Rattle.std.specs.FinMap as map;
 ghost use Rattle.std.specs.Vec.{vec_capacity};
@@ -47,6 +47,14 @@ impl Registered {
         ensures sorted { T (map.is_sorted route_cmp result.now) }
     {
         &self.rows
+    }
+
+    #[tactic(auto, using(crate::proofs::SameNames::same_registered))]
+    /// Returns whether both have the same routes.
+    pub fn is_same(&self, other: &Registered) -> bool
+        ensures { IsTrue result → self.now ≡ other.now }
+    {
+        are_same(self.rows(), other.rows())
     }
 
     /// Returns the number of routes.
@@ -136,4 +144,25 @@ fn place_of(rows: &[(RouteKey, Route)], key: RouteKey) -> Result<usize, usize>
         }
     }
     Err(rows.len())
+}
+
+/// Returns whether two lists have the same routes in the same order.
+fn are_same(rows: &[(RouteKey, Route)], others: &[(RouteKey, Route)]) -> bool
+    ensures { IsTrue result → rows.now ≡ others.now }
+{
+    if rows.len() != others.len() {
+        return false;
+    }
+    for at in 0..rows.len() {
+        if !is_same_row(rows[at], others[at]) {
+            return false;
+        }
+    }
+    true
+}
+
+fn is_same_row(row: (RouteKey, Route), other: (RouteKey, Route)) -> bool
+    ensures { IsTrue result → row ≡ other }
+{
+    row.0.is_same(other.0) && row.1.is_same(other.1)
 }

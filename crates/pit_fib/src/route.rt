@@ -1,6 +1,6 @@
 //! Registered routes.
 
-ghost use Rattle.std.specs.Prelude.{◌≡◌};
+ghost use Rattle.std.specs.Prelude.{◌≡◌, IsTrue};
 ghost use Rattle.pit_fib.specs.Route.{is_capture, is_child_inherit, is_due, route_cmp};
 
 use std::cmp::Ordering;
@@ -24,6 +24,13 @@ impl RouteKey {
             unequal => unequal,
         }
     }
+
+    /// Returns whether both keys have the same face and origin.
+    pub fn is_same(self, other: RouteKey) -> bool
+        ensures { IsTrue result → self ≡ other }
+    {
+        self.face == other.face && self.origin == other.origin
+    }
 }
 
 /// The parameters of a registered route (NFD Management, "RIB Management").
@@ -37,6 +44,13 @@ pub struct Route {
 }
 
 impl Route {
+    /// Returns whether both routes have the same cost, flags and deadline.
+    pub fn is_same(self, other: Route) -> bool
+        ensures { IsTrue result → self ≡ other }
+    {
+        self.cost == other.cost && self.flags == other.flags && self.deadline == other.deadline
+    }
+
     /// Returns whether longer names inherit the route.
     pub fn is_child_inherit(self) -> bool
         ensures { result ≡ is_child_inherit self }

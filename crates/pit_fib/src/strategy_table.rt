@@ -1,4 +1,4 @@
-ghost use Rattle.std.specs.Prelude.{◌≡◌, ◌≢◌, ◌≤◌, Err, None, Some, IsSome, IfErr, IfOk, MatchOption, OnErr, OnOk};
+ghost use Rattle.std.specs.Prelude.{◌≡◌, ◌≢◌, ◌≤◌, Err, None, Some, IsSome, IsTrue, IfErr, IfOk, MatchOption, OnErr, OnOk};
 ghost use Rattle.std.specs.FinMap as map;
 ghost use Rattle.ndn_names.specs.View.{components};
 ghost use Rattle.pit_fib.specs.declared.fault.TableFault.TheVariants as faults;
@@ -183,6 +183,17 @@ impl StrategyTable {
         Ok(list)
     }
 
+    #[tactic(auto, using(crate::proofs::SameNames::same_choices))]
+    /// Returns whether both tables have the same names, each with the same strategy. The contract
+    /// states the case `true` alone.
+    pub fn has_same_choices(&self, alloc: Global, other: &StrategyTable) -> Result<bool, Memory>
+        ensures { IfOk result (λ same. IsTrue same → self.now.table ≡ other.now.table) }
+    {
+        let choices = self.list(alloc)?;
+        let others = other.list(alloc)?;
+        Ok(are_same(&choices, &others))
+    }
+
     /// Shows all names in canonical order, each with its strategy. If it fails, some names may have
     /// been shown already.
     pub fn show_all<S: Show<StrategyId>>(&self, show: &mut S) -> Result<(), Memory>
@@ -192,4 +203,28 @@ impl StrategyTable {
         show.show(&[], &self.root)?;
         self.others.show_all(&self.root, show)
     }
+}
+
+/// Returns whether two lists have the same names, each with the same strategy.
+fn are_same(choices: &[(NameBuf, StrategyId)], others: &[(NameBuf, StrategyId)]) -> bool
+    ensures { IsTrue result → choices.now ≡ others.now }
+{
+    if choices.len() != others.len() {
+        return false;
+    }
+    for at in 0..choices.len() {
+        if !is_same_choice(&choices[at], &others[at]) {
+            return false;
+        }
+    }
+    true
+}
+
+#[tactic(auto, using(crate::proofs::SameNames::same_choice))]
+/// Returns whether two names are the same and have the same strategy.
+fn is_same_choice(choice: &(NameBuf, StrategyId), other: &(NameBuf, StrategyId)) -> bool
+    ensures { IsTrue result → choice.now ≡ other.now }
+{
+    let is_same_name = choice.0 == other.0;
+    is_same_name && choice.1 == other.1
 }

@@ -114,6 +114,40 @@ fn answers(alloc: Global, row: &str) -> Option<String> {
     String::from_str(alloc, text.strip_prefix("; ")?).ok()
 }
 
+/// Returns the table after calls that are separated by `, `.
+fn table_after(alloc: Global, calls: &str) -> Option<RouteTable> {
+    let mut routes = RouteTable::new(alloc);
+    for call in calls.split(", ") {
+        answer(alloc, &mut routes, call)?;
+    }
+    Some(routes)
+}
+
+/// Shows whether two tables, each given by its calls, have the same next hops and routes.
+fn sameness(alloc: Global, row: &str) -> Option<String> {
+    let (calls, others) = row.split_once("; ")?;
+    let routes = table_after(alloc, calls)?;
+    let other = table_after(alloc, others)?;
+    format!(in alloc; "{}", routes.read().has_same_routes(alloc, other.read()).ok()?).ok()
+}
+
+#[test]
+fn same_routes(rt: HostRuntime) {
+    let rows = "
+add /A 3 cost=5, register /B 2 cost=1 until=9; register /B 2 cost=1 until=9, add /A 3 cost=6, add /A 3 cost=5 -> true
+add /A 3 cost=5; add /A 3 cost=6 -> false
+add /A 3; add /A 4 -> false
+add /A 3; add /B 3 -> false
+add /A 3; add /A 3, add /B 3 -> false
+add /A 3; register /A 3 -> false
+register /A 2; register /A 2 cost=1 -> false
+register /A 2; register /A 2 origin=1 -> false
+register /A 2; register /A 2 flags=3 -> false
+register /A 2; register /A 2 until=9 -> false
+";
+    check_rows(&rt, rt.alloc(), rows, sameness);
+}
+
 const ROUTES_END_AT_THEIR_DEADLINES: &str = "\
 register /A 2 cost=5 until=1000, due 999, list 999, expire 999, of /A -> 0; /A 2@5; 0; 2@5
 register /A 2 cost=5 until=1000, due 1000, list 1000, list 999, of /A -> 1; none; /A 2@5; 2@5

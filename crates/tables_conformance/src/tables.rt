@@ -244,6 +244,26 @@ fn strategies_in_canonical_order(rt: HostRuntime) {
     check_rows(&rt, rt.alloc(), rows, strategy);
 }
 
+/// Shows whether two tables of strategies are the same.
+fn same_choices(alloc: Global, row: &str) -> Option<String> {
+    let (calls, others) = row.split_once("; ")?;
+    let table = strategies_in(alloc, calls)?;
+    let other = strategies_in(alloc, others)?;
+    format!(in alloc; "{}", table.has_same_choices(alloc, &other).ok()?).ok()
+}
+
+#[test]
+fn same_strategies(rt: HostRuntime) {
+    let rows = "
+/A multicast, /B best-route; /B best-route, /C multicast, /A multicast, /C - -> true
+/A multicast; /A best-route -> false
+/A multicast; /B multicast -> false
+/A multicast; /A multicast, /B multicast -> false
+/ multicast; / best-route -> false
+";
+    check_rows(&rt, rt.alloc(), rows, same_choices);
+}
+
 /// Returns a name of `depth` components `A`.
 pub fn deep_name(alloc: Global, depth: usize) -> Option<NameBuf> {
     let mut name = NameBuf::new(alloc);
