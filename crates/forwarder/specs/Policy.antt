@@ -1,6 +1,6 @@
 -- The part of a node that follows from its events alone: everything except pending Interests and
 -- the cache (NFD Developer's Guide, "Forwarding"; NFD Management).
-use Rattle.std.specs.Prelude.{ℕ, ◌+◌, ◌-◌, ◌^◌, List, [], Bool, true, false, not, Option, None, Some, filter, max, min}
+use Rattle.std.specs.Prelude.{◌≡◌, ℕ, ◌+◌, ◌-◌, ◌^◌, List, [], Bool, true, false, not, Option, None, Some, filter, max, min}
 use Rattle.std.specs.FinMap as map
 use Rattle.ndn_tlv.specs.Element.{Field}
 use Rattle.hmac_keys.specs.KeyFile.{NamedKey}
@@ -87,3 +87,20 @@ is_far_scope (Some scope) = not (is_local_scope scope)
 
 abbrev pub is_far : Policy → ℕ → Bool
 is_far p face = is_far_scope (find_scope face p.faces)
+
+-- ---- two policies compared
+
+-- the policies have the same time, prefix of the repository, open faces, times and numbers of
+-- signers, stored Data and wants
+pub record HasSameParts (p q : Policy) : Type 0 where
+  pub now : p.now ≡ q.now
+  pub repo : p.repo ≡ q.repo
+  pub faces : p.faces ≡ q.faces
+  pub guard : p.guard ≡ q.guard
+  pub held : p.held ≡ q.held
+
+-- The policies differ at most in the version of the lists, the rules and the keys.
+pub record HasSameTables (p q : Policy) : Type 0 where
+  pub parts : HasSameParts p q
+  pub routes : p.routes ≡ q.routes
+  pub choices : p.choices ≡ q.choices

@@ -1,9 +1,9 @@
-ghost use Rattle.std.specs.Prelude.{◌≡◌, ◌++◌, List, length, drop, Err, IfOk, IfErr, OnErr, IsOk, MatchOption, slice_get};
+ghost use Rattle.std.specs.Prelude.{◌≡◌, ◌++◌, List, length, drop, Err, IfOk, IfErr, IsTrue, OnErr, IsOk, MatchOption, slice_get};
 ghost use Rattle.ndn_packets.specs.FrameReading.{frame_at};
 ghost use Rattle.forwarder.specs.Event.{moment, plain, Send};
 ghost use Rattle.forwarder.specs.Node.{AsksNoMemory, IsStep, ChangesCacheOnly};
 ghost use Rattle.forwarder.specs.Parts.{first_node, is_bad_prefix as is_bad_prefix_of, parts_fault};
-ghost use Rattle.forwarder.specs.Policy.{Policy, at_moment};
+ghost use Rattle.forwarder.specs.Policy.{HasSameTables, Policy, at_moment};
 ghost use Rattle.forwarder.specs.Runs.{Run, Start, Then, BringsKeysApart, IsRun, Stands};
 ghost use Rattle.forwarder.specs.DataSends.{BringsOctets};
 ghost use Rattle.forwarder.specs.State.{IsSound};
@@ -165,6 +165,16 @@ impl Node {
         ensures { result ≡ slice_get self.now.policy.faces i }
     {
         self.state.faces.entry(i)
+    }
+
+    /// Returns whether two nodes have the same time, repository's prefix, open faces, routes,
+    /// strategies, times and numbers of signers, stored Data and wants. The version of the lists,
+    /// rules and keys are not compared. The contract states the case `true` alone.
+    pub fn has_same_tables(&self, other: &Node) -> Result<bool, Memory>
+        ensures { IfOk result
+            (λ same. IsTrue same → HasSameTables self.now.policy other.now.policy) }
+    {
+        self.state.has_same_tables(&other.state)
     }
 
     /// Returns whether an event brings a Data that the repository wants once time has advanced to

@@ -1,4 +1,4 @@
-ghost use Rattle.std.specs.Prelude.{◌≡◌, ◌≤◌, ◌<◌, ◌==◌, [], false, length, filter, not, slice_get};
+ghost use Rattle.std.specs.Prelude.{◌≡◌, ◌≤◌, ◌<◌, ◌==◌, [], false, length, IsTrue, filter, not, slice_get};
 ghost use Rattle.pit_fib.specs.FaceSet.{IsRising};
 ghost use Rattle.forwarder.specs.OpenFaces.{find_scope, is_open, numbers, with_face, without_entry};
 ghost use Rattle.forwarder.specs.Policy.{is_far_scope, is_local_scope};
@@ -105,6 +105,13 @@ impl OpenFaces {
         let all = without_face(&self.all, face);
         let local = without_face(&self.local, face);
         *self = OpenFaces { all, local };
+    }
+
+    /// Returns whether both lists have the same faces with the same scopes.
+    pub fn is_same(&self, other: &OpenFaces) -> bool
+        ensures { IsTrue result → self.now ≡ other.now }
+    {
+        self.all.is_same(&other.all) && self.local.is_same(&other.local)
     }
 
     /// Returns the numbers of the open faces.

@@ -1,10 +1,12 @@
-ghost use Rattle.std.specs.Prelude.{◌≡◌, ◌+◌, ◌-◌, ◌^◌, min, max};
-ghost use Rattle.forwarder.specs.State.{IsLater, state_of};
+ghost use Rattle.std.specs.Prelude.{◌≡◌, ◌+◌, ◌-◌, ◌^◌, IfOk, IsTrue, min, max};
+ghost use Rattle.forwarder.specs.Policy.{HasSameParts, HasSameTables};
+ghost use Rattle.forwarder.specs.State.{IsLater, policy_of, state_of};
 
 use crate::open_faces::OpenFaces;
 use hmac_keys::KeyBook;
 use info_rules::Rules;
 use mgmt_core::Tables;
+use ndn_tlv::Memory;
 use pit_fib::Pit;
 use replay_guard::Guard;
 use repo_core::Repo;
@@ -54,5 +56,35 @@ impl State {
             ≡ record self.old { table_number = min (self.old.table_number + 1) (2 ^ 64 - 1) } }
     {
         self.table_number = self.table_number.saturating_add(1);
+    }
+
+    /// Returns whether both states have the same time, prefix of the repository, open faces, routes,
+    /// strategies, times and numbers of signers, stored Data and wants.
+    pub fn has_same_tables(&self, other: &State) -> Result<bool, Memory>
+        ensures { IfOk result (λ same. IsTrue same
+            → HasSameTables (policy_of self.entry.now) (policy_of other.entry.now)) }
+    {
+        if !self.has_same_parts(other) {
+            return Ok(false);
+        }
+        let (tables, others) = (&self.tables, &other.tables);
+        let are_routes = tables.fib.has_same_routes(self.alloc, &others.fib)?;
+        let are_choices = tables
+            .strategies
+            .has_same_choices(self.alloc, &others.strategies)?;
+        Ok(are_routes && are_choices)
+    }
+
+    /// Returns whether both states have the same time, prefix of the repository, open faces, times
+    /// and numbers of signers, stored Data and wants.
+    fn has_same_parts(&self, other: &State) -> bool
+        ensures { IsTrue result
+            → HasSameParts (policy_of self.entry.now) (policy_of other.entry.now) }
+    {
+        self.now == other.now
+            && self.repo.has_same_prefix(&other.repo)
+            && self.faces.is_same(&other.faces)
+            && self.guard.has_same_times(&other.guard)
+            && self.repo.holds_same(&other.repo)
     }
 }
