@@ -17,6 +17,7 @@ mod registered_routes;
 mod repository_life;
 mod routes;
 mod scripts;
+mod shortening;
 mod streams;
 mod tokens;
 mod udp;

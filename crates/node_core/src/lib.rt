@@ -16,4 +16,6 @@ pub use forwarder::{
     refused_steps_stand_still, routes_are_read_off_the_run, rules_in_force, steps_go_on_with_runs,
     steps_have_one_effect, steps_keep_nodes_sound, unanswered_interests_wait,
 };
-pub use script::{Line, RunFault, line_of, put_all, run_script, scripts_have_one_reading};
+pub use script::{
+    Line, RunFault, cut_line, line_of, put_all, run_script, scripts_have_one_reading,
+};

@@ -17,6 +17,7 @@ pub use output::put_all;
 use std::alloc::Global;
 use std::io::{Read, Write};
 use thiserror::Error;
+pub use word::cut_line;
 
 /// Why a script was not run to its end. Answers that were already written stay written.
 #[derive(Clone, Copy, Debug, PartialEq, Eq, Error)]

@@ -14,6 +14,7 @@ mod verb;
 mod want_names;
 mod wants;
 
+pub use command::{Asked, command_in};
 pub use law::{
     full_names_answer_as_data, kept_entries_by_key, limits_are_kept, objects_stay_data,
     removals_keep_preparations, repo_replies_are_bounded, repo_statuses_have_texts,

@@ -1,0 +1,17 @@
+-- What it means that two journals restore the same tables.
+use Rattle.std.specs.Prelude.{ℕ, List, Option, Some}
+use Rattle.forwarder.specs.Node.{NodeState}
+use Rattle.forwarder.specs.Policy.{HasSameTables}
+use Rattle.journal.specs.Replay.{Replays}
+use Rattle.journal.specs.declared.replaying.Replayed.{Replayed}
+
+-- The whole lines of these octets were replayed on the old node, which led to the new one.
+abbrev pub IsReplayed : List ℕ → NodeState → NodeState → Type 0
+IsReplayed octets old new =
+    (left : Option (List ℕ)) × (done : Replayed) × Replays old new (Some octets) left done
+
+-- Each of two journals was replayed on its node, and then the two nodes have the same tables.
+abbrev pub HaveSameTables : List ℕ → NodeState → NodeState → List ℕ → NodeState → NodeState → Type 0
+HaveSameTables text old new other_text other_old other_new =
+    IsReplayed text old new × IsReplayed other_text other_old other_new
+    × HasSameTables new.policy other_new.policy

@@ -1,0 +1,40 @@
+ghost use Rattle.std.specs.Prelude.{IfOk, IsTrue, OnOk};
+ghost use Rattle.journal_shortening.specs.Comparing.{HaveSameTables, IsReplayed};
+
+use forwarder::Node;
+use journal::{ReplayFault, replay};
+use std::alloc::Global;
+
+/// Replays the whole lines of one journal on node `a` and those of another on node `b`, and returns
+/// whether the nodes then have the same tables. If it fails, a part of the journals was replayed.
+///
+/// The tables are all that a node's policy has except its rules and keys, and the version of its
+/// lists.
+pub fn restores_same_tables(
+    alloc: Global,
+    a: &mut Node,
+    b: &mut Node,
+    old: &[u8],
+    new: &[u8],
+) -> Result<bool, ReplayFault>
+    ensures { IfOk result (λ same. IsTrue same
+        → HaveSameTables old.now a.old a.new new.now b.old b.new) }
+{
+    play_all(alloc, a, old)?;
+    play_all(alloc, b, new)?;
+    match a.has_same_tables(b) {
+        Ok(same) => Ok(same),
+        Err(_) => Err(ReplayFault::Memory),
+    }
+}
+
+/// Replays the whole lines of a journal on a node.
+fn play_all(alloc: Global, node: &mut Node, journal: &[u8]) -> Result<(), ReplayFault>
+    ensures { OnOk result (IsReplayed journal.now node.old node.new) }
+{
+    let mut reader = journal;
+    match replay(alloc, node, &mut reader) {
+        Ok(_) => Ok(()),
+        Err(fault) => Err(fault),
+    }
+}

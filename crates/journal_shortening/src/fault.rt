@@ -1,0 +1,26 @@
+use ndn_tlv::Memory;
+use thiserror::Error;
+
+/// Why a journal was not shortened. Lines are counted from 1.
+#[derive(Clone, Copy, Debug, PartialEq, Eq, Error)]
+pub enum ShortenFault {
+    /// The line with this number is not a line of a script.
+    #[error("line {0} of the journal is a bad line")]
+    BadLine(u64),
+    /// The packet in the line with this number is not allowed, or is neither a command nor a Data
+    /// that the repository wants. No node has such a line in its journal: the rules, the keys or
+    /// the repository's prefix differ from those of the node that wrote it.
+    #[error("no node with these options journals line {0}")]
+    NotJournalled(u64),
+    /// The journal has 4,294,967,295 lines.
+    #[error("the journal has too many lines")]
+    TooLong,
+    #[error("out of memory")]
+    Memory,
+}
+
+impl From<Memory> for ShortenFault {
+    fn from(_error: Memory) -> ShortenFault {
+        ShortenFault::Memory
+    }
+}

@@ -1,0 +1,103 @@
+ghost use Rattle.std.specs.Prelude.{◌≡◌, ◌++◌, ℕ, List, OnErr, OnOk};
+ghost use Rattle.journal_shortening.specs.Needed.{KeepsLines, PutsNeeded, kept_line, tick_text};
+
+use crate::fault::ShortenFault;
+use crate::playing::{Desk, survey_lines};
+use crate::reach::Reach;
+use crate::survey::Survey;
+use forwarder::Node;
+use journal::{Entry, line_of};
+use ndn_tlv::Memory;
+use node_core::cut_line;
+use std::alloc::Global;
+
+/// The lines of a journal that a shorter journal keeps.
+#[derive(Debug, Drop)]
+pub struct Needed {
+    /// For each whole line whether it is needed.
+    pub lines: Vec<bool>,
+    /// The node's time after the last line, in milliseconds since 1970.
+    pub moment: u64,
+}
+
+/// Replays the whole lines of a journal on a new node, which has handled no event, and returns the
+/// lines that the survey finds to be needed to restore the same tables.
+///
+/// No contract says that they restore the same tables: `restores_same_tables` compares.
+pub fn needed_lines(
+    alloc: Global,
+    node: &mut Node,
+    journal: &[u8],
+) -> Result<Needed, ShortenFault> {
+    let mut survey = Survey::new(alloc);
+    let mut desk = Desk::new(alloc);
+    match survey_lines(node, journal, &mut desk, &mut survey) {
+        Ok(()) => needed_by(&mut survey, node.now()),
+        Err(fault) => Err(fault),
+    }
+}
+
+/// Returns the lines that are needed for what the survey found at the time `now`.
+fn needed_by(survey: &mut Survey, now: u64) -> Result<Needed, ShortenFault> {
+    survey.links.sort_unstable();
+    let mut reach = Reach::new(survey.alloc, survey.count)?;
+    survey.mark_roots(now, &mut reach)?;
+    reach.close(&survey.links, &survey.floors)?;
+    Ok(Needed {
+        lines: reach.into_needed(),
+        moment: now,
+    })
+}
+
+/// Appends the needed lines of a journal, in order and each with its LF, and then a line `tick`
+/// with the time after the last line. If memory runs out, nothing is appended.
+pub fn put_needed(out: &mut Vec<u8>, journal: &[u8], needed: &Needed) -> Result<(), Memory>
+    ensures ok { OnOk result (PutsNeeded journal.now needed.now.lines.items needed.now.moment
+        out.old.items out.new.items) }
+    ensures err { OnErr result (out.new.items ≡ out.old.items) }
+{
+    let mut text = Vec::new(*out.allocator());
+    put_lines(&mut text, journal, &needed.lines)?;
+    put_tick(&mut text, needed.moment)?;
+    out.extend_from_slice(&text)?;
+    Ok(())
+}
+
+/// Appends a line `tick` with this time and its LF.
+fn put_tick(text: &mut Vec<u8>, moment: u64) -> Result<(), Memory>
+    ensures { OnOk result (text.new.items ≡ text.old.items ++ tick_text moment) }
+{
+    let Ok(tick) = line_of(*text.allocator(), moment, &Entry::Tick) else {
+        return Err(Memory);
+    };
+    text.extend_from_slice(tick.as_bytes())?;
+    Ok(())
+}
+
+/// Appends the lines of a journal that are needed, each with its LF, up to the last flag.
+fn put_lines(text: &mut Vec<u8>, journal: &[u8], needed: &[bool]) -> Result<(), Memory>
+    ensures { OnOk result ((lines : List ℕ) × KeepsLines needed.now journal.now lines
+        × (text.new.items ≡ text.old.items ++ lines)) }
+{
+    let mut rest = journal;
+    for is_needed in needed {
+        let Some((line, after)) = cut_line(rest) else {
+            return Ok(());
+        };
+        put_line(text, line, *is_needed)?;
+        rest = after;
+    }
+    Ok(())
+}
+
+/// Appends a line with its LF, if it is needed.
+fn put_line(text: &mut Vec<u8>, line: &[u8], is_needed: bool) -> Result<(), Memory>
+    ensures { OnOk result (text.new.items ≡ text.old.items ++ kept_line is_needed line.now) }
+{
+    if !is_needed {
+        return Ok(());
+    }
+    text.extend_from_slice(line)?;
+    text.push(b'\n')?;
+    Ok(())
+}

@@ -1,0 +1,150 @@
+use crate::fault::ShortenFault;
+use crate::survey::Survey;
+use forwarder::{Event, Node, Outbox, OwnedEvent, Verdict};
+use node_core::{Line, cut_line, line_of};
+use std::alloc::Global;
+
+/// What an event changed in a node.
+#[derive(Clone, Copy, Debug)]
+pub enum Change {
+    /// Nothing but the time.
+    Nothing,
+    /// This face was opened.
+    Up(u64),
+    /// This face was closed.
+    Down(u64),
+    /// Rules and keys were replaced.
+    Rules,
+    /// A command on this face was allowed, and has this status.
+    Command(u64, u16),
+    /// A Data on this face was stored in the repository.
+    Stored(u64),
+    /// A packet did nothing for which a node journals it.
+    NotJournalled,
+}
+
+/// What an event changed, and the node's time after it.
+#[derive(Clone, Copy, Debug)]
+pub struct Seen {
+    pub change: Change,
+    pub now: u64,
+}
+
+/// Memory for the events of lines.
+#[derive(Drop)]
+pub struct Desk {
+    alloc: Global,
+    octets: Vec<u8>,
+    outbox: Outbox,
+}
+
+impl Desk {
+    pub fn new(alloc: Global) -> Desk {
+        Desk {
+            alloc,
+            octets: Vec::new(alloc),
+            outbox: Outbox::new(alloc),
+        }
+    }
+}
+
+/// Returns what an event does if it has its effect. For a packet, the status of a command is left
+/// open.
+fn change_of(event: &OwnedEvent) -> Change {
+    match event {
+        OwnedEvent::Packet { face, .. } => Change::Stored(*face),
+        OwnedEvent::FaceUp { face, .. } => Change::Up(*face),
+        OwnedEvent::FaceDown { face, .. } => Change::Down(*face),
+        OwnedEvent::Tick { .. } => Change::Nothing,
+        OwnedEvent::NewRules { .. } => Change::Rules,
+    }
+}
+
+/// Returns what an event with this verdict changed, given what it does if it has its effect.
+fn change_by(change: Change, verdict: Verdict, is_wanted: bool) -> Change {
+    match (change, verdict) {
+        (Change::Stored(face), Verdict::Allowed(_, status)) => Change::Command(face, status),
+        (Change::Stored(face), Verdict::DataAllowed(_)) if is_wanted => Change::Stored(face),
+        (Change::Stored(_), _) => Change::NotJournalled,
+        (change, Verdict::Passed) => change,
+        _ => Change::Nothing,
+    }
+}
+
+/// Replays the whole lines of a journal on a node, and surveys them.
+pub fn survey_lines(
+    node: &mut Node,
+    journal: &[u8],
+    desk: &mut Desk,
+    survey: &mut Survey,
+) -> Result<(), ShortenFault> {
+    let mut rest = journal;
+    for line in 0..u32::MAX {
+        let Some((text, after)) = cut_line(rest) else {
+            survey.count = line;
+            return Ok(());
+        };
+        survey_line(node, text, line, desk, survey)?;
+        rest = after;
+    }
+    Err(ShortenFault::TooLong)
+}
+
+/// Replays one line on a node, and surveys it.
+fn survey_line(
+    node: &mut Node,
+    text: &[u8],
+    line: u32,
+    desk: &mut Desk,
+    survey: &mut Survey,
+) -> Result<(), ShortenFault> {
+    match play(node, text, line, desk)? {
+        Some(seen) => survey.note(seen, &desk.octets, line),
+        None => Ok(()),
+    }
+}
+
+/// Handles the event of a line on a node, and returns what it did, or `None` if the line has no
+/// event.
+fn play(
+    node: &mut Node,
+    text: &[u8],
+    line: u32,
+    desk: &mut Desk,
+) -> Result<Option<Seen>, ShortenFault> {
+    match line_of(desk.alloc, text) {
+        Ok(Line::Event(event)) => play_event(node, event, desk),
+        Ok(Line::Skipped) => Ok(None),
+        Ok(Line::Bad) => Err(ShortenFault::BadLine(u64::from(line) + 1)),
+        Err(_) => Err(ShortenFault::Memory),
+    }
+}
+
+/// Handles an event on a node. The octets of a packet are left in the desk.
+fn play_event(
+    node: &mut Node,
+    event: OwnedEvent,
+    desk: &mut Desk,
+) -> Result<Option<Seen>, ShortenFault> {
+    desk.outbox.clear();
+    let change = change_of(&event);
+    let event = event.into_event(&mut desk.octets);
+    step(node, event, change, &mut desk.outbox)
+}
+
+/// Handles an event on a node.
+fn step(
+    node: &mut Node,
+    event: Event<'_>,
+    change: Change,
+    outbox: &mut Outbox,
+) -> Result<Option<Seen>, ShortenFault> {
+    let is_wanted = node.wants(&event);
+    match node.step(event, outbox) {
+        Ok(verdict) => Ok(Some(Seen {
+            change: change_by(change, verdict, is_wanted),
+            now: node.now(),
+        })),
+        Err(_) => Err(ShortenFault::Memory),
+    }
+}

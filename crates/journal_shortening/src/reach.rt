@@ -1,0 +1,77 @@
+use ndn_tlv::Memory;
+use std::alloc::Global;
+
+/// The lines that are known to be needed. Lines are counted from 0.
+#[derive(Drop)]
+pub struct Reach {
+    /// Whether each line is needed.
+    needed: Vec<bool>,
+    /// The needed lines whose links have not been followed.
+    open: Vec<u32>,
+    /// All lines before this one are needed.
+    floor: u32,
+}
+
+impl Reach {
+    /// Returns that no line of this number of lines is needed.
+    pub fn new(alloc: Global, count: u32) -> Result<Reach, Memory> {
+        Ok(Reach {
+            needed: vec![in alloc; false; count as usize]?,
+            open: Vec::new(alloc),
+            floor: 0,
+        })
+    }
+
+    /// Returns for each line whether it is needed.
+    pub fn into_needed(self) -> Vec<bool> {
+        self.needed
+    }
+
+    /// Notes that a line is needed.
+    pub fn mark(&mut self, line: u32) -> Result<(), Memory> {
+        if let Some(needed) = self.needed.get_mut(line as usize)
+            && !*needed
+        {
+            *needed = true;
+            self.open.push(line)?;
+        }
+        Ok(())
+    }
+
+    /// Notes that all lines before this one are needed.
+    fn mark_before(&mut self, line: u32) -> Result<(), Memory> {
+        for before in self.floor..line {
+            self.mark(before)?;
+        }
+        self.floor = self.floor.max(line);
+        Ok(())
+    }
+
+    /// Marks the lines that this line needs. The links are pairs of a line and a line that it
+    /// needs, in rising order.
+    fn follow(&mut self, links: &[(u32, u32)], line: u32) -> Result<(), Memory> {
+        let start = links.partition_point(|link| link.0 < line);
+        for link in links.iter().skip(start) {
+            if link.0 != line {
+                return Ok(());
+            }
+            self.mark(link.1)?;
+        }
+        Ok(())
+    }
+
+    /// Marks the lines that marked lines need, and so on. The lines in `floors` need all lines
+    /// before them. The links and the floors are in rising order.
+    pub fn close(&mut self, links: &[(u32, u32)], floors: &[u32]) -> Result<(), Memory> {
+        for _ in 0..self.needed.len() {
+            let Some(line) = self.open.pop() else {
+                return Ok(());
+            };
+            self.follow(links, line)?;
+            if floors.binary_search(&line).is_ok() {
+                self.mark_before(line)?;
+            }
+        }
+        Ok(())
+    }
+}

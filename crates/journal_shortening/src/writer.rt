@@ -1,0 +1,34 @@
+/// What a line did to its subject, such as a route or a signer.
+#[derive(Clone, Copy, Debug, PartialEq, Eq)]
+pub enum Effect {
+    /// It removed the subject, as the deletion of an object.
+    Removed,
+    /// It set the subject, whatever earlier lines had done to it, as the time of a signer's last
+    /// command.
+    Renewed,
+    /// It set the subject. If the line is needed, the next line on the subject is needed too, since
+    /// that line may remove or change what this one set.
+    Set,
+    /// It set a next hop or a route through `face`, which the line `up` had opened. This is like
+    /// `Set`, but the route ends when the face closes or the deadline, in milliseconds since 1970,
+    /// comes.
+    Routed {
+        face: u64,
+        up: u32,
+        deadline: Option<u64>,
+    },
+}
+
+/// The last line that wrote a subject.
+#[derive(Clone, Copy, Debug, PartialEq, Eq)]
+pub struct Writer {
+    pub line: u32,
+    pub effect: Effect,
+}
+
+impl Writer {
+    /// Returns whether the next line on the subject is needed whenever this line is.
+    pub fn needs_next(&self) -> bool {
+        matches!(self.effect, Effect::Set | Effect::Routed { .. })
+    }
+}
