@@ -58,7 +58,7 @@ fn is_fresh(alloc: Global, guard: &Guard, command: &str) -> Option<bool> {
 /// Shows whether a command is fresh after the commands that were recorded before it.
 fn freshness(alloc: Global, row: &str) -> Option<String> {
     let (past, command) = row.split_once("? ")?;
-    let guard = guard_of(alloc, past.trim())?;
+    let guard = guard_of(alloc, past)?;
     let answer = if is_fresh(alloc, &guard, command)? {
         "fresh"
     } else {
@@ -71,7 +71,7 @@ fn freshness(alloc: Global, row: &str) -> Option<String> {
 fn guard_of(alloc: Global, past: &str) -> Option<Guard> {
     let mut guard = Guard::new(alloc);
     for recorded in past.split_terminator(", ") {
-        record(alloc, &mut guard, recorded)?;
+        record(alloc, &mut guard, recorded.trim())?;
     }
     Some(guard)
 }
