@@ -19,9 +19,6 @@ use std::alloc::Global;
 use std::marker::Model;
 use std::num::NonZeroUsize;
 
-#[cfg(test)]
-mod tests;
-
 /// The greatest capacity of a store, in Data.
 pub const MAX_CAPACITY: usize = 65_536;
 
