@@ -184,13 +184,13 @@ fn sameness(alloc: Global, row: &str) -> Option<String> {
 #[test]
 fn same_repositories(rt: HostRuntime) {
     let rows = "
-insert /A 0, insert /B 0, offer /B x; insert /B 0, offer /B x, insert /C 0, delete /C 0, insert /A 0 -> true
+insert /A 0, insert /B 0, offer /B 01; insert /B 0, offer /B 01, insert /C 0, delete /C 0, insert /A 0 -> true
 insert /A 0; insert /A* 0 -> false
 insert /A 0; insert /B 0 -> false
 insert /A 0; insert /A 1 -> false
 insert /A 0; check /A 0 -> false
-insert /A 0, offer /A x; insert /A 0, offer /A y -> false
-insert /A 0, offer /A x; check /A 0 -> false
+insert /A 0, offer /A 01; insert /A 0, offer /A 02 -> false
+insert /A 0, offer /A 01; check /A 0 -> false
 ";
     check_rows(&rt, rt.alloc(), rows, sameness);
 }
