@@ -118,7 +118,7 @@ length_front s p (u ∷ us) e = split (eqb s u.0) e (length_front s p us)
 
 -- ---- one element removed from the LRU order
 module _ (g : ℕ → Option CachedData) (s : ℕ) (name : List Field) where
-  -- only this serial number leads to a Data with that name
+  -- if the Data at the slab index in `u` has this full name, the serial number in `u` is `s`
   abbrev pub Alone : ℕ × ℕ → Type 0
   Alone u = (d : CachedData) → g u.1 ≡ Some d → (full_name_of d) ≡ name → u.0 ≡ s
 
@@ -183,7 +183,7 @@ one_row rows rising p q a b pa qb same =
 pub held_at_is : (o : Option Row) (row : Row) (d : CachedData) → o ≡ Some row → option_map (λ (r : Row). r.entry) o ≡ Some d → d ≡ row.entry
 held_at_is o row d is at = (let e = sym (ap (λ x. option_map (λ (r : Row). r.entry) x) is) ∙ at in cc)
 
--- no other serial number leads to the Data with this full name
+-- only the row's own serial number has the slab index of a Data with the row's full name
 pub alone_in : (rows : List Placed) (used : List (ℕ × ℕ)) (next : ℕ) → Sound rows used next → (p : ℕ) (row : Row) → lookup (nat_eq p) rows ≡ Some row
     → AllByRecursion (Alone (held_in rows) row.serial (full_name_of row.entry)) used
 alone_in rows used next sound p row at =

@@ -15,7 +15,7 @@ abbrev pub with_held : Option CachedData → List CachedData → List CachedData
 with_held None rest = rest
 with_held (Some c) rest = c ∷ rest
 
--- the Data to which these serial numbers lead
+-- the Data that `g` gives for the slab indexes in a list of serial numbers with slab indexes
 unfoldable pub cached_by : (ℕ → Option CachedData) → List (ℕ × ℕ) → List CachedData
 cached_by g [] = []
 cached_by g (u ∷ us) = with_held (g u.1) (cached_by g us)
@@ -26,7 +26,7 @@ held_in rows p = option_map (λ row. row.entry) (lookup (nat_eq p) rows)
 abbrev pub cached_in : List Placed → List (ℕ × ℕ) → List CachedData
 cached_in rows used = cached_by (held_in rows) used
 
--- The serial number leads to the row that has this number.
+-- `u` is a serial number with a slab index: the row at this index has this serial number.
 pub record LeadsTo (rows : List Placed) (u : ℕ × ℕ) : Type 0 where
   pub row : Row
   pub there : lookup (nat_eq u.1) rows ≡ Some row

@@ -26,7 +26,7 @@ not_empty (c ∷ name) = Some (c ∷ name)
 abbrev pub name_of : List ℕ → Option (List Field)
 name_of uri = on_result not_empty (λ _. None) (name_in uri)
 
--- the octets that hexadecimal digits encode, if there are 1 to 256
+-- the octets that hexadecimal digits encode, or None unless the digits encode 1 to 256 octets
 abbrev pub octets_of : List ℕ → Option (List ℕ)
 octets_of digits =
     on_result

@@ -51,7 +51,8 @@ pub(crate) fn name_of(alloc: Global, number: u64, uri: &str) -> Result<NameBuf, 
     }
 }
 
-/// Returns the octets that the hexadecimal digits in line `number` encode, if there are 1 to 256.
+/// Returns the octets that the hexadecimal digits in line `number` encode. Returns a fault if the
+/// digits do not encode 1 to 256 octets.
 pub(crate) fn octets_of(alloc: Global, number: u64, digits: &str) -> Result<Vec<u8>, KeyFault>
     ensures { MatchResult result (λ octets. octets_of digits.now ≡ Some octets.items)
         (IsLineFault number (octets_of digits.now)) }

@@ -143,7 +143,7 @@ impl Rules {
     }
 }
 
-/// Law: the meaning of the entries is at most one list of rules, the one that `rules_in` returns.
+/// Law: entries mean at most one list of rules. If they mean one, `rules_in` returns it.
 pub fn rule_files_have_one_reading()
     ensures exact { (entries : List PlainEntry) (rules : List PlainRule)
         → (rules_in entries ≡ Ok rules) ↔ IsRuleFile entries rules }

@@ -11,12 +11,13 @@ abbrev pub with_entry : {K X : Type 0} → K → Option X → List (K × X) → 
 with_entry k None es = es
 with_entry k (Some x) es = (k, x) ∷ es
 
--- the entries after each value is changed or each entry is removed, as `change` says
+-- the entries with `change` applied to each value; if it gives None for a value, the entry is
+-- removed
 abbrev pub revised : {K X Y : Type 0} → (X → Option Y) → List (K × X) → List (K × Y)
 revised change [] = []
 revised change (e ∷ es) = with_entry e.0 (change e.1) (revised change es)
 
--- the map after each value is changed or each entry is removed, as `change` says
+-- the map with `change` applied to each value; if it gives None for a value, the entry is removed
 unfoldable pub revise : {K X Y : Type 0} {R : K → K → Ordering} → (X → Option Y) → FinMap R X
     → FinMap R Y
 revise change m = from_sorted (revised change (entries m))

@@ -1,7 +1,7 @@
 -- The first octets of a component as a number.
 use Rattle.std.specs.Prelude.{◌≡◌, ◌<◌, ℕ, zero, suc, ◌+◌, ◌*◌, List, slice_index}
 
--- the first n octets as a number, padded with zeros
+-- the first n octets as a big-endian number; octets after the end of the list count as zero
 unfoldable pub head : ℕ → List ℕ → ℕ
 head zero octets = 0
 head (suc n) octets = head n octets * 256 + slice_index octets n

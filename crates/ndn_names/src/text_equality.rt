@@ -12,7 +12,7 @@ use crate::component_text::{ComponentText, ValueText, component_text, first_octe
 use crate::name::MAX_COMPONENTS;
 use crate::uri_reader::{first_piece, pieces_text};
 
-/// Returns the shortest NonNegativeInteger encoding of a number, padded with zeros at the end.
+/// Returns eight octets: the shortest NonNegativeInteger encoding of a number, followed by zeros.
 #[tactic(auto, unfolding(ndn_tlv::specs::Number::shortest_nni))]
 fn nni_octets(number: u64) -> [u8; 8]
     ensures { take (length (shortest_nni number)) result ≡ shortest_nni number }
@@ -30,8 +30,8 @@ fn nni_octets(number: u64) -> [u8; 8]
     octets
 }
 
-/// Returns the octets of a value that is a number, padded with zeros at the end. Returns zeros for
-/// any other value.
+/// Returns eight octets: if the value is a number, its shortest NonNegativeInteger encoding
+/// followed by zeros, otherwise only zeros.
 fn number_octets(value: ValueText<'_>) -> [u8; 8]
     ensures { IsNumberIn result value.entry }
 {

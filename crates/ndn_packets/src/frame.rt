@@ -186,8 +186,8 @@ pub(crate) fn nacked_of(reason: u64, outer: Element<'_>) -> Result<Frame<'_>, Pa
     Ok(Frame::Nack { reason, interest })
 }
 
-/// Law: octets are at most one frame, with at most one token. `frame_at` reads the frame, and
-/// `framed_at` reads the frame with its token.
+/// Law: octets have at most one reading as a frame, and at most one as a frame with its PIT token.
+/// `frame_at` reads the frame, and `framed_at` reads the frame with its token.
 pub fn frames_have_one_reading()
     ensures one { (text : List ℕ) (a b : PlainFrame) → IsFrame text a → IsFrame text b → a ≡ b }
     ensures exact { (text : List ℕ) (frame : PlainFrame) → ((i : ℕ) → slice_index text i < 256)

@@ -33,8 +33,8 @@ pub record IsSilentLongest (clients : List Client) (place : ℕ) (client : Clien
   pub least : All (λ other. client.heard ≤ other.heard) clients
   pub first : All (λ other. client.heard < other.heard) (take place clients)
 
--- a client has this endpoint and this face; a datagram from it is recorded at `now`, and nothing
--- else changes
+-- the first client with this endpoint has this face; the time of its last datagram becomes `now`,
+-- and nothing else changes
 pub record Hears (before after : List Client) (endpoint : SocketAddr) (now face : ℕ) : Type 0 where
   pub place : ℕ
   pub client : Client
@@ -46,14 +46,15 @@ pub record Hears (before after : List Client) (endpoint : SocketAddr) (now face 
 abbrev pub IsNoClient : List Client → SocketAddr → Type 0
 IsNoClient clients endpoint = position (λ known. is_at endpoint known.endpoint) clients ≡ None
 
--- a datagram is recorded at `now` for the client with this endpoint, if there is one
+-- if a client has this endpoint, the time of its last datagram becomes `now`; otherwise nothing
+-- changes
 abbrev pub MayHear : List Client → List Client → SocketAddr → ℕ → Type 0
 MayHear before after endpoint now =
     ((face : ℕ) × Hears before after endpoint now face)
     ⊎ (IsNoClient before endpoint × (after ≡ before))
 
--- a datagram is recorded at `now` for the client with this endpoint, if there is one and it is not
--- idle
+-- if a client has this endpoint and is not idle, the time of its last datagram becomes `now`;
+-- otherwise nothing changes
 abbrev pub HearsInTime : Option ℕ → List Client → List Client → SocketAddr → ℕ → Type 0
 HearsInTime idle before after endpoint now =
     ((face : ℕ) × (heard : Hears before after endpoint now face)

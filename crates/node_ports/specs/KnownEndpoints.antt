@@ -36,7 +36,7 @@ with_clients endpoints rows =
     record endpoints { clients = record endpoints.clients { rows = rows } }
 
 -- The endpoint has this face. The faces of the peers have the numbers 1, 2 and so on. If the
--- endpoint is a client, a datagram from it is recorded at `now`.
+-- endpoint is a client, the time of its last datagram becomes `now`.
 abbrev pub Knows : KnownEndpoints → KnownEndpoints → SocketAddr → ℕ → ℕ → Type 0
 Knows before after endpoint now face =
     ((place : ℕ) × (peer_place endpoint before ≡ Some place) × (face ≡ place + 1)
@@ -85,11 +85,11 @@ NoneGivesWay before now =
     All (λ client. GivesWay before.clients.idle now client → ⊥) before.clients.rows
 
 -- What is done with a datagram from `endpoint`. If a client is idle, the face of the client that
--- has been silent longest closes, whatever the endpoint; the datagram is recorded if its endpoint
--- is a client that is not idle. If no client is idle, the datagram arrives on the face of its
--- endpoint. If the endpoint has no face and fewer than 64 endpoints are known, a face opens. If 64
--- are known, the face of a client that gives way (`GivesWay`) closes; if no client gives way, no
--- face opens.
+-- has been silent longest closes, whatever the endpoint. In this case, if the endpoint is a client
+-- that is not idle, the time of its last datagram becomes `now`. If no client is idle, the datagram
+-- arrives on the face of its endpoint. If the endpoint has no face and fewer than 64 endpoints are
+-- known, a face opens. If 64 are known, the face of a client that gives way (`GivesWay`) closes; if
+-- no client gives way, no face opens.
 abbrev pub Meets : KnownEndpoints → KnownEndpoints → SocketAddr → ℕ → Met → Type 0
 Meets before after endpoint now (Face face) =
     NoneIsIdle before now × Knows before after endpoint now face

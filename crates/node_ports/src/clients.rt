@@ -116,8 +116,8 @@ impl Clients {
         let _client = self.rows.remove(place);
     }
 
-    /// Records a datagram that arrived from `endpoint` at `now`. Returns the face of the endpoint,
-    /// if it has one.
+    /// If a client has this endpoint, sets the time of its last datagram to `now`, and returns its
+    /// face.
     pub fn hear(&mut self, endpoint: SocketAddr, now: u64) -> Option<u64>
         ensures found { IfSome result (λ face. (rows : List Client)
             × Hears self.old.rows rows endpoint now face
@@ -128,8 +128,7 @@ impl Clients {
         Some(self.hear_at(place, now))
     }
 
-    /// Records a datagram that arrived from `endpoint` at `now`, if the endpoint has a face and is
-    /// not idle.
+    /// If a client has this endpoint and is not idle, sets the time of its last datagram to `now`.
     pub fn hear_in_time(&mut self, endpoint: SocketAddr, now: u64)
         ensures heard { (rows : List Client)
             × HearsInTime self.old.idle self.old.rows rows endpoint now
@@ -177,7 +176,8 @@ impl Clients {
             .position(|client| client.endpoint == endpoint)
     }
 
-    /// Records a datagram from the client at index `place`. Returns the client's face.
+    /// Sets the time of the last datagram of the client at index `place` to `now`. Returns the
+    /// client's face.
     fn hear_at(&mut self, place: usize, now: u64) -> u64
         requires { place < length self.old.rows }
         ensures { (client : Client) × (slice_get self.old.rows place ≡ Some client)
@@ -260,7 +260,8 @@ fn end_of(idle: Option<u64>, heard: u64) -> u64
     }
 }
 
-/// Records a datagram from the client at index `place`. Returns the client's face.
+/// Sets the time of the last datagram of the client at index `place` to `now`. Returns the client's
+/// face.
 fn hear_at(clients: &mut [Client], place: usize, now: u64) -> u64
     requires { place < length clients.old }
     ensures { (client : Client) × (slice_get clients.old place ≡ Some client)

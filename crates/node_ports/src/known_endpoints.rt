@@ -99,7 +99,8 @@ impl KnownEndpoints {
         }
     }
 
-    /// Returns the face of the endpoint, if it has one, and records a datagram from it at `now`.
+    /// Returns the face of the endpoint, if it has one. If the endpoint is a client, sets the time
+    /// of its last datagram to `now`.
     fn hear(&mut self, endpoint: SocketAddr, now: u64) -> Option<u64>
         ensures known { IfSome result (Knows self.old self.new endpoint now) }
         ensures none { result ≡ None → IsNewcomer self.old endpoint × (self.new ≡ self.old) }
@@ -110,7 +111,7 @@ impl KnownEndpoints {
         }
     }
 
-    /// Records a datagram from `endpoint` at `now`, if the endpoint is a client.
+    /// If the endpoint is a client, sets the time of its last datagram to `now`.
     pub fn hear_client(&mut self, endpoint: SocketAddr, now: u64)
         ensures { (rows : List Client) × MayHear self.old.clients.rows rows endpoint now
             × (self.new ≡ with_clients self.old rows) }

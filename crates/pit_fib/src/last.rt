@@ -1,4 +1,5 @@
-//! The search for the last in-record of a face that a Data answers.
+//! The search for the last in-record of a face that a Data answers. The last in-record is the one
+//! with the latest deadline and, among those with the same deadline, the one with the greatest key.
 ghost use Rattle.std.specs.Prelude.{◌≡◌};
 ghost use Rattle.std.specs.Option.{option_map};
 ghost use Rattle.sha2.specs.Sha256.{sha256};
@@ -43,8 +44,8 @@ impl<'a> Look<'a, Row> for LastOf<'a> {
     }
 }
 
-/// Returns the last of the face's in-records under the keys of this name, and under those keys of
-/// its proper prefixes that have CanBePrefix.
+/// Returns the last of the face's in-records, by deadline and then by key, under the keys of this
+/// name, and under those keys of its proper prefixes that have CanBePrefix.
 fn last_along<'a>(rows: &'a TimedMap<Row>, name: Name<'_>, face: u64) -> Option<&'a InRecord>
     ensures { option_map (λ r. r.now) result
         ≡ last_along rows.now.table face (components name.entry) }
@@ -54,7 +55,8 @@ fn last_along<'a>(rows: &'a TimedMap<Row>, name: Name<'_>, face: u64) -> Option<
     look.last
 }
 
-/// Returns the last of the face's in-records that a Data answers. The Data's digest is computed
+/// Of the face's in-records that a Data answers, returns the one with the latest deadline and,
+/// among those with the same deadline, the one with the greatest key. The Data's digest is computed
 /// only if some key has a digest.
 pub fn last_for<'a>(rows: &'a TimedMap<Row>, packet: &Data<'_>, face: u64) -> Option<&'a InRecord>
     ensures { option_map (λ r. r.now) result ≡ last_of rows.now.table face

@@ -83,9 +83,10 @@ impl Row {
         }
     }
 
-    /// Returns the last of `last` and of the face's in-records under a key of this name that the
-    /// Data answers. If the name is the Data's own, these are all keys; otherwise they are the keys
-    /// with CanBePrefix.
+    /// Of `last` and the face's in-records under the keys of this name that the Data answers,
+    /// returns the one with the latest deadline and, among those with the same deadline, the one
+    /// found last. If the name is the Data's own, the Data answers all keys; otherwise it answers
+    /// the keys with CanBePrefix.
     pub fn last_of<'a>(
         &'a self,
         is_own: bool,

@@ -145,7 +145,8 @@ impl Slots {
         add_faces(&self.prefix_fresh, faces);
     }
 
-    /// Returns the last of `last` and of the face's in-records under the keys without CanBePrefix.
+    /// Of `last` and the face's in-records under the keys without CanBePrefix, returns the one with
+    /// the latest deadline and, among those with the same deadline, the one found last.
     fn last_exact<'a>(&'a self, face: u64, last: Option<&'a InRecord>) -> Option<&'a InRecord>
         ensures { option_map (λ r. r.now) result
             ≡ last_exact face (option_map (λ r. r.now) last.entry) self.now }
@@ -154,7 +155,8 @@ impl Slots {
         later(last, in_record_of(&self.exact_fresh, face))
     }
 
-    /// Returns the last of `last` and of the face's in-records under the keys with CanBePrefix.
+    /// Of `last` and the face's in-records under the keys with CanBePrefix, returns the one with
+    /// the latest deadline and, among those with the same deadline, the one found last.
     fn last_prefix<'a>(&'a self, face: u64, last: Option<&'a InRecord>) -> Option<&'a InRecord>
         ensures { option_map (λ r. r.now) result
             ≡ last_prefix face (option_map (λ r. r.now) last.entry) self.now }
@@ -163,9 +165,10 @@ impl Slots {
         later(last, in_record_of(&self.prefix_fresh, face))
     }
 
-    /// Returns the last of `last` and of the face's in-records under a key of this name that the
-    /// Data answers. If the name is the Data's own, these are all keys; otherwise they are the keys
-    /// with CanBePrefix.
+    /// Of `last` and the face's in-records under the keys of this name that the Data answers,
+    /// returns the one with the latest deadline and, among those with the same deadline, the one
+    /// found last. If the name is the Data's own, the Data answers all keys; otherwise it answers
+    /// the keys with CanBePrefix.
     pub fn last_of<'a>(
         &'a self,
         is_own: bool,
