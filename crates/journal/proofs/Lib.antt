@@ -10,3 +10,4 @@ pub mod LineTexts
 pub mod JournalSteps
 pub mod FirstRules
 pub mod Replays
+pub mod LastFiles

@@ -88,7 +88,7 @@ so_far_none node unread = record {
   short = omega arith;
 }
 
-joined_one : (lines : List (List ℕ)) (line : List ℕ) → joined (lines ++ (line ∷ [])) ≡ joined lines ++ ended line
+pub joined_one : (lines : List (List ℕ)) (line : List ℕ) → joined (lines ++ (line ∷ [])) ≡ joined lines ++ ended line
 joined_one lines line = joined-append lines (line ∷ []) ∙ ap (λ (t : List ℕ). joined lines ++ t) (append-nil (ended line))
 
 so_far_more : (old mid new : NodeState) (unread between left : Option (List ℕ)) (number events whole : ℕ) (line : List ℕ) (more : List PlainEvent) → SoFar old mid unread between number events whole
@@ -188,7 +188,7 @@ all_through (o ∷ text) lacks = by (o == 10) refl lacks (λ h. all_through text
     by true is lacks again = absurd (lacks.0 (eqb-true o 10 is))
     by false is lacks again = let rest = again lacks.1 in (ap (λ (t : List ℕ). o ∷ t) rest.0, rest.1)
 
-all_read : (unread between left : Option (List ℕ)) (whole cut : List ℕ) → Consumes unread between whole → IfSome between (λ xs. cut ≡ take_through 10 xs)
+pub all_read : (unread between left : Option (List ℕ)) (whole cut : List ℕ) → Consumes unread between whole → IfSome between (λ xs. cut ≡ take_through 10 xs)
     → IfSome between (λ xs. left ≡ Some (drop_through 10 xs)) → Lacks 10 cut → IfSome unread (λ text. (text ≡ whole ++ cut) × (left ≡ Some []))
 all_read None between left whole cut read is rest lacks = tt
 all_read (Some text) None left whole cut read is rest lacks = absurd read

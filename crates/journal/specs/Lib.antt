@@ -4,3 +4,4 @@ pub mod Journalled
 pub mod Text
 pub mod Appending
 pub mod Replay
+pub mod LastFiles

@@ -4,12 +4,14 @@
 
 mod append;
 mod file;
+mod last_files;
 mod law;
 mod line;
 mod replaying;
 
 pub use append::{AppendFault, Coming, append_event};
 pub use file::{FileFault, JournalFile};
+pub use last_files::{are_last_rules, last_rules};
 pub use law::{
     crashes_leave_a_beginning, journal_texts_have_one_reading, journals_are_one,
     journals_grow_by_steps, journals_keep_policy, journals_survive_crashes,

@@ -83,7 +83,7 @@ fn text_of(alloc: Global, now: u64, entry: &Entry<'_>) -> Result<String, AllocEr
 }
 
 /// Returns octets in hexadecimal, or a dash for no octets.
-fn hex_word(alloc: Global, octets: &[u8]) -> Result<String, AllocError>
+pub(crate) fn hex_word(alloc: Global, octets: &[u8]) -> Result<String, AllocError>
     ensures word { IfOk result (λ word. string_bytes word ≡ hex_word_of octets.now) }
     ensures octets { AreOctets octets.now }
 {

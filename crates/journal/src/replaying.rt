@@ -76,7 +76,7 @@ pub fn replay<R: BufRead>(
 
 /// Replaces the content of `octets` by the next line with its LF, or by all remaining octets if no
 /// LF follows.
-fn read_line<R: BufRead>(reader: &mut R, octets: &mut Vec<u8>) -> Result<(), ReplayFault>
+pub(crate) fn read_line<R: BufRead>(reader: &mut R, octets: &mut Vec<u8>) -> Result<(), ReplayFault>
     ensures read { Consumes (R.remaining reader.old) (R.remaining reader.new) octets.new.items }
     ensures stops { StopsAt octets.new.items 10 }
     ensures known { OnOk result (IfSome (R.remaining reader.old)
@@ -93,7 +93,7 @@ fn read_line<R: BufRead>(reader: &mut R, octets: &mut Vec<u8>) -> Result<(), Rep
 }
 
 /// Returns the line without its LF, or `None` if it has no LF.
-fn whole_line(octets: &[u8]) -> Option<&[u8]>
+pub(crate) fn whole_line(octets: &[u8]) -> Option<&[u8]>
     requires { StopsAt octets.now 10 }
     ensures found { IfSome result (λ line. (octets.now ≡ ended line.now) × Lacks 10 line.now) }
     ensures none { IfNone result (Lacks 10 octets.now) }

@@ -3,7 +3,8 @@
 ghost use Rattle.std.specs.Prelude.{None};
 
 use crate::{
-    Coming, Entry, FileFault, JournalFile, ReplayFault, Replayed, append_event, line_of, replay,
+    Coming, Entry, FileFault, JournalFile, ReplayFault, Replayed, append_event, are_last_rules,
+    last_rules, line_of, replay,
 };
 use forwarder::{DropReason, Node, NodeParts, Scope, Verdict};
 use hmac_keys::KeyBook;
@@ -245,4 +246,38 @@ fn a_reader_that_fails(rt: HostRuntime) {
     assert!(rt; fails_after(rt.alloc(), text, ErrorKind::Other) == Some((17, ReplayFault::Read)));
     let memory = Some((17, ReplayFault::Memory));
     assert!(rt; fails_after(rt.alloc(), text, ErrorKind::OutOfMemory) == memory);
+}
+
+/// Returns whether the last whole line of new rules in the text has these octets of a rule file and
+/// of a key file.
+fn are_last(alloc: Global, text: &[u8], rules: &[u8], keys: &[u8]) -> Option<bool> {
+    let mut reader = text;
+    are_last_rules(alloc, &mut reader, rules, keys).ok()
+}
+
+#[test]
+fn last_of_two_lines_of_rules(rt: HostRuntime) {
+    let text = b"rules 1 - 6b\nrules 2 3b4a -\nup 1 local 3\n";
+    assert!(rt; are_last(rt.alloc(), text, b";J", b"") == Some(true));
+    assert!(rt; are_last(rt.alloc(), text, b"", b"k") == Some(false));
+}
+
+/// A line of new rules that a crash cut short does not count.
+#[test]
+fn rules_that_were_cut(rt: HostRuntime) {
+    let text = b"rules 1 - 6b\nrules 2 3b4a -";
+    assert!(rt; are_last(rt.alloc(), text, b"", b"k") == Some(true));
+    assert!(rt; are_last(rt.alloc(), text, b";J", b"") == Some(false));
+}
+
+/// Returns whether the text has no whole line of new rules.
+fn has_no_rules(alloc: Global, text: &[u8]) -> bool {
+    let mut reader = text;
+    matches!(last_rules(alloc, &mut reader), Ok(None))
+}
+
+#[test]
+fn journals_without_rules(rt: HostRuntime) {
+    assert!(rt; has_no_rules(rt.alloc(), b"up 1 local 3\nrules 4 - -"));
+    assert!(rt; are_last(rt.alloc(), b"up 1 local 3\n", b"", b"") == Some(false));
 }
