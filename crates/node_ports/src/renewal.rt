@@ -50,6 +50,20 @@ impl Renewal {
         Renewal { rules, keys, files }
     }
 
+    /// Returns the octets of the rule file.
+    pub fn rule_octets(&self) -> &[u8]
+        ensures { result.now ≡ self.now.rule_octets }
+    {
+        &self.files.rules
+    }
+
+    /// Returns the octets of the key file, which are secrets.
+    pub fn key_octets(&self) -> &[u8]
+        ensures { result.now ≡ self.now.key_octets }
+    {
+        &self.files.keys
+    }
+
     /// Returns the total number of octets of both files.
     pub fn octets_len(&self) -> usize {
         self.files.rules.len().saturating_add(self.files.keys.len())
