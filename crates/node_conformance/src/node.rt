@@ -17,7 +17,6 @@ mod registered_routes;
 mod repository_life;
 mod routes;
 mod scripts;
-mod shortening;
 mod streams;
 mod tokens;
 mod udp;
