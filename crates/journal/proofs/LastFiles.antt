@@ -1,5 +1,5 @@
 -- The last line of new rules in a text.
-use Rattle.std.proofs.Common.{◌≡◌, inl, inr, ℕ, List, [], ◌∷◌, ◌++◌, codes, refl, sym, ap, subst, ◌∙◌}
+use Rattle.std.proofs.Common.{◌≡◌, inl, inr, ℕ, List, [], ◌∷◌, ◌++◌, codes, refl, sym, subst, ◌∙◌}
 use Rattle.std.proofs.Common.{Bool, true, false, not, eqb}
 use Rattle.std.specs.Prelude.{MatchOption, IfSome, IsTrue, Option, Some, None, ◌↔◌}
 use Rattle.std.specs.Cmp.Lexicographic.{pointwise}
@@ -11,7 +11,7 @@ use Rattle.node_core.specs.Script.{AreLines, ended, joined}
 use Rattle.node_core.specs.Script.Line.{Lacks}
 use Rattle.node_core.proofs.Known.{Consumes-start, Consumes-then}
 use Rattle.node_core.proofs.Lists.{Lacks-from_test, Lacks-no_cut, cut_once}
-use Rattle.node_core.proofs.Playing.{AreLines-append, joined-append}
+use Rattle.node_core.proofs.Playing.{AreLines-append}
 use Rattle.journal.specs.LastFiles.{HasLastFiles, HasNoFiles, HaveLastRules, HaveNoRules, IsRulesLine}
 use Rattle.journal.proofs.Lines.{lines_once}
 use Rattle.journal.proofs.Replays.{all_read, joined_one}
@@ -43,11 +43,11 @@ no_files line rest e lacks files h =
     let same = cut_once 32 (codes "rules") rest (codes "rules") _ kind_lacks kind_lacks (sym e ∙ h.2) in
     Lacks-no_cut 32 h.0 files (subst (Lacks 32) same.back lacks)
 
--- a comparison of two words found a difference
+-- if a comparison found a difference between two words, the words are not equal
 pub differ : (kind word : List ℕ) (found : Bool) → found ≡ not (pointwise eqb kind word) → found ≡ true → kind ≡ word → ⊥
 differ kind word found compared is e = let same = (slice_eq-Decides Decides-eqb kind word (pointwise eqb kind word) refl).1 e in cc (compared, is, same)
 
--- a comparison of two words found no difference
+-- if a comparison found no difference between two words, the words are equal
 pub same_kind : (kind word : List ℕ) (found : Bool) → found ≡ not (pointwise eqb kind word) → found ≡ false → kind ≡ word
 same_kind kind word found compared is = (slice_eq-Decides Decides-eqb kind word (pointwise eqb kind word) refl).0 (not_false (pointwise eqb kind word) (sym compared ∙ is))
   where

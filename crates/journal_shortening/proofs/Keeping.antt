@@ -1,8 +1,7 @@
 -- The lines that were appended so far, and what the remaining flags may add.
-use Rattle.std.proofs.Common.{◌≡◌, ℕ, suc, ◌+◌, ◌<◌, Bool, true, false, List, [], ◌∷◌, ◌++◌, length, get_or, drop, refl, sym, ap, ◌∙◌, subst, inl, inr, arith, append_assoc, add-one}
+use Rattle.std.proofs.Common.{◌≡◌, ℕ, suc, ◌+◌, ◌<◌, Bool, false, List, [], ◌∷◌, ◌++◌, length, get_or, drop, refl, sym, ap, ◌∙◌, subst, inl, inr, append_assoc, add-one}
 use Rattle.std.proofs.Math.Seq.{drop-cons, drop-length}
 use Rattle.std.proofs.lemmas.List.{append-nil}
-use Rattle.node_core.specs.Script.{ended}
 use Rattle.node_core.specs.Script.Line.{Lacks}
 use Rattle.journal_shortening.specs.Needed.{KeepsLines, kept_line}
 

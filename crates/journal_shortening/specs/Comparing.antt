@@ -1,7 +1,8 @@
--- What it means that two journals restore the same tables.
-use Rattle.std.specs.Prelude.{ℕ, List, Option, Some}
+-- What it means that two journals restore the same tables, or have the same last rules.
+use Rattle.std.specs.Prelude.{◌⊎◌, ℕ, List, Option, Some}
 use Rattle.forwarder.specs.Node.{NodeState}
 use Rattle.forwarder.specs.Policy.{HasSameTables}
+use Rattle.journal.specs.LastFiles.{HasLastFiles, HasNoFiles}
 use Rattle.journal.specs.Replay.{Replays}
 use Rattle.journal.specs.declared.replaying.Replayed.{Replayed}
 
@@ -15,3 +16,10 @@ abbrev pub HaveSameTables : List ℕ → NodeState → NodeState → List ℕ �
 HaveSameTables text old new other_text other_old other_new =
     IsReplayed text old new × IsReplayed other_text other_old other_new
     × HasSameTables new.policy other_new.policy
+
+-- The last lines of new rules in two journals have the same files, or neither journal has such a
+-- line.
+abbrev pub HaveSameLastRules : List ℕ → List ℕ → Type 0
+HaveSameLastRules text other =
+    ((files : List ℕ) × HasLastFiles text files × HasLastFiles other files)
+    ⊎ (HasNoFiles text × HasNoFiles other)

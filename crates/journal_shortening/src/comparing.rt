@@ -1,8 +1,8 @@
 ghost use Rattle.std.specs.Prelude.{IfOk, IsTrue, OnOk};
-ghost use Rattle.journal_shortening.specs.Comparing.{HaveSameTables, IsReplayed};
+ghost use Rattle.journal_shortening.specs.Comparing.{HaveSameLastRules, HaveSameTables, IsReplayed};
 
 use forwarder::Node;
-use journal::{ReplayFault, replay};
+use journal::{ReplayFault, last_rules, replay};
 use std::alloc::Global;
 
 /// Replays the whole lines of one journal on node `a` and those of another on node `b`, and returns
@@ -36,5 +36,20 @@ fn play_all(alloc: Global, node: &mut Node, journal: &[u8]) -> Result<(), Replay
     match replay(alloc, node, &mut reader) {
         Ok(_) => Ok(()),
         Err(fault) => Err(fault),
+    }
+}
+
+/// Returns whether the last whole lines of new rules in two journals have the same rules and keys,
+/// octet by octet. Also returns `true` if neither journal has such a line. The fault is `Read` (too
+/// many lines) or `Memory`.
+pub fn have_same_last_rules(alloc: Global, old: &[u8], new: &[u8]) -> Result<bool, ReplayFault>
+    ensures { IfOk result (λ same. IsTrue same → HaveSameLastRules old.now new.now) }
+{
+    let (mut old, mut new) = (old, new);
+    let last = last_rules(alloc, &mut old)?;
+    match (last, last_rules(alloc, &mut new)?) {
+        (Some(last), Some(other)) => Ok(last.as_slice() == other.as_slice()),
+        (None, None) => Ok(true),
+        _ => Ok(false),
     }
 }

@@ -13,6 +13,6 @@ mod survey;
 mod table_commands;
 mod writer;
 
-pub use comparing::restores_same_tables;
+pub use comparing::{have_same_last_rules, restores_same_tables};
 pub use fault::ShortenFault;
 pub use needed::{Needed, needed_lines, put_needed};

@@ -1,4 +1,3 @@
-use Rattle.std.proofs.Common.{subst, sym, List, ℕ}
 use Rattle.std.specs.String.{string_bytes}
 use Rattle.journal.specs.LastFiles.{files_text}
 use Rattle.journal.proofs.LastFiles.{are_last, are_none}

@@ -1,5 +1,5 @@
 use Rattle.std.proofs.Common.{ap, sym, ◌∙◌, ◌++◌, ◌∷◌, List, ℕ}
-use Rattle.journal.proofs.LastFiles.{differ, no_files, no_kind, other_kind, same_kind}
+use Rattle.journal.proofs.LastFiles.{differ, no_files, other_kind, same_kind}
 use Rattle.journal.proofs.last_files.files_of.Goals as goal
 
 pub returns-then-ne-clause-none : goal.returns-then-ne-clause-none

@@ -1,7 +1,7 @@
-use Rattle.std.proofs.Common.{subst, sym, List, ℕ}
+use Rattle.std.proofs.Common.{subst, sym}
 use Rattle.std.specs.Io.KnownBytes.{Consumes}
 use Rattle.journal.specs.LastFiles.{IsRulesLine}
-use Rattle.journal.proofs.LastFiles.{read_all, read_none, read_other, read_rules}
+use Rattle.journal.proofs.LastFiles.{read_all, read_other, read_rules}
 use Rattle.journal.proofs.last_files.last_rules.Goals as goal
 use Rattle.journal.proofs.last_files.last_rules.Goals.{in-Some-files_of+in_ok-copy_of, in_default-files_of}
 

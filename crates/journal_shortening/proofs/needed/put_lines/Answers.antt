@@ -1,4 +1,4 @@
-use Rattle.std.proofs.Common.{rules, refl, arith}
+use Rattle.std.proofs.Common.{refl, arith}
 use Rattle.journal_shortening.proofs.Keeping.{done, done_early, so_far_line}
 use Rattle.journal_shortening.proofs.needed.put_lines.Goals as goal
 

@@ -1,4 +1,3 @@
-use Rattle.std.proofs.Common.{◌≡◌, ◌++◌, ℕ, List}
 use Rattle.journal_shortening.proofs.Keeping.{SoFar}
 use Rattle.journal_shortening.proofs.needed.put_lines.Given as goal
 
