@@ -24,7 +24,7 @@ unfolding shown
 shown_same h f [] k = refl
 shown_same h f (p ∷ ps) k = λ i. with_slot p (k.0 i) (shown_same h f ps k.1 i)
 
--- the slab keeps the same rows
+-- if two slabs have the same rows, the list of slab indexes shows the same rows of both slabs
 pub same_rows : (h f : ℕ → Option Row) (ps : List ℕ) → ((q : ℕ) → f q ≡ h q) → IsRows h ps → (shown f ps ≡ shown h ps) × IsRows f ps
 same_rows h f ps e rows =
     let same = shown_same h f ps (all_map (λ q. IsSome (h q)) (λ q. f q ≡ h q) (λ q s. e q) ps rows.there) in (

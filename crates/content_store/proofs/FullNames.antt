@@ -32,13 +32,14 @@ then_assoc Less p q = refl
 then_assoc Equal p q = refl
 then_assoc Greater p q = refl
 
--- if the first comparison is not a tie, it decides
+-- if the first comparison does not give Equal, it decides
 pub decided : (o p : Ordering) → (o ≡ Equal → ⊥) → o ≡ ordering_then o p
 decided Less p never = refl
 decided Equal p never = absurd (never refl)
 decided Greater p never = refl
 
--- comparing a list, extended by more elements, with a list that is no longer
+-- comparing the list `u`, extended by at least one element, with a list `v` that is at most as long
+-- as `u`
 pub cmp_longer : (u v : List ℕ) (x : ℕ) (t : List ℕ) → length v ≤ length u → slice_cmp nat_cmp (u ++ x ∷ t) v ≡ ordering_then (slice_cmp nat_cmp u v) Greater
 cmp_longer [] [] x t le = refl
 cmp_longer [] (b ∷ v) x t le = absurd (omega arith)
@@ -46,7 +47,8 @@ cmp_longer (a ∷ u) [] x t le = refl
 cmp_longer (a ∷ u) (b ∷ v) x t le =
     ap (ordering_then (nat_cmp a b)) (cmp_longer u v x t (omega arith)) ∙ sym (then_assoc (nat_cmp a b) (slice_cmp nat_cmp u v) Greater)
 
--- comparing two lists in two parts, if the first parts have equal length
+-- a comparison of two concatenations whose first lists are equally long: first their first lists,
+-- then their second lists, are compared
 pub cmp_split : (u v x y : List ℕ) → length u ≡ length v → slice_cmp nat_cmp (u ++ x) (v ++ y) ≡ ordering_then (slice_cmp nat_cmp u v) (slice_cmp nat_cmp x y)
 cmp_split [] [] x y e = refl
 cmp_split [] (b ∷ v) x y e = absurd (omega arith)
@@ -252,7 +254,7 @@ module _ (u v : List ℕ) (n m : List Field) (d : List ℕ) (flag : Bool) (h : I
 
 -- ---- heads
 
--- comparing lists whose first n octets are not a tie
+-- if the first n octets of two lists differ, they decide the comparison of the lists
 first_decide : (n : ℕ) (u v x y : List ℕ) (o : Ordering) → n ≤ length u → n ≤ length v → o ≡ slice_cmp nat_cmp (take n u) (take n v) → (o ≡ Equal → ⊥) → o ≡ slice_cmp nat_cmp (u ++ x) (v ++ y)
 first_decide n u v x y o lu lv e never =
     let parts = λ (w z : List ℕ). ap (λ (t : List ℕ). t ++ z) (sym (take-append-drop n w)) ∙ append_assoc (take n w) (drop n w) z in

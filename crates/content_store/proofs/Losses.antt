@@ -1,4 +1,5 @@
--- A list with some elements removed; what is cached is a Data.
+-- Lists with some elements removed. Also, a Data is cached with its own name, implicit digest and
+-- FreshnessPeriod.
 use Rattle.std.proofs.Common.{◌≡◌, ◌⊎◌, inl, inr, Bool, true, false, cond, ◌&&◌, List, [], ◌∷◌, filter, refl, sym, ap, subst, All, Contains}
 use Rattle.std.proofs.lemmas.List.Elements.{All-same, All-filter, All-contains_itself}
 use Rattle.ndn_packets.specs.declared.data.Data.{Data}

@@ -28,8 +28,8 @@ under_not_less (c ∷ n) (d ∷ a) p e =
     let tie : component_cmp d c ≡ Equal = ap (λ x. component_cmp d x) (sym first) ∙ tied_itself component_cmp-total d in
     under_not_less n a (p.0, after) (sym (ap (λ o. ordering_then o (name_cmp a n)) tie) ∙ e)
 
--- every full name between a name and a full name that begins with this name begins with this name
--- too
+-- if `a` is not less than `n`, and is less than some name that begins with `n`, then `a` begins
+-- with `n` too
 pub convex : (n a b : List Field) → (name_cmp a n ≡ Less → ⊥) → name_cmp a b ≡ Less → IsPrefix n b → IsPrefix n a
 convex [] a b low less p = (a, refl)
 convex (c ∷ n) [] b low less p = absurd (low refl)
@@ -69,7 +69,8 @@ none_after n rows at rising lt low never k d ge within p =
 not_greater : (a b : List Field) → name_cmp a b ≡ Less → name_cmp a b ≡ Greater → ⊥
 not_greater a b less greater = (let clash = sym less ∙ greater in cc)
 
--- if a row is not less than a name and not near it, no later row is near it
+-- if the full name of a row is not less than a name and not near it (see `is_near`), the full name
+-- of no later row is near it
 pub far_after : (n : List Field) (flag : Bool) (rows : List Placed) (at : ℕ) → Rising rows → at < length rows → ((d : Placed) → name_cmp (name_at (get_or rows at d)) n ≡ Less → ⊥)
     → ((d : Placed) → is_near n flag (name_at (get_or rows at d)) ≡ true → ⊥) → (k : ℕ) (d : Placed) → at ≤ k → k < length rows → is_near n flag (name_at (get_or rows k d)) ≡ true → ⊥
 far_after n flag rows at rising lt low never k d ge within near =
@@ -80,7 +81,8 @@ far_after n flag rows at rising lt low never k d ge within near =
           (not_greater (name_at (get_or rows at d)) (name_at (get_or rows k d)) (rising at k d after within)))
     ]
 
--- a Data that serves an Interest has a full name under the Interest's name, and near it
+-- the full name of a Data that can serve an Interest begins with the Interest's name, and is near
+-- it (see `is_near`)
 pub under_served : (key : PlainKey) (now : ℕ) (c : CachedData) → CanServe key now c → IsPrefix key.name (full_name_of c)
 under_served key now c h =
     elim h.0 [

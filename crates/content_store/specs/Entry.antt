@@ -31,8 +31,8 @@ pub record IsHead (name : List Field) (head : List ℕ) : Type 0 where
   pub long : 32 ≤ length (octets_of name)
   pub first : head ≡ take 32 (octets_of name)
 
--- If `order` is not Equal, it is the order of each full name of `name` compared with `other`. It is
--- also the order of each full name of `name` compared with each full name of `other`.
+-- If `order` is not Equal, each full name of a Data with name `name` compares as `order` with
+-- `other`, and also as `order` with each full name of a Data with name `other`.
 abbrev pub OrdersFullNames : List Field → List Field → Ordering → Type 0
 OrdersFullNames name other order =
     order ≢ Equal → (d : List ℕ) → length d ≡ 32

@@ -7,7 +7,7 @@ unfoldable pub flat : List Block → List ℕ
 flat [] = []
 flat (b ∷ bs) = b.items.items ++ flat bs
 
--- each block has its start position, and the first block starts at n
+-- the first block starts at position n, and each other block starts where the block before it ends
 unfoldable pub AreLaid : ℕ → List Block → Type 0
 AreLaid n [] = Unit {0}
 AreLaid n (b ∷ bs) = (b.start ≡ n) × AreLaid (n + length b.items.items) bs

@@ -39,7 +39,7 @@ cached_at d arrival = record {
 abbrev pub full_name_of : CachedData → List Field
 full_name_of c = full_name c.name c.digest
 
--- The cached Data, the most recently used first, and the greatest number of Data that fit.
+-- The cached Data, the most recently used first, and the capacity: the greatest number of Data.
 pub record StoreState : Type 0 where
   pub cached : List CachedData
   pub capacity : ℕ

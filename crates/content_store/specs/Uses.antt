@@ -15,7 +15,8 @@ abbrev pub with_held : Option CachedData → List CachedData → List CachedData
 with_held None rest = rest
 with_held (Some c) rest = c ∷ rest
 
--- the Data that `g` gives for the slab indexes in a list of serial numbers with slab indexes
+-- the list of pairs of a serial number and a slab index, with each pair replaced by the Data that
+-- `g` returns for its slab index, or removed if `g` returns None
 unfoldable pub cached_by : (ℕ → Option CachedData) → List (ℕ × ℕ) → List CachedData
 cached_by g [] = []
 cached_by g (u ∷ us) = with_held (g u.1) (cached_by g us)
@@ -55,7 +56,7 @@ UsesAt rows before at after =
     (d : Placed) → let r = slice_index_or rows at d in after
     ≡ lru_cache (promoted (nat_eq r.1.serial) before.entries) before.cap
 
--- the rows without the evicted row
+-- the rows without the evicted row, if a row was evicted
 abbrev pub evicted : Option (ℕ × ℕ) → List Placed → List Placed
 evicted None rows = rows
 evicted (Some e) rows = remove_entry (nat_eq e.1) rows

@@ -46,7 +46,7 @@ impl Model for Entry {
 }
 
 impl Entry {
-    /// Copies a Data that arrived at this moment.
+    /// Copies a Data that arrived at the moment `arrival`.
     pub fn new(alloc: Global, packet: &Data<'_>, arrival: u64) -> Result<Entry, Memory>
         ensures { IfOk result (λ e. e ≡ cached_at packet.now arrival) }
     {
@@ -85,7 +85,7 @@ impl Entry {
         self.name.view()
     }
 
-    /// Compares the full name with a name in canonical order.
+    /// Compares, in canonical order, the full name of this entry with another name.
     #[inline(always)]
     fn compare(&self, name: Name<'_>) -> Ordering
         ensures { result ≡ name_cmp (full_name_of self.now) (components name.entry) }
@@ -96,8 +96,8 @@ impl Entry {
         }
     }
 
-    /// Compares the full name of this entry with the full name of a Data, given by its name and
-    /// octets.
+    /// Compares, in canonical order, the full name of this entry with the full name of a Data,
+    /// which is given by its name and octets.
     #[inline(always)]
     pub fn compare_full(&self, name: Name<'_>, octets: &[u8]) -> Ordering
         ensures { result ≡ name_cmp (full_name_of self.now)
@@ -109,7 +109,7 @@ impl Entry {
         }
     }
 
-    /// Returns whether the full name comes before a name in canonical order.
+    /// Returns whether the full name of this entry comes before another name, in canonical order.
     #[inline(always)]
     pub fn is_below(&self, name: Name<'_>) -> bool
         ensures { result ≡ is_lt (name_cmp (full_name_of self.now) (components name.entry)) }
@@ -132,8 +132,9 @@ impl Entry {
         self.name.view().compare(name).is_eq() || self.compare(name).is_eq()
     }
 
-    /// Returns whether the full name is near the name of a key in canonical order. Only Data with a
-    /// full name near a key's name can serve an Interest of this key.
+    /// Returns whether the full name is near the key's name: it begins with the key's name and,
+    /// unless the key has CanBePrefix, the next component, if any, has a type number of at most 1.
+    /// Only Data with a full name near a key's name can serve an Interest of this key.
     #[inline(always)]
     pub fn is_near(&self, key: Key<'_>) -> bool
         ensures { result

@@ -34,7 +34,8 @@ pub fn compare_heads(head: &Option<[u8; HEAD_LEN]>, other: Name<'_>) -> Ordering
     }
 }
 
-/// Compares the full name of a Data, given by its name and octets, with a name in canonical order.
+/// Compares, in canonical order, the full name of a Data with the name `other`. The Data is given
+/// by its name and octets.
 #[inline(always)]
 pub fn compare_with_name(name: Name<'_>, octets: &[u8], other: Name<'_>) -> Ordering
     ensures { result ≡ name_cmp (full_name (components name.entry) (sha256 octets.now))
@@ -52,7 +53,8 @@ pub fn compare_with_name(name: Name<'_>, octets: &[u8], other: Name<'_>) -> Orde
     }
 }
 
-/// Compares the full names of two Data, each given by its name and octets, in canonical order.
+/// Compares, in canonical order, the full names of two Data. Each Data is given by its name and
+/// octets.
 pub fn compare_full_names(
     name: Name<'_>,
     octets: &[u8],
@@ -76,8 +78,9 @@ pub fn compare_full_names(
     }
 }
 
-/// Compares the full name of a Data, given by its name and octets, with each full name that begins
-/// with the longer name `other`.
+/// Compares, in canonical order, the full name of a Data with the full names of all Data of the
+/// longer name `other`. The result is the same for all of them. The Data is given by its name and
+/// octets.
 fn compare_longer(name: Name<'_>, octets: &[u8], other: Name<'_>) -> Ordering
     requires { AreShorter name other }
     ensures { (digest : List ℕ) → length digest ≡ 32

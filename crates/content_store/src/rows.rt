@@ -139,7 +139,8 @@ fn first_from(
     None
 }
 
-/// Returns whether the row before position `at` comes before a name, or there is no such row.
+/// Returns whether the row before position `at` comes before a name. Returns true if there is no
+/// row before `at`.
 fn is_above(entries: &Slab<Row>, order: &Places, name: Name<'_>, at: usize) -> bool
     requires rows { IsRows (get entries.now) order.now }
     requires within { at ≤ length order.now }
@@ -153,7 +154,8 @@ fn is_above(entries: &Slab<Row>, order: &Places, name: Name<'_>, at: usize) -> b
     entries[order.get(at - 1) as usize].entry.is_below(name)
 }
 
-/// Returns whether `at` is the position of a name.
+/// Returns whether `at` is the position of a name, or the position at which to insert it. The
+/// contract covers only the result `true`.
 fn is_lower(entries: &Slab<Row>, order: &Places, name: Name<'_>, at: usize) -> bool
     requires { IsRows (get entries.now) order.now }
     ensures { IsTrue result

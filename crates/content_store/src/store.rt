@@ -187,8 +187,8 @@ impl Store {
         Some(self.rows.row(at).entry.octets())
     }
 
-    /// Returns a position for `serve_at`, if `find` would return a Data for this key at this
-    /// moment.
+    /// Returns a position for `serve_at`, if `find` would return a Data for this key at the moment
+    /// `now`.
     pub fn place_for(&self, key: Key<'_>, now: u64) -> Option<usize>
         ensures { MatchOption result
             (All (λ c. ¬ CanServe (plain_key key.entry) now c) self.now.cached)

@@ -222,7 +222,7 @@ whole_err On line draft fault here deep e =
     by_depth true e = by_deep draft.deep deep e
     by_depth false e = let same : syntax line ≡ fault = cc in at_fault On (syntax line) fault same here
 
--- the entries after the end of the text
+-- the entries of a whole text, or the fault, from the result `read` of adding all its tokens
 abbrev ending : ℕ → Result PlainDraft RulesFault → Result (List PlainEntry) RulesFault
 ending line read = on_result (whole_of line) (λ fault. Err fault) read
 

@@ -9,7 +9,7 @@ use Rattle.info_rules.specs.Faults.{kind_number, sooner}
 use Rattle.info_rules.specs.Keys.{is_word, named}
 use Rattle.info_rules.specs.Found.{Found, sooner_of, followed, each, and_one, joined}
 
--- of three faults, the same one is reported whatever the order of the comparisons
+-- the first pair of numbers is less than the second in lexicographic order
 abbrev less : ℕ → ℕ → ℕ → ℕ → Bool
 less a b c d = ltb a c || (eqb a c && ltb b d)
 

@@ -13,7 +13,7 @@ use Rattle.name_patterns.specs.Match.{Passes, IsSplit, IsGreatestSplit, Match, p
 use Rattle.name_patterns.specs.Template.{OfGroup, part_of}
 use Rattle.info_rules.specs.Locator.{key_component, IsKeyOf, IsHierarchical, hierarchical_pattern}
 
--- the atoms for the component KEY and for one to three more components
+-- the atoms of the pattern after `(<>*)`: one for KEY, and one for one to three more components
 abbrev late_atoms : List PlainAtom
 late_atoms = record { test = OneOf (key_component ∷ []); bounds = once } ∷ record { test = Anything; bounds = record { least = 1; most = Some 3 } } ∷ []
 
@@ -38,7 +38,7 @@ key_split prefix name h =
     let following : drop (length prefix) name ≡ key_component ∷ h.0 = ap (drop (length prefix)) h.1 ∙ drop_front prefix (key_component ∷ h.0) in
     (omega arith, tt, long, all_pass (take (length prefix) name), subst (λ (cs : List Field). IsSplit late_atoms cs (1 ∷ length h.0 ∷ [])) (sym following) (late_split h.0 h.2 h.3))
 
--- a split of components by the late atoms
+-- a split of components by the atoms after `(<>*)`: KEY, then one to three more components
 pub record Late (cs : List Field) (counts : List ℕ) : Type 0 where
   pub rest : List Field
   pub begins : cs ≡ key_component ∷ rest

@@ -18,18 +18,19 @@ use Rattle.info_rules.specs.Locator.{PassesLocator}
 abbrev pub Unless : Type 0 → Reason → Option Reason → Type 0 → Type 0
 Unless Fact reason given Rest = ((¬ Fact) × (given ≡ Some reason)) ⊎ (Fact × Rest)
 
--- the signature value equals this tag
+-- `given` is the result of this check: the signature value equals the tag
 abbrev pub ChecksTag : List ℕ → PlainSigned → Option Reason → Type 0
 ChecksTag tag signed given = Unless (signed.signature.value ≡ tag) reasons.Tag given (given ≡ None)
 
--- the book has a key with this name, and the signature value is the key's HMAC of the covered
--- octets
+-- `given` is the result of these checks: the book has a key with this name, and the signature value
+-- is the key's HMAC of the covered octets
 abbrev pub ChecksKey : List NamedKey → List Field → PlainSigned → Option Reason → Type 0
 ChecksKey keys name signed given =
     (((key : List ℕ) → IsAmong (name, key) keys → ⊥) × (given ≡ Some reasons.KeyUnknown))
     ⊎ ((key : List ℕ) × IsAmong (name, key) keys × ChecksTag (Mac key signed.covered) signed given)
 
--- the KeyLocator has the name of a key, and this name meets the requirement
+-- `given` is the result of these checks: the KeyLocator has the name of a key, this name meets the
+-- requirement, and the checks of `ChecksKey` pass for this name
 abbrev pub ChecksLocator : List NamedKey → LocatorTest → PlainLocator → PlainSigned → Option Reason
     → Type 0
 ChecksLocator keys test (KeyName name) signed given =
@@ -39,8 +40,8 @@ ChecksLocator keys test Missing signed given = given ≡ Some reasons.KeyLocator
 ChecksLocator keys test Digest signed given = given ≡ Some reasons.KeyLocator
 ChecksLocator keys test Other signed given = given ≡ Some reasons.KeyLocator
 
--- Signature type 0 is DigestSha256 and type 4 is HmacWithSha256 (NDN Packet Format 0.3,
--- "Signature").
+-- `given` is the checker's result for the packet. Signature type 0 is DigestSha256 and type 4 is
+-- HmacWithSha256 (NDN Packet Format 0.3, "Signature").
 abbrev pub Checks : List NamedKey → Checker → PlainSigned → Option Reason → Type 0
 Checks keys checkers.Sha256 signed given =
     Unless (signed.signature.info.kind ≡ 0) reasons.SigType given

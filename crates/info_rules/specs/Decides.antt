@@ -67,7 +67,7 @@ IsMisshaped packet signature =
     (¬ SaysWhen packet.kind signature)
     ⊎ ((first second : List ℕ) → Covered packet.frame first second → ⊥)
 
--- the packet is denied for this reason without a checker
+-- the packet is denied for this reason before any checker examines it
 abbrev pub IsUnfit : SeenPacket → Reason → Type 0
 IsUnfit packet reasons.NotSigned = packet.signature ≡ None
 IsUnfit packet reasons.Shape =
@@ -92,7 +92,8 @@ DecideSeen rules keys packet (decisions.Denied n reason) =
     × Deny keys rule.checkers packet reason
 DecideSeen rules keys packet decisions.NoRule = NoneApplies rules packet.kind packet.name
 
--- Only the first rule that applies decides an Interest or a Data.
+-- This is the decision on an Interest or a Data by the first rule that applies, or `NoRule` if no
+-- rule applies. Other frames have no decision.
 abbrev pub Decides : List PlainRule → List NamedKey → PlainFrame → Decision → Type 0
 Decides rules keys (AnInterest whole i) decision =
     DecideSeen rules keys (seen_interest whole i) decision

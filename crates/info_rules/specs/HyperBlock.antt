@@ -73,8 +73,8 @@ parts_in keys = both
     (value_in BadValue relation_in (codes "h-relation") keys))
     (half_in (codes "p-regex") (codes "p-expand") keys)
 
--- the hyper-relation of a block; all its keys must be present, unless the key locator also has
--- another form
+-- the hyper-relation of a block; if `needed` is true, all keys of the block must be present;
+-- `needed` is false if the key locator also has a key of another form
 unfoldable pub hyper_of : Bool → ℕ → List Block → Found (Option PlainHyper)
 hyper_of needed line keys = beside (after None (walk_faults blocks.Hyper keys))
     (beside (missing_unless (not needed || is_whole keys) line)

@@ -102,7 +102,7 @@ test_with related None = related_of related.0 related.1
 abbrev pub test_of : Names → Option NameTest
 test_of names = test_with names.0 names.1
 
--- the requirement of the block on a name, in one form
+-- the requirement on a name, which the block must state in exactly one form
 unfoldable pub asked_in : Tested → ℕ → List Block → Found (Option NameTest)
 asked_in tested line keys = beside (form_fault tested line keys)
     (beside (result_err (needed line (value_in BadValue name_word_in (codes "type") keys)))

@@ -101,7 +101,7 @@ with_fitting draft line Open = with_open draft line draft.pending
 with_fitting draft line Close = with_close draft line
 with_fitting draft line Broken = Err (syntax line)
 
--- the fault of the block that is inside eight others, if there is one and it is on a line before
+-- the fault of the block that is inside eight others, if there is such a block on a line before
 -- `line`
 abbrev pub deep_before : Option ℕ → ℕ → Option RulesFault
 deep_before None line = None

@@ -1,4 +1,4 @@
-//! Reads the blocks of all keys that have the same word.
+//! Reads the blocks of all keys with a given word.
 
 ghost use Rattle.std.specs.Prelude.{◌≡◌, ℕ, List, IfOk};
 ghost use Rattle.info_rules.specs.Tree.{Block};
@@ -18,7 +18,7 @@ pub trait BlockReader {
 
     ghost DEPTH: { ℕ };
 
-    /// The number of blocks around the keys of the block.
+    /// The depth of the keys in the block: the number of blocks around each of them.
     const DEPTH: usize;
 
     ghost part_of: { Self → ℕ → List Block → Found Self.Part };

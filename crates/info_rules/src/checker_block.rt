@@ -18,10 +18,11 @@ use crate::value_words::{CheckerType, SignatureType};
 use crate::walk::walk;
 use std::alloc::Global;
 
-/// The type of a checker, if the block has one, or the fault.
+/// The type of a checker, `None` if the block has no type, or the fault to report.
 type FoundType = Found<Option<CheckerType>>;
 
-/// The signature type that a checker accepts, if the block has one, or the fault.
+/// The signature type that a checker accepts, `None` if the block has no signature type, or the
+/// fault to report.
 type FoundSignature = Found<Option<SignatureType>>;
 
 fn is_hierarchical(checker_type: FoundType) -> bool
@@ -31,7 +32,8 @@ fn is_hierarchical(checker_type: FoundType) -> bool
 }
 
 /// Reads the requirement of a checker on the key's name, if the block has one. A hierarchical
-/// checker has no key locator. If there are several `key-locator` keys, only the first is read.
+/// checker has no key locator. If there are several `key-locator` keys, the requirement is that of
+/// the first.
 #[tactic(auto, unfolding(crate::specs::LocatorBlock::locator_in))]
 fn read_test(alloc: Global, hierarchical: bool, keys: Keys<'_>) -> Read<Option<LocatorTest>>
     ensures { IfOk result (λ found. found ≡ spec.locator_of hierarchical (keys_of keys.entry)) }

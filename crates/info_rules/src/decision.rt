@@ -88,7 +88,7 @@ impl Reason {
     }
 }
 
-/// Returns the greater of the two reasons, or `reason` if there is no earlier one.
+/// Returns the reason that is later in the list of reasons, or `reason` if `earlier` is `None`.
 fn greater(earlier: Option<Reason>, reason: Reason) -> Reason
     ensures { IsGreater earlier reason result }
 {
@@ -167,8 +167,8 @@ fn reason_against(
     }
 }
 
-/// Returns the greatest reason that the checkers give to deny the packet, or `None` if a checker
-/// passes it.
+/// Returns `None` if a checker passes the packet. Otherwise returns the checkers' reason that is
+/// last in the list of reasons, or `KeyLocator` if there are no checkers.
 fn greatest(alloc: Global, keys: &KeyBook, checkers: &[Checker], signed: &Signed<'_>) -> Checked
     ensures { MatchResult result
         (λ reason. MatchOption reason (IsPassed keys.now checkers.now (signed_of signed.now))

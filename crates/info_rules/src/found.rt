@@ -58,7 +58,8 @@ pub fn both<A: Drop, B: Drop>(first: Found<A>, second: Found<B>) -> Found<(A, B)
     }
 }
 
-/// Returns the value that was read, or the fault that is reported if `fault` is also present.
+/// Returns the value that was read. If `fault` is present or the value is a fault, returns the
+/// fault that is reported.
 pub fn beside<A: Drop>(fault: Option<RulesFault>, read: Found<A>) -> Found<A>
     ensures { result ≡ found.beside fault read }
 {
@@ -92,7 +93,8 @@ pub fn with_one<A: Drop>(parts: Found<Vec<A>>, read: Found<A>) -> Read<Vec<A>>
     }
 }
 
-/// Returns the fault `Missing` at the line, unless `there` is true: all needed keys are present.
+/// Returns the fault `Missing` at the line, or `None` if `there` is true, that is, if all needed
+/// keys are present.
 pub fn missing_unless(there: bool, line: u32) -> Option<RulesFault>
     ensures { result ≡ missing_unless there line }
 {

@@ -59,8 +59,8 @@ impl<'a> Packet<'a> {
         }
     }
 
-    /// Returns the parts of the packet that the checkers see, or the reason why it is denied
-    /// without a checker. `name` is the name that the rules see.
+    /// Returns the parts of the packet that the checkers see, or the reason to deny the packet
+    /// before any checker examines it. `name` is the name that the rules see.
     pub(crate) fn signed(self, name: Name<'a>) -> Result<Signed<'a>, Reason>
         requires { components name ≡ (seen_of self).name }
         ensures { MatchResult result (λ signed. IsSigned (seen_of self.entry) (signed_of signed))

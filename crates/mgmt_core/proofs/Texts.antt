@@ -24,7 +24,8 @@ segment_is text k last rest at_last le is =
     ap (λ (t : List ℕ). Some (t, last)) (take_min 4096 rest ∙ ap (take 4096) is)
     ∙ grind (arith, at_last, le)
 
--- the texts of the first items, with the text of one more item
+-- the texts of the first `at + 1` items are the texts of the first `at` items, followed by the text
+-- of one more item
 pub texts_and_one : {X : Type 0} (text_of : X → List ℕ) (xs : List X) (at : ℕ) (x : X) → slice_get xs at ≡ Some x
     → flat_map text_of (take at xs) ++ text_of x ≡ flat_map text_of (take (at + 1) xs)
 texts_and_one text_of [] at x is = absurd cc

@@ -47,7 +47,7 @@ about_fields c face =
     ∷ (number FACE_ID (given c FACE_ID (Some (face_of c face)))
     ++ number ORIGIN (given c ORIGIN (Some c.origin)))
 
--- the other fields of a reply
+-- the fields of a reply that follow Name, FaceId and Origin
 abbrev pub given_fields : PlainCommand → List Field
 given_fields c =
     number COST (given c COST (Some c.cost))

@@ -96,7 +96,7 @@ code_of FaceNotOpen = FACE_NOT_OPEN
 code_of UnknownStrategy = UNKNOWN_STRATEGY
 code_of TableFull = TABLE_FULL
 
--- the code of the first refusal in the list that applies, otherwise OK
+-- the status code of the first applicable refusal in the list, or OK if no refusal applies
 abbrev pub first_status : (Refusal → Bool) → List Refusal → ℕ
 first_status refused [] = OK
 first_status refused (r ∷ rs) = if refused r then code_of r else first_status refused rs

@@ -30,7 +30,8 @@ pub struct Command<'a> {
     pub origin: u64,
     /// The cost of the next hop or route, or 0 if it is not given.
     pub cost: u64,
-    /// The flags of the route: 1 is child-inherit and 2 is capture. 1 if no flags are given.
+    /// The flags of the route: 1 is child-inherit and 2 is capture. The value is 1 if no flags are
+    /// given.
     pub flags: u64,
     /// The lifetime of the route in milliseconds. Without it, the route does not expire.
     pub expires: Option<u64>,

@@ -46,8 +46,8 @@ impl Command<'_> {
         if self.face == 0 { face } else { self.face }
     }
 
-    /// Returns the time when the route expires, if the command registers it at `now` and it
-    /// expires.
+    /// Returns the time when a route that the command registers at `now` expires, or `None` if the
+    /// route does not expire.
     pub(crate) fn deadline_from(&self, now: u64) -> Option<u64>
         ensures { result ≡ deadline_of now self.now.expires }
     {

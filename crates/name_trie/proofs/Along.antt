@@ -96,8 +96,8 @@ module _ {S V : Type 0} (own below : S → V → S) where
       ap (λ (o : Option V). taken_along own below (taken below s o) f (front ++ c ∷ []) rest) (ap f (sym (append-nil front)) ∙ none [])
       ∙ nothing_taken s f (front ++ c ∷ []) rest (λ p. ap f (append_assoc front (c ∷ []) p) ∙ none (c ∷ p))
 
-  -- the visitor is the same afterwards if the names of at most `bound` components have the same
-  -- values
+  -- a walk over `f` and a walk over `g` leave the visitor in the same state, if the names of at
+  -- most `bound` components have the same values in `f` and `g`
   pub taken_same : (s : S) (f g : List Field → Option V) (front rest : List Field) (bound : ℕ)
       → ((q : List Field) → length q ≤ bound → f q ≡ g q) → length front + length rest ≤ bound → taken_along own below s f front rest ≡ taken_along own below s g front rest
   taken_same s f g front [] bound same le = ap (taken own s) (same front (omega arith))

@@ -69,7 +69,7 @@ module _ {V : Type 0} (k : ℕ) (v : Option V) (h h' : Heap V) (turns : Turns k 
               cc)
         ] refl
 
-    -- a node without a value stays without one
+    -- if the node has no value before or after the change, no lookup changes
     pub unturned : value h k ≡ None → v ≡ None → (q : List Field) → lookup h' root q ≡ lookup h root q
     unturned was now q =
         ap (option_and_then (value h')) (walk_same root q) ∙ stays (walk h root q)
@@ -124,7 +124,7 @@ module _ {V : Type 0} (k : ℕ) (v : Option V) (h h' : Heap V) (sets : Sets k v 
     pub lookup_set : (name : List Field) → walk h root name ≡ Some k → (q : List Field) → lookup h' root q ≡ cond (eq_by_cmp name_cmp q name) v (lookup h root q)
     lookup_set = lookup_turned k v h h' (set_turns k v h h' sets) root sound
 
--- the table in which `name` has the value `v`, or none
+-- the table after the value of `name` is set to `v`, or removed if `v` is None
 pub with_value_table : {V : Type 0} (h h' : Heap V) (root root' : Option ℕ) (name : List Field) (v : Option V) → length name ≤ 64
     → ((q : List Field) → lookup h' root' q ≡ cond (eq_by_cmp name_cmp q name) v (lookup h root q))
     → table_of h' root' ≡ with_value (table_of h root) name v

@@ -52,7 +52,7 @@ impl Children {
         self.rows.as_slice().is_empty()
     }
 
-    /// Returns whether a child's component has type `kind` or a lesser type.
+    /// Returns whether some child's component has a type number of at most `kind`.
     pub fn has_up_to(&self, kind: u16) -> bool
         ensures yes { IsTrue result
             → (c : Field) × (c.0 ≤ kind) × IsSome (map.get self.now c) }

@@ -33,7 +33,7 @@ pub fn child_of<V>(nodes: &Slab<Node<V>>, at: usize, component: Component<'_>) -
     nodes.get(at)?.children.get(component)
 }
 
-/// Returns whether a node has a child whose component has type `kind` or a lesser type.
+/// Returns whether a node has a child whose component has a type number of at most `kind`.
 pub fn has_child_up_to<V>(nodes: &Slab<Node<V>>, at: usize, kind: u16) -> bool
     ensures yes { IsTrue result → (c : Field) × (c.0 ≤ kind)
         × IsSome (child (get nodes.now) at c) }

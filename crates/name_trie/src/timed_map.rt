@@ -104,8 +104,8 @@ impl<V: Timed + Drop> TimedMap<V> {
         value_of(&self.nodes, k)
     }
 
-    /// Returns whether an extension of the name by one component of type `kind` or a lesser type
-    /// may have a value.
+    /// Returns whether an extension of the name by one component, with a type number of at most
+    /// `kind`, may have a value.
     pub fn has_below(&self, name: Name<'_>, kind: u16) -> bool
         ensures { result ≡ false → (c : Field) → c.0 ≤ kind
             → map.get self.now.table (components name.entry ++ c ∷ []) ≡ None }
@@ -224,7 +224,7 @@ impl<V: Timed + Drop> TimedMap<V> {
 
     /// Lets the visitor `how` change or remove the values of a name's proper prefixes, the shortest
     /// first, and then the value of the name, in one walk. Returns whether an extension of the name
-    /// by one component of type `kind` or a lesser type may have a value.
+    /// by one component, with a type number of at most `kind`, may have a value.
     pub fn take_along<T: Take<V>>(&mut self, name: Name<'_>, kind: u16, how: &mut T) -> bool
         ensures changed { (q : List Field) → map.get self.new.table q ≡ option_and_then
             (changed_along (T.left true) (T.left false) q (components name.entry))

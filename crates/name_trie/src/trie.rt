@@ -268,8 +268,8 @@ impl<V: Drop> NameTrie<V> {
         see_all(&self.nodes, self.root, see);
     }
 
-    /// Shows all names that have a value, in canonical order, each with the state that the walk has
-    /// reached there.
+    /// Shows all names that have a value, in canonical order, each with the state of the walk at
+    /// that name.
     pub fn show_all<W: Carry<V> + Drop, S: Show<W>>(
         &self,
         before: &W,

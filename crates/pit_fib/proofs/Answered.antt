@@ -1,4 +1,4 @@
--- The keys that a Data answers, and the faces that ask for the Data.
+-- The keys that a Data answers, and the faces with an in-record under such a key.
 use Rattle.std.proofs.Common.{◌≡◌, ◌⊎◌, inl, inr, ℕ, Bool, true, false, cond, List, [], ◌∷◌, ◌++◌, refl, sym, ap, subst, ◌∙◌, eqb, append_assoc}
 use Rattle.std.specs.Prelude.{Option, None, Some, IsTrue, is_some, ◌&&◌, ◌||◌}
 use Rattle.std.specs.Option.{option_and_then}
@@ -222,7 +222,7 @@ module _ (P : ℕ → Type 0) (few : AtMost64 P) where
 
 -- ---- the faces with an in-record along a name
 
--- a key under which the face has an in-record; `t` is the rest of the key's name after `front`
+-- a key under which the face has an in-record; the key's name is `front` followed by `t`
 abbrev pub AsksAt : (List Field → Option Row) → List Field → (List Field → Bool → Bool) → ℕ → Type 0
 AsksAt value front test f = (t : List Field) × (g : Flags) × IsTrue (test t g.can_be_prefix) × IsTrue (asks_in (kept_in (value (front ++ t)) g) f)
 

@@ -1,4 +1,5 @@
--- The list of all entries, without those that have neither next hops nor routes at the moment.
+-- The list of all entries, without those that have neither next hops nor routes after the routes
+-- that expire by a moment are removed.
 use Rattle.std.proofs.Common.{◌≡◌, ℕ, ◌<◌, true, false, List, [], ◌∷◌, ◌++◌, length, get_or, refl, sym, ap, ◌∙◌}
 use Rattle.std.proofs.lemmas.List.{append-nil, map-append}
 use Rattle.std.specs.Prelude.{None, Some, IsSome, is_some, map}

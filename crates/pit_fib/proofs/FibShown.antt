@@ -42,7 +42,7 @@ way_along s f front (c ∷ rest) =
     way_along (taken past_at s (f front)) f (front ++ c ∷ []) rest
     ∙ ap (λ (w : Inheriting). taken_along past_entry past_entry w f (front ++ c ∷ []) rest) (way_kept s (f front))
 
--- whether the entry remains at the moment depends only on the name's own entry
+-- whether the entry of a name remains at the moment of the walk depends only on that entry
 left_along : (s : AtName) (f : List Field → Option Entry) (front rest : List Field) (e : Entry) → f (front ++ rest) ≡ Some e
     → (taken_along past_at past_at s f front rest).is_left ≡ is_some (entry_left_at s.now e)
 left_along s f front [] e is = ap (λ o. (taken past_at s o).is_left) (ap f (sym (append-nil front)) ∙ is)
@@ -83,7 +83,7 @@ module _ {S : Type 0} (show : S → List ℕ → List Hop → S) (t : Routes) (f
             ∙ rest (show s (octets_of e.0) (hops_of (effective (left_at now t) e.0)))
       ] refl
 
-  -- each name whose entry remains at the moment is shown, with its effective next hops
+  -- each name whose entry remains at the moment of the walk is shown, with its effective next hops
   pub hops_are_shown : (s : S) → (shown_from s (entries t)).show ≡ shown_each show s (listed (left_at now t))
   hops_are_shown s =
       shown_left (entries t) (λ i d lt. entry_is_there name_cmp-total t i d lt) s
@@ -106,6 +106,6 @@ module _ {S X : Type 0} (show : S → List ℕ → X → S) (t : ByName X) (befo
       ap (λ (x : X). shown_known show (known_at latest before (get t)) (show s (octets_of e.0) x) es) (own_along before (get t) [] e.0 e.1 (each 0 e (omega arith)))
       ∙ own_shown es (λ i d lt. each (suc i) d (omega (arith, lt))) (show s (octets_of e.0) e.1)
 
-  -- each name is shown with the value of that name
+  -- each name is shown with its own value
   pub own_are_shown : (s : S) → shown_known show (known_at latest before (get t)) s (entries t) ≡ shown_each show s (entries t)
   own_are_shown s = own_shown (entries t) (λ i d lt. entry_is_there name_cmp-total t i d lt) s

@@ -55,7 +55,7 @@ IsShrunk t new = (q : List Field) (part : Entry) → get new q ≡ Some part →
 entry_is : (t : Routes) (q : List Field) (e : Entry) → get t q ≡ Some e → entry_at t q ≡ e
 entry_is t q e is = ap (λ o. unwrap_or o no_entry) is
 
--- a face with a next hop or a route has it in an entry of the table
+-- a next hop or a route on a face is in an entry of the table
 leads_by : {A : Type 0} (t : Routes) (f : ℕ) → ((q : List Field) (e : Entry) → get t q ≡ Some e → EntryLeads e f → A) → LeadsTo t f → A
 leads_by {A} t f by way =
     elim (get t way.0) as (λ o. get t way.0 ≡ o → EntryLeads (unwrap_or o no_entry) f → A) [

@@ -170,7 +170,7 @@ module _ (P : ℕ → Type 0) (few : AtMost64 P) where
           | false ↦ same
         ])
 
-    -- ---- whether a route passes a test and does not expire by the moment
+    -- ---- whether a route passes a test and does not expire by a moment
 
     any_live : (test : Route → Bool) (rows : List (RouteKey × Route)) → list_any (λ e. counts_at at e.1 && test e.1) rows ≡ list_any (λ e. test e.1) (live_rows rows)
     any_live test [] = sym (ap (list_any (λ e. test e.1)) live_nil)
@@ -197,7 +197,7 @@ module _ (P : ℕ → Type 0) (few : AtMost64 P) where
 
 -- ---- the walk passes one more entry
 
--- the routes of an entry without those that expire by the moment, if there is a moment
+-- the routes of an entry; if a moment is given, without the routes that expire by this moment
 abbrev live_map : Option ℕ → Registered → Registered
 live_map None m = m
 live_map (Some now) m = revise (until_due now) m
@@ -316,7 +316,7 @@ handed_prefix : (t : Routes) (name : List Field) (n m : ℕ) → m ≤ n → han
 handed_prefix t name n zero le = refl
 handed_prefix t name n (suc m) le = λ i. passed_on (get t (take_less m n name (omega (arith, le)) i)) (handed_prefix t name n m (omega (arith, le)) i)
 
--- the table without the routes that expire by the moment, if there is a moment
+-- the table; if a moment is given, without the routes that expire by this moment
 abbrev live_table : Option ℕ → Routes → Routes
 live_table None t = t
 live_table (Some now) t = left_at now t

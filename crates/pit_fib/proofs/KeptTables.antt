@@ -277,7 +277,8 @@ step_one change key rows new is k =
     ] refl
     ∙ ap (λ b. cond b (option_and_then change (kept_at rows k)) (kept_at rows k)) (sym (key_ties k key))
 
--- a change of the records of one key is a step by a cause that changes no other key
+-- a change of one key's entry is the step of a cause, if the cause changes this entry in the same
+-- way and changes no other key
 pub one_steps : (cause : Cause) (change : Kept → Option Kept) (key : PlainKey) (rows new : Rows) → AreAlive rows
     → ((k : PlainKey) (r : Records) → same_key k key ≡ false → changed cause k r ≡ r)
     → ((k : PlainKey) (s : Kept) → same_key k key ≡ true → change s ≡ kept_after cause k s)

@@ -1,4 +1,5 @@
--- The last in-record of a face that a Data answers, and the token of this in-record.
+-- The last in-record of a face that a Data answers, by deadline and then by key, and the token of
+-- this in-record.
 use Rattle.std.proofs.Common.{◌≡◌, ◌⊎◌, inl, inr, ℕ, zero, suc, ◌<◌, ◌≤◌, Bool, true, false, cond, List, [], ◌∷◌, ◌++◌, length, take, refl, sym, ap, subst, ◌∙◌, arith, append_assoc, ltb}
 use Rattle.std.specs.Prelude.{◌≢◌, Option, None, Some, IsTrue, ◌&&◌, ◌||◌}
 use Rattle.std.specs.Option.{option_and_then}
@@ -214,7 +215,7 @@ one_of : (k : PlainKey) (q : List Field) (x y : Bool) → k.name ≡ q → k.can
 one_of k q x y n p m = λ i. record { name = n i; can_be_prefix = p i; must_be_fresh = m i }
 
 module _ (rows : Rows) (face : ℕ) (at : PlainKey → Option InRecord) (shown : (k : PlainKey) → at k ≡ ask_in face (kept_at rows k)) where
-  -- the search through the keys of a name with CanBePrefix
+  -- the search through those keys of a name that have CanBePrefix
   prefix_more : (Seen : PlainKey → Type 0) (q : List Field) (best : Option InRecord) (row : Row) → get rows q ≡ Some row → ((k : PlainKey) (y : Bool) → Seen k → key_cmp k (key_at q (flags true y)) ≢ Greater) → IsLastOf at Seen best
       → IsLastOf at (λ k. (Seen k ⊎ (k ≡ key_at q (flags true false))) ⊎ (k ≡ key_at q (flags true true))) (last_prefix face best row)
   prefix_more Seen q best row here order h =
@@ -229,7 +230,7 @@ module _ (rows : Rows) (face : ℕ) (at : PlainKey → Option InRecord) (shown :
       ]) (is (flags true true))
       (one_more at Seen third best (ask (flags true false)) (λ k s. order k false s) (is (flags true false)) h)
 
-  -- the search through the keys of a name without CanBePrefix
+  -- the search through those keys of a name that do not have CanBePrefix
   exact_more : (Seen : PlainKey → Type 0) (q : List Field) (best : Option InRecord) (row : Row) → get rows q ≡ Some row → ((k : PlainKey) (y : Bool) → Seen k → key_cmp k (key_at q (flags false y)) ≢ Greater) → IsLastOf at Seen best
       → IsLastOf at (λ k. (Seen k ⊎ (k ≡ key_at q (flags false false))) ⊎ (k ≡ key_at q (flags false true))) (last_exact face best row)
   exact_more Seen q best row here order h =

@@ -12,7 +12,7 @@ use Rattle.pit_fib.specs.declared.route.RouteKey.{RouteKey}
 use Rattle.pit_fib.specs.Tally.{left_of}
 use Rattle.pit_fib.specs.Route.{is_due, route_cmp, route_cmp-antisymmetric, route_cmp-total, until_due}
 
--- the routes that do not expire by the moment
+-- the routes that do not expire by the moment `now`
 pub left_rows : (now : ℕ) (rows : List (RouteKey × Route)) → filter (λ row. not (is_due now row.1)) rows ≡ revised (until_due now) rows
 left_rows now [] = refl
 left_rows now (row ∷ rows) =

@@ -1,4 +1,4 @@
--- Equality of rows with a name, and of maps with the same rows.
+-- Rows with equal names and equal values are equal, and maps with the same rows are equal.
 use Rattle.std.proofs.Common.{◌≡◌, ℕ, true, List, sym, ◌∙◌}
 use Rattle.std.specs.Borrow.{Bor}
 use Rattle.std.specs.Prelude.{map}

@@ -68,7 +68,8 @@ neither : (a b : Bool) → (a || b) ≡ false → (a ≡ false) × (b ≡ false)
 neither false b e = (refl, e)
 neither true b e = absurd cc
 
--- an Interest with this token arrived
+-- after an Interest arrived, an in-record can have a token only if `has_tokens` was true or this
+-- Interest has a token
 pub arrived_knows : {A : Type 0} (token : Option A) (show : A → List ℕ) (key : PlainKey) (face : ℕ) (in_record : InRecord) (rows new : Rows) (has_tokens : Bool) → in_record.token ≡ option_map show token
     → Follows (Arrives key face in_record) (pending_of rows) (pending_of new) → KnowsTokens has_tokens rows → KnowsTokens (has_tokens || is_some token) new
 arrived_knows token show key face in_record rows new has_tokens is follows knows none =

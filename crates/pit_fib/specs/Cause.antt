@@ -51,7 +51,8 @@ with_reason face nonce reason out_records None = out_records
 with_reason face nonce reason out_records (Some out_record) =
     map.insert out_records face (nacked_with nonce reason out_record)
 
--- the records of a key with the change that the cause itself makes
+-- the records of a key after the change that the cause itself makes; out-records may then be left
+-- without an in-record
 abbrev pub changed : Cause → PlainKey → Records → Records
 changed (Expires now) k r = record r { in_records = revise (until_after now) r.in_records }
 changed (Arrives key face in_record) k r =
@@ -82,7 +83,7 @@ settled r = if is_alive r then r else no_records
 abbrev pub records_after : Cause → PlainKey → Records → Records
 records_after cause k r = settled (changed cause k r)
 
--- for each key, the cause leads from the old records to the new records
+-- for each key, the new records are the old records after the cause
 abbrev pub Follows : Cause → Pending → Pending → Type 0
 Follows cause old new =
     (k : PlainKey) → records_at new k ≡ records_after cause k (records_at old k)

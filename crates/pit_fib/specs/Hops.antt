@@ -27,7 +27,7 @@ in_order costs = fold {A = ℕ × ℕ} {B = List Hop} (λ hops e. with_hop (unma
 abbrev pub hops_of : ByFace → List Hop
 hops_of costs = in_order (entries costs)
 
--- each hop comes before all later ones in this order
+-- the list is ordered: each hop is before all later hops of the list, by cost and then by face
 abbrev pub AreInOrder : List Hop → Type 0
 AreInOrder [] = Unit {0}
 AreInOrder (h ∷ hops) = AllByRecursion (λ g. is_before h g ≡ true) hops × AreInOrder hops

@@ -211,7 +211,7 @@ abbrev pub was_sent_in : Option Kept → ℕ → List ℕ → Bool
 was_sent_in None face nonce = false
 was_sent_in (Some s) face nonce = was_sent (map.get s.records.out_records face) nonce
 
--- the result of a Nack under this key, where one out-record has the reason `reason`
+-- the result of a Nack, from the entry of its key after the reason `reason` was recorded there
 abbrev pub answer_in : Option Kept → ℕ → Nacked
 answer_in None reason = NoPending
 answer_in (Some s) reason = all_nacked (least_reason reason (map.entries s.records.out_records))

@@ -20,20 +20,23 @@ later (Some a) (Some b) = if nat_lt b.deadline a.deadline then Some a else Some 
 abbrev pub ask_in : ℕ → Option Kept → Option InRecord
 ask_in face kept = option_and_then (λ s. map.get s.records.in_records face) kept
 
--- the last of `last` and of the face's in-records under the keys of the row without CanBePrefix
+-- the last one among `last` and the face's in-records under those keys of the row that do not have
+-- CanBePrefix
 abbrev pub last_exact : ℕ → Option InRecord → Row → Option InRecord
 last_exact face last row =
     later (later last (ask_in face (map.get row (flags false false))))
     (ask_in face (map.get row (flags false true)))
 
--- the last of `last` and of the face's in-records under the keys of the row with CanBePrefix
+-- the last one among `last` and the face's in-records under those keys of the row that have
+-- CanBePrefix
 abbrev pub last_prefix : ℕ → Option InRecord → Row → Option InRecord
 last_prefix face last row =
     later (later last (ask_in face (map.get row (flags true false))))
     (ask_in face (map.get row (flags true true)))
 
--- the last of `last` and of the face's in-records under the keys of the row with CanBePrefix; if
--- the name is the Data's own, the keys without CanBePrefix count too
+-- the last one among `last` and the face's in-records under those keys of the row that the Data
+-- answers: the keys with CanBePrefix; if the name is the Data's own, the keys without CanBePrefix
+-- count too
 abbrev pub last_in : Bool → ℕ → Option InRecord → Row → Option InRecord
 last_in is_own face last row =
     last_prefix face (if is_own then last_exact face last row else last) row

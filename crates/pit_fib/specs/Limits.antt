@@ -32,7 +32,7 @@ pub record IsWithinFib (routes : Routes) : Type 0 where
   pub registered : route_count routes ≤ MAX_ROUTES
   pub faces : AtMost64 (LeadsTo routes)
 
--- no route expires before the moment
+-- no route expires before `moment`
 abbrev pub NoneEndsBefore : ℕ → Routes → Type 0
 NoneEndsBefore moment routes =
     (name : List Field) (e : Entry) → map.get routes name ≡ Some e
@@ -44,7 +44,7 @@ pub record IsTallied (routes : Routes) (count next_due : ℕ) : Type 0 where
   pub counted : count ≡ route_count routes
   pub later : NoneEndsBefore next_due routes
 
--- there is capacity for the routes of the prepared name, and one more
+-- there is capacity for the routes of the prepared name and for one more route
 abbrev pub IsRoomFor : Routes → ℕ → Option (List Field) → Type 0
 IsRoomFor routes room None = Unit {0}
 IsRoomFor routes room (Some name) = map.len (registered_at routes name) < room

@@ -26,7 +26,7 @@ past_at s e =
       way = past_entry s.way e;
     }
 
--- the visitor after it is shown a name, if the name's entry remains at the moment
+-- the visitor after it is shown a name, if the name's entry remains at the moment of the walk
 abbrev pub hops_shown : {S : Type 0} → (S → List ℕ → List Hop → S) → AsHops S → List ℕ → AtName
     → AsHops S
 hops_shown show s name at =

@@ -7,7 +7,7 @@ use Rattle.ndn_packets.specs.Key.{PlainKey}
 use Rattle.pit_fib.specs.Records.{InRecord, OutRecord, Records, no_records, is_alive}
 use Rattle.pit_fib.specs.Cause.{Cause, Expires, Arrives, SentTo, Satisfied, NackCame, Withdrawn, Removed, Closed, same_key, until_after, sent_at, nacked_with, records_after}
 
--- the records of a key after these causes, where the last cause comes first in the list
+-- the records of a key after these causes, where the latest cause comes first in the list
 abbrev pub records_after_all : List Cause → PlainKey → Records
 records_after_all [] k = no_records
 records_after_all (cause ∷ before) k = records_after cause k (records_after_all before k)

@@ -18,9 +18,9 @@ use Rattle.pit_fib.specs.Cause.{with_reason}
 
 pub record PitState : Type 0 where
   pub pending : Pending
-  -- The key of the prepared calls. With a number, they are one `arrive` whose Interest and token
-  -- have together at most this number of octets, and the `sent` calls after it. With None, they are
-  -- only the `sent` calls.
+  -- The key of the prepared calls, and a number or None. With a number, the prepared calls are one
+  -- `arrive` and the `sent` calls after it; the Interest and the token of this `arrive` have
+  -- together at most this number of octets. With None, the prepared calls are `sent` calls only.
   pub prepared : Option (PlainKey × Option ℕ)
 
 abbrev pub pit_code : Coded PitState

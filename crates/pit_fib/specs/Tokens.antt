@@ -29,7 +29,7 @@ pub record IsLast (records : PlainKey → Records) (name : List Field) (digest :
       → IsAsker records name digest face other_key other → IsNotAfter other_key other key in_record
 
 -- the token that is sent to the face with the Data: the token of the last of the face's in-records
--- that the Data answers, or None if the Data answers none
+-- that the Data answers, or None if the Data answers none of the face's in-records
 abbrev pub IsTokenFor : (PlainKey → Records) → List Field → List ℕ → ℕ → Option (List ℕ) → Type 0
 IsTokenFor records name digest face token =
     (((key : PlainKey) (in_record : InRecord)

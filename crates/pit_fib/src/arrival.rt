@@ -1,4 +1,5 @@
-//! How a call of the pending Interest table changes a row, with the memory that the call supplies.
+//! How a call of the pending Interest table changes the row of a name. The call supplies the
+//! memory.
 
 ghost use Rattle.std.specs.Prelude.{◌≡◌, ◌≤◌, Option, None, Some, unwrap_or};
 ghost use Rattle.std.specs.Option.{option_map};
@@ -18,7 +19,8 @@ use ndn_tlv::Memory;
 use std::alloc::Global;
 
 /// Memory for the records of one arriving Interest: for the records of a new entry, or for the
-/// in-records of an entry whose own memory is full. Also has the slots for a name without entries.
+/// in-records of an entry whose own memory is full. It also contains empty slots, for a name
+/// without entries.
 #[derive(Drop)]
 pub struct RecordRoom {
     in_records: Room<InRecord>,
@@ -118,14 +120,14 @@ impl Becomes<Row> for Departure {
     }
 }
 
-/// Returns the slots of a row, if there is memory for them.
+/// Returns the slots of a row, or `None` if there is no row or the row has no memory for slots.
 fn slots_of(row: Option<Row>) -> Option<Box<Slots>>
     ensures { unwrap_or (option_map (λ s. s.value) result) map.empty ≡ unwrap_or row map.empty }
 {
     row?.into_slots()
 }
 
-/// Returns the entry, or a new entry in this memory if there is none.
+/// Returns `entry`, or a new entry in the supplied memory if `entry` is `None`.
 fn entry_or_new(
     entry: Option<Entry>,
     in_records: Room<InRecord>,

@@ -37,7 +37,7 @@ impl Model for Used {
 }
 
 impl Used {
-    /// Returns a value in which no face has a number.
+    /// Returns an empty map.
     pub fn new() -> Used
         ensures { result ≡ map.empty }
     {
@@ -56,7 +56,7 @@ impl Used {
     }
 
     #[tactic(auto, using(crate::proofs::SameNames::same_numbers))]
-    /// Returns whether both have the same faces with the same numbers.
+    /// Returns whether both maps have the same faces with the same numbers.
     pub(crate) fn is_same(&self, other: &Used) -> bool
         ensures { IsTrue result → self.now ≡ other.now }
     {
@@ -130,8 +130,8 @@ impl Used {
     }
 }
 
-/// Moves those of the first `len` entries that are not of `face` to the front, and returns how many
-/// there are.
+/// Of the first `len` entries, moves those of other faces than `face` to the front, and returns the
+/// number of these entries.
 fn without_face(places: &mut [(u64, u64)], len: usize, face: u64) -> usize
     requires { len ≤ length places.old }
     ensures fewer { result ≤ len }

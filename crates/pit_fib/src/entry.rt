@@ -25,7 +25,7 @@ pub struct InRecord {
     // The octets of the Interest, followed by the octets of its PIT token.
     octets: Vec<u8>,
     nonce: [u8; 4],
-    // How many of the last octets are the token; 0 if there is no token.
+    // The length in octets of the token at the end of `octets`; 0 if there is no token.
     token_len: u8,
     deadline: u64,
 }
@@ -50,8 +50,8 @@ impl Model for InRecord {
 }
 
 impl InRecord {
-    /// Returns the in-record of an Interest and its token, where the last `token_len` of `octets`
-    /// are the token.
+    /// Returns the in-record of an Interest and its token. The last `token_len` octets of `octets`
+    /// are the token, and the octets before them are the Interest.
     pub fn new(octets: Vec<u8>, token_len: u8, nonce: [u8; 4], deadline: u64) -> InRecord
         requires { (token_len ≤ length octets.items) × (token_len ≤ 32) }
         ensures { result ≡ record {
@@ -101,7 +101,7 @@ pub struct OutRecord {
     nonce: [u8; 4],
     // When the Interest was sent, in milliseconds since 1970.
     moment: u64,
-    // The reason of the Nack that came back for this Nonce, if any.
+    // The reason of the Nack that came back for this Nonce, or `None` if no Nack came.
     reason: Option<u64>,
 }
 
@@ -118,8 +118,8 @@ impl Model for OutRecord {
 }
 
 impl OutRecord {
-    /// Returns the out-record of an Interest that is sent now, in milliseconds since 1970, and to
-    /// which no Nack has come yet.
+    /// Returns the out-record of an Interest that is sent at the moment `now`, in milliseconds
+    /// since 1970. No Nack has come for it yet.
     pub fn new(nonce: [u8; 4], now: u64) -> OutRecord
         ensures { result ≡ sent_at nonce now }
     {
@@ -130,7 +130,8 @@ impl OutRecord {
         }
     }
 
-    /// Returns the out-record with the reason of a Nack, if the Nack has the same Nonce.
+    /// If the Nack has the Nonce of this out-record, returns the out-record with the reason of the
+    /// Nack. Otherwise returns it unchanged.
     fn nacked_with(self, nonce: [u8; 4], reason: u64) -> OutRecord
         ensures { result ≡ nacked_with nonce reason self }
     {
@@ -167,7 +168,8 @@ impl FaceMap<OutRecord> {
         }
     }
 
-    /// Returns the least of `reason` and of the reasons of all faces, if each face has a reason.
+    /// Returns the least of `reason` and of the reasons in all out-records, or `None` if some
+    /// out-record has no reason.
     fn least_reason(&self, reason: u64) -> Option<u64>
         ensures { result ≡ least_reason reason (map.entries self.now.values) }
     {
@@ -366,8 +368,8 @@ impl Entry {
         self.out_records.nacked(face, nonce, reason);
     }
 
-    /// Returns whether each out-record has the reason of a Nack, where `reason` is the reason of
-    /// one of them.
+    /// Returns `All` with the least of `reason` and of the Nack reasons in the out-records, or
+    /// `Waiting` if some out-record has no reason.
     pub fn answer(&self, reason: u64) -> Nacked
         ensures { result
             ≡ all_nacked (least_reason reason (map.entries self.now.records.out_records)) }
@@ -420,7 +422,7 @@ pub fn later<'a>(a: Option<&'a InRecord>, b: Option<&'a InRecord>) -> Option<&'a
     }
 }
 
-/// Returns the in-record of a face, if there is an entry.
+/// Returns the in-record of a face in the entry, or `None` if there is no entry.
 pub fn in_record_of(entry: &Option<Entry>, face: u64) -> Option<&InRecord>
     ensures { option_map (λ r. r.now) result ≡ ask_in face entry.now }
 {

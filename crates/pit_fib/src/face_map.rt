@@ -14,7 +14,7 @@ use crate::face_set::MAX_FACES;
 use crate::room::{FEW, Room};
 use std::marker::Model;
 
-/// A map from at most 64 faces to values, in rising order of the faces. Its memory is for a few
+/// A map from at most 64 faces to values, in rising order of the faces. It has memory for a few
 /// values, or for all 64.
 #[derive(Drop)]
 pub struct FaceMap<V> {
@@ -108,7 +108,7 @@ impl<V: Drop> FaceMap<V> {
         true
     }
 
-    /// Sets the value of a face, for which there is memory.
+    /// Sets the value of a face. There must be memory for this value.
     fn put(&mut self, face: u64, value: V)
         requires { IsSome (map.get self.old.values face)
             ⊎ ((map.len self.old.values < MAX_FACES) × IsTrue (has_place self.old)) }

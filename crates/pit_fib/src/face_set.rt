@@ -4,7 +4,7 @@ ghost use Rattle.pit_fib.specs.FaceSet.{IsRising, has_face, with_face, adding};
 use crate::array_list::insert_at;
 use std::marker::Model;
 
-/// The greatest number of faces.
+/// The greatest number of faces in a set or a table.
 pub const MAX_FACES: usize = 64;
 
 /// A set of at most 64 faces, in rising order. The faces are stored in an array, so this set never
@@ -77,7 +77,7 @@ impl Faces {
         self.places[..self.len].get(i).copied()
     }
 
-    /// Returns whether both sets have the same faces. The contract states the case `true` alone.
+    /// Returns whether both sets have the same faces. The contract covers only the result `true`.
     pub fn is_same(&self, other: &Faces) -> bool
         ensures { IsTrue result → self.now ≡ other.now }
     {

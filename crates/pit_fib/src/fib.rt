@@ -274,7 +274,7 @@ impl Fib {
         (before - tally.count) as u64
     }
 
-    /// Returns how many routes `expire` would remove at this moment.
+    /// Returns how many routes `expire` would remove at the moment `now`.
     pub fn due(&self, now: u64) -> u64
         ensures { result ≡ due_count now self.now.table }
     {
@@ -296,7 +296,7 @@ impl Fib {
     }
 
     /// Does the same as `longest`, and adds one to `steps` for each search among the children of a
-    /// node. According to the clauses, this is at most one search for each component of the name.
+    /// node. The contract promises at most one search for each component of the name.
     pub fn longest_counted(&self, name: Name<'_>, steps: &mut u64) -> Hops
         requires { steps.old + 64 < 2 ^ 64 }
         ensures exact { result ≡ longest_hops self.now.table (components name.entry) }
@@ -324,8 +324,8 @@ impl Fib {
     }
 
     #[tactic(auto, using(crate::proofs::SameNames::same_routes))]
-    /// Returns whether both tables have the same next hops and routes. The contract states the case
-    /// `true` alone.
+    /// Returns whether both tables have the same next hops and routes. The contract covers only the
+    /// result `true`.
     pub fn has_same_routes(&self, alloc: Global, other: &Fib) -> Result<bool, Memory>
         ensures { IfOk result (λ same. IsTrue same → self.now.table ≡ other.now.table) }
     {
@@ -377,7 +377,7 @@ impl Fib {
             || (self.count >= MAX_ROUTES && !self.has_route(name, key))
     }
 
-    /// Sets a route that is within the limits of the table.
+    /// Sets a route that the limits of the table permit.
     fn put_route(&mut self, name: Name<'_>, key: RouteKey, route: Route) -> Result<(), Memory>
         requires room { HasRoomFor self.old.table key.face }
         requires taken { route_refusal self.old.table (components name) key ≡ None }

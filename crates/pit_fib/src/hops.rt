@@ -24,8 +24,8 @@ impl Hop {
     }
 }
 
-/// At most 64 next hops, ordered by cost, and next hops of the same cost by face. They are stored
-/// in an array, so this list never allocates.
+/// A list of at most 64 next hops, ordered by cost and, if the costs are the same, by face. The
+/// hops are stored in an array, so this list never allocates.
 #[derive(Drop)]
 pub struct Hops {
     places: [Hop; MAX_FACES],

@@ -85,7 +85,8 @@ fn counts_at(route: Route, at: Option<u64>) -> bool
     }
 }
 
-/// Returns whether some route counts.
+/// Returns whether some route counts: one that does not expire by `at` or, if `at` is `None`, any
+/// route.
 fn has_route_at(rows: &[(RouteKey, Route)], at: Option<u64>) -> bool
     ensures { result ≡ has_route_at at rows.now }
 {
@@ -97,7 +98,8 @@ fn has_route_at(rows: &[(RouteKey, Route)], at: Option<u64>) -> bool
     false
 }
 
-/// Returns whether some capture route counts.
+/// Returns whether some capture route counts: one that does not expire by `at` or, if `at` is
+/// `None`, any capture route.
 fn has_capture_at(rows: &[(RouteKey, Route)], at: Option<u64>) -> bool
     ensures { result ≡ has_capture_at at rows.now }
 {
@@ -109,8 +111,8 @@ fn has_capture_at(rows: &[(RouteKey, Route)], at: Option<u64>) -> bool
     false
 }
 
-/// Returns, for each face, the least cost of the routes that count for the name itself or, if
-/// `below` is true, for the names below it.
+/// Returns, for each face, the least cost of its routes that do not expire by `at` (if `at` is
+/// `None`, of all its routes). If `below` is true, only child-inherit routes are considered.
 fn least_within(rows: &[(RouteKey, Route)], at: Option<u64>, below: bool) -> Used
     ensures { result ≡ least_within at below rows.now }
 {

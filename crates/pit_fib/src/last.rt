@@ -44,8 +44,9 @@ impl<'a> Look<'a, Row> for LastOf<'a> {
     }
 }
 
-/// Returns the last of the face's in-records, by deadline and then by key, under the keys of this
-/// name, and under those keys of its proper prefixes that have CanBePrefix.
+/// Of the face's in-records under the keys of this name, and under those keys of its proper
+/// prefixes that have CanBePrefix, returns the one with the latest deadline and, among those with
+/// the same deadline, the one with the greatest key.
 fn last_along<'a>(rows: &'a TimedMap<Row>, name: Name<'_>, face: u64) -> Option<&'a InRecord>
     ensures { option_map (λ r. r.now) result
         ≡ last_along rows.now.table face (components name.entry) }

@@ -41,10 +41,11 @@ pub fn hops_are_in_order()
         → hops ≡ hops_of costs }
 {}
 
-/// Law: a face has a cost among the effective next hops of a name exactly in one of three cases.
-/// The name has a next hop of that cost on the face. Or it has routes but no next hop on the face,
-/// and the cost is the least of these routes. Or it has neither on the face, has other routes, none
-/// of them a capture route, and inherits that cost for the face.
+/// Law: a face has a cost among the effective next hops of a name in three cases and no others. The
+/// name has a next hop of that cost on the face. Or the name has no next hop on the face but has
+/// routes on it, and that cost is the least cost of these routes. Or the name has neither on the
+/// face but has routes on other faces, none of them is a capture route, and the name inherits that
+/// cost for the face.
 pub fn effective_hops_are_as_defined()
     ensures { (routes : Routes) (name : List Field) (face cost : ℕ)
         → (map.get (effective routes name) face ≡ Some cost) ↔ IsEffective routes name face cost }
@@ -75,11 +76,11 @@ pub fn revising_changes_each_value<V, W>()
         → map.get (revise change m) face ≡ option_and_then change (map.get m face) }
 {}
 
-/// Law: the records of a key follow from the list of past causes, the last one first, face by face.
-/// The in-record of a face is its last Interest, unless something has removed it since. The
-/// out-record of a face is the last Interest that was sent to that face since the key was last
-/// without an in-record, unless the face has closed since. The key has an in-record exactly if such
-/// an Interest of some face remains.
+/// Law: the records of each face under a key follow from the list of past causes, in which the
+/// latest cause comes first. The in-record of a face is its last Interest, unless something has
+/// removed it since. The out-record of a face is the last Interest that was sent to that face since
+/// the key was last without an in-record, unless the face has closed since. The key has an
+/// in-record exactly if the last Interest of some face has not been removed since.
 pub fn records_are_the_past()
     ensures in_records { (causes : List Cause) (key : PlainKey) (face : ℕ)
         → map.get (records_after_all causes key).in_records face ≡ in_record_of causes key face }
@@ -91,8 +92,8 @@ pub fn records_are_the_past()
 {}
 
 /// Law: the result of a Nack is `NoPending` exactly if its Nonce was not the last one sent to its
-/// face. Otherwise the result is a reason exactly if each out-record has a reason after the Nack,
-/// and this reason is the least of them.
+/// face. Otherwise the result is `All` exactly if each out-record has a reason after the Nack, and
+/// its number is the least of these reasons.
 pub fn nacks_tell_the_least_reason()
     ensures pending { (r : Records) (face : ℕ) (nonce : List ℕ) (reason : ℕ)
         → (nacked_answer r face nonce reason ≡ answers.NoPending)
@@ -104,14 +105,14 @@ pub fn nacks_tell_the_least_reason()
         (map.get r.out_records face)) least }
 {}
 
-/// Law: at most one token is sent to a face with a Data.
+/// Law: for a Data and a face, at most one PIT token can be the token to send.
 pub fn tokens_for_data_are_one()
     ensures { (records : PlainKey → Records) (name : List Field) (digest : List ℕ) (face : ℕ)
         (a b : Option (List ℕ)) → IsTokenFor records name digest face a
         → IsTokenFor records name digest face b → a ≡ b }
 {}
 
-/// Law: two tables that have only keys with in-records are equal if they have the same records for
+/// Law: two tables in which each key has an in-record are equal if they have the same records for
 /// each key.
 pub fn records_tell_the_table()
     ensures { (a b : Pending) → HoldsTheLiving a → HoldsTheLiving b

@@ -7,7 +7,7 @@ use crate::inheriting::Inheriting;
 use name_trie::{Carry, See, Show};
 use ndn_tlv::Memory;
 
-/// The state of a walk over all names, at a name.
+/// The state of a walk over all names when the walk is at one name.
 #[derive(Drop)]
 pub struct AtName {
     pub now: u64,

@@ -3,7 +3,7 @@
 pub enum Nacked {
     /// The Nack's Nonce was not the last one sent to its face under its key.
     NoPending,
-    /// Some other out-record has no Nack yet.
+    /// At least one out-record has no Nack yet.
     Waiting,
     /// Each out-record has the reason of a Nack. The number is the least of these reasons.
     All(u64),

@@ -123,8 +123,8 @@ impl Pit {
 
     /// Prepares one `arrive` of this key, for an Interest and a PIT token of at most `octets`
     /// octets together, and the `sent` calls of this key after it. The prepared calls cannot run
-    /// out of memory if only removals come in between. `prepare` fails only if memory runs out;
-    /// then no call is prepared.
+    /// out of memory if the only calls between `prepare` and them are calls that remove records.
+    /// `prepare` fails only if memory runs out; then no call is prepared.
     pub fn prepare(&mut self, key: Key<'_>, octets: usize) -> Result<(), Memory>
         ensures pending { self.new.pending ≡ self.old.pending }
         ensures ok { OnOk result (self.new.prepared
@@ -145,7 +145,7 @@ impl Pit {
     /// Token"). The Interest and its token replace those that the face had under this key. The
     /// faces that have records, together with `face`, must be at most 64.
     ///
-    /// On failure, the records are unchanged, but a prepared call is cancelled. It fails with
+    /// On failure, the records are unchanged, but a prepared call is cancelled. `arrive` fails with
     /// `PitFull` if the key is new and there are 4,096 keys, and otherwise with `Memory`.
     pub fn arrive(
         &mut self,
@@ -471,9 +471,9 @@ fn entry_of<'a>(rows: &'a TimedMap<Row>, key: Key<'_>) -> Option<&'a Entry>
     rows.get(key.name)?.get(Flags::of(key))
 }
 
-/// Does nothing if there is no row for a name. Adds the faces that have an in-record under a key of
-/// the name that the Data answers. If the name is the Data's own, these are all keys; otherwise
-/// they are the keys with CanBePrefix.
+/// Does nothing if there is no row. Otherwise adds the faces that have an in-record under a key of
+/// the row's name that the Data answers. If the name is the Data's own, the Data answers all keys
+/// of the name; otherwise it answers the keys with CanBePrefix.
 fn add_of(row: Option<&Row>, is_own: bool, faces: &mut Faces)
     ensures { faces.new
         ≡ taken (with_answered is_own) faces.old (option_map (λ r. r.now) row.entry) }
@@ -504,8 +504,8 @@ fn has_place_for(rows: &TimedMap<Row>, key: Key<'_>, face: u64) -> bool
     }
 }
 
-/// Returns whether each out-record of a key has the reason of a Nack, where `reason` is the reason
-/// of one of them.
+/// Returns `All` with the least of `reason` and of the Nack reasons in the out-records of a key,
+/// `Waiting` if some out-record has no reason, or `NoPending` if the key has no entry.
 fn answer_of(rows: &TimedMap<Row>, key: Key<'_>, reason: u64) -> Nacked
     ensures { result ≡ answer_in (kept_at rows.now.table (plain_key key.entry)) reason }
 {

@@ -19,8 +19,8 @@ pub struct Ready {
     records: RecordRoom,
 }
 
-/// The prepared calls of a key: an `arrive` that uses this memory and the `sent` calls after it, or
-/// only `sent` calls.
+/// The prepared calls of a key: one `arrive` with its memory and the `sent` calls after it, or only
+/// `sent` calls.
 #[derive(Drop)]
 pub struct Prepared {
     key: KeyBuf,
@@ -93,7 +93,7 @@ fn ready_for(alloc: Global, ready: Option<Ready>, size: usize) -> Result<Ready, 
     }
 }
 
-/// Returns the octets of a token, or none if there is no token.
+/// Returns the octets of a token, or an empty slice if there is no token.
 fn octets_of(token: Option<&[u8]>) -> &[u8]
     ensures { result.now ≡ token_octets (option_map (λ t. t.now) token.entry) }
 {
@@ -103,8 +103,8 @@ fn octets_of(token: Option<&[u8]>) -> &[u8]
     }
 }
 
-/// Returns the octets of an Interest and its token, and memory for its records. It uses `ready`, or
-/// allocates new memory.
+/// Returns the octets of an Interest and its token, and memory for the Interest's records. The
+/// memory is `ready` if it is large enough, and otherwise newly allocated.
 fn octets_and_room(
     alloc: Global,
     ready: Option<Ready>,
@@ -122,8 +122,8 @@ fn octets_and_room(
     Ok((ready.octets, ready.records))
 }
 
-/// Returns a face's in-record with its Interest and token, and memory for its records. It uses
-/// `ready`, or allocates new memory.
+/// Returns the in-record of an Interest with a token, and memory for the Interest's records. The
+/// memory is `ready` if it is large enough, and otherwise newly allocated.
 pub fn in_record_and_room(
     alloc: Global,
     ready: Option<Ready>,

@@ -50,7 +50,7 @@ impl Registered {
     }
 
     #[tactic(auto, using(crate::proofs::SameNames::same_registered))]
-    /// Returns whether both have the same routes.
+    /// Returns whether `self` and `other` have the same routes.
     pub fn is_same(&self, other: &Registered) -> bool
         ensures { IsTrue result → self.now ≡ other.now }
     {

@@ -39,7 +39,7 @@ pub struct Route {
     pub cost: u64,
     /// 1 is child-inherit and 2 is capture; other bits have no effect.
     pub flags: u64,
-    /// When the route expires, in milliseconds since 1970, if it does.
+    /// When the route expires, in milliseconds since 1970, or `None` if it never expires.
     pub deadline: Option<u64>,
 }
 

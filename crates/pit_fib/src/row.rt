@@ -74,7 +74,8 @@ impl Row {
     }
 
     /// Adds the faces that have an in-record under a key of this name that the Data answers. If the
-    /// name is the Data's own, these are all keys; otherwise they are the keys with CanBePrefix.
+    /// name is the Data's own, the Data answers all keys of the name; otherwise it answers the keys
+    /// with CanBePrefix.
     pub fn add_answered(&self, is_own: bool, faces: &mut Faces)
         ensures { faces.new ≡ with_answered is_own faces.old self.now }
     {
@@ -84,9 +85,9 @@ impl Row {
     }
 
     /// Of `last` and the face's in-records under the keys of this name that the Data answers,
-    /// returns the one with the latest deadline and, among those with the same deadline, the one
-    /// found last. If the name is the Data's own, the Data answers all keys; otherwise it answers
-    /// the keys with CanBePrefix.
+    /// returns the one with the latest deadline. Among those with the same deadline, a greater key
+    /// takes precedence over a lesser one, and any key over `last`. If the name is the Data's own,
+    /// the Data answers all keys; otherwise it answers the keys with CanBePrefix.
     pub fn last_of<'a>(
         &'a self,
         is_own: bool,

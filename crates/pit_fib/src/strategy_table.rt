@@ -185,7 +185,7 @@ impl StrategyTable {
 
     #[tactic(auto, using(crate::proofs::SameNames::same_choices))]
     /// Returns whether both tables have the same names, each with the same strategy. The contract
-    /// states the case `true` alone.
+    /// covers only the result `true`.
     pub fn has_same_choices(&self, alloc: Global, other: &StrategyTable) -> Result<bool, Memory>
         ensures { IfOk result (λ same. IsTrue same → self.now.table ≡ other.now.table) }
     {

@@ -1,4 +1,4 @@
--- A command is fresh according to the latest time and number of its signer exactly if it is fresh
+-- A command is fresh according to the greatest time and number of its signer exactly if it is fresh
 -- according to all recorded commands.
 use Rattle.std.proofs.Common.{◌≡◌, ℕ, ◌<◌, Bool, true, false, cond, List, [], ◌∷◌, refl, sym, subst, arith}
 use Rattle.std.specs.Prelude.{◌↔◌, Option, Some, None}
@@ -16,7 +16,8 @@ number_after (Some m) None number = (λ h. (h, tt), λ h _. h)
 number_after (Some m) (Some n) None = (λ h. (tt, tt), λ _ _. tt)
 number_after (Some m) (Some n) (Some k) = (λ h. (omega (arith, h), omega (arith, h)), λ h k'. omega (arith, h, k'))
 
--- the latest time and number of a signer after one more of its commands was recorded
+-- a command is newer than the state after one more recorded command of its signer exactly if it is
+-- newer than the earlier state and newer than that recorded command
 raised_after : (kept : Option Latest) (t : ℕ) (n : Option ℕ) (time : ℕ) (number : Option ℕ)
     → (IsAfterLatest (Some (raised kept t n)) time number → IsAfterLatest kept time number × ((t < time) × NumberRises n number))
     × (IsAfterLatest kept time number → (t < time) × NumberRises n number → IsAfterLatest (Some (raised kept t n)) time number)
@@ -27,8 +28,8 @@ raised_after (Some l) t n time number =
       λ h k. let e = h.0 in let f = k.0 in (omega (arith, e, f), both.1 h.1 k.1),
     )
 
--- after one more recorded command, a command must be newer than the earlier state and than that
--- command
+-- a command is newer than the state after `r` was recorded exactly if it is newer than the earlier
+-- state and, if `r` has the same signer, newer than `r`
 pub one_more : (table : Signer → Option Latest) (r : Recorded) (signer : Signer) (time : ℕ) (number : Option ℕ) (b : Bool) → eq_by_cmp signer_cmp signer r.signer ≡ b
     → (IsAfterLatest (cond b (Some (raised (table r.signer) r.time r.number)) (table signer)) time number → IsAfterLatest (table signer) time number × IsNewer signer time number r)
     × (IsAfterLatest (table signer) time number → IsNewer signer time number r → IsAfterLatest (cond b (Some (raised (table r.signer) r.time r.number)) (table signer)) time number)

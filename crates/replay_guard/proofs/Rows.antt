@@ -113,7 +113,8 @@ fresh_new table es s t n now shown none near =
     let got : map.get table s ≡ None = ap (λ (m : Table). map.get m s) (sym shown) ∙ get_none s es none in
     (near, subst (λ (o : Option Latest). IsAfterLatest o t n) (sym got) tt)
 
--- the table with one more command: one lemma if the signer has a row, another if it has none
+-- the table with one more command: one lemma if the signer has a row, another if the signer has no
+-- row
 pub recorded_found : (table : Table) (es new : List Row) (at : ℕ) (row : Row) (s : Signer) (t : ℕ) (n : Option ℕ) → from_entries es ≡ table → IsFirst s es at → row ≡ get_or es at row
     → new ≡ set es at (row.0, raised (Some row.1) t n) → from_entries new ≡ with_recorded table (record { signer = s; time = t; number = n })
 recorded_found table es new at row s t n shown first is set_is =
@@ -158,7 +159,8 @@ place_tells table rows s (Some at) shown first =
     let got : map.get table s ≡ Some row.1 = ap (λ (m : Table). map.get m s) (sym shown) ∙ get_first s rows at row first (row_at_is rows at first.within) in
     (λ _. rw got refl, λ _. refl)
 
--- one more of the other rows is in `rows`
+-- if `rows` has the first `at` rows of `others` and the row of `others` at index `at`, it has the
+-- first `at + 1` rows of `others`
 pub all_more : (rows others : List Row) (at : ℕ) (x : Row) → at < length others → x ≡ get_or others at x → find signer_cmp x.0 rows ≡ Some x.1
     → HasAll rows (take at others) → HasAll rows (take (at + 1) others)
 all_more rows [] at x lt is found all = absurd (omega arith)
@@ -184,7 +186,7 @@ found_alike rows others q ours theirs = split (find signer_cmp q rows) (find sig
     split None (Some v) is other = found_too rows others q v ours other ∙ sym other
     split None None is other = is ∙ sym other
 
--- rows that have all of each other represent the same map
+-- two lists of rows represent the same map if each list has all rows of the other list
 pub same_table : (rows others : List Row) → HasAll rows others → HasAll others rows → from_entries {R = signer_cmp} rows ≡ from_entries others
 same_table rows others ours theirs = same_map signer_cmp-total signer_cmp-antisymmetric _ _ (λ q.
     get-from_entries signer_cmp-total rows q ∙ found_alike rows others q ours theirs ∙ sym (get-from_entries signer_cmp-total others q))

@@ -31,8 +31,8 @@ abbrev pub IsNewer : Signer → ℕ → Option ℕ → Recorded → Type 0
 IsNewer signer time number earlier =
     earlier.signer ≡ signer → (earlier.time < time) × NumberRises earlier.number number
 
--- At the moment `now` the command is fresh: its time is near `now`, and it is newer than all
--- recorded commands of its signer.
+-- At the moment `now` the command is fresh: its time is near `now`, and the command is newer than
+-- all recorded commands of its signer.
 abbrev pub Fresh : List Recorded → Signer → ℕ → Option ℕ → ℕ → Type 0
 Fresh past signer time number now =
     AreNear time now × AllByRecursion (IsNewer signer time number) past

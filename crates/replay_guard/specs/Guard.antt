@@ -54,7 +54,8 @@ abbrev pub with_recorded : Table → Recorded → Table
 with_recorded table r =
     map.insert table r.signer (raised (map.get table r.signer) r.time r.number)
 
--- the table of all recorded commands, where the last command comes first in the list
+-- the table of all recorded commands, where the most recently recorded command comes first in the
+-- list
 abbrev pub table_of : List Recorded → Table
 table_of [] = map.empty
 table_of (r ∷ before) = with_recorded (table_of before) r

@@ -53,8 +53,8 @@ impl Guard {
     }
 
     /// Returns whether a signed command is fresh. Its time, in milliseconds since 1970, must differ
-    /// from `now` by at most 120,000 and be greater than each recorded time of its signer. Its
-    /// number, if it has one, must be greater than each recorded number of its signer.
+    /// from `now` by at most 120,000 and be greater than each recorded time of its signer. If the
+    /// command has a number, the number must be greater than each recorded number of its signer.
     pub fn check(&self, signer: Signer<'_>, time: u64, seq: Option<u64>, now: u64) -> bool
         ensures { IsTrue result ↔ IsFresh self.now.latest (signer_of signer.entry) time seq now }
     {
@@ -93,7 +93,7 @@ impl Guard {
         }
     }
 
-    /// Adds a row for a signer that has none.
+    /// Adds a row for a signer that has no row.
     fn add(&mut self, signer: Signer<'_>, time: u64, seq: Option<u64>) -> Result<(), Memory>
         requires { map.get self.old.latest (signer_of signer) ≡ None }
         ensures ok { OnOk result (self.new.latest ≡ map.insert self.old.latest
@@ -130,7 +130,7 @@ impl Guard {
 
 impl Guard {
     /// Returns whether both guards have the same signers, each with the same time and number. The
-    /// contract states the case `true` alone.
+    /// contract says only what a result `true` means.
     pub fn has_same_times(&self, other: &Guard) -> bool
         ensures { IsTrue result → self.now.latest ≡ other.now.latest }
     {

@@ -68,7 +68,7 @@ abbrev pub first_octets : List (List Field × List ℕ) → Option (List ℕ)
 first_octets [] = None
 first_octets (o ∷ os) = Some o.1
 
--- the octets of the object with the least full name among those that answer
+-- the octets of the object with the least full name among the objects that answer
 abbrev pub served : List Field → Bool → Objects → Option (List ℕ)
 served name can_be_prefix objects = first_octets (answering name can_be_prefix (entries objects))
 

@@ -115,8 +115,8 @@ MakesWant s (Some c) = (c.verb ≡ Insert) × (repo_status_of s c ≡ PENDING)
 
 -- ---- Data
 
--- the state after an offer: a wanted Data is stored and replaces the object with the same full
--- name, if there is one
+-- the state after an offer: a wanted Data is stored, and replaces any object with the same full
+-- name
 abbrev pub after_offer : List Field → List ℕ → List ℕ → Held → Held
 after_offer name digest octets s =
     if is_wanted name digest s.wants then record {

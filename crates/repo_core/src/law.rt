@@ -81,7 +81,8 @@ pub fn objects_stay_data()
 {}
 
 /// Law: after all entries that fail a test are removed from a map of objects or wants, a lookup of
-/// a key finds the same entry as before if that entry passes the test, and otherwise none.
+/// a key finds the same entry as before if that entry passes the test, and otherwise finds no
+/// entry.
 pub fn kept_entries_by_key()
     ensures objects { (test : List Field × List ℕ → Bool) (objects : Objects) (name : List Field)
         → map.get (kept test objects) name ≡ if_kept test name (map.get objects name) }

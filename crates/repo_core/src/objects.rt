@@ -59,7 +59,7 @@ impl Objects {
         self.rows.len()
     }
 
-    /// Returns whether both have the same objects.
+    /// Returns whether both collections have the same objects.
     pub fn is_same(&self, other: &Objects) -> bool
         ensures { IsTrue result → self.now.table ≡ other.now.table }
     {
@@ -78,7 +78,7 @@ impl Objects {
     }
 
     /// Returns the octets of the object that answers an Interest with this name and CanBePrefix. If
-    /// several answer, the one with the least full name is chosen.
+    /// several objects answer, the object with the least full name is chosen.
     pub fn served(&self, name: Name<'_>, can_be_prefix: bool) -> Option<&[u8]>
         ensures { option_map (λ o. o.now) result
             ≡ served (components name.entry) can_be_prefix self.now.table }
@@ -111,7 +111,7 @@ impl Objects {
         Ok(())
     }
 
-    /// Inserts an object. Replaces the object with the same full name, if there is one.
+    /// Inserts an object. An object with the same full name is replaced.
     pub fn put(&mut self, object: Object)
         requires { 0 < self.old.room }
         ensures { self.new.table ≡ map.insert self.old.table object.0 object.1 }

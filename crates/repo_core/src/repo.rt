@@ -106,13 +106,14 @@ impl Repo {
     ///
     /// Objects match a command if they answer an Interest with its name and CanBePrefix. A want is
     /// equal to a command if it has the same name and CanBePrefix. An insert is answered 200 with
-    /// the number of matching objects, if there are any. Otherwise it is answered 503 if there is
-    /// no equal want and one more want would exceed the limits, and 100 in all other cases. An
-    /// insert that is answered 100 adds a want or renews the equal want; the want expires when its
-    /// lifetime is over. A delete removes the matching objects and the equal want. It is answered
-    /// 200 with the number of objects if it removed anything, and 404 otherwise. A check is
-    /// answered 200 with the number of matching objects, if there are any; otherwise 100 if there
-    /// is an equal want, and 404 if not. Any other name is answered 400.
+    /// the number of matching objects if at least one object matches. Otherwise the insert is
+    /// answered 503 if there is no equal want and one more want would exceed the limits, and 100 in
+    /// all other cases. An insert that is answered 100 adds a want or renews the equal want; the
+    /// want expires when the lifetime of the want is over. A delete removes the matching objects
+    /// and the equal want. The delete is answered 200 with the number of removed objects if it
+    /// removed an object or a want, and 404 otherwise. A check is answered 200 with the number of
+    /// matching objects if at least one object matches; otherwise 100 if there is an equal want,
+    /// and 404 if there is no equal want. Any other name is answered 400.
     ///
     /// Only an insert can return `Memory`. It then leaves the objects and wants unchanged. Every
     /// insert ends the preparation; other commands do not.
@@ -202,8 +203,8 @@ impl Repo {
         self.wants.will_be_filled_by(packet, now)
     }
 
-    /// Returns the octets of the stored Data that answers the Interest. If several answer, the one
-    /// with the least full name is chosen. MustBeFresh is ignored.
+    /// Returns the octets of the stored Data that answers the Interest. If several stored Data
+    /// answer, the Data with the least full name is chosen. MustBeFresh is ignored.
     pub fn serve(&self, interest: &Interest<'_>) -> Option<&[u8]>
         ensures { option_map (λ o. o.now) result ≡ served (components interest.now.name)
             interest.now.can_be_prefix self.now.held.objects }
@@ -234,8 +235,8 @@ impl Repo {
     }
 
     #[tactic(auto, using(crate::proofs::SameNames::same_name))]
-    /// Returns whether both repositories have the same prefix. The contract states the case `true`
-    /// alone.
+    /// Returns whether both repositories have the same prefix. The contract says only what a result
+    /// `true` means.
     pub fn has_same_prefix(&self, other: &Repo) -> bool
         ensures { IsTrue result → self.now.start ≡ other.now.start }
     {
@@ -243,7 +244,7 @@ impl Repo {
     }
 
     /// Returns whether both repositories have the same objects and the same wants. The contract
-    /// states the case `true` alone.
+    /// says only what a result `true` means.
     pub fn holds_same(&self, other: &Repo) -> bool
         ensures { IsTrue result → self.now.held ≡ other.now.held }
     {

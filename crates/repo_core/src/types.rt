@@ -12,7 +12,7 @@ pub const NOT_FOUND: u16 = 404;
 
 pub const FULL: u16 = 503;
 
-/// The lifetime of a want in milliseconds if the command gives none (NDN Packet Format 0.3,
+/// The lifetime of a want in milliseconds if the command gives no lifetime (NDN Packet Format 0.3,
 /// "Interest Packet", InterestLifetime).
 pub const DEFAULT_LIFETIME: u64 = 4000;
 

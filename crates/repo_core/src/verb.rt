@@ -4,14 +4,14 @@ ghost use Rattle.repo_core.specs.Commands.{verb_named};
 /// The verb of a command.
 #[derive(Clone, Copy, Debug, PartialEq, Eq)]
 pub enum Verb {
-    /// `insert`: requests a Data that matches the command, and stores it when it arrives. Requests
-    /// nothing if a matching Data is stored already.
+    /// `insert`: requests a Data that matches the command, and stores the Data when it arrives.
+    /// Requests nothing if a matching Data is stored already.
     Insert,
-    /// `delete`: removes the stored Data that match the command, and the want with its name and
-    /// CanBePrefix.
+    /// `delete`: removes the stored Data that match the command, and the want with the command's
+    /// name and CanBePrefix.
     Delete,
-    /// `check`: counts the stored Data that match the command. If there are none, reports whether
-    /// there is a want with its name and CanBePrefix.
+    /// `check`: counts the stored Data that match the command. If no stored Data matches, reports
+    /// whether there is a want with the command's name and CanBePrefix.
     Check,
 }
 

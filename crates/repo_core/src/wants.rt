@@ -82,7 +82,7 @@ impl Wants {
         }
     }
 
-    /// Removes the want with this name and CanBePrefix, if there is one.
+    /// Removes the want with this name and CanBePrefix, if there is such a want.
     pub fn remove(&mut self, name: Name<'_>, can_be_prefix: bool)
         ensures { self.new ≡ map.remove self.old (components name.entry, can_be_prefix) }
     {
@@ -126,7 +126,7 @@ impl Wants {
             .retain(|row| !packet.answers(row.0.0.view(), row.0.1));
     }
 
-    /// Returns whether both have the same wants with the same deadlines.
+    /// Returns whether both collections have the same wants with the same deadlines.
     pub fn is_same(&self, other: &Wants) -> bool
         ensures { IsTrue result → self.now ≡ other.now }
     {

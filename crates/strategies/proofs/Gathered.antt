@@ -59,7 +59,7 @@ all_there (h ∷ hops) =
     All-cons P h hops (added h.face (faces_of hops))
     (All-weaker (λ hop. has_face hop.face (faces_of hops) ≡ true) P (λ hop e. kept hop.face h.face (faces_of hops) e) hops (all_there hops))
 
--- a property that all hops have is a property of the hop of each collected face
+-- if all hops have a property, each collected face is the face of a hop with that property
 pub from_hop : (P : Hop → Type 0) (face : ℕ) (hops : List Hop) → All P hops → has_face face (faces_of hops) ≡ true → (hop : Hop) × P hop × (hop.face ≡ face)
 from_hop P face [] all e = (let absurd = e in cc)
 from_hop P face (h ∷ hops) all e =

@@ -38,7 +38,7 @@ least before [] = None
 least before (hop ∷ hops) = Some (lesser before hop (least before hops))
 
 -- No hop if some face was used less than 10 ms ago. Otherwise the least hop, by cost, then by face,
--- among those that were not used; if all were used, the hop that was used longest ago.
+-- among the hops that were not used; if all hops were used, the hop that was used longest ago.
 abbrev pub best_route : Selection
 best_route hops asked now =
     if list_any (λ e. is_recent now e.1) (map.entries asked) then [] else

@@ -9,7 +9,7 @@ use Rattle.content_store.proofs.Shown.{length-shown, less_is, lt_is, shown_at, l
 use Rattle.content_store.proofs.rows.lower_bound.Goals as goal
 use Rattle.content_store.proofs.rows.lower_bound.Goals.{After-is_below}
 
--- the middle position, and how its row compares
+-- the middle position of the range that is still searched
 abbrev mid_of : After-is_below → ℕ
 mid_of c = c.loop-low.low + (c.loop-low.high - c.loop-low.low) / 2
 
