@@ -36,13 +36,13 @@ use Rattle.forwarder.proofs.Handled.{where_true, where_false}
 
 -- ---- what a packet leaves unchanged
 
--- a packet whose handling ran out of memory
+-- `HandlesPacket` is true if memory ran out and only the cache changed
 pub refused_packet : {old new : State} {before after : List Send} {face : ℕ} {token : Token} {moment : ℕ} {packet : PlainFrame} (r : Result code.Verdict Memory) → IsErr r
     → ChangesCacheOnly (state_of old) (state_of new) × (after ≡ before) → HandlesPacket old new before after face token moment packet r
 refused_packet (Ok verdict) refused kept = absurd (false≢true refused)
 refused_packet (Err memory) refused kept = record { handled = tt; memory = kept }
 
--- a packet whose handling had enough memory
+-- `HandlesPacket` is true if memory did not run out and the packet was handled
 pub sure_packet : {old new : State} {before after : List Send} {face : ℕ} {token : Token} {moment : ℕ} {packet : PlainFrame} (r : Result code.Verdict Memory) → IsOk r
     → IfOk r (IsHandled old new before after face token moment packet) → HandlesPacket old new before after face token moment packet r
 sure_packet (Ok verdict) done handled = record { handled = handled; memory = tt }

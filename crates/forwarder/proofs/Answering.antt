@@ -81,7 +81,7 @@ served_goes_back name flag objects octets are is =
 pub interest_is_short : (whole : List ℕ) (i : PlainInterest) → ∥ IsInterest whole i ∥₁ → length whole ≤ 8800
 interest_is_short whole i spelled = ∥∥₁_elim spelled le_prop (λ h. h.fields.short)
 
--- ---- the strategy's choice leads to the verdict Passed, or to PitFull if the PIT is full
+-- ---- the verdict for the strategy's choice is Passed, or PitFull if the PIT is full
 
 strategy_passes : (seen : Seen) (key : PlainKey) (whole : List ℕ) (i : PlainInterest) (face : ℕ) (token : Token) (choice : Choice)
     → ((by_strategy seen key whole i face token choice).verdict ≡ Passed) ⊎ ((by_strategy seen key whole i face token choice).verdict ≡ Dropped PitFull)

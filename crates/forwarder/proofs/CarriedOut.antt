@@ -43,7 +43,7 @@ use Rattle.forwarder.specs.Node.{NodeState}
 use Rattle.forwarder.specs.CommandStep.{IsCommanded}
 
 module _ (was new : NodeState) (face : ℕ) (token : Token) (status : ℕ) (i : PlainInterest) (content : List ℕ) where
-  -- a command on the tables, where `read` is the command that its name encodes
+  -- a command on the tables is carried out, where `read` is the command that the name encodes
   pub tables_done : (read : Result PlainCommand ℕ) → command_at i.name ≡ read
       → status ≡ tables_status was.policy face read
       → content ≡ tables_reply was.policy face read
@@ -195,7 +195,7 @@ written_fits w space none most = by (is_bad_name (components w.name)) (nat_lt 64
     by false false true is none = absurd cc
     by false false false is none = grind (arith, nat_tests, is, most)
 
--- a command to the repository, where `reply` is its reply
+-- a command to the repository is carried out, where `reply` is the repository's reply
 pub repository_done : (was new : NodeState) (face : ℕ) (token : Token) (i : PlainInterest) (reply : RepoReply) → reply ≡ repository_reply was.policy i
     → new.policy ≡ with_record (after_repository was.policy i) (recorded_of i) → new.pending ≡ was.pending → new.cache ≡ was.cache
     → IsCommanded was face token i ForRepository reply.status (replied face token i (repository_content reply) ∷ fetch_sends was.policy i.nonce reply.fetch) new

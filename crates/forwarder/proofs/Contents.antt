@@ -47,7 +47,8 @@ begins_data value = refl
 
 -- ---- an Interest and a Data
 
--- the element of type `kind` whose length and remaining octets are given in `len`
+-- the element of type `kind`, where `len` has the length of its value and the octets from its value
+-- on
 abbrev sized : ℕ → ℕ × List ℕ → Result (Field × List ℕ) TlvFault
 sized kind len = cond (ltb (length len.1) len.0) (Err Truncated) (Ok ((kind, take len.0 len.1), drop len.0 len.1))
 

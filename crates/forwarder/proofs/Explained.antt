@@ -45,7 +45,8 @@ use Rattle.forwarder.proofs.Origins.{AllFit, FitsLink, token_fits}
 use Rattle.forwarder.proofs.NackSteps.{all_entries}
 use Rattle.forwarder.proofs.Requests.{for_list}
 
--- the same octets, sent to each face of a list
+-- if a send of these octets to any face has a property, all sends of these octets have that
+-- property
 all_to_each : (P : Send → Type 0) (octets : List ℕ) (faces : List ℕ) → ((face : ℕ) → P (face, octets)) → All P (to_each faces octets)
 all_to_each P octets [] each = All-nil P
 all_to_each P octets (face ∷ faces) each = All-cons P (face, octets) (to_each faces octets) (each face) (all_to_each P octets faces each)

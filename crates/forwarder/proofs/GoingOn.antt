@@ -51,7 +51,7 @@ pub stays_quiet : (old new : NodeState) (before : List Send) (event : PlainEvent
     → IsStep old event (record { verdict = verdict_of verdict; sends = [] }) new → StepsBy old new before before event verdict
 stays_quiet old new before event verdict step = ([], sym (append-nil before), step)
 
--- a step in which only time advances
+-- if only time advances, the node makes the step of a tick
 pub tick_step : (old new : NodeState) (now : ℕ) → IsLater old now new → IsStep old (Tick now) (passed []) new
 tick_step old new now later = record {
   waiting = new.pending;
@@ -64,7 +64,7 @@ tick_step old new now later = record {
   cache = later.cache;
 }
 
--- a step in which time advances and rules and keys are replaced
+-- if time advances and rules and keys are replaced, the node makes the step of NewRules
 pub rules_step : (old later new : NodeState) (rules : List PlainRule) (keys : List NamedKey) (now : ℕ) → IsLater old now later
     → new.policy ≡ with_rules later.policy rules keys → new.pending ≡ later.pending → new.cache ≡ later.cache
     → IsStep old (NewRules rules keys now) (passed []) new

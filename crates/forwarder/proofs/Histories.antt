@@ -110,8 +110,8 @@ module _ (p : Policy) (r s : PlainKey → Records) (f g : Bool) (G H : PlainKey 
   one_verdict (Tick now) is h k = absurd is
   one_verdict (NewRules rules keys now) is h k = absurd is
 
--- both runs lead to the same policy, so facts about the policy of the second run hold for that of
--- the first
+-- the policy after both runs is the same, so facts about the policy of the second run hold for that
+-- of the first
 module _ (first : Policy) (past other : Run) (event : PlainEvent) (a b : Answer) (apart : KeysAreApart first past) (same : HaveOneHistory past other)
     (h : MayReply first past event a) (k : MayReply first other event b) where
   was_one : k.was ≡ h.was

@@ -19,7 +19,7 @@ use Rattle.pit_fib.specs.Fib.{Entry, Routes, due_count, entry_left_at, is_vacant
 use Rattle.pit_fib.specs.Route.{Registered, has_come, is_due, route_cmp, route_cmp-antisymmetric, route_cmp-total, until_due}
 use Rattle.forwarder.proofs.RouteChanges.{vacant_is}
 
--- ---- at two moments, one after the other
+-- ---- the routes that remain at two moments, one after the other
 
 came_before : (m n : ℕ) (deadline : Option ℕ) → m ≤ n → has_come m deadline ≡ true → has_come n deadline ≡ true
 came_before m n None le is = absurd cc

@@ -87,8 +87,8 @@ list_answered old was moment face token whole i asked tok later is =
       cache = list_cached was face token whole i asked (for_list was.policy face i asked request);
     }
 
--- A list is encoded before time advances to its moment, from the time, routes, strategies and
--- version that the policy has after that.
+-- A list is encoded before time advances to the moment of the request, but from the time, routes,
+-- strategies and version that the policy has once time has advanced.
 pub then_listed : (old p : Policy) (moment now due number : ℕ) → p ≡ at_moment old moment → now ≡ max old.now moment → due ≡ due_count now old.routes
     → number ≡ min (old.table_number + due) (2 ^ 64 - 1)
     → (p.now ≡ now) × (p.routes ≡ left_at now old.routes) × (p.choices ≡ old.choices) × (p.table_number ≡ number)

@@ -47,7 +47,7 @@ use Rattle.forwarder.proofs.Handled.{where_false, where_true}
 no : {A : Type 0} → false ≡ true → A
 no e = absurd cc
 
--- ---- one face after the other
+-- ---- the Nacks to the faces of a list, one face after the other
 
 -- the Nack to a face, if the face asks
 abbrev pub nack_for : ℕ → ℕ → Option InRecord → List Send
@@ -165,8 +165,8 @@ module _ (reason : ℕ) where
         kept true o some = refl
         kept false o some = some
 
-    -- if `faces` is in rising order and contains each face with an in-record, the Nacks to the
-    -- faces in `faces` are the Nacks to all faces with in-records
+    -- If `faces` is in rising order and contains every face that has an in-record, `nacks_by` makes
+    -- the same Nacks in the same order as `nacks_to`. It skips faces without an in-record.
     pub nacks_to_all : IsRising faces → nacks_by reason (get asks) faces ≡ nacks_to asks reason
     nacks_to_all rising =
         same_nacks (get asks) (λ f. find nat_cmp f (entries asks)) faces (each faces)

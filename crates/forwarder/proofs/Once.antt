@@ -159,7 +159,7 @@ seen_after_event : (was new : Policy) (event : PlainEvent) (r : Recorded) → Gu
 seen_after_event was new event r (inl e) h = subst (λ (t : Table). HasSeen t r) (sym e) h
 seen_after_event was new event r (inr (whole, i, s, allows, is, e)) h = subst (λ (t : Table). HasSeen t r) (sym e) (seen_stays was.guard r s h)
 
--- after its event, an allowed command is seen by the guard
+-- `HasSeen` is true of an allowed command after the event that brings the command
 seen_when_allowed : (was new : Policy) (event : PlainEvent) (whole : List ℕ) (i : PlainInterest) (r : Recorded) → AreApart was.keys → Allows was event (AnInterest whole i) → recorded_of i ≡ Some r
     → IsAfter was event new → HasSeen new.guard r
 seen_when_allowed was new event whole i r apart allows is h =

@@ -20,7 +20,7 @@ slice_range-more octets more i j low high =
     let within : j - i ≤ length (drop i octets) = simp length-drop (omega arith) in
     ap (take (j - i)) (drop-append-le i octets more (omega arith)) ∙ take-append-le (j - i) (drop i octets) more within
 
--- the range of the octets that were appended last
+-- the range from the old end to the new end contains the octets that were appended
 slice_range-last : (octets more : List ℕ) → slice_range (octets ++ more) (length octets) (length (octets ++ more)) ≡ more
 slice_range-last octets more =
     let all : length more ≤ length (octets ++ more) - length octets = omega (arith, length-append octets more) in
@@ -40,7 +40,7 @@ sends_of-placed octets more (f ∷ faces) =
     let one : send_of (octets ++ more) (placed (length octets) (length (octets ++ more)) f) ≡ (f, more) = ap (λ (t : List ℕ). let pair : Send = (f, t) in pair) (slice_range-last octets more) in
     let rest = sends_of-placed octets more faces in cc (one, rest)
 
--- what an outbox holds after octets were appended and sent to some faces
+-- the sends of an outbox, after octets are appended and sent to these faces
 sends_of-added : (octets more : List ℕ) (sends : List Sent) (faces : List ℕ) → AreWithin octets sends
     → sends_of (octets ++ more) (sends ++ map (placed (length octets) (length (octets ++ more))) faces) ≡ sends_of octets sends ++ map {A = ℕ} {B = Send} (λ f. (f, more)) faces
 sends_of-added octets more sends faces h =

@@ -136,7 +136,7 @@ module _ (was : NodeState) (face : ℕ) (token : Token) (whole : List ℕ) (i : 
 
 module _ (old : State) (before after : List Send) (face : ℕ) (token : Token) (now : ℕ) (whole : List ℕ) (i : PlainInterest) (request : Request)
     (is : request_of (policy_of old) face i ≡ request) (command : is_command request ≡ true) where
-  -- a command that is carried out, where preparing for it changed nothing
+  -- a command that is carried out is handled, if the preparation for the command changed nothing
   pub carried_handled : (prepared new : State) (rule : RuleNo) (status : ℕ) → state_of prepared ≡ state_of old → SaysAt (policy_of old) now whole i (decided.Allowed rule)
       → IsCarriedOut prepared new before after face token now i request status → IsHandled old new before after face token now (AnInterest whole i) (code.Allowed rule status)
   carried_handled prepared new rule status same says (was, sends, sent, then, done) =

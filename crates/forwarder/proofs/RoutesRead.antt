@@ -124,7 +124,7 @@ module _ {V : Type 0} (see : Routes → V) (q : Policy) (command : Result PlainC
       no_effect : new ≡ q → (v : Verdict) → is_done v ≡ false → IsRead v
       no_effect e v not = ap (λ (p : Policy). see p.routes) e ∙ ap (λ (b : Bool). cond b (command (command_at i.name) from was) was) (sym not)
 
-      -- a name that is not a command on the tables
+      -- an Interest whose name is not a command on the tables does not change the value
       other_name : begins_with management i.name ≡ false → new.routes ≡ q.routes → (v : Verdict) → IsRead v
       other_name other e v = ap see e ∙ by_read (command_at i.name) refl (is_done v)
         where

@@ -35,8 +35,8 @@ abbrev pub IsOwnAnswer : Policy → ℕ → List ℕ → PlainInterest → List 
 IsOwnAnswer p face asked i octets =
     IsReplyToCommand p face asked i octets ⊎ IsSegmentAskedFor p face i octets
 
--- the Data answers this Interest and came in an earlier event that allowed it, or it is the node's
--- own answer
+-- the Data answers this Interest and came in an earlier event that allowed the Data, or the Data is
+-- the node's own answer to this Interest
 abbrev pub AnswersNow : Policy → Run → Policy → ℕ → List ℕ → PlainInterest → List ℕ → PlainData
     → Type 0
 AnswersNow first past p face asked i whole d =

@@ -28,7 +28,7 @@ in_record_for now token whole i = record {
   token = token;
 }
 
--- whether a packet, which is a Data or a Nack, was sent back to the face
+-- whether a packet was sent back to the face: for an Interest, such a packet is a Data or a Nack
 abbrev pub is_answered : ℕ → List Send → Bool
 is_answered face sends = list_any (λ sent. sent.0 == face) sends
 
@@ -89,8 +89,8 @@ abbrev pub after_causes : List Cause → PlainKey → Records → Records
 after_causes [] key r = r
 after_causes (cause ∷ causes) key r = after_causes causes key (records_after cause key r)
 
--- a list of causes with the last one first: these causes in reverse order, followed by the earlier
--- ones
+-- a list of causes with the latest cause first: these causes in reverse order, followed by the
+-- earlier causes
 abbrev pub before_earlier : List Cause → List Cause → List Cause
 before_earlier [] earlier = earlier
 before_earlier (cause ∷ causes) earlier = before_earlier causes (cause ∷ earlier)

@@ -39,7 +39,7 @@ moment (FaceDown face now) = now
 moment (Tick now) = now
 moment (NewRules rules keys now) = now
 
--- the rules in force after an event, if `rules` are those in force before it
+-- the rules in force after an event, if `rules` are those in force before the event
 abbrev pub rules_after : PlainEvent → List PlainRule → List PlainRule
 rules_after (Packet face now octets) rules = rules
 rules_after (FaceUp face scope now) rules = rules
@@ -51,7 +51,7 @@ rules_after (NewRules new keys now) rules = new
 abbrev pub Token : Type 0
 Token = Option (List ℕ)
 
--- the token of the link packet that an event brings, if it brings one
+-- the token of the packet that an event brings, or None if there is no token or no packet
 abbrev pub token_in : PlainEvent → Token
 token_in (Packet face now octets) = token_at octets
 token_in (FaceUp face scope now) = None

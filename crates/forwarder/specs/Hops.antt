@@ -39,8 +39,7 @@ cost_after (DataCame whole d) name face was = was
 cost_after (NackPassed from reason i) name face was = was
 cost_after (FaceClosed closed) name face was = if face == closed then None else was
 
--- the cost that the last command on this next hop gave it, if nothing has removed the next hop
--- since
+-- the cost that the last command on this next hop set, if nothing has removed the next hop since
 abbrev pub cost_of : Run → List Field → ℕ → Option ℕ
 cost_of Start name face = None
 cost_of (Then before event answer) name face =

@@ -55,8 +55,8 @@ interest_loop face token whole = record {
 abbrev pub content_store_hit : ℕ → Token → List ℕ → Answer
 content_store_hit face token octets = passed (sent_back face token octets ∷ [])
 
--- Outgoing Interest: the Interest is sent to each of these faces without a token, or it is dropped
--- if it needs a new key and the PIT is full
+-- Outgoing Interest: the Interest is sent to each of these faces without a token, or the Interest
+-- is dropped if it needs a new key and the PIT is full
 abbrev pub outgoing_interest : Seen → PlainKey → List ℕ → PlainInterest → List ℕ → Answer
 outgoing_interest seen key whole i faces =
     if not (is_alive (seen.records key)) && seen.is_full then dropped PitFull
@@ -92,8 +92,8 @@ abbrev pub by_content_store : Seen → ℕ → Token → List ℕ → PlainInter
 by_content_store seen face token whole i (Some octets) = content_store_hit face token octets
 by_content_store seen face token whole i None = content_store_miss seen face token whole i
 
--- Incoming Interest: an Interest that loops gets a Nack; otherwise the content store answers it, or
--- the repository, or the strategy chooses where it is sent
+-- Incoming Interest: an Interest that loops gets a Nack; otherwise the content store or the
+-- repository answers the Interest, or the strategy chooses the faces to send the Interest to
 abbrev pub RepliesForData : Seen → ℕ → Token → List ℕ → PlainInterest → Answer → Type 0
 RepliesForData seen face token whole i answer =
     IfTrueElse (loops (seen.records (key_of i)) face i.nonce)

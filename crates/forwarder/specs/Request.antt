@@ -42,7 +42,7 @@ list_name RouteList = management ++ generic (codes "fib") ∷ generic (codes "li
 list_name StrategyList =
     management ++ generic (codes "strategy-choice") ∷ generic (codes "list") ∷ []
 
--- the number in `value`, if it has its shortest encoding
+-- the number that `value` encodes, if `value` is the shortest encoding of the number
 abbrev pub shortest_number : List ℕ → Option ℕ
 shortest_number value =
     on_result (λ n. if bytes_eq value (shortest_nni n) then Some n else None) (λ _. None)
@@ -60,9 +60,9 @@ abbrev pub segmented : ListKind → Option ℕ → Option ℕ → Option ListAsk
 segmented kind version None = None
 segmented kind version (Some segment) = versioned kind segment version
 
--- The request that the components after a list's name encode. With CanBePrefix, no components, or
--- only a version, request the first segment. A version and a segment number request that segment.
--- Anything else is not a request for a list.
+-- The request that the components after a list's name encode. A version and a segment number
+-- request that segment. If the Interest has CanBePrefix, a version alone, or no component at all,
+-- requests the first segment. Anything else is not a request for a list.
 abbrev pub list_after : ListKind → Bool → List Field → Option ListAsked
 list_after kind can_be_prefix [] =
     if can_be_prefix then Some (record { kind = kind; version = None; segment = 0 }) else None
@@ -78,7 +78,7 @@ list_of_kind kind i =
     then list_after kind i.can_be_prefix (drop (length (list_name kind)) i.name)
     else None
 
--- the segment of a list that an Interest asks for, if it asks for one
+-- the segment of a list that an Interest asks for, or None if the Interest asks for no list
 abbrev pub list_asked : PlainInterest → Option ListAsked
 list_asked i = option_or (list_of_kind RouteList i) (list_of_kind StrategyList i)
 

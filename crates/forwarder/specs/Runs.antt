@@ -35,8 +35,8 @@ abbrev pub now_of : Run → ℕ
 now_of Start = 0
 now_of (Then before event answer) = max (now_of before) (moment event)
 
--- The policy that the events of a run lead to, starting from the policy `first`. It does not depend
--- on the answers.
+-- The policy after a run that starts from the policy `first`. This policy does not depend on the
+-- run's answers.
 abbrev pub IsPolicyOf : Policy → Run → Policy → Type 0
 IsPolicyOf first Start p = p ≡ first
 IsPolicyOf first (Then before event answer) p =
@@ -64,7 +64,7 @@ BringsNoRules (FaceDown face t) = ⊤
 BringsNoRules (Tick t) = ⊤
 BringsNoRules (NewRules rules keys t) = ⊥
 
--- the events of a run, from the last to the first
+-- the events of a run, with the latest event first
 abbrev pub events_back : Run → List PlainEvent
 events_back Start = []
 events_back (Then before event answer) = event ∷ events_back before
@@ -83,7 +83,7 @@ pub record AreLastRules (past : Run) (rules : List PlainRule) (keys : List Named
 
 -- ---- pending Interests (NFD Developer's Guide, "Pending Interest Table")
 
--- all causes that began or ended records in a run, from the last to the first; each event first
+-- all causes that began or ended records in a run, with the latest cause first; each event first
 -- causes expiry at its moment, and then has its own causes
 abbrev pub past_causes : Run → List Cause
 past_causes Start = []

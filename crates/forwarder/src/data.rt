@@ -31,9 +31,9 @@ use pit_fib::{Faces, MAX_FACES};
 
 impl State {
     /// Handles a Data (NFD Developer's Guide, "Incoming Data Pipeline"). A Data that the rules
-    /// allow is sent unchanged to each other face with a pending Interest for the Data. It is
-    /// cached if any face, even the incoming face, has a pending Interest for the Data. It is
-    /// stored if the repository wants it.
+    /// allow is sent unchanged to each other face with a pending Interest for the Data. The Data is
+    /// cached if any face, even the incoming face, has a pending Interest for the Data. The Data is
+    /// stored if the repository wants the Data.
     pub fn receive_data(
         &mut self,
         arrived: &Arrived<'_, Data<'_>>,

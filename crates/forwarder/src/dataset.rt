@@ -124,7 +124,7 @@ fn append_number(alloc: Global, name: &mut NameBuf, kind: u16, number: u64) -> R
 }
 
 /// Returns a segment as a Data that is signed with DigestSha256. Its FinalBlockId contains the
-/// number of the last segment. The Data is never too long to be encoded, so this fails only if
+/// number of the last segment. The Data is never too long to be encoded, so the call fails only if
 /// memory runs out.
 fn segment_data<'a>(
     alloc: Global,

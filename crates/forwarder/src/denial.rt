@@ -14,7 +14,7 @@ use std::alloc::Global;
 /// The status of a command that no rule allows.
 const NOT_AUTHORIZED: u16 = 403;
 
-/// Returns the id of the rule at this index, or an empty string if there is none.
+/// Returns the id of the rule at this index, or an empty string if no rule has this index.
 pub fn id_of(rules: &Rules, rule: RuleNo) -> &str
     ensures { result.now ≡ id_of rules.now rule.0 }
 {

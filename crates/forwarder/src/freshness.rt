@@ -65,8 +65,8 @@ fn is_fresh(guard: &Guard, interest: &Interest<'_>, now: u64) -> bool
     }
 }
 
-/// Returns the decision on a command at the moment `now`, in milliseconds since 1970. This is the
-/// decision of the rules, with one exception: a command that the rules allow is denied as a replay
+/// Returns the decision on a command at the moment `now`, in milliseconds since 1970. The decision
+/// is that of the rules, with one exception: a command that the rules allow is denied as a replay
 /// if the command is not fresh.
 pub(crate) fn decide_command(
     alloc: Global,
@@ -118,7 +118,7 @@ pub(crate) fn prepare_record(guard: &mut Guard, interest: &Interest<'_>) -> Resu
     }
 }
 
-/// Records the signer of a command, and when the command was signed. This needs no memory.
+/// Records the signer of a command, and when the command was signed. Recording needs no memory.
 pub(crate) fn record(guard: &mut Guard, interest: &Interest<'_>) -> Result<(), Memory>
     requires { IfSome (recorded_of (plain_interest interest.now))
         (λ r. IsPrepared guard.old r.signer) }

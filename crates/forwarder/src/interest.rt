@@ -56,9 +56,9 @@ impl State {
         }
     }
 
-    /// Handles an Interest for Data: sends a Nack if the Interest loops, answers it from the cache
-    /// or the repository, or forwards it. Looks up the cache and the repository first, so that no
-    /// PIT record is prepared for a hit.
+    /// Handles an Interest for Data: if the Interest loops, sends a Nack back; otherwise answers
+    /// the Interest from the cache or the repository, or forwards the Interest. Looks up the cache
+    /// and the repository first, so that no PIT record is prepared for a hit.
     fn answer(
         &mut self,
         arrived: &Arrived<'_, Interest<'_>>,

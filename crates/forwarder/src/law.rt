@@ -38,16 +38,16 @@ ghost use Rattle.forwarder.specs.RouteReading.{route_of};
 ghost use Rattle.forwarder.specs.Kept.{IsSentBack, IsKept, IsPassed, IsSentOn};
 ghost use Rattle.forwarder.specs.Runs.{Run, Start, Then, AreLastRules, BringsData, BringsKeysApart, BringsRequest, HasNoNewRules, HasTicksForDenied, HaveOneHistory, IsPolicyOf, IsRun, KeysAreApart, MayHold, MayReply, Stands, now_of, past_causes, events_back, records_of, seen_after};
 
-/// Law: the policy after an event is a function of the event and of the policy before it, if the
-/// keys of the book have different names.
+/// Law: the policy after an event is a function of the event and of the policy before the event, if
+/// no two keys of the book have the same name.
 pub fn events_have_one_effect()
     ensures { (old new other : Policy) (event : PlainEvent) → AreApart old.keys
         → IsAfter old event new → IsAfter old event other → new ≡ other }
 {}
 
-/// Law: two steps of the same node with the same event lead to the same policy, whatever their
-/// answers are, if the keys of the node's book have different names. Only pending Interests and the
-/// cache may differ.
+/// Law: two steps of the same node with the same event give the same policy, whatever their answers
+/// are, if no two keys of the node's book have the same name. Only pending Interests and the cache
+/// may differ.
 pub fn steps_have_one_effect()
     ensures { (old new other : NodeState) (event : PlainEvent) (answer another : Answer)
         → AreApart old.policy.keys → IsStep old event answer new → IsStep old event another other
@@ -93,11 +93,11 @@ pub fn refused_steps_stand_still()
         → ChangesCacheOnly old new → Stands first past new }
 {}
 
-/// Law: if no book has two keys of the same name, two runs of the same events lead to the same
-/// policy. For the next event, all valid answers after both runs are equal if the event brings a
-/// command, a request for a list, or an Interest that is dropped because of its HopLimit or scope.
-/// Their verdicts are equal if the event brings a Data. So this is true at each event of two whole
-/// runs.
+/// Law: if no book has two keys of the same name, two runs of the same events give the same policy.
+/// For the next event, all valid answers after both runs are equal if the event brings a command, a
+/// request for a list, or an Interest that is dropped because of its HopLimit or scope. The
+/// verdicts of these answers are equal if the event brings a Data. So these statements are true at
+/// each event of two whole runs.
 pub fn histories_decide()
     ensures policy { (first p q : Policy) (past other : Run) → KeysAreApart first past
         → HaveOneHistory past other → IsPolicyOf first past p → IsPolicyOf first other q → p ≡ q }
@@ -111,7 +111,7 @@ pub fn histories_decide()
 {}
 
 /// Law: if ticks at the same moments replace some denied events of a run, the result is still a
-/// run, and it leads to the same policy.
+/// run, and the policy after the run is the same.
 pub fn denied_events_change_nothing()
     ensures run { (first : Policy) (past other : Run) → KeysAreApart first past → IsRun first past
         → HasTicksForDenied past other → IsRun first other }
@@ -120,10 +120,10 @@ pub fn denied_events_change_nothing()
         → IsPolicyOf first other p }
 {}
 
-/// Law: each Data that a valid answer sends is of one of two kinds. Either it came in this event,
-/// is allowed, and is sent to another face with a pending Interest for it; or it answers the
-/// Interest of this event, from the cache, the repository or the node itself, and is sent back to
-/// the Interest's face. Nothing else that is sent is a Data.
+/// Law: each Data that a valid answer sends is of one of two kinds. Either the Data came in this
+/// event, is allowed, and is sent to another face with a pending Interest for the Data; or the Data
+/// answers the Interest of this event, from the cache, the repository or the node itself, and is
+/// sent back to the Interest's face. Nothing else that is sent is a Data.
 pub fn each_send_is_explained()
     ensures { (first : Policy) (past : Run) (event : PlainEvent) (answer : Answer)
         (reply : MayReply first past event answer) → BringsOctets event
@@ -131,9 +131,9 @@ pub fn each_send_is_explained()
         event answer }
 {}
 
-/// Law: if the keys of the first book have different names, and the keys that each event brings
-/// have different names, then the keys of every book of the run, and of the book in force after it,
-/// have different names.
+/// Law: if no two keys of the first book have the same name, and no two keys that an event brings
+/// have the same name, then no two keys of any book of the run, or of the book in force after the
+/// run, have the same name.
 pub fn keys_stay_apart()
     ensures books { (first : Policy) (past : Run) → AreApart first.keys
         → All BringsKeysApart (events_back past) → KeysAreApart first past }
@@ -141,24 +141,26 @@ pub fn keys_stay_apart()
         → IsPolicyOf first past p → AreApart p.keys }
 {}
 
-/// Law: the rules and keys in force after a run decide its next event. They are those of the last
-/// event that brought rules and keys, or the first ones if no event brought any.
+/// Law: the rules and keys in force after a run decide its next event. They are the rules and keys
+/// of the latest event that brought rules and keys, or those in force before the run if no event
+/// brought rules and keys.
 pub fn rules_in_force()
     ensures last { (first p : Policy) (past : Run) (rules : List PlainRule) (keys : List NamedKey)
         → IsPolicyOf first past p → AreLastRules past rules keys
         → (p.rules ≡ rules) × (p.keys ≡ keys) }
     ensures first { (first p : Policy) (past : Run) → IsPolicyOf first past p → HasNoNewRules past
         → (p.rules ≡ first.rules) × (p.keys ≡ first.keys) }
-    // In each run, either no event brings rules and keys, or some event is the last one that does.
+    // In each run, either no event brings rules and keys, or some event is the last that brings
+    // rules and keys.
     ensures either { (past : Run) → HasNoNewRules past
         ⊎ ((rules : List PlainRule) × (keys : List NamedKey) × AreLastRules past rules keys) }
 {}
 
 /// Law: each Data that is sent was asked for by the face that it is sent to. Either the event
-/// brings the Data, the first rule that applies allows it, and it answers an Interest that is
-/// pending on that face; or the event brings an Interest on that face, and the Data either answers
-/// that Interest and came in an earlier event that allowed it, or is the node's own reply or
-/// segment for that Interest.
+/// brings the Data, the first rule that applies allows the Data, and the Data answers an Interest
+/// that is pending on that face; or the event brings an Interest on that face, and the Data either
+/// answers that Interest and came in an earlier event that allowed it, or is the node's own reply
+/// or segment for that Interest.
 pub fn every_data_sent_was_asked_for()
     ensures read { (first : Policy) (past : Run) (event : PlainEvent) (answer : Answer) (face : ℕ)
         (octets whole : List ℕ) (d : PlainData) (reply : MayReply first past event answer)
@@ -225,9 +227,9 @@ pub fn cached_data_were_allowed()
 {}
 
 /// Law: the causes in the past of a run determine the records of each key, face by face. The
-/// in-record is that of the last Interest that the face sent under this key, and the out-record is
-/// that of the last Interest under this key that was sent to the face, unless a later cause has
-/// ended the record.
+/// in-record is that of the latest Interest that the face sent under this key, and the out-record
+/// is that of the latest Interest under this key that was sent to the face, unless a later cause
+/// has ended the record.
 pub fn records_are_read_off_the_run()
     ensures in_records { (past : Run) (key : PlainKey) (face : ℕ)
         → map.get (records_of past key).in_records face
@@ -265,7 +267,7 @@ pub fn unanswered_interests_wait()
         ⊎ IsSentBack seen face (token_in event) whole i answer.sends }
 {}
 
-/// Law: the cost of a next hop after a run was set by the last add-nexthop of its name and face
+/// Law: the cost of a next hop after a run was set by the latest add-nexthop of its name and face
 /// that was answered with status 200, if since then no remove-nexthop of this name and face was
 /// answered with status 200 and the face was not closed. Otherwise there is no such next hop.
 pub fn routes_are_read_off_the_run()
@@ -275,9 +277,9 @@ pub fn routes_are_read_off_the_run()
         → map.get (costs_at p.routes name) face ≡ cost_of past name face }
 {}
 
-/// Law: a registered route after a run that began at the moment 0 was given by the last register of
-/// its name, face and origin that was answered with status 200. It has the cost and flags of that
-/// register and, if the register had a period, a deadline: the time of the register plus the
+/// Law: a registered route after a run that began at the moment 0 was given by the latest register
+/// of its name, face and origin that was answered with status 200. It has the cost and flags of
+/// that register and, if the register had a period, a deadline: the time of the register plus the
 /// period, at most the greatest u64. Since then no unregister of this name, face and origin was
 /// answered with status 200, the face was not closed, and no later event came at or after the
 /// deadline. Otherwise there is no such route.

@@ -169,7 +169,7 @@ impl Node {
 
     /// Returns whether two nodes have the same time, repository's prefix, open faces, routes,
     /// strategies, times and numbers of signers, stored Data and wants. The version of the lists,
-    /// rules and keys are not compared. The contract states the case `true` alone.
+    /// rules and keys are not compared. The contract says only what a result `true` means.
     pub fn has_same_tables(&self, other: &Node) -> Result<bool, Memory>
         ensures { IfOk result
             (λ same. IsTrue same → HasSameTables self.now.policy other.now.policy) }

@@ -102,7 +102,7 @@ fn is_list_name(kind: ListKind, name: Name<'_>) -> bool
     begins(name, kind.octets())
 }
 
-/// Returns the number in `value`, if it has its shortest encoding.
+/// Returns the number that `value` encodes, if `value` is the shortest encoding of the number.
 fn shortest_number(value: &[u8]) -> Option<u64>
     ensures { result ≡ shortest_number value.now }
 {
@@ -126,9 +126,9 @@ fn numbered(kind: u16, component: Component<'_>) -> Option<u64>
     }
 }
 
-/// Returns the request that the components after a list's name encode. With CanBePrefix, no
-/// components, or only a version, request the first segment. A version and a segment number request
-/// that segment.
+/// Returns the request that the components after a list's name encode. A version and a segment
+/// number request that segment. If the Interest has CanBePrefix, a version alone, or no component
+/// at all, requests the first segment.
 fn list_after(kind: ListKind, can_be_prefix: bool, name: Name<'_>) -> Option<ListAsked>
     ensures { result ≡ list_after kind can_be_prefix (drop 4 (components name.entry)) }
 {
@@ -156,7 +156,7 @@ fn list_after(kind: ListKind, can_be_prefix: bool, name: Name<'_>) -> Option<Lis
     versioned(kind, numbered(SEGMENT, segment)?, version)
 }
 
-/// Returns a request for this segment of the list, of the version that the component encodes.
+/// Returns a request for this segment of the list, in the version that the component encodes.
 fn versioned(kind: ListKind, segment: u64, version: Component<'_>) -> Option<ListAsked>
     ensures { result ≡ versioned_as kind segment (numbered VERSION (field_of version.entry)) }
 {

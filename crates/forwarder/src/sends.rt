@@ -119,7 +119,7 @@ impl Sends {
         // If enough memory is reserved, memory does not run out.
         ensures promised { 1 ≤ self.old.places → length octets.now ≤ self.old.space
             → IsOk result }
-        // This uses up at most the reserved memory for one send.
+        // The call uses up at most the reserved memory for one send.
         ensures room { self.old.places ≤ self.new.places + 1 }
         ensures space { self.old.space ≤ self.new.space + length octets.now }
     {
@@ -144,7 +144,7 @@ impl Sends {
         // If enough memory is reserved, memory does not run out.
         ensures promised { 1 ≤ self.old.places → length packet.now + LINK_EXTRA ≤ self.old.space
             → IsOk result }
-        // This uses up at most the reserved memory for one send.
+        // The call uses up at most the reserved memory for one send.
         ensures room { self.old.places ≤ self.new.places + 1 }
         ensures space { self.old.space ≤ self.new.space + (length packet.now + LINK_EXTRA) }
     {
@@ -167,7 +167,7 @@ impl Sends {
         // If enough memory is reserved, memory does not run out.
         ensures promised { 1 ≤ self.old.places → length interest.now + LINK_EXTRA ≤ self.old.space
             → IsOk result }
-        // This uses up at most the reserved memory for one send.
+        // The call uses up at most the reserved memory for one send.
         ensures room { self.old.places ≤ self.new.places + 1 }
         ensures space { self.old.space ≤ self.new.space + (length interest.now + LINK_EXTRA) }
     {
@@ -216,7 +216,7 @@ impl Sends {
         ensures promised { 1 ≤ self.old.places
             → length (reply_text (components name.entry) content.now) + LINK_EXTRA
             ≤ self.old.space → IsOk result }
-        // This uses up at most the reserved memory for one send.
+        // The call uses up at most the reserved memory for one send.
         ensures room { self.old.places ≤ self.new.places + 1 }
         ensures space { self.old.space ≤ self.new.space
             + (length (reply_text (components name.entry) content.now) + LINK_EXTRA) }

@@ -176,13 +176,13 @@ module _ (first : NodeState) (fresh : IsNew first) where
       Stops-from_feed fault.Memory unread unread held held [] (Consumes-start unread)
       ([], start first, [], [], Plays-none (start first), AppendsFront-all held held [] (Appends-start held), refl)
 
-  -- a run that stops with the fault of a chunk
+  -- if handling a chunk has a fault, the run stops with this fault
   pub Stops-chunk : (f : RunFault) (unread left held holds new : Option (List ℕ)) (front chunk : List ℕ) (mid : Place) (line : List ℕ) → Fed front (start first) mid line [] held holds
       → Consumes unread left (front ++ chunk) → FeedStops f (line ++ chunk) mid holds new → Stops first f unread left held new
   Stops-chunk f unread left held holds new front chunk mid line fed read h =
       Stops-from_feed f unread left held new (front ++ chunk) read (FeedStops-after f front chunk (start first) mid line held holds new fed h)
 
-  -- a run that stops with the fault of a read
+  -- if a read fails, the run stops with the fault Read
   pub Stops-read : (unread left held holds : Option (List ℕ)) (front : List ℕ) (mid : Place) (line : List ℕ) → Fed front (start first) mid line [] held holds
       → Consumes unread left front → Lacks 10 line → Stops first fault.Read unread left held holds
   Stops-read unread left held holds front mid line fed read lacks = (
@@ -195,7 +195,7 @@ module _ (first : NodeState) (fresh : IsNew first) where
     (fed.lines, line, fed.plays.are_lines, lacks, fed.stream_is ∙ ap (λ (t : List ℕ). joined fed.lines ++ t) (append-nil line), fed.plays.say),
   )
 
-  -- a run that stops with the fault of the last line
+  -- if handling the last line has a fault, the run stops with this fault
   pub Stops-last : (f : RunFault) (unread left held holds new : Option (List ℕ)) (front : List ℕ) (mid : Place) (line : List ℕ) → Fed front (start first) mid line [] held holds
       → Consumes unread left front → IsAtEnd left → Lacks 10 line → LineStops f line mid holds new → Stops first f unread left held new
   Stops-last (fault.BadLine n) unread left held holds new front mid line fed read end lacks h =

@@ -243,7 +243,8 @@ TurnsBad-long stream long lines is lacks h = λ more.
 
 -- ---- octets that were read so far
 
--- the finished lines of a stream led to a state; an unfinished line and unread octets remain
+-- running the finished lines of a stream changed the state `from` to the state `to`; an unfinished
+-- line and unread octets remain
 pub record Fed (stream : List ℕ) (from to : Place) (line rest : List ℕ) (held holds : Option (List ℕ)) : Type 0 where
   pub lines : List (List ℕ)
   pub text : List ℕ
@@ -284,7 +285,7 @@ Fed-then stream from mid to line rest front after text held holds new fed is pla
           ∙ ap (λ (t : List ℕ). t ++ ([] ++ after)) (sym (joined-append fed.lines ((line ++ front) ∷ [])));
     }
 
--- an unfinished line is too long
+-- an unfinished line is too long, or memory runs out for this line
 pub FeedStops-last : (f : RunFault) (stream : List ℕ) (from mid : Place) (line rest : List ℕ) (held holds : Option (List ℕ)) → Fed stream from mid line rest held holds
     → Lacks 10 line → Lacks 10 rest → AddStops f (line ++ rest) mid → FeedStops f stream from held holds
 FeedStops-last (fault.BadLine n) stream from mid line rest held holds fed la lb h =
@@ -331,7 +332,7 @@ nonempty : (line rest : List ℕ) → (o : ℕ) × (more : List ℕ) × (ended l
 nonempty [] rest = (10, rest, refl)
 nonempty (o ∷ line) rest = (o, ended line ++ rest, refl)
 
--- the octets before a bad line
+-- a stream with a bad line begins with the lines before the bad line
 TurnsBad-begins : (stream : List ℕ) (lines : List (List ℕ)) → TurnsBad stream lines → (rest : List ℕ) × (stream ≡ joined lines ++ rest)
 TurnsBad-begins stream lines turns =
     let t = turns [] in

@@ -26,7 +26,7 @@ guarded : (b : Bool) (e : FromHexError) (r : Result (List ℕ) FromHexError) (oc
 guarded true e r octets h = cc h
 guarded false e r octets h = h
 
--- the length of a word that decodes to octets
+-- a word that decodes to octets has two digits for each octet
 pub decoded_length : (word octets : List ℕ) → decode_of word ≡ Ok octets → length word ≡ 2 * length octets
 decoded_length word octets h =
     (decode_pairs-ok 0 word octets (guarded (length word % 2 == 1) _ (decode_pairs 0 word) octets h)).1

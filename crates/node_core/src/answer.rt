@@ -41,8 +41,8 @@ pub fn put_answer(
 }
 
 /// Appends the line of an answered event: its number and its verdict, in the format of scripts. A
-/// rule is printed as its id, or as nothing if there is no rule with its number. If memory runs
-/// out, nothing is appended.
+/// rule is printed as its id, or as nothing if no rule has the rule number in the verdict. If
+/// memory runs out, nothing is appended.
 pub fn put_verdict(
     text: &mut Vec<u8>,
     number: u64,

@@ -22,7 +22,7 @@ arrived (code.FaceDown face now) buffer = Some (FaceDown face now)
 arrived (code.Tick now) buffer = Some (Tick now)
 arrived (code.NewRules renewal now) buffer = Some (NewRules renewal.rules renewal.keys now)
 
--- the event with its packet, if it has one, truncated to this size
+-- the event; if the event brings a packet, the packet is truncated to this size
 abbrev pub cut_to : ℕ → PlainEvent → PlainEvent
 cut_to size (Packet face now octets) = Packet face now (take size octets)
 cut_to size (FaceUp face scope now) = FaceUp face scope now
@@ -30,8 +30,8 @@ cut_to size (FaceDown face now) = FaceDown face now
 cut_to size (Tick now) = Tick now
 cut_to size (NewRules rules keys now) = NewRules rules keys now
 
--- The first of the events to come arrived, truncated to this size, or there was no event to come.
--- If the events to come are not known, nothing is claimed of the event.
+-- The first of the events to come arrived, with its packet truncated to this size, or there was no
+-- event to come. If the events to come are not known, nothing is claimed of the event.
 abbrev pub Gives : Option (List PlainEvent) → Option (List PlainEvent) → ℕ → Option PlainEvent
     → Type 0
 Gives None new size event = new ≡ None

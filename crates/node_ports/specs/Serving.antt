@@ -34,8 +34,8 @@ abbrev pub HasEnded : Option (List PlainEvent) → Type 0
 HasEnded None = ⊤
 HasEnded (Some events) = events ≡ []
 
--- These events were the first of the events to come, each truncated to this size, and the others
--- are still to come.
+-- These events were the first of the events to come, each with its packet truncated to this size,
+-- and the remaining events are still to come.
 abbrev pub GivesAll : Option (List PlainEvent) → Option (List PlainEvent) → ℕ → List PlainEvent
     → Type 0
 GivesAll None new size events = new ≡ None
@@ -107,8 +107,8 @@ HasFront old before event answer after =
     × IsJournalOf first (Then past event answer) longer
     × IsTextOf longer (text ++ (front ++ back)) × (after ≡ Some (text ++ front)))
 
--- An event arrived and was answered, but its line is not in the journal, or only a prefix of it.
--- None of its packets was sent.
+-- An event arrived and was answered, but the event's line is not in the journal, or only a prefix
+-- of the line is. None of its packets was sent.
 pub record FailsToWrite (old new : NodeState) (before after : Shown) : Type 0 where
   pub event : PlainEvent
   pub answer : Answer
@@ -146,7 +146,7 @@ IsTurn old new before after sends turn.End =
 
 -- `events` events arrived, memory ran out for `refused` of them, and `failed` sends failed. If the
 -- old node agrees with a run, appending the answered events gives a valid run, and the new node
--- agrees with it.
+-- agrees with that run.
 pub record Serves (old new : NodeState) (before after : Shown)
     (events refused failed : ℕ) : Type 0 where
   pub arrivals : List PlainEvent

@@ -31,7 +31,7 @@ pub record UdpState : Type 0 where
   pub local : ℕ
   -- the datagram that waits for the next turn
   pub waiting : Option Datagram
-  -- the last time that the clock returned
+  -- the time that the clock returned most recently
   pub told : ℕ
   -- datagrams from endpoints that are not peers are accepted
   pub accepts_strangers : Bool
@@ -92,8 +92,8 @@ OpensPeer before after (FaceDown face now) = ⊥
 OpensPeer before after (Tick now) = ⊥
 OpensPeer before after (NewRules renewal now) = ⊥
 
--- In the turn after the opening of its face, the waiting datagram arrives on that face. It is
--- unchanged, except that it is truncated to the buffer.
+-- In the turn after the opening of its face, the waiting datagram arrives on that face. The
+-- datagram is unchanged, except that it is truncated to the buffer.
 abbrev pub GivesWaiting : UdpState → UdpState → List ℕ → Arrival → Type 0
 GivesWaiting before after buffer (Packet face now len) =
     (endpoint : SocketAddr) × (octets : List ℕ) × (rows : List Client) × HasOpened before

@@ -190,7 +190,7 @@ impl Clients {
         hear_at(self.rows.as_mut_slice(), place, now)
     }
 
-    /// Returns the index of the client that has been silent longest, if it is idle.
+    /// Returns the index of the client that has been silent longest, if that client is idle.
     pub fn idle_place(&mut self, now: u64) -> Option<usize>
         ensures same { self.new ≡ self.old }
         ensures none { result ≡ None
@@ -221,8 +221,8 @@ impl Clients {
         self.silent_for(GIVE_WAY_MILLISECONDS, now)
     }
 
-    /// Returns the index of the client that has been silent longest, if it has been silent for at
-    /// least `time` milliseconds.
+    /// Returns the index of the client that has been silent longest, if that client has been silent
+    /// for at least `time` milliseconds.
     fn silent_for(&self, time: u64, now: u64) -> Option<usize>
         ensures none { result ≡ None
             → All (λ client. IsSilent time now client → ⊥) self.now.rows }
@@ -283,7 +283,8 @@ fn first_end(clients: &[Client], time: u64) -> u64
     first
 }
 
-/// Returns the index of the client that has been silent longest. If several have, the first index.
+/// Returns the index of the client that has been silent longest. If several clients have been
+/// silent for the same longest time, returns the index of the first of these clients.
 fn silent_longest(clients: &[Client]) -> usize
     requires { 0 < length clients.now }
     ensures within { result < length clients.now }

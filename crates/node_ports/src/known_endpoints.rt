@@ -29,8 +29,8 @@ pub struct KnownEndpoints {
     pub clients: Clients,
     /// The number of the next face to open.
     pub next: u64,
-    /// The face number for endpoints that get no face, if such a number was assigned after the last
-    /// opening of a face.
+    /// The face number for endpoints that get no face, if such a number was assigned since a face
+    /// was last opened.
     pub refused: Option<u64>,
 }
 
@@ -77,8 +77,8 @@ impl KnownEndpoints {
     {
         if let Some(place) = self.clients.idle_place(now) {
             let face = self.clients.face_at(place);
-            // The datagram arrived before the endpoint became idle, although it is handled after
-            // the closing.
+            // If the endpoint is a client that is not idle, the time of its last datagram becomes
+            // `now`, although the datagram is handled after the face is closed.
             self.clients.hear_in_time(endpoint, now);
             self.clients.remove(place);
             return Met::Closing(face);

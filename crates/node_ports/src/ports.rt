@@ -12,8 +12,8 @@ use journal::Coming;
 use ndn_packets::MAX_FRAME;
 use thiserror::Error;
 
-/// The greatest number of octets that are read of a packet or datagram. It is one more than a node
-/// accepts, so the node drops a longer packet as too long.
+/// The greatest number of octets that are read of a packet or datagram. A node accepts one octet
+/// less, so the node drops a longer packet as too long.
 pub const FRAME_ROOM: usize = MAX_FRAME + 1;
 
 /// Law: a buffer has room for 9,001 octets, one more than the longest packet that a node accepts.
@@ -34,7 +34,7 @@ pub enum Arrival {
     FaceDown { face: u64, now: u64 },
     /// Time passed.
     Tick { now: u64 },
-    /// These rules and keys replace those in force. They apply to what arrives later.
+    /// These rules and keys replace those in force. They apply to later arrivals.
     NewRules { renewal: Renewal, now: u64 },
 }
 
@@ -57,7 +57,8 @@ pub trait Ports {
     // The packets that the port has accepted for sending, if the port stores them.
     ghost taken: { Self → Option (List Send) };
 
-    // The octets of the journal that survive a crash, if the port has a journal and they are known.
+    // The octets of the journal that survive a crash, if the port has a journal and these octets
+    // are known.
     ghost journal: { Self → Option (List ℕ) };
 
     /// Returns the next arrival. Copies the octets of a packet to the start of the buffer. A packet
@@ -73,8 +74,8 @@ pub trait Ports {
         ensures failed { OnErr result ((coming self.new ≡ coming self.old)
             × (failures self.new ≡ one_more (failures self.old))) };
 
-    /// Returns the next arrival like `next`, but only if there is one at once or within some
-    /// milliseconds. Otherwise returns `None`. A port that cannot wait for so short a time may
+    /// Returns the next arrival like `next`, but only if the arrival is available at once or within
+    /// some milliseconds. Otherwise returns `None`. A port that cannot wait for so short a time may
     /// always return `None`.
     fn next_soon(&mut self, _buffer: &mut [u8]) -> Option<Arrival>
         ensures fits { IfSome result (LiesWithin (length _buffer.new)) }
@@ -115,9 +116,9 @@ pub trait Ports {
         ensures failed { OnErr result ((taken self.new ≡ taken self.old)
             × (failures self.new ≡ one_more (failures self.old))) };
 
-    /// Is called with the result of the last arrival, after its packets were sent. `_octets` begins
-    /// with the arrival's octets, and `_rules` are the rules in force then. A port with a log
-    /// writes the result to the log. Nothing else changes.
+    /// Is called with the result of the latest arrival, after its packets were sent. `_octets`
+    /// begins with the arrival's octets, and `_rules` are the rules in force then. A port with a
+    /// log writes the result to the log. Nothing else changes.
     fn note(&mut self, _turn: &Turn, _octets: &[u8], _rules: &Rules)
         ensures gives_none { coming self.new ≡ coming self.old }
         ensures takes_none { taken self.new ≡ taken self.old }

@@ -20,7 +20,7 @@ pub const SOON_MILLISECONDS: u64 = 1;
 
 /// A clock.
 pub trait Moments: Drop {
-    // The last time that `now` returned.
+    // The time that `now` returned most recently.
     ghost last: { Self → ℕ };
 
     /// Returns the present time in milliseconds since 1970.

@@ -14,7 +14,7 @@ abbrev pub AppendsFront : Option (List ℕ) → Option (List ℕ) → List ℕ �
 AppendsFront old new octets =
     (front back : List ℕ) × (octets ≡ front ++ back) × Appends old new front
 
--- the fault of a run whose node has valid parts
+-- a run whose node has valid parts may have this fault
 abbrev pub ComesWithGoodParts : RunFault → Type 0
 ComesWithGoodParts (fault.Node f) = f ≡ node.Memory
 ComesWithGoodParts (fault.BadLine n) = Unit {0}

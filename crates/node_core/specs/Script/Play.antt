@@ -45,7 +45,8 @@ IsNear from n to = (to.lines ≤ from.lines + n) × (to.events ≤ from.events +
 abbrev pub IsPending : List ℕ → Type 0
 IsPending line = Lacks 10 line × (length line ≤ 20000)
 
--- the event leads from one state to the other, and its answer is this text
+-- handling the event changes the state `from` to the state `to`, and the answer to the event is
+-- `text`
 pub record PlaysEvent (event : PlainEvent) (from to : Place) (text : List ℕ) : Type 0 where
   pub done_as : Outcome
   pub handled : IsOutcome from.node event done_as to.node
@@ -53,7 +54,8 @@ pub record PlaysEvent (event : PlainEvent) (from to : Place) (text : List ℕ) :
   pub lines : to.lines ≡ from.lines
   pub events : to.events ≡ from.events + 1
 
--- the lines lead from one state to the other, and the answers to their events are this text
+-- running the lines changes the state `from` to the state `to`, and the answers to their events are
+-- `text`
 pub record Plays (lines : List (List ℕ)) (from to : Place) (text : List ℕ) : Type 0 where
   pub events : List PlainEvent
   pub outcomes : List Outcome
