@@ -51,8 +51,8 @@ pub fn exchange_of(alloc: Global, line: &str, now: u64, book: &KeyBook) -> Optio
     }
 }
 
-/// Returns the result of an exchange that receives these datagrams; the first one that is an answer
-/// counts.
+/// Returns the result of an exchange that receives these datagrams. The first datagram that is an
+/// answer decides the result.
 pub fn heard(
     alloc: Global,
     exchange: &mut Exchange,

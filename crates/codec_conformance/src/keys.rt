@@ -49,7 +49,7 @@ aax131 | 5468697320697320612074657374207573696e672061206c6172676572207468616e206
     check_rows(&rt, rt.alloc(), rows, tag);
 }
 
-/// Keys of the octets 0, 1, 2 and so on, with lengths around that of a block.
+/// Keys of the octets 0, 1, 2 and so on. Their lengths are around the length of a block.
 #[test]
 fn keys_around_a_block(rt: HostRuntime) {
     let rows = "
@@ -61,7 +61,7 @@ fn keys_around_a_block(rt: HostRuntime) {
     check_rows(&rt, rt.alloc(), rows, tag);
 }
 
-/// Returns whether a value is a tag of 32 octets.
+/// Returns whether a value is equal to a tag of 32 octets.
 fn is_tag(alloc: Global, input: &str) -> Option<String> {
     let (value, tag) = input.split_once(" | ")?;
     let value = octets(alloc, value)?;

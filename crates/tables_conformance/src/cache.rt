@@ -257,8 +257,8 @@ fn is_held(store: &mut Store, packet: &[u8], most: u64) -> Option<bool> {
     (counted >= 1 && counted <= most).then_some(is_found)
 }
 
-/// Puts one Data more than the capacity, and returns whether the first is evicted while the second
-/// and the last stay.
+/// Puts one Data more than the capacity into a store. Returns whether the first Data is evicted,
+/// the last Data is cached, and the store is full.
 fn is_first_gone(alloc: Global, capacity: u32, most: u64) -> Option<bool> {
     let mut packet = data_of(alloc, "/n/0000", "01", Some(0))?;
     let mut store = Store::new(alloc, capacity as usize).ok()?;

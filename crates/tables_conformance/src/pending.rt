@@ -92,7 +92,8 @@ impl Table {
             .err()
     }
 
-    /// Records that an Interest was sent, if the face `asker` asks for it.
+    /// Records that an Interest under this key was sent to `face`, if the face `asker` has a
+    /// pending Interest under the key. Otherwise returns false.
     fn sent(&mut self, key: Key<'_>, asker: u64, face: u64, nonce: [u8; 4], now: u64) -> bool {
         if self.pit.interest_of(key, asker).is_none() {
             return false;
@@ -382,7 +383,7 @@ fn ends_empty(alloc: Global, table: &mut Table, _key: Key<'_>, _other: Key<'_>) 
     Some(stood == 64 && table.pit.is_empty())
 }
 
-/// Returns whether Interests of 64 faces can all be sent to 64 faces.
+/// Returns whether an Interest that came from 64 faces can be sent to 64 faces.
 fn sends_to_64_faces(table: &mut Table, key: Key<'_>) -> bool {
     for face in 0..64 {
         table.ask(key, face, [0; 4], 9);

@@ -128,7 +128,8 @@ fn sameness(alloc: Global, row: &str) -> Option<String> {
     let (calls, others) = row.split_once("; ")?;
     let routes = table_after(alloc, calls)?;
     let other = table_after(alloc, others)?;
-    format!(in alloc; "{}", routes.read().has_same_routes(alloc, other.read()).ok()?).ok()
+    let is_same = routes.read().has_same_routes(alloc, other.read()).ok()?;
+    format!(in alloc; "{is_same}").ok()
 }
 
 #[test]

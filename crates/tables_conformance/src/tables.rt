@@ -292,8 +292,8 @@ fn deep_names(rt: HostRuntime) {
     assert!(rt; both_answer(alloc, 64, Err(TableFault::TooDeep)) == Some(true));
 }
 
-/// Returns the first next hop of a name of 64 components `B`, when `/` leads to face 2 and `/A` to
-/// face 3, and the number of searches that the lookup takes.
+/// Returns the first next hop of a name of 64 components `B`, and the number of searches that the
+/// lookup takes. `/` has a next hop on face 2, and `/A` has one on face 3.
 fn deep_hop(alloc: Global) -> Option<(u64, u64, u64)> {
     let routes = routes_in(alloc, "/ 2 0, /A 3 0")?;
     let mut name = NameBuf::new(alloc);

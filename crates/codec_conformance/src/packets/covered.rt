@@ -92,7 +92,7 @@ fn kept_shown(alloc: Global, limit: Option<u8>, octets: &[u8], input: &str) -> O
 }
 
 /// Returns the HopLimit of an Interest, and its octets after the HopLimit is set to 6. If no
-/// HopLimit can be borrowed, returns only what is read as HopLimit.
+/// HopLimit can be borrowed, returns only the HopLimit that is read, if any.
 fn lent(alloc: Global, input: &str) -> Option<String> {
     let mut octets = packet(alloc, input)?;
     let limit = hop_limit_of(&octets);

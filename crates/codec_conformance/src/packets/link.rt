@@ -24,7 +24,7 @@ fn with_token(alloc: Global, reason: &str) -> Option<String> {
 }
 
 /// Returns whether `wanted` is two octets, followed by an Interest in a link packet with this
-/// token, or by the bare Interest without a token.
+/// token, or, if there is no token, by the bare Interest.
 fn wraps(alloc: Global, token: Option<&[u8]>, wanted: &[u8]) -> bool
     requires { IfSome token (λ t. IsToken t.now) }
 {

@@ -445,8 +445,8 @@ fn list_of_4096_routes(rt: HostRuntime) {
     assert!(rt; lists_4096_routes(rt.alloc()) == Some(true));
 }
 
-/// Returns whether a dataset of `len` octets, with one route, has the last segment `last` of
-/// `last_len` octets.
+/// Returns whether the last segment of a dataset of `len` octets, with one route, has the number
+/// `last` and has `last_len` octets.
 fn is_cut(alloc: Global, len: usize, last_len: usize, last: u64) -> Option<bool> {
     let station = station_of_route(alloc, &long_name(alloc, len)?)?;
     let text = station.list(alloc, false)?;
@@ -454,7 +454,7 @@ fn is_cut(alloc: Global, len: usize, last_len: usize, last: u64) -> Option<bool>
     Some(text.len() == len && segment.len() == last_len && number == last)
 }
 
-/// Returns a name for which the dataset of its one route has `len` octets.
+/// Returns a name for a route. A dataset with only this route has `len` octets.
 fn long_name(alloc: Global, len: usize) -> Option<NameBuf> {
     let mut value = Vec::new(alloc);
     // Three headers of four octets each precede the value, and a hop of 8 octets follows it.

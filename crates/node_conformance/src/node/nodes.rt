@@ -8,7 +8,7 @@ use std::alloc::Global;
 use test_support::first_wrong;
 
 /// Each row is a repository's prefix and a cache's capacity, followed by the result of making a
-/// node of them.
+/// node with this prefix and this capacity.
 const PARTS: &str = "
 /repo 1024 -> Ok(())
 / 0 -> Err(BadRepoPrefix)

@@ -102,8 +102,8 @@ in 1 1001010 INTEREST
 > 2 INTEREST
 ";
 
-/// An Interest that loops is answered by a Nack Duplicate. An Interest that is sent again is
-/// forwarded after 10 milliseconds.
+/// An Interest that loops is answered by a Nack Duplicate. If the same face sends the Interest
+/// again, it is forwarded again only if 10 milliseconds have passed.
 #[test]
 fn loops_and_retries(rt: HostRuntime) {
     replies(&rt, LOOPS_AND_RETRIES);

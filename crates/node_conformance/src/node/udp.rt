@@ -342,8 +342,8 @@ fn udp_ports_open_themselves(rt: HostRuntime) {
     assert!(rt; open_themselves(&rt) == Some(true));
 }
 
-/// Returns whether a datagram to another address of this machine is not received, while the next
-/// one is.
+/// Returns whether a datagram to another address of this machine is not received, while a datagram
+/// to 127.0.0.1 is.
 fn hears_loopback_alone(rt: &impl Net) -> Option<bool> {
     let listen = free_port(rt)?;
     let mut ports = UdpPorts::bind(rt, listen, &[], 0, Moving { last: 0 }).ok()?;

@@ -52,7 +52,7 @@ ask /A 1 7 5, ask /A 2 8 4, withdraw /A 1, of /A 1, of /A 2, withdraw /A 2, len 
 ask /A 1 7 5, withdraw /A 2, withdraw /B 1, remove /A+p, len -> yes; -; -; -; 1 false
 ";
 
-/// For each face, only its last Interest under a key counts.
+/// For each face, only its latest Interest under a key counts.
 #[test]
 fn of_each_face_the_last_interest(rt: HostRuntime) {
     check_rows(&rt, rt.alloc(), OF_EACH_FACE_THE_LAST_INTEREST, answers);

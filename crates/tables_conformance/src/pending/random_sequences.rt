@@ -240,7 +240,8 @@ fn ask_agrees(
     Some(agrees && refused.is_none())
 }
 
-/// Returns whether a `sent` call is recorded exactly if the records have the face that asks.
+/// Returns whether a `sent` call is recorded exactly if the records have a pending Interest of the
+/// face `asker` under the key.
 fn sent_agrees(
     table: &mut Table,
     records: &mut Records,

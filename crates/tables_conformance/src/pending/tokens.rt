@@ -76,7 +76,7 @@ token /A 1 5 100, expire 99, token_of /A 1, expire 100, token_of /A 1, token_for
 token /A 1 5 100, data /A, token_of /A 1, token_for /A 1 -> yes; faces 1; none; none
 ";
 
-/// A face has the token of its last Interest under a key as long as that Interest is pending.
+/// A face has the token of its latest Interest under a key as long as that Interest is pending.
 #[test]
 fn token_of_the_last_interest(rt: HostRuntime) {
     check_rows(&rt, rt.alloc(), TOKEN_OF_THE_LAST_INTEREST, answers);
