@@ -15,7 +15,8 @@ use Rattle.ndn_names.proofs.TextReading.{hex_length}
 digit_again : (c : ℕ) → digit_value c < 16 → hex_digit_value c ≡ Some (digit_value c)
 digit_again c h = grind arith
 
--- only digits have a value below 16
+-- the digits 0 to 9 have a value below 16; the next lemmas say the same of the letters A to F and a
+-- to f, and that no other character has such a value
 decimal_digit : (c : ℕ) → 48 ≤ c → c < 58 → digit_value c < 16
 decimal_digit c a b = grind arith
 
@@ -38,7 +39,7 @@ digit_found c v e = elim (cases_lt (digit_value c) 16) [
   | inr large ↦ let none : None ≡ Some v = sym (no_digit c large) ∙ e in absurd cc
 ]
 
--- the value of a digit that is read
+-- if `digit_or_error` returns the value `v`, its argument `o` is this value
 some_digit : (c i v : ℕ) (o : Option ℕ) → digit_or_error c i o ≡ Ok v → o ≡ Some v
 some_digit c i v None e = absurd cc
 some_digit c i v (Some w) e = let same : w ≡ v = cc in ap Some same
@@ -78,7 +79,8 @@ pairs_again i text [] h = ap (decode_pairs i) h
 pairs_again i text (octet ∷ octets) h =
     ap (decode_pairs i) h.3 ∙ decode_pairs-ok_pair i h.0 h.1 octet h.2 (pair_again h.0 h.1 i octet h.4) ∙ ap (cons_byte octet) (pairs_again (i + 2) h.2 octets h.5)
 
--- the result is `Ok` only if the test does not return its fault
+-- if a conditional whose first alternative is a fault equals `Ok octets`, its second alternative is
+-- `Ok octets`
 passed : (b : Bool) (fault : FromHexError) (r : Result (List ℕ) FromHexError) (octets : List ℕ) → cond b (Err fault) r ≡ Ok octets → r ≡ Ok octets
 passed true fault r octets e = absurd cc
 passed false fault r octets e = e

@@ -30,7 +30,8 @@ key_after (first ∷ before) keys line key (inr h) kept is =
 is_told : (lines : List (List ℕ)) (found told : KeyFault) → (r : Result (List NamedKey) KeyFault) → r ≡ Err found → r ≡ Err told → FaultIn lines found → FaultIn lines told
 is_told lines found told r e f h = let same : Err found ≡ Err told = sym e ∙ f in subst (FaultIn lines) (cc) h
 
--- the fault of a line that is not skipped, or of the lines after it
+-- if reading a line that is not skipped, and then the lines after it, returns a fault, the lines
+-- have this fault
 line_faulty : (n : ℕ) (before lines : List (List ℕ)) (line : List ℕ) (keys : List NamedKey) (fault : KeyFault) → n ≡ length before + 1 → is_skipped line ≡ false → AreKeysOf before keys → AreApart keys → length keys ≤ 256
     → ((key : NamedKey) → IsKeyLine line key → has_name key.0 keys ≡ false → length keys ≢ 256 → keys_from (n + 1) (keys ++ key ∷ []) lines ≡ Err fault → FaultIn (before ++ line ∷ lines) fault)
     → (r : Option NamedKey) → key_in line ≡ r → on_result (λ more. keys_from (n + 1) more lines) (λ told. Err told) (on_option (with_key n keys) (Err (BadLine n)) r) ≡ Err fault → FaultIn (before ++ line ∷ lines) fault

@@ -41,7 +41,8 @@ line_failed n keys rest line after fault begins (inl failed) = inl (line_told n 
 
 -- ---- the keys in the lines
 
--- a sequence of two steps succeeds only if the first step does
+-- if two steps in sequence succeed, the first step succeeds, and the second step succeeds with the
+-- result of the first
 ok_of : {A B : Type 0} (r : Result A KeyFault) (f : A → Result B KeyFault) (y : B) → on_result f (λ fault. Err fault) r ≡ Ok y → (x : A) × (r ≡ Ok x) × (f x ≡ Ok y)
 ok_of (Ok x) f y e = (x, refl, e)
 ok_of (Err fault) f y e = absurd cc
@@ -79,7 +80,8 @@ key_is_added n keys more line kept e = from_key (key_in line) refl (sym (rw kept
 pub line_skipped : (n : ℕ) (keys : List NamedKey) (line : List ℕ) → is_skipped line ≡ true → after_line n keys line ≡ Ok keys
 line_skipped n keys line skipped = rw skipped refl
 
--- one more line in front of the lines, which is skipped or has a key
+-- if one more line in front of the lines is skipped, the keys in the lines are the same; if it has
+-- a key, this key comes first
 skipped_before : (line : List ℕ) (lines : List (List ℕ)) (keys all : List NamedKey) → is_skipped line ≡ true → AreRead lines keys all → AreRead (line ∷ lines) keys all
 skipped_before line lines keys all skipped rest =
     record { new = rest.new; whole = rest.whole; are = inl (skipped, rest.are); apart = rest.apart; few = rest.few }

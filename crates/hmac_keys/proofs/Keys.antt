@@ -84,7 +84,8 @@ digits_lack_space digits (o ∷ octets) h = subst (Lacks 32) (sym h.3) (no_digit
     no_digit : (digit : ℕ) → digit_value digit < 16 → digit ≢ 32
     no_digit digit lt is = let h : digit_value 32 < 16 = subst (λ (d : ℕ). digit_value d < 16) is lt in omega arith
 
--- a sequence of two steps returns a value only if the first step does
+-- if two steps in sequence return a value, the first step returns a value, and the second step
+-- returns a value when it is given the value of the first
 pub some_of : {A B : Type 0} (r : Option A) (f : A → Option B) (y : B) → on_option f None r ≡ Some y → (x : A) × (r ≡ Some x) × (f x ≡ Some y)
 some_of None f y e = absurd cc
 some_of (Some x) f y e = (x, refl, e)

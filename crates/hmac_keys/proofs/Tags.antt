@@ -5,12 +5,14 @@ use Rattle.std.specs.Int.Bits.{bit_or, bit_xor, xor_zero_r, xor_self, xor_assoc,
 use Rattle.std.proofs.lemmas.List.{length-take, length-map, length-drop, take_more_same, get_or-take, take-take}
 use Rattle.hmac_keys.specs.Mac.{xor_each}
 
--- combining with a pad keeps the length
+-- combining the first i octets with the pad keeps the length, so the index i is still within the
+-- block
 pub combined_len : (old now : List ℕ) (pad i : ℕ) → i < length old → now ≡ xor_each pad (take i old) ++ drop i old → i < length now
 combined_len old now pad i lt e =
     omega (arith, lt, simp (length-append, length-map, length-take, length-drop) at (ap length e))
 
--- combining with the inner pad, and then with a value that replaces it by the outer pad
+-- combining with 0x36, the inner pad, and then with 0x6A is the same as combining with 0x5C, the
+-- outer pad
 pub pads : (block : List ℕ) → xor_each 0x6A (xor_each 0x36 block) ≡ xor_each 0x5C block
 pads [] = refl
 pads (octet ∷ block) = λ i. xor_assoc octet 0x36 0x6A i ∷ pads block i

@@ -1,4 +1,4 @@
--- The fault of a key file: that of its first faulty line.
+-- The fault of a key file, which is the fault of its first faulty line.
 use Rattle.std.specs.Prelude.{◌≡◌, ℕ, ◌+◌, ◌≤◌, List, ◌∷◌, ◌++◌, length, false}
 use Rattle.hmac_keys.specs.declared.fault.KeyFault.{KeyFault}
 use Rattle.hmac_keys.specs.declared.fault.KeyFault.TheVariants.{BadLine, TwiceNamed, TooMany, Memory}
@@ -42,6 +42,6 @@ FaultIn lines (TwiceNamed n) = HasNameTwice lines n
 FaultIn lines TooMany = HasTooMany lines
 FaultIn lines Memory = ⊥
 
--- the fault that a refused text has; `Memory` is never the fault of a text
+-- `fault` is the fault of the first faulty line of the text; `Memory` is never the fault of a text
 abbrev pub FirstFault : List ℕ → KeyFault → Type 0
 FirstFault text fault = FaultIn (lines_of text) fault

@@ -26,7 +26,7 @@ not_empty (c ∷ name) = Some (c ∷ name)
 abbrev pub name_of : List ℕ → Option (List Field)
 name_of uri = on_result not_empty (λ _. None) (name_in uri)
 
--- the octets that hexadecimal digits encode, or None unless the digits encode 1 to 256 octets
+-- the 1 to 256 octets that hexadecimal digits encode, or None if the text does not encode that many
 abbrev pub octets_of : List ℕ → Option (List ℕ)
 octets_of digits =
     on_result
@@ -67,11 +67,11 @@ keys_from n keys (line ∷ lines) =
 abbrev pub keys_in : List ℕ → Result (List NamedKey) KeyFault
 keys_in text = keys_from 1 [] (lines_of text)
 
--- the fault of a reading, or `Memory`
+-- `fault` is the fault that `read` returns, or `Memory`
 abbrev pub IsFaultOf : Result (List NamedKey) KeyFault → KeyFault → Type 0
 IsFaultOf read fault = (read ≡ Err fault) ⊎ (fault ≡ Memory)
 
--- the fault of a reading, or `Memory` if the reading succeeds
+-- `fault` is the fault that `read` returns, or it is `Memory`, and `read` succeeds
 abbrev pub IsFaultBeforeMemory : Result (List NamedKey) KeyFault → KeyFault → Type 0
 IsFaultBeforeMemory read fault =
     (read ≡ Err fault) ⊎ ((fault ≡ Memory) × ((keys : List NamedKey) × (read ≡ Ok keys)))
@@ -82,8 +82,8 @@ IsFaultBeforeMemory read fault =
 abbrev pub AreKeys : List ℕ → List NamedKey → Type 0
 AreKeys octets keys = IsUtf8 octets × KeysOf octets keys
 
--- the fault of the text, or `Memory` if the text has no fault, or the fault of a bad line with the
--- number 0 if the octets are not UTF-8
+-- `why` is the fault of the text, or `Memory` if the text has no fault; if the octets are not
+-- UTF-8, it is a bad line with the number 0
 abbrev pub IsFaultOfOctets : List ℕ → KeyFault → Type 0
 IsFaultOfOctets octets why =
     (IsUtf8 octets × IsFaultBeforeMemory (keys_in octets) why)

@@ -13,7 +13,8 @@ block_of key = short_key key ++ replicate (64 - length (short_key key)) 0
 abbrev pub xor_each : ℕ → List ℕ → List ℕ
 xor_each pad block = map (λ octet. bit_xor octet pad) block
 
--- H (K xor opad, H (K xor ipad, text)), where opad is 5c and ipad is 36 in hexadecimal
+-- H (K xor opad, H (K xor ipad, text)) in the notation of RFC 2104, where H is SHA-256, K is the
+-- key's block, opad is 5c and ipad is 36 in hexadecimal
 abbrev pub Mac : List ℕ → List ℕ → List ℕ
 Mac key text =
     sha256 (xor_each 0x5C (block_of key) ++ sha256 (xor_each 0x36 (block_of key) ++ text))

@@ -110,7 +110,8 @@ fn combine(block: &mut [u8; BLOCK_LEN], pad: u8)
 }
 
 /// Returns whether a signature's value equals the tag. A value that is not 32 octets long never
-/// equals it. All octets of a value of 32 octets are compared, wherever the first difference is.
+/// equals the tag. All octets of a value of 32 octets are compared, wherever the first difference
+/// is.
 pub fn tags_equal(value: &[u8], tag: &[u8; 32]) -> bool
     ensures { IsTrue result ↔ (value.now ≡ tag.now) }
 {

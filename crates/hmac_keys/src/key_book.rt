@@ -188,8 +188,8 @@ impl KeyBook {
         None
     }
 
-    /// Returns the number of keys, at most 256. The clauses other than `exact` are true of every
-    /// book.
+    /// Returns the number of keys, at most 256. The clause `apart` of the contract states that no
+    /// two keys of the book have the same name.
     pub fn len(&self) -> usize
         ensures exact { result ≡ length self.now }
         ensures apart { AreApart self.now }
@@ -205,8 +205,8 @@ impl KeyBook {
     }
 }
 
-/// If memory runs out, the lines are read once more without allocation, so that a fault in the
-/// lines is reported instead of `Memory`.
+/// Reads the keys in the lines. If memory runs out, the lines are read once more without
+/// allocation, so that a fault in the lines is reported instead of `Memory`.
 fn read_keys(alloc: Global, text: &str) -> Result<KeyBook, KeyFault>
     ensures { MatchResult result (λ book. keys_in text.now ≡ Ok book)
         (IsFaultBeforeMemory (keys_in text.now)) }
@@ -221,8 +221,8 @@ fn read_keys(alloc: Global, text: &str) -> Result<KeyBook, KeyFault>
     }
 }
 
-/// Law: a text is a key file of at most one list of keys, which `keys_in` returns. `keys_in`
-/// returns a fault exactly if the first faulty line has that fault.
+/// Law: a text is a key file of at most one list of keys. If there is such a list, `keys_in`
+/// returns it. Otherwise `keys_in` returns the fault of the first faulty line.
 pub fn key_files_have_one_reading()
     ensures exact { (text : List ℕ) (keys : List NamedKey) → (keys_in text ≡ Ok keys)
         ↔ KeysOf text keys }

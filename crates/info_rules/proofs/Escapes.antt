@@ -40,7 +40,8 @@ pub escape_front : (following sign after : List ℕ) → 0 < length following �
 escape_front [] sign after some h is_sign is_after = absurd (omega arith)
 escape_front (next ∷ following) sign after some h is_sign is_after = rw (is_sign, is_after) (escaped_octet next following h)
 
--- the effect of one step of the loop, which appends the octets that it has read
+-- if one step of the loop appends the unescaped form of the octets that it reads, the loop
+-- invariant still holds
 pub further : (word text before following sign after rest : List ℕ) → unescaped word ≡ text ++ unescaped rest → rest ≡ before ++ 92 ∷ following → Lacks 92 before → unescaped (92 ∷ following) ≡ sign ++ unescaped after
     → unescaped word ≡ ((text ++ before) ++ sign) ++ unescaped after
 further word text before following sign after rest e parts plain read =

@@ -92,7 +92,8 @@ one_on : (On : ℕ → Type 0) (line : ℕ) (token : Option Token) (tokens : Lis
 one_on On line None tokens here all = all
 one_on On line (Some token) tokens here all = (here, all)
 
--- the lines of the tokens in whole lines
+-- if the last of some whole lines is at most `n`, all tokens that end in them are on lines up to
+-- `n`
 within_lines : (n : ℕ) (mode : Mode) (line : ℕ) (inner : List ℕ) → line_at line inner ≤ n → AllOn (λ l. l ≤ n) (ended mode line (inner ++ 10 ∷ []))
 unfolding ended line_at
 within_lines n mode line [] h = one_on (λ l. l ≤ n) line (ended_by mode 10) [] h tt
@@ -100,7 +101,7 @@ within_lines n mode line (o ∷ inner) h =
     let here : line ≤ n = omega (arith, line_up line o, line_kept (line_after line o) inner) in
     one_on (λ l. l ≤ n) line (ended_by mode o) (ended (mode_after mode o) (line_after line o) (inner ++ 10 ∷ [])) here (within_lines n (mode_after mode o) (line_after line o) inner h)
 
--- the lines of the tokens in a text
+-- if a text ends on line `n` or before, all its tokens are on lines up to `n`
 within_text : (n : ℕ) (mode : Mode) (line : ℕ) (text : List ℕ) → line_at line text ≤ n → AllOn (λ l. l ≤ n) (tokens_from mode line text)
 unfolding tokens_from line_at
 within_text n mode line [] h = one_on (λ l. l ≤ n) line (ended_at_end mode) [] h tt
@@ -108,7 +109,7 @@ within_text n mode line (o ∷ text) h =
     let here : line ≤ n = omega (arith, line_up line o, line_kept (line_after line o) text) in
     one_on (λ l. l ≤ n) line (ended_by mode o) (tokens_from (mode_after mode o) (line_after line o) text) here (within_text n (mode_after mode o) (line_after line o) text h)
 
--- the lines of the tokens in a text that begins on a given line
+-- if a text begins on line `n` or later, all its tokens are on line `n` or later
 from_line : (n : ℕ) (mode : Mode) (line : ℕ) (text : List ℕ) → n ≤ line → AllOn (λ l. n ≤ l) (tokens_from mode line text)
 unfolding tokens_from
 from_line n mode line [] h = one_on (λ l. n ≤ l) line (ended_at_end mode) [] h tt

@@ -104,7 +104,7 @@ word_anchor line text (inr (inl e)) = rw e refl
 word_anchor line text (inr (inr (inl e))) = rw e refl
 word_anchor line text (inr (inr (inr h))) = absurd h
 
--- a type that a trust anchor may have
+-- if the type of a trust anchor is read without a fault, it is one of `anchor_words`
 typed : (line : ℕ) (text : List ℕ) → anchor_type_in line text ≡ Ok (Some tt) → IsOneOf anchor_words text
 typed line text e = by_tests (bytes_eq text (codes "any")) (is_anchor_type text) refl e
   where
@@ -113,7 +113,7 @@ typed line text e = by_tests (bytes_eq text (codes "any")) (is_anchor_type text)
     by_tests false true is e = anchor_word text is
     by_tests false false is e = absurd cc
 
--- exactly one key is `type`, and its value may be the type of a trust anchor
+-- exactly one key is `type`, and its value is a type that a trust anchor may have
 abbrev HasType : List Block → Type 0
 HasType keys = (text : List ℕ) × HasValue (codes "type") keys text × IsOneOf anchor_words text
 
@@ -167,7 +167,7 @@ not_equal a b differ = by_test (bytes_eq a b) refl
     by_test true is = absurd (differ ((bytes_eq-Decides a b).0 is))
     by_test false is = refl
 
--- the rule does not have this id
+-- if the id of a rule differs from `id`, the rule does not have the fault of a repeated id
 no_same : (id : List ℕ) (key : Block) (rule : PlainRule) → (id_key key >>= value_of) ≡ Some rule.id → rule.id ≢ id → same_id_faults id key ≡ []
 unfolding same_id_faults
 no_same id key rule e differ = by_key (id_key key) e
@@ -176,7 +176,7 @@ no_same id key rule e differ = by_key (id_key key) e
     by_key None e = absurd cc
     by_key (Some later) e = rw (e, not_equal rule.id id differ) refl
 
--- a key that is not a rule has no id
+-- a key that is not a rule does not have the fault of a repeated id
 no_id : (id : List ℕ) (key : Block) → is_word (codes "rule") key ≡ false → same_id_faults id key ≡ []
 unfolding same_id_faults id_key
 no_id id key not = rw not refl

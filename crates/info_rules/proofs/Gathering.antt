@@ -45,7 +45,7 @@ joined_more (Err d) (Ok part) (Err f) = refl
 joined_more (Err d) (Err e) (Ok others) = refl
 joined_more (Err d) (Err e) (Err f) = ap Err (sooner_chain d e f)
 
--- the collected values after one more key that is `word`
+-- the loop invariant still holds after one more key that is `word`, whose value is appended
 pub loop_step : {A : Type 0} (f : Block → Found A) (word : List ℕ) (keys others all : List Block) (key : Block) (before after : Found (List A)) (one : Found A) → keys ≡ key ∷ others → is_word word key ≡ true
     → one ≡ f key → after ≡ and_one before one → joined before (each f (named word keys)) ≡ each f (named word all) → joined after (each f (named word others)) ≡ each f (named word all)
 unfolding each
@@ -57,7 +57,7 @@ done : {A : Type 0} (g : Found (List A)) → joined g (Ok []) ≡ g
 done (Ok parts) = ap Ok (append-nil parts)
 done (Err e) = refl
 
--- the collected values when no keys remain
+-- if no keys remain, the collected values are those of all keys that are `word`
 pub loop_done : {A : Type 0} (f : Block → Found A) (word : List ℕ) (keys all : List Block) (before read : Found (List A)) → keys ≡ [] → read ≡ before
     → joined before (each f (named word keys)) ≡ each f (named word all) → read ≡ each f (named word all)
 unfolding each
@@ -65,12 +65,12 @@ loop_done f word keys all before read none is h =
     let empty : each f (named word keys) ≡ Ok [] = rw none refl in
     is ∙ (sym (done before) ∙ (ap (λ g. joined before g) (sym empty) ∙ h))
 
--- the collected values before any key is read
+-- before any key is read, the list of collected values is empty, so joining it changes nothing
 pub loop_start : {A : Type 0} (parts : List A) (found : Found (List A)) → parts ≡ [] → joined (Ok parts) found ≡ found
 loop_start parts (Ok others) none = rw none refl
 loop_start parts (Err f) none = refl
 
--- the collected values after one more key that is not `word`
+-- the loop invariant still holds after one more key that is not `word`
 pub loop_past : {A : Type 0} (f : Block → Found A) (word : List ℕ) (keys others all : List Block) (key : Block) (before : Found (List A)) → keys ≡ key ∷ others → is_word word key ≡ false
     → joined before (each f (named word keys)) ≡ each f (named word all) → joined before (each f (named word others)) ≡ each f (named word all)
 loop_past f word keys others all key before keys_are is h = rw (keys_are, is) at h

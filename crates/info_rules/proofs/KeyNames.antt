@@ -11,7 +11,8 @@ at_end : (front rest : List Field) (c : Field) → slice_get (front ++ c ∷ res
 at_end [] rest c = refl
 at_end (x ∷ front) rest c = at_end front rest c
 
--- the name of a key has two to four components more than its prefix
+-- the length of a key's name is that of its prefix, plus 1 for the component KEY, plus the number
+-- of components after KEY
 pub key_len : (prefix name : List Field) (h : IsKeyOf prefix name) → length name ≡ length prefix + 1 + length h.0
 key_len prefix name h = ap length h.1 ∙ (length-append prefix (key_component ∷ h.0) ∙ omega arith)
 

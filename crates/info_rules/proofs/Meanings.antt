@@ -168,7 +168,8 @@ stand_again : (forms : List PlainForm) (keys : List Block) → Stand forms keys 
 stand_again [] keys h = refl
 stand_again (f ∷ forms) keys h = rw (stands_again f.word f.takes f.times keys h.0, stand_again forms keys h.1) refl
 
--- the keys of a block that allows no other keys
+-- if a block allows no keys outside the table and has no fault, all its keys are in the table, and
+-- none is given too many times
 pub fits : (block : BlockKind) (keys : List Block) → is_closed block ≡ true → after None (walk_faults block keys) ≡ None → HasOnly (words_of (table block)) keys × Stand (table block) keys
 unfolding walk_faults
 fits block keys closed e =
@@ -180,7 +181,8 @@ pub fits_again : (block : BlockKind) (keys : List Block) → is_closed block ≡
 unfolding walk_faults after
 fits_again block keys closed only often = rw (closed, known_all (table block) keys only, stand_again (table block) keys often) refl
 
--- the keys of a block whose other keys are not checked
+-- if a block allows keys outside the table and has no fault, no key of the table is given too many
+-- times
 pub fits_open : (block : BlockKind) (keys : List Block) → is_closed block ≡ false → after None (walk_faults block keys) ≡ None → Stand (table block) keys
 unfolding walk_faults
 fits_open block keys others e =
@@ -226,7 +228,7 @@ no_first : {A : Type 0} (xs : List A) → first_of xs ≡ None → xs ≡ []
 no_first [] e = refl
 no_first (x ∷ xs) e = absurd cc
 
--- no value is read if no key has the word `word`
+-- if no value is read and there is no fault, no key is `word`
 pub lacks_read : {A : Type 0} (kind : RulesFaultKind) (read : List ℕ → Option A) (word : List ℕ) (keys : List Block) → value_in kind read word keys ≡ Ok None → Lacks word keys
 unfolding value_in
 lacks_read {A = A} kind read word keys e = by_first (first_of (named word keys)) refl e
@@ -250,7 +252,7 @@ lacks_again kind read word keys h = rw h refl
 pub lacks_once : (word : List ℕ) (keys : List Block) → Lacks word keys → others_of (named word keys) ≡ []
 lacks_once word keys h = rw h refl
 
--- exactly one key is `word`
+-- if a key is `word` and there is no second such key, exactly one key is `word`
 pub one_there : (word : List ℕ) (keys : List Block) → is_there word keys ≡ true → others_of (named word keys) ≡ [] → (key : Block) × (named word keys ≡ key ∷ [])
 one_there word keys e once = by_first (first_of (named word keys)) refl e
   where

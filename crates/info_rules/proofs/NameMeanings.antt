@@ -29,7 +29,7 @@ use Rattle.info_rules.proofs.WordMeanings.{name_means, name_meant, pattern_means
 
 -- ---- the form of a key
 
--- the keys that the block may have
+-- the keys that a block with a requirement on this name may have
 abbrev pub words_for : Tested → List (List ℕ)
 words_for PacketName = codes "type" ∷ codes "name" ∷ codes "relation" ∷ codes "regex" ∷ []
 words_for KeyName = codes "type" ∷ codes "name" ∷ codes "relation" ∷ codes "regex" ∷ codes "hyper-relation" ∷ []
@@ -150,7 +150,7 @@ no_other_again tested form (key ∷ keys) (inl none, may) = rw none (no_other_ag
 no_other_again tested form (key ∷ keys) (inr some, may) = rw (some, is_itself form) (no_other_again tested form keys may)
 
 -- if a key `word` belongs to this form, and no key belongs to another form, the first key that
--- belongs to a form belongs to this one
+-- belongs to a form belongs to this form
 first_there : (tested : Tested) (form : Form) (word : List ℕ) (keys rest : List Block) (found : Block) → AllMayStand tested form keys → ((key : Block) → key.0.key ≡ word → form_of tested key ≡ Some form) → named word keys ≡ found ∷ rest
     → (line : ℕ) × (first_other tested None keys ≡ Some (form, line))
 first_there tested form word [] rest found may means e = absurd cc
@@ -287,7 +287,8 @@ all_may : (tested : Tested) (form : Form) (keys : List Block) → ((key : Block)
 all_may tested form [] may only = tt
 all_may tested form (key ∷ keys) may only = (may key only.0, all_may tested form keys may only.1)
 
--- the names that are read if the forms have no fault
+-- if the forms have no fault and the type is `name`, the requirement is made from the names that
+-- are read
 asked_again : (tested : Tested) (line : ℕ) (keys : List Block) (names : Names) → form_fault tested line keys ≡ None → HasValue (codes "type") keys (codes "name") → names_in keys ≡ Ok names → asked_in tested line keys ≡ Ok (test_of names)
 unfolding asked_in
 asked_again tested line keys names none type read =
@@ -312,7 +313,7 @@ pub lacks_hyper : (keys : List Block) (test : NameTest) → AsksOfName keys test
 lacks_hyper keys (tests.Related stands name) h = lacks (words_by forms.Related) (codes "hyper-relation") keys refl h.0
 lacks_hyper keys (tests.Matching pattern) h = lacks (words_by forms.Matching) (codes "hyper-relation") keys refl h.0
 
--- the test that is read from keys with this meaning
+-- if `keys` mean `test`, then `test` is read from them
 pub test_meant : (tested : Tested) (line : ℕ) (keys : List Block) (test : NameTest) → AsksOfName keys test → asked_in tested line keys ≡ Ok (Some test)
 unfolding names_in
 test_meant tested line keys (tests.Related stands name) (only, type, given, how) =
@@ -333,7 +334,7 @@ test_meant tested line keys (tests.Matching pattern) (only, type, given) =
     let read : names_in keys ≡ Ok ((None, None), Some pattern) = rw (name, relation, regex_read) refl in
     asked_again tested line keys ((None, None), Some pattern) (no_form_fault tested forms.Matching line first.0 keys may first.1 refl) type read
 
--- the words are given at most once in keys with this meaning
+-- if `keys` mean `test`, each of the words in `StandOnce` is given at most once
 pub once_there : (keys : List Block) (test : NameTest) → AsksOfName keys test → StandOnce keys
 once_there keys (tests.Related stands name) (only, type, given, how) = record {
   type = has_once (codes "type") keys (codes "name") type;

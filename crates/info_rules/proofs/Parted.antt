@@ -73,7 +73,7 @@ is_here : (entry : PlainEntry) (rest : List PlainEntry × List Block) (b : Bool)
 is_here entry rest true none = refl
 is_here entry rest false none = absurd cc
 
--- the first key, if the first entry is at this depth
+-- if no entry comes before the first key, the first entry is the first key
 pub first_key : (depth : ℕ) (entry : Entry) (after : List Entry) → (parted depth (map entry_of (entry ∷ after))).0 ≡ []
     → (parted depth (map entry_of (entry ∷ after))).1 ≡ (entry_of entry, (parted depth (map entry_of after)).0) ∷ (parted depth (map entry_of after)).1
 unfolding parted

@@ -40,13 +40,14 @@ unknown_here key forms e = rw (known_shown key forms, e) refl
 pub known_here : (key : Block) (forms : List Form) → list_any (λ (form : Form). is_word form.0.now key) forms ≡ true → unknown_faults (map form_of forms) key ≡ []
 known_here key forms e = rw (known_shown key forms, e) refl
 
--- the report after an element without faults
+-- an element without faults does not change the report
 pub after_clean : {A : Type 0} (f : A → List RulesFault) (told : Option RulesFault) (xs : List A) (x : A) (others : List A) → xs ≡ x ∷ others → f x ≡ [] → after told (flat_map f others) ≡ after told (flat_map f xs)
 after_clean f told xs x others e none =
     let same : flat_map f xs ≡ flat_map f others = rw (e, none) refl in
     ap (after told) (sym same)
 
--- the report after an element with one fault
+-- adding the one fault of the first element, then those of the others, adds the faults of all
+-- elements
 pub after_noted : {A : Type 0} (f : A → List RulesFault) (told new : Option RulesFault) (xs : List A) (x : A) (others : List A) (fault : RulesFault) → xs ≡ x ∷ others → f x ≡ fault ∷ [] → new ≡ after told (fault ∷ [])
     → after new (flat_map f others) ≡ after told (flat_map f xs)
 after_noted f told new xs x others fault e one is =

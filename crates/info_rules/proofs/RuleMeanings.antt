@@ -195,7 +195,7 @@ hierarchical line keys checker signature only type h made = read_whole line keys
   made = made;
 })
 
--- a customized checker with a key locator
+-- if `keys` mean a customized checker with a key locator, this checker is read from them
 located : (line : ℕ) (keys : List Block) (checker : Checker) (signature : Option SignatureType) (test : LocatorTest) → HasOnly (codes "type" ∷ codes "sig-type" ∷ codes "key-locator" ∷ []) keys → HasValue (codes "type") keys (codes "customized")
     → Takes signature keys → HasBlock IsLocator (codes "key-locator") keys test → has_locator keys (Ok (Some Customized)) (Ok signature) ≡ true → checker_with line signature (Some test) ≡ Ok checker → checker_of line keys ≡ Ok checker
 located line keys checker signature test only type h block there made =

@@ -34,7 +34,7 @@ unfoldable pub repeated_faults : Block → List Block → List RulesFault
 repeated_faults key later =
     on_option (λ id. flat_map (same_id_faults id) later) [] (id_key key >>= value_of)
 
--- the faults of all rule ids that an earlier rule has
+-- a fault for each rule whose id an earlier rule has too
 unfoldable pub id_faults : List Block → List RulesFault
 id_faults [] = []
 id_faults (key ∷ keys) = repeated_faults key keys ++ id_faults keys

@@ -71,7 +71,7 @@ fn judge_repeated(key: Key<'_>, later: Keys<'_>, report: &mut Report)
     }
 }
 
-/// Adds a fault to the report for each rule id that an earlier rule has.
+/// Adds a fault to the report for each rule whose id an earlier rule has too.
 #[tactic(auto, using(crate::proofs::Reports::after_append), unfolding(crate::specs::RuleFile::id_faults, crate::specs::Faults::after))]
 fn judge_ids(keys: Keys<'_>, report: &mut Report)
     ensures { report.new ≡ after report.old (id_faults (keys_of keys.entry)) }
@@ -127,7 +127,8 @@ impl Rules {
     /// Reads the rules of a file, at most 256, in the order of the text.
     ///
     /// If the file has faults, returns the fault on the least line. Of several faults on that line,
-    /// it is the one of the least kind: see `RulesFault`. `Memory` may be returned for any file.
+    /// returns the one whose kind comes first in `RulesFaultKind`. `Memory` may be returned for any
+    /// file.
     pub fn read(alloc: Global, tree: &InfoTree) -> Result<Rules, RulesFault>
         // The returned rules are the meaning of the entries.
         ensures found { IfOk result (IsRuleFile tree.now) }

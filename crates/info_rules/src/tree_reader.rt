@@ -94,7 +94,8 @@ pub fn outlines_keep_blocks()
 {}
 
 /// Law: unless the fault is `TooLarge`, it is on a line of the text. The lines before that line are
-/// a prefix of some text that spells entries. Together with that line, they are not such a prefix.
+/// a prefix of some text that spells entries. Together with that line, they are not a prefix of any
+/// text that spells entries.
 pub fn faults_stand_at_their_line()
     ensures { (text : List ℕ) (fault : RulesFault) → tree_in text ≡ Err fault
         → fault.kind ≢ RulesFaultKind.TooLarge → StandsAt text fault.line }

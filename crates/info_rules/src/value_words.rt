@@ -38,8 +38,8 @@ pub enum SignatureType {
 pub trait Value: Drop {
     ghost meant: { List ℕ → Option Self };
 
-    /// Reads the value from the text, or returns `None` if the text is not such a value. Fails only
-    /// if memory runs out.
+    /// Reads the value from the text, or returns `None` if the text is not a value of this type.
+    /// Fails only if memory runs out.
     fn of_text(alloc: Global, text: &str) -> Result<Option<Self>, Memory>
         ensures { IfOk result (λ value. value ≡ meant text.now) };
 }

@@ -9,10 +9,11 @@ use std::alloc::Global;
 use std::io;
 use std::io::{BufRead, Read};
 
-/// The greatest length of a key file, in octets. The programs set this limit, because comments,
-/// empty lines and long names can make a valid key file arbitrarily long. A key whose name fits
-/// into a packet has a line of less than 28,000 octets, even if each octet of the name is escaped.
-/// The limit allows 256 such lines, and more than 1,000,000 octets of comments.
+/// The greatest length of a key file, in octets. The programs refuse longer key files. The format
+/// of key files sets no limit, since a valid key file may have any number of comments and empty
+/// lines, and names of any length. A key whose name fits into a packet has a line of less than
+/// 28,000 octets, even if each octet of the name is escaped. The limit allows 256 such lines, and
+/// more than 1,000,000 octets of comments.
 pub const MAX_KEY_FILE: u32 = 8_388_608;
 
 /// Reads all octets of a reader. Returns `None` if the reader has more than `limit` octets. More
@@ -51,7 +52,7 @@ pub fn read_line_within<R: BufRead>(
     Ok(kept_within(line, limit))
 }
 
-/// Returns the octets, or `None` if there are more than `limit`.
+/// Returns the octets, or `None` if there are more than `limit` octets.
 fn kept_within(octets: Vec<u8>, limit: u32) -> Option<Vec<u8>>
     ensures { IsWithin limit octets.items (option_map (λ o. o.items) result) }
 {

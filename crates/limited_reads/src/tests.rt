@@ -41,8 +41,9 @@ fn readers(rt: HostRuntime) {
     assert!(rt; fails_in_the_middle(rt.alloc()));
 }
 
-/// Returns whether the lines of `text`, read with a limit of four octets, are those of `wanted`. A
-/// `-` in `wanted` stands for a line that is too long. Lines after such a line are not read.
+/// Returns whether the lines of `text`, read with a limit of four octets, are the lines of
+/// `wanted`. A `-` in `wanted` stands for a line that is too long. Lines after such a line are not
+/// read.
 fn lines_are(alloc: Global, text: &str, wanted: &str) -> Option<bool> {
     let mut reader = BufReader::new(alloc, text.as_bytes()).ok()?;
     let mut lines = Vec::new(alloc);

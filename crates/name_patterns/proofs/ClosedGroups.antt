@@ -15,7 +15,7 @@ use Rattle.name_patterns.specs.PatternReading.{◌>>=◌, FrontPart, has_special
 use Rattle.name_patterns.proofs.Steps.{found_by, found_if, found_unless}
 use Rattle.name_patterns.proofs.ListReading.{before_others}
 
--- an octet that is neither a closing parenthesis nor < is skipped
+-- the search for a closing parenthesis skips any octet other than `)` and `<`
 passed : (o : ℕ) (text : List ℕ) → o ≢ 41 → o ≢ 60 → is_closed false (o ∷ text) ≡ is_closed false text
 unfolding is_closed
 passed o text closes opens = rw (ne_eqb o 41 closes, ne_eqb o 60 opens) refl
@@ -104,7 +104,7 @@ test_passed (o ∷ text) found e =
 
 -- ---- repeats
 
--- a text without a closing parenthesis and without <
+-- a text without `)` and without `<`
 abbrev IsPlain : List ℕ → Type 0
 IsPlain text = Lacks 41 text × Lacks 60 text
 
@@ -192,7 +192,7 @@ atom_passed text found e =
     (λ bounds. Some (record { part = record { test = test.0.part; bounds = bounds.0 }; is_inner = test.0.is_inner; rest = bounds.1 })) found test.2 in
     test_passed text test.0 test.1 ∙ repeat_passed test.0.rest bounds.0 bounds.1 ∙ ap (λ (found : FrontPart PlainAtom). is_closed false found.rest) (same_Some _ _ bounds.2)
 
--- a text that begins with a closing parenthesis contains one outside all < and >
+-- a text that begins with `)` contains a closing parenthesis outside all `<` and `>`
 pub closed_here : (o : ℕ) (text : List ℕ) → o ≡ 41 → is_closed false (o ∷ text) ≡ true
 unfolding is_closed
 closed_here o text is = rw (eq-eqb o 41 is) refl

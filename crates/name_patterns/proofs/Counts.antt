@@ -1,4 +1,4 @@
--- The positions from which an atom and those after it can match, count by count.
+-- The positions from which an atom and the later atoms can match, computed count by count.
 use Rattle.std.proofs.Common.{◌≡◌, ℕ, zero, suc, ◌+◌, ◌/◌, ◌^◌, ◌<◌, ◌≤◌, Bool, true, false, not, ◌&&◌, ◌||◌, ltb, List, [], ◌∷◌, length, drop, length-drop, Option, Some, None, is_some, refl, sym, ◌∙◌, ap, arith, add-one, inl, inr, true≢false}
 use Rattle.std.specs.Prelude.{slice_get}
 use Rattle.std.specs.Int.RustNames.{bit_and, bit_or}
@@ -11,13 +11,13 @@ use Rattle.name_patterns.proofs.Places.{in_both, in_either, one_before, passes_n
 use Rattle.name_patterns.proofs.Rows.{count_by_places}
 use Rattle.name_patterns.proofs.Splits.{no_greatest, IsGreatest, some_greatest}
 
--- the k components from a position on pass, and the later atoms have a split from the position
--- after these components
+-- the `k` components from position `place` on pass, where `k` is the last argument, and the later
+-- atoms have a split from the position after these components
 abbrev pub takes : ℕ → ℕ → ℕ → ℕ → Bool
 takes passed after place zero = has_place after place
 takes passed after place (suc k) = has_place passed place && takes passed after (place + 1) k
 
--- `takes` is true of one of the counts from `least` up to, but not including, n
+-- `takes` is true of one of the counts from `least` up to, but not including, the last argument
 abbrev pub takes_some : ℕ → ℕ → ℕ → ℕ → ℕ → Bool
 takes_some passed after place least zero = false
 takes_some passed after place least (suc n) = takes_some passed after place least n || (not (ltb n least) && takes passed after place n)
@@ -37,14 +37,15 @@ and_false : (a : Bool) → a && false ≡ false
 and_false true = refl
 and_false false = refl
 
--- the positions for the count n are added if n is at least `least`
+-- if the count `n` is at least `least`, the positions for `n` are added to those for the lesser
+-- counts
 pub some_step : (passed after begins split least n : ℕ) → ((p : ℕ) → has_place begins p ≡ takes passed after p n)
     → ((p : ℕ) → has_place split p ≡ takes_some passed after p least n) → least ≤ n
     → (p : ℕ) → has_place (bit_or split begins) p ≡ takes_some passed after p least (n + 1)
 some_step passed after begins split least n are some low p =
     rw (add-one, le-ltb n least low) (in_either split begins p ∙ rw (some p, are p) refl)
 
--- no positions are added for a count n below `least`
+-- if the count `n` is below `least`, no positions are added for `n`
 pub few_step : (passed after split least n : ℕ) → ((p : ℕ) → has_place split p ≡ takes_some passed after p least n) → n < least
     → (p : ℕ) → has_place split p ≡ takes_some passed after p least (n + 1)
 few_step passed after split least n some few p =
@@ -116,7 +117,8 @@ passing test cs passed place are there =
       | inr above ↦ absurd (true≢false (sym there ∙ (are place ∙ passes_no_end test cs place above)))
     ]
 
--- the count is at most the length of the run, and the later atoms have a split after it
+-- if `takes` is true of the count `k`, then at least `k` components in a row pass, and the later
+-- atoms have a split after these `k` components
 taken_of_run : (test : PlainTest) (cs : List Field) (passed after place k : ℕ) → ArePassed test cs passed → takes passed after place k ≡ true
     → (k ≤ run_of test (drop place cs)) × (has_place after (place + k) ≡ true)
 taken_of_run test cs passed after place zero are e = let is : place + 0 ≡ place = omega arith in (omega arith, rw is e)

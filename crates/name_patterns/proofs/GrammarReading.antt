@@ -39,7 +39,7 @@ atom_found text found e none =
     Some (record { part = record { test = a.0.part; bounds = bounds.0 }; is_inner = a.0.is_inner; rest = bounds.1 })) found a.2 in
     atom_is text a.0 b.0 found b.2 none (λ plain. test_found text a.0 a.1 plain) (repeat_found a.0.rest b.0 b.1)
 
--- a repeat that may follow a test is read, if `rest` does not begin another one
+-- an optional repeat at the front of the text is read, if `rest` does not begin with a repeat
 repeated_again : (text rest : List ℕ) (bounds : Bounds) → ((text ≡ []) × (bounds ≡ once)) ⊎ IsRepeat text bounds → begins_repeat rest ≡ false
     → repeat_in (text ++ rest) ≡ Some (bounds, rest)
 repeated_again text rest bounds (inl h) free =
@@ -69,7 +69,8 @@ atom_shorter text found h =
 
 -- ---- the remaining text of a pattern
 
--- the pattern that consists of these atoms and groups, then of these items and the last atoms
+-- the pattern of `atoms` and `groups`, followed by the atoms and groups of `items`, and by the
+-- atoms `after`
 abbrev whole : List PlainAtom → List (ℕ × ℕ) → List Item → List PlainAtom → PlainPattern
 whole atoms groups items after = record { atoms = atoms ++ (flat_map item_atoms items ++ after); groups = groups ++ groups_from (length atoms) items }
 
@@ -155,7 +156,7 @@ group_before atoms written groups text pattern h =
       few_groups = r.few_groups;
     }
 
--- an atom comes before the remaining text of a group
+-- inside a group, an atom followed by text that completes the pattern completes the pattern
 atom_inside : (first : ℕ) (atoms : List PlainAtom) (written : ℕ) (groups : List (ℕ × ℕ)) (text front rest : List ℕ) (atom : PlainAtom) (pattern : PlainPattern)
     → text ≡ front ++ rest → IsAtom front atom → IsInGroup first (atoms ++ atom ∷ []) (written + 1) groups rest pattern → IsInGroup first atoms written groups text pattern
 atom_inside first atoms written groups text front rest atom pattern is h g =
@@ -170,7 +171,8 @@ atom_inside first atoms written groups text front rest atom pattern is h g =
           (append_assoc atoms (atom ∷ []) g.2) counted,
     )
 
--- a closing parenthesis, followed by text that completes the pattern, completes the group
+-- inside a group, a closing parenthesis followed by text that completes the pattern completes the
+-- pattern
 group_end : (first : ℕ) (atoms : List PlainAtom) (written : ℕ) (groups : List (ℕ × ℕ)) (text : List ℕ) (pattern : PlainPattern)
     → IsRest atoms written (groups ++ (first, length atoms) ∷ []) text pattern → IsInGroup first atoms written groups (41 ∷ text) pattern
 group_end first atoms written groups text pattern r =
@@ -192,7 +194,8 @@ abbrev HasRoom : PlainDraft → Option OpenGroup → Type 0
 HasRoom draft None = (draft.written ≤ 32) × (length draft.groups ≤ 9)
 HasRoom draft (Some group) = (draft.written ≤ 32) × (length draft.groups < 9)
 
--- The text is in the grammar if the remaining text after its first item is.
+-- If the remaining text after the first item completes the pattern, so does the whole text. The
+-- remaining text is shorter, and the draft is within its limits.
 record IsStep (draft : PlainDraft) (text : List ℕ) (next : PlainDraft × List ℕ) : Type 0 where
   shorter : length next.1 < length text
   room : HasRoom next.0 next.0.open_group
@@ -356,7 +359,8 @@ pattern_found (o ∷ text) pattern e =
 
 -- ---- a pattern that the text spells is read
 
--- the text begins with ^ or with a repeat; the text after an item never does
+-- whether the text begins with `^` or with a repeat; in the grammar, the text after an item never
+-- does
 abbrev begins_other : List ℕ → Bool
 begins_other [] = false
 begins_other (o ∷ text) = list_any (λ sign. sign == o) (codes "^*+?{")
@@ -373,7 +377,7 @@ test_other text rest h =
       | inr is ↦ ap (λ (first : ℕ). begins_other (first ∷ (h.1 ++ rest))) is
     ]
 
--- the text of atoms in a group, with the closing parenthesis, does not begin with ^ or a repeat
+-- the text of atoms in a group, with the closing parenthesis, does not begin with `^` or a repeat
 inside_other : (text rest : List ℕ) (atoms : List PlainAtom) → AreAtoms text atoms → begins_other (text ++ (41 ∷ rest)) ≡ false
 inside_other text rest [] h = ap (λ (t : List ℕ). begins_other (t ++ (41 ∷ rest))) h
 inside_other text rest (atom ∷ atoms) h =
@@ -384,7 +388,7 @@ end_other : (end : List ℕ) (after : List PlainAtom) → IsAnchor (codes "$") e
 end_other end after (inl h) = ap begins_other h.0
 end_other end after (inr h) = ap begins_other h.0
 
--- the text of items, with the end of the pattern, does not begin with ^ or a repeat
+-- the text of items, with the end of the pattern, does not begin with `^` or a repeat
 items_other : (text end : List ℕ) (items : List Item) (after : List PlainAtom) → AreItems text items → IsAnchor (codes "$") end after → begins_other (text ++ end) ≡ false
 items_other text end [] after h ends = ap (λ (t : List ℕ). begins_other (t ++ end)) h ∙ end_other end after ends
 items_other text end (Alone atom ∷ items) after h ends =
@@ -393,7 +397,7 @@ items_other text end (Alone atom ∷ items) after h ends =
 items_other text end (Group atoms ∷ items) after h ends =
     ap (λ (t : List ℕ). begins_other (t ++ end)) (h.2 ∙ ap (λ (t : List ℕ). t ++ h.1) h.3.1)
 
--- drafts without an open group
+-- the draft with these atoms and groups, and without an open group
 abbrev closed : List PlainAtom → ℕ → List (ℕ × ℕ) → PlainDraft
 closed atoms written groups = record { atoms = atoms; written = written; groups = groups; open_group = None }
 
@@ -492,7 +496,7 @@ inside_again (suc n) len atoms written groups group inner rest (atom ∷ more) h
           (append_assoc atoms (atom ∷ []) more),
     )
 
--- the end of the text, or its last anchor
+-- if no atom is implied at the end, a pattern without further items has just these atoms and groups
 ended : (atoms : List PlainAtom) (groups : List (ℕ × ℕ)) (after : List PlainAtom) → after ≡ [] → record { atoms = atoms; groups = groups } ≡ whole atoms groups [] after
 ended atoms groups after none =
     let every : atoms ≡ atoms ++ after = sym (append-nil atoms) ∙ ap (λ (last : List PlainAtom). atoms ++ last) (sym none) in

@@ -56,7 +56,8 @@ done_is x y e = cc
 pub done_to : {A : Type 0} (P : A → Type 0) (x y : A) → done x ≡ done y → P x → P y
 done_to P x y e p = subst P (done_is x y e) p
 
--- the result is `Ok` only if the test does not return its fault
+-- if the result of a check is `Ok`, then its test `b` is false: otherwise the result would be
+-- `fault`
 pub not_refused : {A : Type 0} (b : Bool) (fault : PatternFault) (r : Result A PatternFault) (y : A) → cond b (Err fault) r ≡ Ok y → (b ≡ false) × (r ≡ Ok y)
 not_refused true fault r y e = absurd cc
 not_refused false fault r y e = (refl, e)

@@ -13,7 +13,7 @@ use Rattle.name_patterns.proofs.TextParts.{BeginsNot, first_other}
 use Rattle.name_patterns.proofs.DraftSteps.{atom_found}
 use Rattle.name_patterns.proofs.ClosedGroups.{atom_passed, closed_here}
 
--- an item that begins with no parenthesis is an atom
+-- an item that does not begin with a parenthesis is read as an atom
 pub item_is_atom : (draft : PlainDraft) (at : ℕ) (text : List ℕ) → BeginsNot 40 text → BeginsNot 41 text → with_item draft at text ≡ with_atom draft at text
 item_is_atom draft at [] opens closes = refl
 item_is_atom draft at (o ∷ text) opens closes = rw (first_other 40 o text opens, first_other 41 o text closes) refl
@@ -69,7 +69,7 @@ never_closed (suc n) len draft text group is_open never =
 
 -- ---- items in order
 
--- the pattern of the text is the pattern that `rest` completes after this draft
+-- reading `items` from the draft `begun` has the same result as reading `rest` from `draft`
 abbrev pub HasItems : ℕ → PlainDraft → List ℕ → PlainDraft → List ℕ → Type 0
 HasItems len begun items draft rest = (n : ℕ) × (length rest ≤ n) × (items_in len begun items ≡ items_within n len draft rest)
 

@@ -13,7 +13,7 @@ abbrev pub before_others : List Field → Bool → Option (FrontPart (List Field
 before_others cs is_inner listed =
     listed >>= λ others. Some (record { part = cs ++ others.part; is_inner = is_inner || others.is_inner; rest = others.rest })
 
--- the list in the text is the components `cs`, followed by the list that `rest` completes
+-- reading the list in `text` gives the components `cs`, followed by the components read from `rest`
 abbrev pub HasListed : List Field → Bool → List ℕ → List ℕ → Type 0
 HasListed cs is_inner text rest =
     (n : ℕ) × (length rest ≤ n) × (listed_within (length text) text ≡ before_others cs is_inner (listed_within n rest))
@@ -25,7 +25,7 @@ listed_nothing text = (length text, omega arith, sym (nothing (listed_within (le
     nothing None = refl
     nothing (Some others) = refl
 
--- one more text is read
+-- if `rest` begins with a quoted text, its component comes before those of the remaining texts
 listed_more : (n : ℕ) (rest front after : List ℕ) → quoted_in rest ≡ Some (front, after)
     → listed_within (suc n) rest ≡ (text_in front >>= λ c. before_others (c ∷ []) (has_special front) (listed_within n after))
 unfolding listed_within
@@ -52,7 +52,7 @@ listed_faulty at cs is_inner text rest front after fault (suc n, few, h) e short
     (fault_on at _ (λ others. Some (record { part = cs ++ others.part; is_inner = is_inner || others.is_inner; rest = others.rest })) fault
     (fault_on at (text_in front) (λ c. before_others (c ∷ []) (has_special front) (listed_within n after)) fault faulty))
 
--- there are no more texts
+-- if `rest` does not begin with a quoted text, the list must end there
 listed_end : (n : ℕ) (rest : List ℕ) → quoted_in rest ≡ None → listed_within n rest ≡ list_end rest
 unfolding listed_within
 listed_end zero rest e = refl

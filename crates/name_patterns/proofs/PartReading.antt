@@ -30,7 +30,7 @@ parts_begun groups text = (length text, omega arith, sym (nothing (parts_within 
     nothing (Ok parts) = refl
     nothing (Err fault) = refl
 
--- one more part is read
+-- if a part is at the front of `rest`, the parts of `rest` are this part and the parts after it
 parts_more : (n groups len : ℕ) (rest after : List ℕ) (part : PlainPart) → 0 < length rest → part_in groups (len - length rest) rest ≡ Ok (part, after)
     → parts_within (suc n) groups len rest ≡ before_others (part ∷ []) (parts_within n groups len after)
 unfolding parts_within
@@ -46,7 +46,7 @@ parts_one groups parts text rest after part (suc n, few, h) shorter e =
     moved (Ok others) = ap (λ (ps : List PlainPart). Ok ps) (sym (append_assoc parts (part ∷ []) others))
     moved (Err fault) = refl
 
--- the next part is faulty
+-- if the part at the front of `rest` is faulty, its fault is the result
 parts_stop : (n groups len : ℕ) (rest : List ℕ) (fault : PatternFault) → 0 < length rest → part_in groups (len - length rest) rest ≡ Err fault
     → parts_within (suc n) groups len rest ≡ Err fault
 unfolding parts_within
@@ -58,7 +58,7 @@ parts_faulty groups parts text rest fault (zero, few, h) some faulty = absurd (o
 parts_faulty groups parts text rest fault (suc n, few, h) some (inl e) = inl (h ∙ ap (before_others parts) (parts_stop n groups (length text) rest fault some e))
 parts_faulty groups parts text rest fault (suc n, few, h) some (inr memory) = inr memory
 
--- there are no more parts
+-- if no text remains, there are no more parts
 parts_end : (n groups len : ℕ) (rest : List ℕ) → length rest ≡ 0 → parts_within n groups len rest ≡ Ok []
 unfolding parts_within
 parts_end zero groups len rest none = refl

@@ -29,7 +29,8 @@ no_place place = is_not_there 0 place (bit_at-zero place)
 pub no_place_from : (places k place : ℕ) → places < 2 ^ k → k ≤ place → has_place places place ≡ false
 no_place_from places k place small from = is_not_there places place (bit_at_above places k place small from)
 
--- a position is added to the set
+-- after the position `k` is added to the set, `k` is in the set, and the other positions are in it
+-- exactly if they were before
 pub added_same : (places k : ℕ) → k < 128 → has_place (bit_or places (1 * 2 ^ k % 2 ^ 128)) k ≡ true
 added_same places k low = is_there _ k (bit_at_set_same w128 places k low)
 
@@ -47,7 +48,7 @@ first_same k low = added_same 0 k low
 pub first_other : (k place : ℕ) → k < 128 → place ≢ k → has_place (1 * 2 ^ k % 2 ^ 128) place ≡ false
 first_other k place low other = added_other 0 k place low other ∙ no_place place
 
--- the intersection and the union of two sets
+-- `bit_and` computes the intersection of two sets, and `bit_or` their union
 pub in_both : (a b place : ℕ) → has_place (bit_and a b) place ≡ (has_place a place && has_place b place)
 in_both a b place = rw (bit_at_and a b place) (of_bits (bit_at a place) (bit_at b place) (bit_at-lt a place) (bit_at-lt b place))
   where
@@ -82,7 +83,7 @@ one_before places place =
     let next : 1 + place ≡ place + 1 = omega arith in
     same_place (places / 2 ^ 1) places place (place + 1) (bit_of_shr places 1 place ∙ ap (λ (i : ℕ). bit_at places i) next)
 
--- the length of a run of components that pass
+-- a run of passing components from `place` on ends at position 64 at the latest
 pub run_is : (passed place : ℕ) → passed < 2 ^ 64 → place ≤ 64 → trailing_ones w128 (passed / 2 ^ place) + place ≤ 64
 run_is passed place small low =
     let low_pow : 2 ^ 64 < 2 ^ 127 = pow_below 64 127 (omega arith) in
@@ -175,7 +176,7 @@ bit_of_shl n k i from low =
     bit_of_mod (n * 2 ^ k) 128 i low
     ∙ (sym (ap (λ (m : ℕ). bit_at m i) plain) ∙ bit_at_cat_high n k 0 i (pow_pos k) from)
 
--- the highest bit of a number is 1
+-- if `a` has exactly `m + 1` binary digits, its bit `m` is 1
 top_bit : (a m : ℕ) → a < 2 ^ (m + 1) → 2 ^ (m + 1) ≤ 2 * a + 1 → bit_at a m ≡ 1
 top_bit a m high low =
     let twice : 2 ^ (m + 1) ≡ 2 ^ m * 2 = pow-add 2 m 1 in
@@ -213,7 +214,8 @@ none_later places end place low high skips =
     is_not_there places place
     (rw place_is at (sym (bit_of_shl places (127 - end) (127 - end + place) (omega arith) (omega arith)) ∙ none))
 
--- the greatest count, by the last position in the set
+-- the greatest count leads to the last position in the set that is not after `place + most`, if
+-- this count is at least `least`
 pub greatest_taken : (places place least most : ℕ) → place + most ≤ 64 → skipped places (place + most) ≤ most → least ≤ most - skipped places (place + most)
     → greatest (λ count. has_place places (place + count)) least most ≡ Some (most - skipped places (place + most))
 greatest_taken places place least most low skips enough =

@@ -1,4 +1,4 @@
--- What reading a component's text between < and > tells about the text.
+-- What reading a component's text between `<` and `>` tells about the text.
 use Rattle.std.proofs.Common.{◌≡◌, ◌≢◌, ℕ, ◌<◌, false, eqb, List, [], ◌∷◌, ◌++◌, length, Some, None, Result, Ok, Err, refl, sym, ap, subst, ◌∙◌, append_assoc, codes}
 use Rattle.std.specs.List.{AllByRecursion}
 use Rattle.std.proofs.lemmas.Bool.{eqb-true, or_parts}
@@ -58,11 +58,11 @@ pub quoted_again : (front rest : List ℕ) (c : Field) (h : IsQuoted front c) �
 quoted_again front rest c h =
     ap (λ (t : List ℕ). quoted_in (t ++ rest)) h.1 ∙ ap (cut_at 62) (append_assoc h.0 (codes ">") rest) ∙ cut_again 62 h.0 rest (plain_lacks h.0 h.2.0)
 
--- a quoted text begins with <
+-- a quoted text begins with `<`
 pub quoted_front : (front : List ℕ) (c : Field) → IsQuoted front c → (inner : List ℕ) × (front ≡ 60 ∷ inner)
 quoted_front front c h = (h.0 ++ codes ">", h.1)
 
--- the text of a component between < and >
+-- if a quoted text without special characters is read as a component, it is in the grammar
 pub single_found : (text : List ℕ) (parts : List ℕ × List ℕ) (c : Field) → quoted_in text ≡ Some parts → text_in parts.0 ≡ Some c → has_special parts.0 ≡ false
     → (front : List ℕ) × (text ≡ front ++ parts.1) × IsQuoted front c
 single_found text parts c e is none =

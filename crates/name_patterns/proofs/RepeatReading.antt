@@ -103,7 +103,7 @@ range_again text least (Some most) (inr (inr h)) =
     range_cut text h.0 h.1 h.2 (count_lacks 44 (inl (omega arith)) h.0 least h.3)
     ∙ rw (some_digits h.1 most h.4, some_digits h.0 least h.3, count_again h.0 least h.3, count_again h.1 most h.4, le-leb least most h.5) refl
 
--- a range contains no brace
+-- neither a count nor a range contains a closing brace
 count_no_brace : (text : List ℕ) (n : ℕ) → IsCount text n → Lacks 125 text
 count_no_brace text n h = count_lacks 125 (inr (omega arith)) text n h
 
@@ -142,7 +142,7 @@ sign_found : (o sign : ℕ) (text : List ℕ) (bounds : Bounds) (found : Bounds 
 sign_found o sign text bounds found is h e =
     given_to (IsRepeatAt (o ∷ text)) (bounds, text) found e (sign ∷ [], ap (λ (first : ℕ). first ∷ text) is, inr h)
 
--- the repeat at the front of a text that does not begin with a brace
+-- if the text does not begin with a brace, the repeat that is read at its front is in the grammar
 unbraced_found : (o : ℕ) (text : List ℕ) (found : Bounds × List ℕ)
     → cond (eqb o 42) (Some (any_number, text)) (cond (eqb o 43) (Some (record { least = 1; most = None }, text)) (cond (eqb o 63) (Some (record { least = 0; most = Some 1 }, text)) (Some (once, o ∷ text)))) ≡ Some found
     → IsRepeatAt (o ∷ text) found

@@ -59,7 +59,8 @@ at_most_low : (most : Option ℕ) (n : ℕ) → at_most most n ≤ n
 at_most_low None n = omega arith
 at_most_low (Some most) n = omega arith
 
--- the first count of an atom, found by the positions from which the later atoms have a split
+-- the first count of an atom can be computed from the positions from which the later atoms have a
+-- split
 pub count_by_places : (atom : PlainAtom) (atoms : List PlainAtom) (cs : List Field) (bounds : Bounds) (after place run : ℕ)
     → bounds ≡ atom.bounds → AreSplit atoms cs after → run ≡ run_of atom.test (drop place cs) → place ≤ length cs
     → greatest (λ count. has_place after (place + count)) bounds.least (at_most bounds.most run) ≡ first_count (atom ∷ atoms) (drop place cs)
@@ -95,7 +96,9 @@ none_there atoms cs place none low = of_test (first_count atoms (drop place cs))
     of_test None e = refl
     of_test (Some k) e = absurd cc
 
--- one more component is tested
+-- if `places` are the positions of the passing components of `cs`, and `next` adds the position of
+-- one more component `c` exactly if `c` passes, then `next` are the positions for `cs` followed by
+-- `c`
 pub pushed : (test : PlainTest) (cs : List Field) (c : Field) (places next place : ℕ) → ArePassed test cs places → length cs ≡ place → has_place next place ≡ passes test c
     → ((other : ℕ) → other ≢ place → has_place next other ≡ has_place places other) → ArePassed test (cs ++ c ∷ []) next
 pushed test cs c places next place are len there others p =
@@ -122,7 +125,7 @@ drop_map_end : {X Y : Type 0} (f : X → Y) (xs : List X) → drop (length xs) (
 drop_map_end f [] = refl
 drop_map_end f (x ∷ xs) = drop_map_end f xs
 
--- the row after the last atom
+-- after the last atom there are no later atoms, so `places` are right for the row after it
 pub after_all : {X : Type 0} (f : X → PlainAtom) (xs : List X) (cs : List Field) (places : ℕ) → AreSplit [] cs places → AreSplit (drop (length xs) (map f xs)) cs places
 after_all f xs cs places are = rw (drop_map_end f xs) are
 
@@ -138,7 +141,8 @@ drop_map f (y ∷ xs) (suc at) x h is = rw next (drop_map f xs at x (omega arith
     next : suc at + 1 ≡ suc (at + 1)
     next = omega arith
 
--- one more row of a table is filled
+-- if the row at index `at` is set to a row with the property `P`, and the rows after it up to index
+-- `n` have it, then all rows from `at` to `n` have it
 pub table_step : {X : Type 0} (P : ℕ → X → Type 0) (rows : List X) (at n : ℕ) (row : X) → at < length rows → P at row
     → ((k : ℕ) → at + 1 ≤ k → k ≤ n → IsSomeAnd (slice_get rows k) (P k)) → (k : ℕ) → at ≤ k → k ≤ n → IsSomeAnd (slice_get (slice_set rows at row) k) (P k)
 table_step P rows at n row room here following k from low =

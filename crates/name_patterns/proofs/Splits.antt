@@ -198,7 +198,7 @@ no_split atom atoms cs following e (count ∷ counts) split =
     let t = taken atom atoms cs count counts following split in
     no_greatest (λ n. is_some (first_count atoms (drop n cs))) atom.bounds.least (at_most atom.bounds.most (run_of atom.test cs)) e count split.0 t.0 t.1
 
--- no other split is greater
+-- every other split is less than the split `k ∷ best`
 not_greater : (atom : PlainAtom) (atoms : List PlainAtom) (cs : List Field) (k : ℕ) (best : List ℕ) → AreSearched atoms
     → IsGreatest (λ n. is_some (first_count atoms (drop n cs))) atom.bounds.least (at_most atom.bounds.most (run_of atom.test cs)) k
     → IsGreatestSplit atoms (drop k cs) best
@@ -227,7 +227,7 @@ unfolding first_count
 first_is atom atoms cs k e =
     some_greatest (λ n. is_some (first_count atoms (drop n cs))) atom.bounds.least (at_most atom.bounds.most (run_of atom.test cs)) k e
 
--- the result for an atom in front of others follows from its first count
+-- the search is right for an atom in front of `atoms` if it is right for `atoms`
 step : (atom : PlainAtom) (atoms : List PlainAtom) (cs : List Field) → AreSearched atoms
     → (r : Option ℕ) → first_count (atom ∷ atoms) cs ≡ r → IsSearched (atom ∷ atoms) cs r
 unfolding greedy
@@ -287,7 +287,7 @@ nothing_by : (atoms : List PlainAtom) (cs : List Field) (r : Option ℕ) → IsS
 nothing_by atoms cs None h e = h.1
 nothing_by atoms cs (Some k) h e = absurd (none_here k e)
 
--- without a first count, there are no counts
+-- if `first_count` returns `None`, so does `greedy`
 pub nothing_first : (atoms : List PlainAtom) (cs : List Field) → first_count atoms cs ≡ None → greedy atoms cs ≡ None
 nothing_first atoms cs e = nothing_by atoms cs (first_count atoms cs) (searched atoms cs) e
 
@@ -305,7 +305,7 @@ none_first atom atoms cs once_is no_run =
     let most : min 1 0 ≡ 0 = omega arith in
     rw (once_is, no_run, most) (greatest_no_one (λ count. is_some (first_count atoms (drop count cs))))
 
--- if an atom matches exactly one component, and the next one does not pass, there is no split
+-- if an atom matches exactly one component, and the next component does not pass, there is no split
 pub no_single : (atom : PlainAtom) (atoms : List PlainAtom) (cs : List Field) → atom.bounds ≡ once → run_of atom.test cs ≡ 0 → greedy (atom ∷ atoms) cs ≡ None
 no_single atom atoms cs once_is no_run = greedy_none atom atoms cs (none_first atom atoms cs once_is no_run)
 
@@ -317,7 +317,7 @@ single_first atom atoms c cs once_is is =
     let most : min 1 (1 + run_of atom.test cs) ≡ 1 = omega arith in
     rw (once_is, run, most) (greatest_one (λ count. is_some (first_count atoms (drop count (c ∷ cs)))))
 
--- an atom that matches exactly one component adds the count 1
+-- if an atom matches exactly one component and the first component passes, the atom has the count 1
 pub single_taken : (done : List ℕ) (atom : PlainAtom) (atoms : List PlainAtom) (c : Field) (cs : List Field) → atom.bounds ≡ once → passes atom.test c ≡ true
     → after_counts done (greedy (atom ∷ atoms) (c ∷ cs)) ≡ after_counts (done ++ 1 ∷ []) (greedy atoms cs)
 single_taken done atom atoms c cs once_is is = by_rest (first_count atoms cs) refl

@@ -22,7 +22,7 @@ end_found (o ∷ text) found e =
     given_to (IsListed (o ∷ text)) (record { part = []; is_inner = false; rest = text }) found p.1
     ([], ap (λ (first : ℕ). first ∷ text) (eqb-true o 93 p.0), refl)
 
--- one text before the others of a list
+-- if the later texts of a list are in the grammar, so is the list with one more text in front
 before_listed : (text : List ℕ) (quoted : List ℕ × List ℕ) (c : Field) (others found : FrontPart (List Field)) → quoted_in text ≡ Some quoted → text_in quoted.0 ≡ Some c
     → given (record { part = c ∷ others.part; is_inner = has_special quoted.0 || others.is_inner; rest = others.rest }) ≡ given found → found.is_inner ≡ false
     → (others.is_inner ≡ false → IsListed quoted.1 others) → IsListed text found
@@ -176,7 +176,7 @@ one_again front rest c h =
     ap (λ (t : List ℕ). test_in (t ++ rest)) f.1 ∙ ap (λ (t : List ℕ). quoted_test_in (t ++ rest)) (sym f.1) in
     begins ∙ rw (quoted_again front rest c h, other, text_again h.0 c h.2, text_none h.0 c h.2) refl
 
--- the texts of a list begin with <
+-- a list of quoted texts that is not empty begins with `<`
 list_begins : (inner : List ℕ) (cs : List Field) → cs ≢ [] → AreQuoted inner cs → (text : List ℕ) × (inner ≡ 60 ∷ text)
 list_begins inner [] some h = absurd (some refl)
 list_begins inner (c ∷ cs) some h =
@@ -200,7 +200,7 @@ test_again front rest (OneOf cs) (inr h) =
 test_again front rest (NoneOf cs) h =
     ap (λ (t : List ℕ). test_in (t ++ rest)) h.1 ∙ ap (list_in NoneOf) (append_assoc h.0 (codes "]") rest) ∙ list_again NoneOf h.0 rest cs h.2 h.3
 
--- a test begins with < or [
+-- the text begins with `<` or `[`, as each test does
 abbrev pub BeginsTest : List ℕ → Type 0
 BeginsTest text = (o : ℕ) × (rest : List ℕ) × (text ≡ o ∷ rest) × ((o ≡ 60) ⊎ (o ≡ 91))
 

@@ -18,7 +18,7 @@ lacks_from_places : (octet : ℕ) (text : List ℕ) → ((i : ℕ) → i < lengt
 lacks_from_places octet [] h = tt
 lacks_from_places octet (o ∷ text) h = (h 0 (omega arith), lacks_from_places octet text (λ i lt. h (suc i) (omega arith)))
 
--- the result of `split_once` at an octet
+-- `split_once` at an octet returns what `cut_at` returns
 pub cut_is : (octet : ℕ) (text : List ℕ) (r : Option (Bor (List ℕ) × Bor (List ℕ))) → IsSplitOnceResult octet text r → octet < 128
     → cut_at octet text ≡ option_map (λ parts. (parts.0.now, parts.1.now)) r
 cut_is octet text None split lt = cut_lacking octet text (lacks_from_places octet text (split_parts octet text None split lt))

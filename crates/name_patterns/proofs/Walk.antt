@@ -13,7 +13,7 @@ use Rattle.name_patterns.specs.Greedy.{passes, run_of, first_count, greedy, AreP
 use Rattle.name_patterns.proofs.Rows.{set_same, set_other, drop_map, nil_after, nil_at_end}
 use Rattle.name_patterns.proofs.Splits.{first_fits, greedy_some, greedy_end, greedy_no_end, no_single, single_taken}
 
--- a value that exists and has the property
+-- if `IsSomeAnd o P` holds, `o` has a value, and this value has the property `P`
 pub some_of : {X : Type 0} (P : X → Type 0) (o : Option X) → IsSomeAnd o P → (x : X) × (o ≡ Some x) × P x
 some_of P None h = absurd h
 some_of P (Some x) h = (x, refl, h)
@@ -25,12 +25,12 @@ row_at atoms cs rows first i d table from low =
     let row_is : get_or rows i d ≡ row.0 = get_or_from_slice_get rows i row.0 d row.1 in
     rw row_is row.2
 
--- the positions from which the remaining atoms have a split
+-- if a row is valid, its field `split` has the positions from which the atoms have a split
 pub row_split : (atoms : List PlainAtom) (cs : List Field) (row : Row) → IsRow atoms cs row → AreSplit atoms cs row.split
 row_split [] cs row is = is
 row_split (atom ∷ atoms) cs row is = is.2
 
--- The row of an atom, and the row after it.
+-- `row` is the row of the first atom of `atoms`, and `after` is the row of the atoms `later`.
 pub record IsAtomRow (atom : PlainAtom) (atoms later : List PlainAtom) (cs : List Field) (row after : Row) : Type 0 where
   pub cut : atoms ≡ atom ∷ later
   pub passed : ArePassed atom.test cs row.passed
@@ -66,7 +66,7 @@ taken_none atoms cs i place starts done w none = w.rest ∙ rw none refl
 sum_push : (xs : List ℕ) (n : ℕ) → sum (xs ++ n ∷ []) ≡ sum xs + n
 sum_push xs n = sum_by_push (λ x. x) xs n
 
--- one more count is added to the counts `done`
+-- if `k` is the next count of the greatest split, it can be added to the counts `done`
 take_step : (atoms : List PlainAtom) (cs : List Field) (i place : ℕ) (starts done : List ℕ) (k : ℕ) → IsTaken atoms cs i place starts done
     → i + 1 < length starts → place + k ≤ length cs
     → after_counts done (greedy (drop i atoms) (drop place cs)) ≡ after_counts (done ++ k ∷ []) (greedy (drop (i + 1) atoms) (drop (place + k) cs))
@@ -90,7 +90,7 @@ take_step atoms cs i place starts done k w room low e =
       ];
     }
 
--- the first count of the next atom is added to the counts `done`
+-- the first count of the next atom can be added to the counts `done`
 pub walk_step : (atoms : List PlainAtom) (cs : List Field) (i place : ℕ) (starts done : List ℕ) (k : ℕ) → IsTaken atoms cs i place starts done → i < length atoms
     → i + 1 < length starts → first_count (drop i atoms) (drop place cs) ≡ Some k
     → IsTaken atoms cs (i + 1) (place + k) (slice_set starts (i + 1) (place + k)) (done ++ k ∷ [])
@@ -102,7 +102,8 @@ walk_step atoms cs i place starts done k w low room e =
     take_step atoms cs i place starts done k w room (omega (arith, length-drop place cs, left, w.fits))
     (rw a.1 (greedy_some done a.0 (drop (i + 1) atoms) (drop place cs) k first ∙ rw moved refl))
 
--- if an atom matches exactly one component, and no next one passes, there is no split
+-- if an atom matches exactly one component, and no component passes at its position, there is no
+-- split
 pub single_none : (atoms : List PlainAtom) (cs : List Field) (i : ℕ) (starts done : List ℕ) (atom : PlainAtom) → IsTaken atoms cs i i starts done
     → drop i atoms ≡ atom ∷ drop (i + 1) atoms → atom.bounds ≡ once → run_of atom.test (drop i cs) ≡ 0 → greedy atoms cs ≡ None
 single_none atoms cs i starts done atom w cut once_is no_run =
@@ -119,7 +120,8 @@ drop_next (y ∷ xs) (suc i) x rest e =
     let next : suc i + 1 ≡ suc (i + 1) = omega arith in
     (rw next more.0, omega (arith, more.1))
 
--- an atom that matches exactly one component matches the next one if it passes
+-- if an atom matches exactly one component and the next component passes, the count 1 can be added
+-- to the counts `done`
 pub single_step : (atoms : List PlainAtom) (cs : List Field) (i : ℕ) (starts done : List ℕ) (atom : PlainAtom) (c : Field) → IsTaken atoms cs i i starts done
     → drop i atoms ≡ atom ∷ drop (i + 1) atoms → drop i cs ≡ c ∷ drop (i + 1) cs → i + 1 < length starts → i + 1 ≤ length cs
     → atom.bounds ≡ once → passes atom.test c ≡ true → IsTaken atoms cs (i + 1) (i + 1) (slice_set starts (i + 1) (i + 1)) (done ++ 1 ∷ [])

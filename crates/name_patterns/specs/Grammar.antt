@@ -91,7 +91,7 @@ abbrev pub item_atoms : Item → List PlainAtom
 item_atoms (Alone atom) = atom ∷ []
 item_atoms (Group atoms) = atoms
 
--- the groups among these items, where n atoms come before the items
+-- the groups among these items, where `n` atoms come before the items
 abbrev pub groups_from : ℕ → List Item → List (ℕ × ℕ)
 groups_from n [] = []
 groups_from n (Alone atom ∷ items) = groups_from (n + 1) items

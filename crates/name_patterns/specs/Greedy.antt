@@ -22,7 +22,7 @@ at_most (Some most) n = min most n
 abbrev pub run_of : PlainTest → List Field → ℕ
 run_of test cs = prefix_len (passes test) cs
 
--- the greatest number from `least` up to n for which `can_take` is true
+-- the greatest number from `least` up to the last argument for which `can_take` is true
 unfoldable pub greatest : (ℕ → Bool) → ℕ → ℕ → Option ℕ
 greatest can_take least zero = if (least == 0) && can_take 0 then Some 0 else None
 greatest can_take least (suc n) =
@@ -85,7 +85,7 @@ AreStarts atoms counts starts =
 abbrev pub after_counts : List ℕ → Option (List ℕ) → Option (List ℕ)
 after_counts done later = option_map (λ counts. done ++ counts) later
 
--- The counts `done` are those of the first i atoms in the greatest split, if there is a split.
+-- The counts `done` are those of the first `i` atoms in the greatest split, if there is a split.
 -- These atoms match the first `place` components.
 pub record IsTaken (atoms : List PlainAtom) (cs : List Field) (i place : ℕ)
     (starts done : List ℕ) : Type 0 where

@@ -45,7 +45,8 @@ list_end [] = None
 list_end (o ∷ text) =
     if o == 93 then Some (record { part = []; is_inner = false; rest = text }) else None
 
--- at most n texts between < and >, up to the bracket that closes the list
+-- the texts between `<` and `>` up to the bracket that closes the list, where the first argument
+-- limits the number of texts
 unfoldable pub listed_within : ℕ → List ℕ → Option (FrontPart (List Field))
 listed_within zero text = list_end text
 listed_within (suc n) text = option_map_or
@@ -199,7 +200,7 @@ with_closed draft at text (Some group) =
       text,
     )
 
--- the draft after the item at offset `at` is added: a parenthesis or an atom
+-- adds the item at offset `at` to the draft; the item is a parenthesis or an atom
 abbrev pub with_item : PlainDraft → ℕ → List ℕ → Result (PlainDraft × List ℕ) PatternFault
 with_item draft at [] = with_atom draft at []
 with_item draft at (o ∷ text) =
@@ -237,8 +238,8 @@ at_end draft (o ∷ text) = whole_of draft draft.open_group
 abbrev pub is_end : List ℕ → Bool
 is_end text = (length text == 0) || bytes_eq text (codes "$")
 
--- the pattern of a text of length `len`, of which `text` is still to be read; at most n more items
--- are read
+-- the pattern of a text of length `len`, of which `text` is still to be read; the first argument
+-- limits the number of further items
 unfoldable pub items_within : ℕ → ℕ → PlainDraft → List ℕ → Result PlainPattern PatternFault
 items_within zero len draft text = at_end draft text
 items_within (suc n) len draft text =

@@ -38,8 +38,8 @@ part_in groups at [] = Err (Syntax at)
 part_in groups at (o ∷ text) =
     if o == 92 then group_in groups at text else single_part_in at (o ∷ text)
 
--- the parts of a template of length `len`, of which `text` is still to be read; at most n more
--- parts are read
+-- the parts of a template of length `len`, of which `text` is still to be read; the first argument
+-- limits the number of further parts
 unfoldable pub parts_within : ℕ → ℕ → ℕ → List ℕ → Result (List PlainPart) PatternFault
 parts_within zero groups len text = Ok []
 parts_within (suc n) groups len text =

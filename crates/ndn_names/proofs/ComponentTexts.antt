@@ -75,7 +75,7 @@ pub plain_said : (kind found len : ℕ) (text octets : List ℕ) (value : Result
     → component_of (kind, take len octets) ≡ Ok (found, take len octets) → value ≡ Ok (take len octets) → HasRead (plain_in kind text) found len value
 plain_said kind found len text octets value read cut is component e = ((found, take len octets), rw (read, cut, component) refl, (refl, is, e))
 
--- if reading `octet` and the octets after it succeeds, reading the octets after it succeeds
+-- if a reading returns `octet` before the octets of the reading `r`, then `r` succeeds
 pub before_found : (octet : ℕ) (r : Result (List ℕ) NameFault) (octets : List ℕ) → before octet r ≡ Ok octets → (rest : List ℕ) × (r ≡ Ok rest) × (octets ≡ octet ∷ rest)
 before_found octet (Ok rest) octets e = (rest, refl, cc)
 before_found octet (Err fault) octets e = absurd cc

@@ -13,7 +13,8 @@ lacks_from_places : (octet : ℕ) (text : List ℕ) → ((i : ℕ) → i < lengt
 lacks_from_places octet [] h = tt
 lacks_from_places octet (o ∷ text) h = (h 0 (omega arith), lacks_from_places octet text (λ i lt. h (suc i) (omega arith)))
 
--- a piece with an equals sign has a type before it; a piece without one is a GenericNameComponent
+-- a piece with an equals sign reads as a component whose type is before the first equals sign, and
+-- whose value is after it
 pub component_parts : (piece : List ℕ) (front back : Bor (List ℕ)) → IsSplitOnceResult 61 piece (Some (front, back)) → component_in piece ≡ typed_in front.now back.now (kind_of front.now)
 unfolding component_in
 component_parts piece front back split =

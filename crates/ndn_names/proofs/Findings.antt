@@ -54,7 +54,7 @@ found_past kind front rest after c (Some first) some other h = record {
   last = (λ t. absurd (some (h.last.0 t).1), λ e. absurd (never_empty h.after c e.0));
 }
 
--- the search result is updated after a component of type `kind` is read
+-- after a component of type `kind` is read, the search result that `Further` describes is correct
 found_more : (kind : ℕ) (front : List Field) (rest after : List ℕ) (c : Field) (found : Option FirstOfType) (is_last : Bool) (first : FirstOfType) → rest ≢ [] → c.0 ≡ kind → (IsTrue is_last ↔ (after ≡ [])) → Further found c.1 is_last first
     → FoundSoFar kind front rest found → FoundSoFar kind (front ++ c ∷ []) after (Some first)
 found_more kind front rest after c None is_last first some is last f h = record {
@@ -93,7 +93,7 @@ finding_more kind n rest after value c found is_last first some is last f step h
   first = found_more kind h.front rest after c found is_last first some is last f h.first;
 }
 
--- after all components are read, the search result is that of the whole name
+-- after all components are read, the search result is the search result for the whole name
 pub found_all : (kind : ℕ) (front : List Field) (rest : List ℕ) (found : Option FirstOfType) → rest ≡ [] → FoundSoFar kind front rest found → FindsFirst kind front found
 found_all kind front rest None none h = h
 found_all kind front rest (Some first) none h = record {

@@ -25,7 +25,8 @@ named cs others = do
   ds ← others
   Ok (cs ++ ds)
 
--- the text's name is the components that have been read, followed by what `rest` reads as
+-- the text reads as the components that have been read, followed by the components that `rest`
+-- reads as
 abbrev pub HasNamed : ℕ → List Field → List ℕ → List ℕ → Type 0
 HasNamed count cs text rest =
     (count ≡ length cs) × (count ≤ 64) × (components_in 0 (pieces_of text) ≡ named cs (components_in count (pieces_of rest)))
@@ -38,7 +39,8 @@ named_full count cs text rest h full some = h.2 ∙ ap (named cs) (refused (piec
     refused [] more = absurd (more refl)
     refused (piece ∷ pieces) more = rw (le-ltb count 64 (omega arith)) refl
 
--- one more component is read
+-- if fewer than 64 components have been read, `HasNamed` still holds after one more component is
+-- read
 pub named_one : (count : ℕ) (cs : List Field) (text rest piece after : List ℕ) (c : Field) → HasNamed count cs text rest → count ≢ 64 → pieces_of rest ≡ piece ∷ pieces_of after → component_in piece ≡ Ok c
     → HasNamed (count + 1) (cs ++ c ∷ []) text after
 named_one count cs text rest piece after c h room split e =
@@ -48,13 +50,14 @@ named_one count cs text rest piece after c h room split e =
     moved cs (Ok ds) = ap (λ (t : List Field). Ok t) (sym (append_assoc cs (c ∷ []) ds))
     moved cs (Err fault) = refl
 
--- the octets after one more component is read
+-- if the octets of `cs` and then those of `c` are appended, the octets of `cs` followed by `c` are
+-- appended
 pub octets_more : (old now next : List ℕ) (cs : List Field) (c : Field) → now ≡ old ++ octets_of cs → next ≡ now ++ element c → next ≡ old ++ octets_of (cs ++ c ∷ [])
 octets_more old now next cs c e put =
     put ∙ ap (λ (t : List ℕ). t ++ element c) e ∙ append_assoc old (octets_of cs) (element c)
     ∙ ap (λ (t : List ℕ). old ++ t) (ap (λ (t : List ℕ). octets_of cs ++ t) (sym (append-nil (element c))) ∙ sym (flat_map-append element cs (c ∷ [])))
 
--- no component is longer than the whole name
+-- if all components together have fewer than 2^64 octets, each of them is a valid element
 short_fields : (cs : List Field) → AllByRecursion IsComponent cs → length (octets_of cs) < 2 ^ 64 → AllByRecursion IsField cs
 short_fields [] is short = tt
 short_fields (c ∷ cs) is short =

@@ -17,7 +17,8 @@ use Rattle.ndn_names.specs.declared.fault.NameFault.TheVariants.{BadComponent, B
 use Rattle.ndn_names.specs.Name.{IsComponent, IsNameValue, octets_of, components_of}
 use Rattle.ndn_names.specs.Reading.{component_of, component_at, component_after, components_after, name_at}
 
--- a sequence of two steps succeeds only if the first step does
+-- if two steps in sequence succeed, the first step succeeds, and the second step succeeds with the
+-- result of the first
 pub bind_ok : {A B F : Type 0} (r : Result A F) (f : A → Result B F) (y : B) → (r >>= f) ≡ Ok y → (x : A) × (r ≡ Ok x) × (f x ≡ Ok y)
 bind_ok (Ok x) f y e = (x, refl, e)
 bind_ok (Err d) f y e = absurd cc
@@ -31,7 +32,8 @@ read_element f = Ok f
 pub done_is : {A : Type 0} (x y : A) → done x ≡ done y → x ≡ y
 done_is x y e = cc
 
--- a component that is read has passed all tests
+-- if the tests in `component_of` return the component `d`, it is the tested component `c`, and no
+-- test has found a fault
 passed : (none wide small long : Bool) (c d : Field) → cond (none || wide) (Err BadComponent) (cond (small && not long) (Err BadDigestLength) (Ok c)) ≡ done d → (c ≡ d) × (none ≡ false) × (wide ≡ false) × (small ≡ true → long ≡ true)
 passed true wide small long c d e = absurd cc
 passed false true small long c d e = absurd cc
@@ -46,7 +48,7 @@ passes false false false long c n e h = refl
 passes false false true true c n e h = refl
 passes false false true false c n e h = let no : false ≡ true = h refl in absurd cc
 
--- what is read as a component satisfies `IsComponent`
+-- if `component_of` returns a component, this is its argument, and it satisfies `IsComponent`
 pub component_found : (c d : Field) → component_of c ≡ Ok d → (c ≡ d) × IsComponent d
 component_found c d e =
     let p = passed (eqb c.0 0) (ltb 65535 c.0) (leb c.0 2) (eqb (length c.1) 32) c d e in
@@ -73,7 +75,8 @@ element_found n x c e =
     at_found (Err f) c e = absurd cc
     at_found (Ok d) c e = let p = component_found d c e in (ap read_element p.0, p.1)
 
--- if a list is read as components, all of its elements are valid, and there are at most 64 in all
+-- if a list is read as components, all of its elements are valid, and the name has at most 64
+-- components
 pub components_found : (n : ℕ) (es : List (Result Field TlvFault)) (cs : List Field) → n ≤ 64 → components_after n es ≡ Ok cs → (es ≡ map read_element cs) × (n + length cs ≤ 64) × AllByRecursion IsComponent cs
 components_found n [] cs le e = subst (λ (ds : List Field). ([] ≡ map read_element ds) × (n + length ds ≤ 64) × AllByRecursion IsComponent ds) (done_is [] cs e) (refl, omega arith, tt)
 components_found n (x ∷ es) cs le e =
@@ -174,7 +177,7 @@ is_done n rest value e on = (on.0, reads_all n rest value on.0 e on.1)
 pub refused : (value : List ℕ) (e : NameFault) → name_at value ≡ Err e → (cs : List Field) → IsNameValue value cs → ⊥
 refused value e is cs h = let read = name_again value cs h in let no : Err e ≡ done cs = sym is ∙ read in absurd cc
 
--- octets that are not empty begin with an element, or with something that cannot be read
+-- reading octets that are not empty returns at least one item: an element or a fault
 something : (rest : List ℕ) → rest ≢ [] → (at : Result Field TlvFault) × (others : List (Result Field TlvFault)) × (elements_of rest ≡ at ∷ others)
 something rest some =
     elim (element_at rest) as (λ r. element_at rest ≡ r → (at : Result Field TlvFault) × (others : List (Result Field TlvFault)) × (elements_of rest ≡ at ∷ others)) [
@@ -260,7 +263,7 @@ front_shown rest after c h front walk =
     let text : element c ++ after ≡ element c ++ octets_of (components_of after) = sym front ∙ g.0.1 in
     (is, ((g.0.0.1, append_cancel_left (element c) after (octets_of (components_of after)) text), (omega (arith, g.1.0), g.1.1.1)))
 
--- a valid name from which no component can be read has no components
+-- if no component can be read at the front of a name's valid octets, the name has no components
 pub end_shown : (rest : List ℕ) (e : NameFault) → IsNameValue rest (components_of rest)
     → (rest ≢ [] → (at : Result Field TlvFault) × (others : List (Result Field TlvFault)) × (elements_of rest ≡ at ∷ others) × (component_at at ≡ Err e))
     → components_of rest ≡ []
@@ -295,7 +298,8 @@ is_empty-shown value b (c ∷ cs) h e =
       λ n. absurd cc,
     )
 
--- the position of the i-th component in the octets
+-- the octets of a name are those of the components before the i-th, those of the i-th, and those of
+-- the components after it
 pub place_of : (cs : List Field) (i : ℕ) (c : Field) → slice_get cs i ≡ Some c → octets_of cs ≡ octets_of (take i cs) ++ (element c ++ octets_of (drop (suc i) cs))
 place_of [] i c e = absurd cc
 place_of (d ∷ cs) zero c e = let same : d ≡ c = cc in ap (λ (f : Field). element f ++ octets_of cs) same

@@ -1,5 +1,5 @@
--- The octets of names have the same order as the names. The reasons: no encoding of a number is a
--- prefix of another one, and encodings are ordered as the numbers are.
+-- The octets of names have the same order as the names. This holds because no encoding of a number
+-- is a prefix of another encoding, and encodings are ordered as their numbers are.
 use Rattle.std.proofs.Common.{◌≡◌, ℕ, ◌+◌, ◌*◌, ◌^◌, ◌<◌, ◌≤◌, List, [], ◌∷◌, ◌++◌, length, refl, sym, ap, ◌∙◌, inl, inr, append_assoc, arith}
 use Rattle.std.specs.declared.cmp.Ordering.{Ordering}
 use Rattle.std.specs.declared.cmp.Ordering.TheVariants.{Less as Lt, Equal, Greater}
@@ -31,7 +31,8 @@ then_assoc Lt p q = refl
 then_assoc Equal p q = refl
 then_assoc Greater p q = refl
 
--- lists whose first parts have equal length compare by their first parts, and then by the others
+-- if the first parts of two lists have equal length, the lists compare by their first parts and, if
+-- these are equal, by their second parts
 cmp_joined : (a b x y : List ℕ) → length a ≡ length b → slice_cmp nat_cmp (a ++ x) (b ++ y) ≡ ordering_then (slice_cmp nat_cmp a b) (slice_cmp nat_cmp x y)
 cmp_joined [] [] x y e = refl
 cmp_joined [] (c ∷ b) x y e = absurd (omega arith)
@@ -51,7 +52,7 @@ digit u v b c hb hc =
     (λ d k. let lt : v * 256 + c < u * 256 + b = omega arith in rw (e, d, nat_more _ _ lt) refl))
     (λ e h. let lt : v * 256 + c < u * 256 + b = omega arith in rw (e, nat_more _ _ lt) refl)
 
--- the number whose digits in base 256 are those of u, followed by these octets
+-- the number whose digits in base 256 are those of `u`, followed by these octets
 abbrev number_after : ℕ → List ℕ → ℕ
 number_after u [] = u
 number_after u (b ∷ bs) = number_after (u * 256 + b) bs
@@ -111,7 +112,8 @@ apart_less a b s t m n h k x y = rw (nat_less a b h, nat_less m n k) refl
 apart_more : (a b : ℕ) (s t : List ℕ) (m n : ℕ) → b < a → n < m → Sorts (a ∷ s) (b ∷ t) m n
 apart_more a b s t m n h k x y = rw (nat_more a b h, nat_more m n k) refl
 
--- both encodings have the same first octet
+-- if two encodings have the same first octet and the same length, they are ordered as their numbers
+-- are
 alike : (a : ℕ) (w : Width) (m n : ℕ) → IsSpelled w m → IsSpelled w n → length (to_be_bytes w m) ≡ length (to_be_bytes w n) → Sorts (a ∷ to_be_bytes w m) (a ∷ to_be_bytes w n) m n
 alike a w m n p q len x y =
     ap (λ (o : Ordering). ordering_then o (slice_cmp nat_cmp (to_be_bytes w m ++ x) (to_be_bytes w n ++ y))) (tied_itself nat_cmp_total a)
@@ -179,7 +181,7 @@ element_order f g x y hf hg =
     ∙ ap (ordering_then (nat_cmp f.0 g.0)) (sorts (length f.1) (length g.1) hf.2 hg.2 (f.1 ++ x) (g.1 ++ y) ∙ tail_order f.1 g.1 x y)
     ∙ sym (then_assoc (nat_cmp f.0 g.0) (ordering_then (nat_cmp (length f.1) (length g.1)) (slice_cmp nat_cmp f.1 g.1)) (slice_cmp nat_cmp x y))
 
--- the encoding of a number has a first octet
+-- the encoding of a number is not empty
 first_octet : (n : ℕ) (x : List ℕ) → (b : ℕ) × (rest : List ℕ) × (spelling n ++ x ≡ b ∷ rest)
 first_octet n x =
     elim (form_of n) [

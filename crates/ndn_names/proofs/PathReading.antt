@@ -99,7 +99,7 @@ pieces_lack (o ∷ text) =
     front_lacks o [] other h = ((other, tt), tt)
     front_lacks o (piece ∷ pieces) other h = ((other, h.0), h.1)
 
--- the pieces after a slash make up the whole text, except for a slash at the end
+-- a slash and `text` are the pieces, each after a slash, and possibly one more slash at the end
 abbrev IsJoined : List ℕ → List (List ℕ) → Type 0
 IsJoined text pieces = (end : List ℕ) × (47 ∷ text ≡ path_of pieces ++ end) × IsEnd end
 

@@ -81,7 +81,8 @@ numbered_again text c h small is = rw (number_again text h small) (ap (λ (v : L
 
 -- ---- components
 
--- the component that is read from a piece with an equals sign is in the grammar
+-- if a piece with an equals sign is read as a component, the grammar `ReadsComponent` allows this
+-- reading
 typed_found : (piece type_name text : List ℕ) (c : Field) → Lacks 47 text → piece ≡ type_name ++ 61 ∷ text → typed_in type_name text (kind_of type_name) ≡ Ok c → ReadsComponent piece c × IsComponent c
 typed_found piece type_name text c slash is e =
     elim (kind_of type_name) as (λ r. kind_of type_name ≡ r → typed_in type_name text r ≡ Ok c → ReadsComponent piece c × IsComponent c) [
@@ -146,7 +147,8 @@ piece_again piece c (inr (inl h)) is = typed_again piece c h is
 piece_again piece c (inr (inr (inl h))) is = digest_piece_again piece c h
 piece_again piece c (inr (inr (inr h))) is = numbered_piece_again piece c h
 
--- a piece that reads as a component is not empty and contains no slash
+-- a piece with an equals sign is not empty, and contains no slash if the texts before and after the
+-- sign contain none
 around_sign : (piece front text : List ℕ) → piece ≡ front ++ 61 ∷ text → Lacks 47 front → Lacks 47 text → (0 < length piece) × Lacks 47 piece
 around_sign piece front text is before_sign after_sign =
     let size = ap length is ∙ length-append front (61 ∷ text) in

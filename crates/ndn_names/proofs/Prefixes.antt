@@ -26,14 +26,16 @@ length-take-le n cs = omega (arith, ap length (take-append-drop n cs), length-ap
 octets_cut : (n : ℕ) (cs : List Field) → octets_of cs ≡ octets_of (take n cs) ++ octets_of (drop n cs)
 octets_cut n cs = ap octets_of (sym (take-append-drop n cs)) ∙ flat_map-append element (take n cs) (drop n cs)
 
--- `front` is the octets before the remaining octets `rest`
+-- if the octets are `front` followed by `rest`, cutting off as many octets at the end as `rest` has
+-- leaves `front`
 front_is : (octets front rest : List ℕ) → octets ≡ front ++ rest → (length rest ≤ length octets) × (take (length octets - length rest) octets ≡ front)
 front_is octets front rest e =
     let lengths : length octets ≡ length front + length rest = ap length e ∙ length-append front rest in
     let place : length octets - length rest ≡ length front = omega arith in
     (omega arith, ap (λ (k : ℕ). take k octets) place ∙ ap (take (length front)) e ∙ take-append_seam front rest)
 
--- the components that an iterator has not returned after one more step
+-- if an iterator has not returned the components from index i on, then after one more step it has
+-- not returned those from index i + 1 on
 pub left_after : {X : Type 0} (view : X → Field) (r : Option X) (cs left after : List Field) (i : ℕ) → left ≡ drop i cs → i < length cs
     → MatchOption r ((left ≡ []) × (after ≡ [])) (λ x. left ≡ view x ∷ after) → after ≡ drop (i + 1) cs
 left_after view None cs left after i e lt h =

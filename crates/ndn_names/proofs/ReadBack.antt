@@ -29,7 +29,8 @@ AllByRecursion-append : (P : ℕ → Type 0) (xs ys : List ℕ) → AllByRecursi
 AllByRecursion-append P [] ys p q = q
 AllByRecursion-append P (x ∷ xs) ys p q = (p.0, AllByRecursion-append P xs ys p.1 q)
 
--- a test holds for every number below a limit
+-- if checking all numbers below a limit shows that a test holds, the test holds for each number
+-- below the limit
 passes_below : (test : ℕ → Bool) (limit n : ℕ) → agree_below test (λ _. true) limit ≡ true → n < limit → test n ≡ true
 passes_below test limit n all lt = agree_below_at test (λ _. true) limit n all lt
 

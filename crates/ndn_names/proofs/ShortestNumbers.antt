@@ -43,7 +43,8 @@ not_shortest value n (inr (inr (inr p))) lt e =
     let small : n < 2 ^ 32 = rw p.1 at lt in
     omega (arith, length-shortest_four n small, ap length e, ap length p.1)
 
--- one comparison decides whether the octets are the shortest encoding
+-- comparing a number with `least_of` the length of its octets decides whether the octets are its
+-- shortest encoding
 tested : (value : List ℕ) (n : ℕ) → nni_at value ≡ Ok n → IsNni value n → then_some (leb (least_of (length value)) n) n ≡ shortest_number value
 tested value n is nni =
     elim (cases_lt n (least_of (length value))) [
@@ -51,7 +52,8 @@ tested value n is nni =
       | inr le ↦ rw (is, le-leb (least_of (length value)) n le, (bytes_eq-Decides (shortest_nni n) value).1 (shortest_from value n nni le)) refl
     ]
 
--- one comparison gives the `shortest_number` of a value that was read as a number
+-- if a value was read as a number, comparing this number with `least` gives the `shortest_number`
+-- of the value
 pub shortest_number-is : (value : List ℕ) (r : Result ℕ TlvFault) (n least : ℕ) → r ≡ nni_at value → IfOk r (IsNni value) → Some n ≡ result_ok r → least ≡ least_of (length value)
     → then_some (leb least n) n ≡ shortest_number value
 shortest_number-is value (Ok m) n least e nni is l =

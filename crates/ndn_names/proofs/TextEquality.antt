@@ -18,13 +18,15 @@ use Rattle.ndn_names.proofs.NameReading.{named, HasNamed, named_full}
 
 -- ---- octets
 
--- the first octet that a reading returns, and the octets after it
+-- if the octets `said` begin with `first`, and also with `octet` and then `octets`, `first` is
+-- `octet`, and the octets after it begin with `octets`
 pub said_first : (said rest octets : List ℕ) (first octet : ℕ) → said ≡ first ∷ rest → take (suc (length octets)) said ≡ octet ∷ octets → (first ≡ octet) × (take (length octets) rest ≡ octets)
 said_first said rest octets first octet e h =
     let both : first ∷ take (length octets) rest ≡ octet ∷ octets = sym (ap (take (suc (length octets))) e) ∙ h in
     (cc, cc)
 
--- the first octet that the reading of a text returns, and the octets after it
+-- if a text reads as `first` and what `rest` reads as, and the result begins with `octet` and then
+-- `octets`, `first` is `octet`, and what `rest` reads as begins with `octets`
 pub read_first : (reading : List ℕ → Result (List ℕ) NameFault) (text rest octets : List ℕ) (first octet : ℕ) → reading text ≡ before first (reading rest) → (said : List ℕ) → reading text ≡ Ok said
     → take (suc (length octets)) said ≡ octet ∷ octets → (first ≡ octet) × ((others : List ℕ) × (reading rest ≡ Ok others) × (take (length octets) others ≡ octets))
 read_first reading text rest octets first octet e said read h =
@@ -32,8 +34,8 @@ read_first reading text rest octets first octet e said read h =
     let here = said_first said found.0 octets first octet found.2 h in
     (here.0, (found.0, found.1, here.1))
 
--- The values `x` and `y` are equal exactly if their last `left` octets, in the texts `a` and `b`,
--- are.
+-- The texts `a` and `b` encode the last `left` octets of the values `x` and `y`. The values are
+-- equal exactly if these last octets are equal.
 pub record AreLeft (left : ℕ) (a b : ValueText) (x y : List ℕ) : Type 0 where
   pub x_left : List ℕ
   pub y_left : List ℕ
@@ -43,7 +45,7 @@ pub record AreLeft (left : ℕ) (a b : ValueText) (x y : List ℕ) : Type 0 wher
   pub b_says : SaysFirst b y_left
   pub same : (x ≡ y) ↔ (x_left ≡ y_left)
 
--- the first octet of a value, and the text of the octets after it
+-- `first` is the first octet of the text `value`, and `after` is the text of the octets after it
 abbrev pub Begins : ValueText → ℕ → ValueText → Type 0
 Begins value first after = (octet : ℕ) (octets : List ℕ) → SaysFirst value (octet ∷ octets) → (first ≡ octet) × SaysFirst after octets
 

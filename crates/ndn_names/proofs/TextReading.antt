@@ -15,7 +15,8 @@ use Rattle.ndn_names.specs.UriReading.{pair_in, before, hex_in, octets_in, unpad
 
 -- ---- steps
 
--- a test whose failure returns BadUri
+-- if a test whose failure returns `BadUri` is followed by a reading, and the result is `Ok`, the
+-- test has passed, and the reading has this result
 pub test_passed : {A : Type 0} (b : Bool) (r : Result A NameFault) (y : A) → cond b r (Err BadUri) ≡ Ok y → (b ≡ true) × (r ≡ Ok y)
 test_passed true r y e = (refl, e)
 test_passed false r y e = absurd cc
@@ -80,7 +81,8 @@ plain_found a text octets e sign slash found =
     let b = before_found a (octets_in text) octets (sym (octets_plain a text sign) ∙ e) in
     subst (StandsFor (a ∷ text)) (sym b.2) (a ∷ [], text, refl, inl (refl, sign, slash), found b.0 b.1)
 
--- a percent sign and two hexadecimal digits encode an octet
+-- if a text begins with an escape, and the text after the escape stands for what it reads as, the
+-- whole text stands for what it reads as
 escaped_found : (a b c : ℕ) (text octets : List ℕ) → octets_in (a ∷ b ∷ c ∷ text) ≡ Ok octets → a ≡ 37
     → ((others : List ℕ) → octets_in text ≡ Ok others → StandsFor text others) → StandsFor (a ∷ b ∷ c ∷ text) octets
 escaped_found a b c text octets e is found =

@@ -24,19 +24,20 @@ abbrev pub IsTextOf : Field → ComponentText → Type 0
 IsTextOf c text =
     (text.kind ≡ c.0) × (text.len ≡ length c.1) × (value_in text.len text.value ≡ Ok c.1)
 
--- the octets that a text encodes one by one, or a fault for the text of a number
+-- the octets that a text encodes one after the other; a number is not such a text, and gives a
+-- fault
 abbrev pub octets_said : ValueText → Result (List ℕ) NameFault
 octets_said (Plain octets) = Ok octets.now
 octets_said (Escaped text) = octets_in text.now
 octets_said (Hexadecimal text) = hex_in text.now
 octets_said (Number n) = Err BadUri
 
--- the octets that the text encodes begin with `octets`
+-- the octets that the text `value` encodes begin with `octets`
 abbrev pub SaysFirst : ValueText → List ℕ → Type 0
 SaysFirst value octets =
     (said : List ℕ) × (octets_said value ≡ Ok said) × (take (length octets) said ≡ octets)
 
--- if the text is a number, `octets` begin with its shortest encoding
+-- if the text is a number, `octets` begins with the shortest encoding of this number
 abbrev pub IsNumberIn : List ℕ → ValueText → Type 0
 IsNumberIn octets (Number n) = take (length (shortest_nni n)) octets ≡ shortest_nni n
 IsNumberIn octets (Plain text) = ⊤

@@ -24,7 +24,7 @@ octets_of cs = flat_map element cs
 abbrev pub IsNameValue : List ℕ → List Field → Type 0
 IsNameValue value cs = IsElements value cs × IsName cs
 
--- a is a prefix of b, or equal to b
+-- `a` is a prefix of `b`, or equal to `b`
 abbrev pub IsPrefix : List Field → List Field → Type 0
 IsPrefix a b = (rest : List Field) × (b ≡ a ++ rest)
 
@@ -36,7 +36,8 @@ components_of value = filter_map result_ok (elements_of value)
 abbrev pub IsNameOctets : List ℕ → Type 0
 IsNameOctets value = IsNameValue value (components_of value)
 
--- any two proofs that a field is valid are equal; the same holds for components and names below
+-- any two proofs of `IsField f` are equal; the next two lemmas say the same of `IsComponent` and of
+-- `IsNameOctets`
 IsField-prop : (f : Field) → IsProp (IsField f)
 IsField-prop f p q = λ i. (le_prop p.0 q.0 i, le_prop p.1 q.1 i, le_prop p.2 q.2 i)
 

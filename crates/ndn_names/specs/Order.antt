@@ -5,7 +5,7 @@ use Rattle.std.specs.Ordering.{nat_cmp, on, then_cmp}
 use Rattle.std.specs.Cmp.Lexicographic.{slice_cmp}
 use Rattle.ndn_tlv.specs.Element.{Field}
 
--- at the first position at which the lists differ, the element of a is less
+-- at the first position at which the lists differ, the element of `a` is less
 abbrev pub DiffersBelow : {X : Type 0} → (X → X → Type 0) → List X → List X → Type 0
 DiffersBelow {X} Below a b =
     (common after_x after_y : List X) × (x y : X) × (a ≡ common ++ x ∷ after_x)

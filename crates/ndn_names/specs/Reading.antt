@@ -24,13 +24,13 @@ abbrev pub IsFirst : List ℕ → Field → List ℕ → Type 0
 IsFirst octets c rest =
     (elements_of octets ≡ Ok c ∷ elements_of rest) × (component_of c ≡ Ok c)
 
--- octets that are not empty do not begin with a component, for the reason `fault`
+-- if the octets are not empty, no component can be read at their front, and `fault` is the reason
 abbrev pub IsNoFirst : List ℕ → NameFault → Type 0
 IsNoFirst octets fault =
     octets ≢ [] → (at : Result Field TlvFault) × (others : List (Result Field TlvFault))
     × (elements_of octets ≡ at ∷ others) × (component_at at ≡ Err fault)
 
--- the fault of the component `found`, or `Memory` if this component is valid
+-- `fault` is the fault in `found`, or it is `Memory`, and `found` is the valid component `c`
 abbrev pub IsFaultOrMemory : Result Field NameFault → Field → NameFault → Type 0
 IsFaultOrMemory found c fault = (found ≡ Err fault) ⊎ ((fault ≡ Memory) × (found ≡ Ok c))
 
@@ -38,7 +38,7 @@ IsFaultOrMemory found c fault = (found ≡ Err fault) ⊎ ((fault ≡ Memory) ×
 abbrev pub component_after : ℕ → Result Field TlvFault → Result Field NameFault
 component_after n e = if nat_lt n 64 then component_at e else Err TooManyComponents
 
--- these elements as components of a name, after n other components
+-- these elements as the components of a name that come after n other components, or the first fault
 abbrev pub components_after : ℕ → List (Result Field TlvFault) → Result (List Field) NameFault
 components_after n [] = Ok []
 components_after n (e ∷ es) = do
@@ -46,7 +46,7 @@ components_after n (e ∷ es) = do
   cs ← components_after (n + 1) es
   Ok (c ∷ cs)
 
--- the components of a name's TLV-VALUE
+-- the components of a name's TLV-VALUE, or the first fault
 unfoldable pub name_at : List ℕ → Result (List Field) NameFault
 name_at value = components_after 0 (elements_of value)
 

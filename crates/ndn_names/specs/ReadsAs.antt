@@ -10,13 +10,13 @@ use Rattle.ndn_names.specs.Name.{IsName}
 use Rattle.ndn_names.specs.TypeName.{type_name_of}
 use Rattle.ndn_names.specs.Uri.{padded, path_of}
 
--- two hexadecimal digits of either case, and the octet that they encode
+-- `high` and `low` are hexadecimal digits of either case, and encode `octet`
 abbrev pub IsHexPair : ℕ → ℕ → ℕ → Type 0
 IsHexPair high low octet =
     (digit_value high < 16) × (digit_value low < 16)
     × (octet ≡ 16 * digit_value high + digit_value low)
 
--- two hexadecimal digits for each octet
+-- the text has two hexadecimal digits for each of the octets
 abbrev pub IsHex : List ℕ → List ℕ → Type 0
 IsHex text [] = text ≡ []
 IsHex text (o ∷ octets) =
@@ -35,7 +35,8 @@ StandsFor text [] = text ≡ []
 StandsFor text (o ∷ octets) =
     (front rest : List ℕ) × (text ≡ front ++ rest) × IsOctetText front o × StandsFor rest octets
 
--- the text of a value; three periods are added to a value of periods only
+-- the text encodes the value, to which three periods are added if it has no octets other than
+-- periods
 abbrev pub IsValueText : List ℕ → List ℕ → Type 0
 IsValueText text value = StandsFor text (padded value)
 
@@ -56,7 +57,8 @@ IsDigest piece c =
     × (type_name_of c.0 ≡ Some type_name) × (c.0 ≤ PARAMETERS_SHA256_DIGEST)
     × (length text ≡ 64) × IsHex text c.1
 
--- the piece is another type name, an equals sign, and a number below 2^64 in decimal digits
+-- the piece is the type name of a type whose values are numbers, an equals sign, and a number below
+-- 2^64 in decimal digits
 abbrev pub IsNumbered : List ℕ → Field → Type 0
 IsNumbered piece c =
     (type_name text : List ℕ) × (piece ≡ type_name ++ 61 ∷ text)

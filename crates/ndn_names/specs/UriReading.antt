@@ -91,7 +91,7 @@ typed_in type_name text None = do
   kind ← type_in type_name
   plain_in kind text
 
--- the octets before the first c, and the octets after it
+-- the octets before the first octet `c`, and the octets after it
 abbrev pub cut_at : ℕ → List ℕ → Option (List ℕ × List ℕ)
 cut_at c [] = None
 cut_at c (o ∷ text) = if o == c then Some ([], text) else (more o (cut_at c text))
@@ -130,12 +130,12 @@ abbrev pub pieces_of : List ℕ → List (List ℕ)
 pieces_of [] = []
 pieces_of (o ∷ text) = if o == 47 then [] ∷ pieces_of text else at_front o (pieces_of text)
 
--- the text after the scheme, if it has one
+-- the text without the scheme `ndn:`, if the text begins with this scheme
 abbrev pub without_scheme : List ℕ → List ℕ
 without_scheme text = if bytes_eq (take 4 text) (codes "ndn:") then drop 4 text else text
 
--- the name in the text after the first slash of a URI; if this text is a single slash, the name is
--- empty
+-- the name that the text after the first slash of a URI reads as; a text of a single slash reads as
+-- the empty name
 abbrev pub name_after_slash : List ℕ → Result (List Field) NameFault
 name_after_slash text = components_in 0 (if bytes_eq text (codes "/") then [] else pieces_of text)
 
@@ -147,12 +147,12 @@ name_in_path (o ∷ text) = if o == 47 then name_after_slash text else Err BadUr
 unfoldable pub name_in : List ℕ → Result (List Field) NameFault
 name_in text = name_in_path (without_scheme text)
 
--- the fault of a reading, or `Memory` if the reading succeeds
+-- `fault` is the fault that `read` returns, or it is `Memory`, and `read` succeeds
 abbrev pub IsFaultBeforeMemory : {A : Type 0} → Result A NameFault → NameFault → Type 0
 IsFaultBeforeMemory {A} read fault =
     (read ≡ Err fault) ⊎ ((fault ≡ Memory) × ((x : A) × (read ≡ Ok x)))
 
--- the fault of a reading, or `Memory`
+-- `fault` is the fault that `read` returns, or `Memory`
 abbrev pub IsFaultOf : {A : Type 0} → Result A NameFault → NameFault → Type 0
 IsFaultOf read fault = (read ≡ Err fault) ⊎ (fault ≡ Memory)
 
@@ -160,12 +160,14 @@ IsFaultOf read fault = (read ≡ Err fault) ⊎ (fault ≡ Memory)
 abbrev pub Adds : {A : Type 0} → (A → List ℕ) → Result A NameFault → List ℕ → List ℕ → Type 0
 Adds {A} octets_of read old new = (x : A) × (read ≡ Ok x) × (new ≡ old ++ octets_of x)
 
--- the number of octets that are read, and whether all of them are periods
+-- `read` has succeeded, and `count` is the number of the octets that it returned, and whether all
+-- of them are periods
 abbrev pub AreCounted : Result (List ℕ) NameFault → ℕ × Bool → Type 0
 AreCounted read count =
     (octets : List ℕ) × (read ≡ Ok octets) × (count.0 ≡ length octets)
     × (count.1 ≡ is_periods octets)
 
--- `len` is the number of octets after three periods are removed from a value of periods only
+-- `len` is the number of octets in the value: all of `octets`, or three fewer if they are periods
+-- only
 abbrev pub AreLeft : List ℕ → ℕ → Type 0
 AreLeft octets len = (unpadded octets ≡ Ok (take len octets)) × (len ≡ length (take len octets))

@@ -43,7 +43,8 @@ pub(crate) fn first_of_type(octets: &[u8], kind: u16) -> Result<Option<FirstOfTy
     Ok(found)
 }
 
-/// Returns the new search result after one more component of the type was read.
+/// Returns the search result after reading one more component of the type that is searched for.
+/// `found` is the result before.
 #[inline(always)]
 fn with_another<'a>(
     found: Option<FirstOfType<'a>>,

@@ -20,7 +20,7 @@ pub struct Name<'a> {
     ghost spelled: { IsNameOctets octets.now } by { IsNameOctets-prop octets.now },
 }
 
-/// Refuses octets that are not the TLV-VALUE of a name.
+/// Returns the first fault if the octets are not the TLV-VALUE of a name.
 fn check_components(octets: &[u8]) -> Result<(), NameFault>
     ensures { MatchResult result (λ _. (cs : List Field) × (name_at octets.now ≡ Ok cs))
         (λ fault. name_at octets.now ≡ Err fault) }
@@ -144,7 +144,8 @@ impl<'a> Name<'a> {
     /// Returns the component at index `i`. The first component has index 0.
     pub fn component(&self, i: usize) -> Option<Component<'a>>
         ensures exact { option_map field_of result ≡ slice_get (components self.now) i }
-        // The position of the component in the name's octets.
+        // In the name's octets, the components before index `i` come first, then the returned
+        // component, then the components after it.
         ensures place { IfSome result (λ c. octets_of (components self.now)
             ≡ octets_of (take i (components self.now))
             ++ (element (field_of c) ++ octets_of (drop (i + 1) (components self.now)))) }
@@ -181,7 +182,8 @@ impl<'a> IntoIterator for &Name<'a> {
     }
 }
 
-/// Law: octets are the TLV-VALUE of at most one name, which `name_at` and `components_of` return.
+/// Law: octets are the TLV-VALUE of at most one name. If there is such a name, `name_at` and
+/// `components_of` return it.
 pub fn names_have_one_reading()
     ensures one { (value : List ℕ) (a b : List Field) → IsNameValue value a → IsNameValue value b
         → a ≡ b }

@@ -61,8 +61,8 @@ impl NameBuf {
 
     /// Appends a component with this type and value.
     ///
-    /// Returns the first fault in this order and changes nothing if the component is refused:
-    /// `TooManyComponents` if the name has 64 components, `BadComponent` for type 0,
+    /// If the component is refused, the name does not change, and the first fault in this order is
+    /// returned: `TooManyComponents` if the name has 64 components, `BadComponent` for type 0,
     /// `BadDigestLength`, `Memory`.
     pub fn append(&mut self, kind: u16, value: &[u8]) -> Result<(), NameFault>
         ensures ok { OnOk result (self.new ≡ self.old ++ (kind, value.now) ∷ []) }

@@ -54,7 +54,7 @@ fn read_component(alloc: Global, text: &str) -> Result<(u16, Vec<u8>), NameFault
     Ok((component.kind, value))
 }
 
-/// Returns the text after the scheme, if it has one.
+/// Returns the text without the scheme `ndn:`, if the text begins with this scheme.
 fn without_scheme(text: &str) -> &str
     ensures { result.now ≡ read.without_scheme text.now }
 {
@@ -127,7 +127,8 @@ fn put_component(out: &mut Vec<u8>, piece: &str) -> Result<(), NameFault>
     put_value(out, component)
 }
 
-/// Returns the text after the scheme and the first slash, or an empty text if this text is a slash.
+/// Returns the text after the scheme and the first slash. If the text after them is only a slash,
+/// returns an empty text.
 pub(crate) fn pieces_text(text: &str) -> Result<&str, NameFault>
     ensures { MatchResult result
         (λ rest. read.name_in text.now ≡ read.components_in 0 (read.pieces_of rest.now))
@@ -152,8 +153,8 @@ fn put_name(alloc: Global, text: &str) -> Result<NameBuf, NameFault>
     Ok(NameBuf::from_octets(octets))
 }
 
-/// If memory runs out, the text is read once more without allocation, so that a fault of the text
-/// is reported instead of `Memory`.
+/// Reads a name as `put_name` does. If memory runs out, the text is read once more without
+/// allocation, so that a fault of the text is reported instead of `Memory`.
 fn read_name(alloc: Global, text: &str) -> Result<NameBuf, NameFault>
     ensures { MatchResult result (λ name. read.name_in text.now ≡ Ok name)
         (read.IsFaultBeforeMemory (read.name_in text.now)) }
@@ -209,8 +210,8 @@ impl NameBuf {
     }
 }
 
-/// Law: a text reads as at most one name, which `name_in` returns, and as at most one component,
-/// which `piece_in` returns.
+/// Law: a text reads as at most one name. If there is such a name, `name_in` returns it. In the
+/// same way, a text reads as at most one component, which `piece_in` returns.
 pub fn texts_have_one_reading()
     ensures component { (text : List ℕ) (c : Field) → (read.piece_in text ≡ Ok c)
         ↔ (ReadsComponent text c × IsComponent c) }

@@ -18,7 +18,8 @@ get_last : (name : List Field) (x : Field) → slice_get (name ++ x ∷ []) (len
 get_last [] x = refl
 get_last (c ∷ name) x = get_last name x
 
--- a name that extends `name` by one component
+-- if `name` is a prefix of `asked` and `asked` has one component more, then `asked` is `name`
+-- followed by one component
 one_more : (name asked : List Field) → IsPrefix name asked → length asked ≡ length name + 1 → (x : Field) × (asked ≡ name ++ x ∷ [])
 one_more name asked p len = only p.0 p.1
   where
@@ -66,7 +67,8 @@ prefix_of_full (c ∷ asked) (d ∷ name) x p =
       | inr same ↦ inr (λ k. sym first k ∷ same k)
     ]
 
--- an Interest name that ends in an implicit digest is answered exactly if this digest is correct
+-- if the Interest's name is the Data's name followed by an implicit digest, the Data answers the
+-- Interest exactly if this digest is correct
 pub answers_by_digest : (name asked : List Field) (digest value : List ℕ) (flag r : Bool) → asked ≡ full_name name value → IsTrue r ↔ (value ≡ digest) → IsTrue r ↔ Answers name digest asked flag
 answers_by_digest name asked digest value flag r is same = (
   λ t. inr (inl (is ∙ ap (λ (d : List ℕ). full_name name d) (same.0 t))),
@@ -92,7 +94,7 @@ answers_by_digest name asked digest value flag r is same = (
     value_is : asked ≡ full_name name digest → value ≡ digest
     value_is e = ap (λ (f : Field). f.1) (first_is (1, value) (1, digest) (append_cancel_left name ((1, value) ∷ []) ((1, digest) ∷ []) (sym is ∙ e)))
 
--- any other Interest name is answered by name alone
+-- if `asked` is not `name` followed by an implicit digest, then `Answers` implies `AnswersByName`
 by_name : (name asked : List Field) (digest : List ℕ) (flag : Bool) → ((d : List ℕ) → asked ≡ full_name name d → ⊥) → Answers name digest asked flag → AnswersByName name asked flag
 by_name name asked digest flag other (inl e) = inl e
 by_name name asked digest flag other (inr (inl e)) = absurd (other digest e)

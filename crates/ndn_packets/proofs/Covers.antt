@@ -46,7 +46,7 @@ signature_read name text value first second from from_info outer there info h =
     let same : from_info ≡ h.from_info = some_is from_info h.from_info (sym info ∙ info_read name text value first second from outer there h) in
     ap (from_first 46) same ∙ cut_read 46 h.from_info h.to_signature h.from_signature h.signature
 
--- the octets between two cuts
+-- `from` without the octets of `from_signature` at its end is `to_info` followed by `to_signature`
 pub between : (from to_info from_info to_signature from_signature : List ℕ) → from ≡ to_info ++ from_info → from_info ≡ to_signature ++ from_signature
     → take (length from - length from_signature) from ≡ to_info ++ to_signature
 between from to_info from_info to_signature from_signature info signature =
@@ -77,7 +77,8 @@ data_covered text d h =
           absurd (others_lack 23 _ (earlier_others [] [] 23 _ m.1) signed)
     ]
 
--- the covered octets of a Data are those before the SignatureValue that the reader noted
+-- the covered octets of a Data are the octets of its value before `from`, if `from` begins at the
+-- SignatureValue
 pub data_covers : (text value covered from : List ℕ) (d : PlainData) → IsData text d → IsElement text 6 value → from_first 23 value ≡ Some from → covered ≡ take (length value - length from) value → CoversData text covered
 data_covers text value covered from d h outer mark is =
     let there = data_covered text d h in
@@ -104,15 +105,15 @@ Cuts value = (from_parameters from_info from_signature : List ℕ) × IsCutAt va
 abbrev HasBoth : List Field → Type 0
 HasBoth fields = Has 44 fields × Has 46 fields
 
--- the octets can be cut for a signature exactly if there is an InterestSignatureInfo and an
--- InterestSignatureValue
+-- either the octets can be cut for a signature and `fields` has both an InterestSignatureInfo and
+-- an InterestSignatureValue, or neither holds
 abbrev Decided : List ℕ → List Field → Type 0
 Decided value fields = (Cuts value × HasBoth fields) ⊎ ((Cuts value → ⊥) × (HasBoth fields → ⊥))
 
 has_met : (ignores : ℕ → Bool) (kind : ℕ) (later : List ℕ) (elements fields : List Field) (m : Met ignores kind later elements fields) → Has kind fields
 has_met ignores kind later elements fields m = subst (Has kind) (sym m.fields_are) (has_following kind m.early ((kind, m.value) ∷ m.late) (inl refl))
 
--- a field of type `k` after the field of type `kind` is one of the fields
+-- if a field of type `k` comes after the field of type `kind`, `fields` has a field of type `k`
 later_met : (ignores : ℕ → Bool) (kind k : ℕ) (later : List ℕ) (elements fields : List Field) (m : Met ignores kind later elements fields) → Has k m.late → Has k fields
 later_met ignores kind k later elements fields m h = subst (Has k) (sym m.fields_are) (has_following k m.early ((kind, m.value) ∷ m.late) (inr h))
 
@@ -212,7 +213,8 @@ has_signed parameters None value signature h some = let none : IsSome {T = Plain
 has_signed parameters (Some v) None signature h some = let none : IsSome {T = PlainSignature} None = subst IsSome h.2 some in absurd cc
 has_signed parameters (Some v) (Some w) signature h some = (has_following 44 (optional 36 parameters) _ (inl refl), has_following 46 (optional 36 parameters) _ (inr (inl refl)))
 
--- an Interest with both signature fields after its HopLimit
+-- the fields of an Interest, where `back` are the fields after the HopLimit: if all fields contain
+-- both signature fields, then `back` contains both
 module _ (prefix fresh : Bool) (hint : Option (List ℕ)) (nonce : List ℕ) (lifetime hop : Option (List ℕ)) (back : List Field) where
   abbrev all_fields : List Field
   all_fields = flag 33 prefix ++ (flag 18 fresh ++ (optional 30 hint ++ ((10, nonce) ∷ (optional 12 lifetime ++ (optional 34 hop ++ back)))))
@@ -294,14 +296,14 @@ interest_covered text i h =
 
 -- ---- the covered octets end where the SignatureValue begins
 
--- two equal lists have the same first field of a type
+-- if two lists of fields are equal, the first field of type `kind` has the same value in both
 first_value : (kind : ℕ) (xs us ys vs : List Field) (v w : List ℕ) → Others kind xs → Others kind us → xs ++ (kind, v) ∷ ys ≡ us ++ (kind, w) ∷ vs → v ≡ w
 first_value kind [] [] ys vs v w p q e = (let first : (kind, v) ≡ (kind, w) = cc in ap (λ (f : Field). f.1) first)
 first_value kind [] (u ∷ us) ys vs v w p q e = (let first : (kind, v) ≡ u = cc in absurd (q.0 (sym (ap (λ (f : Field). f.0) first))))
 first_value kind (x ∷ xs) [] ys vs v w p q e = (let first : x ≡ (kind, w) = cc in absurd (p.0 (ap (λ (f : Field). f.0) first)))
 first_value kind (x ∷ xs) (u ∷ us) ys vs v w p q e = (let rest : xs ++ (kind, v) ∷ ys ≡ us ++ (kind, w) ∷ vs = cc in first_value kind xs us ys vs v w p.1 q.1 rest)
 
--- octets that begin with the first field of a type
+-- `from` begins with the element of the first field of type `kind` in `fields`
 record Begins (kind : ℕ) (from : List ℕ) (fields : List Field) : Type 0 where
   value : List ℕ
   after : List ℕ
@@ -311,7 +313,7 @@ record Begins (kind : ℕ) (from : List ℕ) (fields : List Field) : Type 0 wher
   fields_are : fields ≡ early ++ (kind, value) ∷ late
   others : Others kind early
 
--- the octets from a cut on begin with the first field of that type
+-- the octets from the cut on are the elements from the first field of type `kind` on
 begins : (ignores : ℕ → Bool) (kind : ℕ) (later : List ℕ) (octets before from : List ℕ) (first : Field) (elements fields : List Field) (m : Met ignores kind later elements fields) → first.0 ≢ kind
     → octets ≡ flat_map element (first ∷ elements) → AllByRecursion IsField (first ∷ elements) → IsCut kind octets before from → from ≡ flat_map element ((kind, m.value) ∷ m.back)
 begins ignores kind later octets before from first elements fields m other is sizes cut =
@@ -320,7 +322,8 @@ begins ignores kind later octets before from first elements fields m other is si
     (cut_among kind m.value (first ∷ elements) (first ∷ m.front) m.back sizes (ap (λ (es : List Field). first ∷ es) m.elements_are) (other, m.none)) in
     sym (cut_is kind octets (flat_map element ((kind, m.value) ∷ m.back)) before from (cut_read kind octets _ _ own) cut)
 
--- octets that begin with the first field of a type begin with it as well if other fields come first
+-- if fields of other types are put before `late`, `from` still begins with the element of the first
+-- field of type `kind`
 begins_following : (kind k : ℕ) (from : List ℕ) (v : List ℕ) (early late fields : List Field) → fields ≡ early ++ (k, v) ∷ late → Others kind early → k ≢ kind → Begins kind from late → Begins kind from fields
 begins_following kind k from v early late fields is others other b = record {
   value = b.value;
@@ -332,7 +335,7 @@ begins_following kind k from v early late fields is others other b = record {
   others = all_both (λ f. f.0 ≢ kind) early ((k, v) ∷ b.early) others (other, b.others);
 }
 
--- the elements from the matched field on have valid types and lengths too
+-- if all elements have valid types and lengths, so have those from the field of type `kind` on
 sizes_following : (ignores : ℕ → Bool) (kind : ℕ) (later : List ℕ) (first : Field) (elements fields : List Field) (m : Met ignores kind later elements fields) → AllByRecursion IsField (first ∷ elements)
     → AllByRecursion IsField ((kind, m.value) ∷ m.back)
 sizes_following ignores kind later first elements fields m sizes = (all_front IsField m.front ((kind, m.value) ∷ m.back) (subst (AllByRecursion IsField) m.elements_are sizes.1)).1
@@ -425,7 +428,7 @@ value_at text i s first second h signed c =
     let same : s.value ≡ b.value = first_value 46 (early ++ later) b.early [] b.late s.value b.value others b.others are in
     (b.after, b.from_is ∙ ap (λ (v : List ℕ). element (46, v) ++ b.after) (sym same))
 
--- the digest covers the octets from the first ApplicationParameters on
+-- `from_parameters` returns the elements from the first ApplicationParameters on
 from_met : (front back : List Field) (value : List ℕ) → Others 36 front → from_parameters (front ++ (36, value) ∷ back) ≡ (36, value) ∷ back
 from_met [] back value others = refl
 from_met (e ∷ front) back value others = rw (ne_eqb e.0 36 others.0) (from_met front back value others.1)
@@ -460,7 +463,7 @@ never_empty : {A : Type 0} (xs : List A) (x : A) → xs ++ x ∷ [] ≡ [] → �
 never_empty [] x e = cc
 never_empty (a ∷ xs) x e = cc
 
--- the digest at the end of a name is the correct one
+-- a digest of parameters at the end of an Interest's name is the correct digest
 digest_is : (name elements components : List Field) (digest : List ℕ) (parameters : Option (List ℕ)) → name ≡ components ++ (2, digest) ∷ [] → IsDigested name elements parameters
     → digest ≡ sha256 (flat_map element (from_parameters elements))
 digest_is name elements components digest None is h =
@@ -490,7 +493,7 @@ interest_ends text i s first second h signed c =
 
 -- ---- the covered part that a reader of an Interest notes
 
--- if a name ends in a digest of parameters, the last digest of parameters is its last component
+-- if a name ends in a digest of parameters, no component follows its last digest of parameters
 last_one : (front back components : List Field) (v d : List ℕ) → NoneOfType 2 back → front ++ (2, v) ∷ back ≡ components ++ (2, d) ∷ [] → back ≡ []
 last_one [] back [] v d none e = cc
 last_one [] back (c ∷ components) v d none e =
@@ -501,7 +504,7 @@ last_one (f ∷ front) back (c ∷ components) v d none e =
     let rest : front ++ (2, v) ∷ back ≡ components ++ (2, d) ∷ [] = cc in
     last_one front back components v d none rest
 
--- a name has at most one digest of parameters
+-- the name of an Interest has at most one digest of parameters
 only_one : (name elements : List Field) (parameters : Option (List ℕ)) (x : Field) (others : List Field) → digests_in name ≡ x ∷ others → IsDigested name elements parameters → others ≡ []
 only_one name elements None x others is h = absurd (let no : x ∷ others ≡ [] = sym is ∙ h in cc)
 only_one name elements (Some p) x others is h = (let same = sym is ∙ h in cc)
@@ -538,7 +541,7 @@ second_noted text value i digest p v h outer found at =
               not_both d.is_last others last
         ] refl
 
--- whether the last component is a digest of parameters
+-- either the last component is a digest of parameters, or it is not
 ends_in_digest : (name : List Field) → EndsInDigest name ⊎ (EndsInDigest name → ⊥)
 ends_in_digest [] = inr (λ e. never_empty e.0 (2, e.1) (sym e.2))
 ends_in_digest (c ∷ []) =
@@ -556,7 +559,7 @@ ends_in_digest (c ∷ d ∷ name) =
     following [] digest n e = cc
     following (f ∷ front) digest n e = let rest : d ∷ name ≡ front ++ (2, digest) ∷ [] = cc in n (front, digest, rest)
 
--- whether the signature of an Interest covers any octets
+-- either the signature of an Interest covers octets, or there is nothing that it covers
 pub covers_any : (text : List ℕ) (i : PlainInterest) → IsInterest text i → ((first second : List ℕ) × CoversInterest i.name text first second) ⊎ ((first second : List ℕ) → CoversInterest i.name text first second → ⊥)
 covers_any text i h =
     elim (ends_in_digest i.name) [
@@ -597,7 +600,7 @@ second_within octets p v fits at =
 
 -- ---- a packet determines its covered octets
 
--- equal octets are cut at the same position
+-- equal octets are cut before the first element of type `kind` at the same position
 one_cut : (kind : ℕ) (octets other before from front back : List ℕ) → octets ≡ other → IsCut kind octets before from → IsCut kind other front back → (before ≡ front) × (from ≡ back)
 one_cut kind octets other before from front back same cut again =
     let following : from ≡ back = cut_is kind other from front back (ap (from_first kind) (sym same) ∙ cut_read kind octets before from cut) again in

@@ -28,7 +28,7 @@ no_step (Err f) kind octets further h = refl
 nothing_in : (kind : ℕ) (further : List ℕ → Option (List ℕ)) → step kind [] further (element_at []) ≡ None
 nothing_in kind further = no_step (element_at []) kind [] further (λ x e. (let none : length x.1 < 0 = element_leaves [] x e in absurd (omega arith)))
 
--- every limit that is at least the number of octets gives the same result
+-- `from_within` returns the same for every limit that is at least the number of octets
 within_same : (n m kind : ℕ) (octets : List ℕ) → length octets ≤ n → length octets ≤ m → from_within n kind octets ≡ from_within m kind octets
 unfolding from_within
 within_same zero zero kind octets p q = refl
@@ -79,7 +79,7 @@ cut_is kind octets from before other read h = some_is from other (sym read ∙ c
 pub never_cut : (kind : ℕ) (octets before from : List ℕ) → from_first kind octets ≡ None → IsCut kind octets before from → ⊥
 never_cut kind octets before from none h = none_is_not_some from (sym none ∙ cut_read kind octets before from h)
 
--- octets without an element of the type have no cut
+-- if no element has type `kind`, the reader finds no cut
 pub never_in : (kind : ℕ) (fields : List Field) → AllByRecursion IsField fields → AllByRecursion (λ e. e.0 ≢ kind) fields → from_first kind (flat_map element fields) ≡ None
 never_in kind [] all others = from_first-next kind [] ∙ nothing_in kind (from_first kind)
 never_in kind (e ∷ fields) all others =
@@ -136,7 +136,7 @@ pub all_front : {A : Type 0} (P : A → Type 0) (front back : List A) → AllByR
 all_front P [] back h = (tt, h)
 all_front P (x ∷ front) back h = let r = all_front P front back h.1 in ((h.0, r.0), r.1)
 
--- the cut before the first element of a type
+-- if no field in `front` has type `kind` and the next field has, the cut is directly after `front`
 pub cut_among : (kind : ℕ) (value : List ℕ) (fields front back : List Field) → AllByRecursion IsField fields → fields ≡ front ++ (kind, value) ∷ back → AllByRecursion (λ e. e.0 ≢ kind) front
     → IsCut kind (flat_map element fields) (flat_map element front) (flat_map element ((kind, value) ∷ back))
 cut_among kind value fields front back all is others =

@@ -40,7 +40,8 @@ meta_present (f ∷ fields) some = append-nil (element (20, octets (f ∷ fields
 pub last_is_long : (r n : ℕ) → IsLength r (element (26, element (50, shortest_nni n))) → r ≡ length (octets (optional 26 (Some (element (50, shortest_nni n)))))
 last_is_long r n is = omega (arith, is, last_is_short n, length-append (element (26, element (50, shortest_nni n))) [])
 
--- the octets of a written MetaInfo whose value has length `len`
+-- `old` with the parts of a MetaInfo appended is `old` followed by the MetaInfo, if its value has
+-- length `len` and is not empty
 pub meta_put : (old : List ℕ) (freshness last : Option ℕ) (len : ℕ) → len ≡ length (octets (meta_fields freshness last)) → (len ≡ 0 → ⊥)
     → ((old ++ (spelling 20 ++ spelling len)) ++ octets (number 25 freshness)) ++ octets (optional 26 (option_map (λ n. element (50, shortest_nni n)) last))
     ≡ old ++ octets (optional 20 (meta_of (meta_fields freshness last)))
@@ -75,7 +76,7 @@ signed_is_long signed name meta content n m value p q =
     let joined : octets (fields ++ (23, value) ∷ []) ≡ octets fields ++ element (23, value) = flat_map-append element fields ((23, value) ∷ []) ∙ ap (λ (x : List ℕ). octets fields ++ x) (append-nil (element (23, value))) in
     subst (λ (x : List ℕ). IsLength (min (n + m) (2 ^ 64 - 1)) x) (sym joined) (sum_is_long n m (octets fields) (element (23, value)) p q)
 
--- the parts of a Data add up to its length
+-- the lengths of the parts of a Data add up to its length
 pub packet_parts : (len : ℕ) (covered : List Field) (value : List ℕ) → IsLength len (octets (covered ++ (23, value) ∷ [])) → length (element (6, octets (covered ++ (23, value) ∷ []))) < 2 ^ 63
     → length (element (6, octets (covered ++ (23, value) ∷ []))) ≡ length (spelling 6 ++ spelling len) + (length (octets covered) + length (element (23, value)))
 packet_parts len covered value long small =

@@ -159,7 +159,7 @@ fields_in ignores schema (e ∷ plain) fields (inl h) =
     subst (InSchema schema) (sym h.3) (subst (λ (ks : List ℕ). InSchema ks (e ∷ h.1)) (sym h.2.1) inside)
 fields_in ignores schema (e ∷ plain) fields (inr h) = fields_in ignores schema plain fields h.2
 
--- the state after an optional field is read
+-- `t` is the state after an optional field is read in state `s`
 abbrev pub Took : {S : Type 0} → (S → Field → Result S PacketFault) → S → ℕ → Option (List ℕ) → S → Type 0
 Took take s kind None t = t ≡ s
 Took take s kind (Some value) t = take s (kind, value) ≡ Ok t
@@ -170,7 +170,8 @@ took_first take s t kind None fields others is e = (s, refl, subst (λ (fs : Lis
 took_first take s t kind (Some v) fields others is e =
     bind_ok (take s (kind, v)) (λ u. read_fields take u (map good others)) t (subst (λ (fs : List Field). read_fields take s (map good fs) ≡ Ok t) is e)
 
--- reading an optional field and then others gives the state `mid` first
+-- if reading an optional field in state `s` gives `mid`, then reading it and `others` in `s` is
+-- reading `others` in `mid`
 pub took_again : {S : Type 0} (take : S → Field → Result S PacketFault) (s mid : S) (kind : ℕ) (value : Option (List ℕ)) (others : List Field) → Took take s kind value mid
     → read_fields take s (map good (optional kind value ++ others)) ≡ read_fields take mid (map good others)
 took_again take s mid kind None others took = ap (λ u. read_fields take u (map good others)) (sym took)

@@ -51,7 +51,7 @@ alone_again text e is = rw is refl
 
 -- ---- packets
 
--- a packet that is too long is reported before any fault in its value
+-- the fault of a packet is that it is too long or, if it is not too long, a fault in its value
 long_found : {A : Type 0} (text : List ℕ) (r : Result A PacketFault) (fault : PacketFault) (P : Type 0) → (r ≡ Err fault → P) → cond (ltb 8800 (length text)) (bad A TooLong) r ≡ Err fault → LongOr text fault P
 long_found {A} text r fault P found e =
     elim (ltb 8800 (length text)) as (λ b. ltb 8800 (length text) ≡ b → cond b (bad A TooLong) r ≡ Err fault → LongOr text fault P) [
@@ -179,7 +179,7 @@ record Met (s : LinkSoFar) (headers : List Field) : Type 0 where
 none_met : Met no_headers_yet []
 none_met = record { sequence = refl; frag_index = refl; frag_count = refl; token = refl; nack = refl }
 
--- the state after one more header field
+-- `t` has the flags of `s`, and the flag of one more header field, of type `kind`
 record Marks (s : LinkSoFar) (kind : ℕ) (t : LinkSoFar) : Type 0 where
   sequence : t.sequence ≡ (s.sequence || eqb kind 81)
   frag_index : t.frag_index ≡ (s.frag_index || eqb kind 82)
@@ -416,7 +416,8 @@ header_fault_again s headers e fault met (inr h) =
 
 -- ---- a link packet
 
--- the header fields that are read, and the remaining elements, at which the reading stops
+-- `elements` are header fields that are accepted, and then `rest`, at which reading stops with
+-- `fault`
 record Stops (s : LinkSoFar) (elements : List (Result Field TlvFault)) (fault : PacketFault) : Type 0 where
   headers : List Field
   rest : List (Result Field TlvFault)
@@ -444,7 +445,7 @@ no_fragment_again : (token : Option (List ℕ)) (nack : Option ℕ) (fault : Pac
 no_fragment_again token None fault some e = absurd cc
 no_fragment_again token (Some reason) fault some e = told PlainFramed BadField fault e
 
--- header fields with at most one PitToken have exactly one token or none
+-- if at most one header field is a PitToken, the PitTokens are those of one optional token
 token_among : (headers : List Field) → length (headers_of 98 headers) ≤ 1 → (token : Option (List ℕ)) × (headers_of 98 headers ≡ optional 98 token)
 token_among [] few = (None, refl)
 token_among (h ∷ headers) few =
@@ -458,7 +459,8 @@ token_among (h ∷ headers) few =
     none_more [] few = refl
     none_more (f ∷ hs) few = absurd (omega arith)
 
--- the reading stops at these elements
+-- if `elements` have the fault `fault` directly after the header fields of state `s`, reading stops
+-- there
 stops_here : (s : LinkSoFar) (elements : List (Result Field TlvFault)) (fault : PacketFault) → ((before : List Field) → Met s before → AfterHeaders before s.nack elements fault) → Stops s elements fault
 stops_here s elements fault h =
     record { headers = []; rest = elements; last = s; all = refl; allowed = λ fits. (tt, no_more s); met = λ before m. subst (Met s) (sym (append-nil before)) m; here = h }
@@ -522,7 +524,7 @@ link_again_to s before (e ∷ headers) rest token nack fault met allowed r h =
     rw (a.no_fragment, a.taken) (link_again_to a.after (before ++ e ∷ []) headers rest token nack fault (one_more_met s a.after before e met a.taken) allowed.1 a.left
     (subst (λ (hs : List Field). AfterHeaders hs nack rest fault) (sym (append_assoc before (e ∷ []) headers)) h))
 
--- the first element and the remaining input consist of octets
+-- if a value consists of octets, so do its first element and the remaining input
 first_bytes : (value : List ℕ) (h : Field) (items : List (Result Field TlvFault)) (r : Result (Field × List ℕ) TlvFault) → element_at value ≡ r → IsBytes value → elements_of value ≡ read h ∷ items
     → (after : List ℕ) × IsBytes h.1 × IsBytes after × (elements_of after ≡ items)
 first_bytes value h items (Ok (f, after)) is fits e =

@@ -33,7 +33,8 @@ digest_octets : (digest : List ℕ) → length digest ≡ 32 → element (1, dig
 unfolding spelling
 digest_octets digest len = ap (λ (n : ℕ). spelling 1 ++ (spelling n ++ digest)) len
 
--- the octets of a full name
+-- the octets of a full name are those of the name and of the digest component; all its fields are
+-- valid
 pub full_octets : (value digest : List ℕ) (name : List Field) → IsNameValue value name → length digest ≡ 32
     → (octets_of (full_name name digest) ≡ value ++ 1 ∷ 32 ∷ digest) × AllByRecursion IsField (full_name name digest)
 full_octets value digest name h len =
@@ -92,8 +93,8 @@ fields_front : (name : List Field) (f : Field) → AllByRecursion IsField (name 
 fields_front [] f h = tt
 fields_front (c ∷ name) f h = (h.0, fields_front name f h.1)
 
--- octets of a name equal those of a full name, or those of the name without its digest, exactly if
--- the names are equal
+-- The octets of a name equal those of a full name exactly if the two names are equal. The same is
+-- true of the full name without its digest.
 pub is_full : (u value : List ℕ) (name : List Field) → IsFullName u → IsNameValue value name → (value ≡ u) ↔ (name ≡ full_name_in u)
 is_full u value name h g = (
   λ e. one_name name (full_name_in u) g.0.0 h.fields (sym g.0.1 ∙ e ∙ h.whole),

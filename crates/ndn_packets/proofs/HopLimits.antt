@@ -70,7 +70,8 @@ bytes_with limit after small fits (suc zero) = omega arith
 bytes_with limit after small fits (suc (suc zero)) = small
 bytes_with limit after small fits (suc (suc (suc i))) = fits i
 
--- the octet after the type and length of the HopLimit, and its replacement
+-- the octet after the type and length of the HopLimit is its value, and setting this octet changes
+-- only the value
 octet_is : (front after : List ℕ) (limit : ℕ) → slice_index (front ++ 34 ∷ 1 ∷ limit ∷ after) (length front + 2) ≡ limit
 octet_is front after limit =
     let len : length (front ++ 34 ∷ 1 ∷ []) ≡ length front + 2 = length-append front (34 ∷ 1 ∷ []) in
@@ -109,7 +110,7 @@ place_is text i limit from h there read =
     ap (place_in text) (frame_again text (AnInterest text i) (None, (h, inl (refl, refl))))
     ∙ rw (eq-eqb (length text) (length text) refl, there, element_alone text h.fields.value 5 h.fields.outer, read) refl
 
--- all fields of the Interest, with this HopLimit
+-- all fields of the Interest, with this value of the HopLimit
 abbrev fields_with : (text : List ℕ) (i : PlainInterest) → IsInterest text i → List ℕ → List Field
 fields_with text i h value =
     flag 33 i.can_be_prefix ++ (flag 18 i.must_be_fresh ++ (optional 30 h.hint ++ ((10, i.nonce) ∷ (optional 12 h.lifetime_value ++ ((34, value) ∷ back_fields i.parameters h.info_value h.signature_value)))))

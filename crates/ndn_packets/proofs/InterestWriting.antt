@@ -74,7 +74,8 @@ zeroed_holds_digest name later some =
 pub zeroed_is_long : (n : ℕ) (name later : List Field) → IsLength n (octets (with_digest name later)) → length (octets (with_digest name later)) ≤ 8800 → n ≡ length (octets (name_with zeros name later))
 zeroed_is_long n name later is short = omega (arith, is, zeroed_length name later)
 
--- the parts of the name as it is first written, with zeros for the digest
+-- The Name is first written with zeros for the digest. Its type, its length and its components
+-- before the digest are no longer than the whole element, and the digest component completes it.
 pub zeroed_begin : (name later : List Field) (n : ℕ) → n ≡ length (octets (name_with zeros name later)) → length (spelling 7 ++ spelling n) + length (octets name) ≤ length (element (7, octets (name_with zeros name later)))
 zeroed_begin name later n long =
     rw long (omega (

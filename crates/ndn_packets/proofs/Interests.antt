@@ -54,7 +54,7 @@ is_nil_is : (xs : List ℕ) → is_nil xs ≡ true → xs ≡ []
 is_nil_is [] e = refl
 is_nil_is (x ∷ xs) e = absurd cc
 
--- a test whose failure returns BadField
+-- if a check that returns BadField on failure returns a value, the test holds and the value is `x`
 tested : {A : Type 0} (b : Bool) (x y : A) → cond b (good x) (Err BadField) ≡ Ok y → (b ≡ true) × (x ≡ y)
 tested true x y e = (refl, ok_is x y e)
 tested false x y e = absurd (err_is_not_ok _ y e)
@@ -110,7 +110,7 @@ parameters_taken : (value : Option (List ℕ)) (front s t : InterestSoFar) → s
 parameters_taken None front s t is took = took ∙ is
 parameters_taken (Some v) front s t is took = sym (ok_is _ t (subst (λ (u : InterestSoFar). take_interest_field u (36, v) ≡ Ok t) is took))
 
--- an optional InterestSignatureInfo, and its plain data
+-- `said` is the plain data of an optional InterestSignatureInfo
 abbrev SaysInfo : Option (List ℕ) → Option PlainSignatureInfo → Type 0
 SaysInfo None said = said ≡ None
 SaysInfo (Some value) said = (info : PlainSignatureInfo) × IsSignatureInfo value info × (said ≡ Some info)
@@ -230,7 +230,7 @@ nonce_there value nonce is four = subst IsFour is four
 abbrev right_digest : List (Result Field TlvFault) → List ℕ
 right_digest later = sha256 (octets_of_read (parameters_on later))
 
--- the result of the last check, of the digest
+-- the result of reading after the last check, which is the check of the digest
 abbrev unless_digest : List Field → List (Result Field TlvFault) → InterestSoFar → List ℕ → Result PlainInterest PacketFault
 unless_digest name later t nonce = on_option (λ fault. Err fault) (good (interest_made name t nonce)) (digest_fault t.parameters (digests_in name) (right_digest later))
 
@@ -349,13 +349,14 @@ value_again : (value parameters : Option (List ℕ)) (said : Option PlainSignatu
 value_again None parameters said front = refl
 value_again (Some v) parameters said front = refl
 
--- a signature comes from its InterestSignatureInfo
+-- the signature in the grammar is what `signature_of` returns for the InterestSignatureInfo and the
+-- InterestSignatureValue
 signature_again : (info value : Option (List ℕ)) (signature : Option PlainSignature) → IsSigned info value signature → (said : Option PlainSignatureInfo) × SaysInfo info said × (signature_of said value ≡ signature)
 signature_again None value signature h = (None, refl, sym h)
 signature_again (Some v) None signature h = (Some h.0, (h.0, h.1, refl), sym h.2)
 signature_again (Some v) (Some w) signature h = (Some h.0, (h.0, h.1, refl), sym h.2)
 
--- the fields of an Interest, and the state after they are read
+-- reading the fields of an Interest in the grammar gives this state
 fields_computed : (prefix fresh : Bool) (hint : Option (List ℕ)) (nonce : List ℕ) (lifetime hop parameters info value : Option (List ℕ)) (number limit : Option ℕ) (said : Option PlainSignatureInfo) → length nonce ≡ 4
     → IsNumber lifetime number → IsOctet hop limit → MayBeBytes info → SaysInfo info said
     → read_fields take_interest_field no_fields_yet (map good (fields_with prefix fresh hint nonce lifetime hop parameters info value))
@@ -396,7 +397,7 @@ unfolding interest_at
 interest_computes value name_value elements fields name t nonce inner name_is named right fields_are taken nonce_is =
     rw (elements_exact value ((7, name_value) ∷ elements) inner, name_again name_value name name_is, is_nil-false name named, fields_are, taken, nonce_is, right) refl
 
--- the value of the InterestSignatureInfo consists of octets
+-- if all fields consist of octets, so does the value of the InterestSignatureInfo
 info_bytes : (prefix fresh : Bool) (hint : Option (List ℕ)) (nonce : List ℕ) (lifetime hop parameters info value : Option (List ℕ)) → AreBytes (fields_with prefix fresh hint nonce lifetime hop parameters info value) → MayBeBytes info
 info_bytes prefix fresh hint nonce lifetime hop parameters info value fit =
     let from46 = optional 46 value in

@@ -86,7 +86,7 @@ info_put old kind len signed time seq new long is small =
     let whole = is ∙ info_after_octets old kind len signed time seq in
     whole ∙ element_put old kind len info (in_memory_is_exact len info long (omega (arith, ap length whole, length-append header info)))
 
--- the parts of a SignatureInfo add up to its length
+-- the lengths of the parts of a SignatureInfo add up to its length
 pub info_parts : (kind len : ℕ) (signed : Sign) (time seq : Option ℕ) → IsLength len (octets (info_fields signed time seq)) → length (element (kind, octets (info_fields signed time seq))) < 2 ^ 63
     → length (element (kind, octets (info_fields signed time seq))) ≡ length (spelling kind ++ spelling len)
     + (length (element (27, shortest_nni (kind_of signed))) + (length (octets (optional 28 (locator_value signed))) + (length (octets (number 40 time)) + length (octets (number 42 seq)))))

@@ -26,8 +26,8 @@ skipped kind k schema whole value octets after none same comes read =
 abbrev pub IsTail : List ℕ → Type 0
 IsTail later = (k : ℕ) → needs_previous_field k ≡ false → schema_after k later ≡ None
 
--- The reader notes where the field of type `kind` begins, and `P` holds of the types before it in
--- the schema.
+-- The reader notes where the field of type `kind` begins. Types in `later` need the previous field.
+-- A type with `P` is not `kind`; if `kind` needs the previous field, no type has `P`.
 pub record IsMark (P : ℕ → Type 0) (kind : ℕ) (later : List ℕ) : Type 0 where
   pub tail : IsTail later
   pub apart : (k : ℕ) → P k → k ≢ kind
@@ -98,7 +98,7 @@ awaits_met P kind later text before after e m here is h = (
   placed P kind later text before after e m here h ∙ next_is kind after.here.now (e.kind, e.value.now) after.rest.now here.here is,
 )
 
--- no type is allowed before a type that needs the previous field
+-- the `P` of a type that needs the previous field: no type may come before it
 abbrev pub Never : ℕ → Type 0
 Never k = ⊥
 
@@ -248,7 +248,7 @@ interest_value text before after e (Some q) (Some i) None p v here is h =
     (met.0, (h.0, h.1, h.2, met.1))
 interest_value text before after e (Some q) (Some i) (Some w) p v here is h = absurd (nothing_comes before after e here h.0)
 
--- the noted positions of the fields that are present, after the last field
+-- after the last field, the reader has noted the positions of the fields that are present
 pub interest_last : {A B C : Type 0} (f : A → List ℕ) (g : B → PlainSignatureInfo) (k : C → List ℕ) (text : List ℕ) (fields : FieldReader) (a : Option A) (b : Option B) (c : Option C) (p v : List ℕ)
     → InterestMark text fields (option_map f a) (option_map g b) (option_map k c) p v → (X : Type 0) → (from_first 36 text ≡ Some p → X) → OnSome a X × OnSome c (IsSignedAt text p v)
 interest_last f g k text fields None None None p v h X there = (tt, tt)

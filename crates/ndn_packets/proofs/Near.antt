@@ -22,7 +22,7 @@ both_true : (a b : Bool) → (a && b) ≡ true → (a ≡ true) × (b ≡ true)
 both_true true b e = (refl, e)
 both_true false b e = absurd cc
 
--- a component that is not greater than another one has no greater type
+-- if component `c` is not greater than component `d`, the type of `c` is not greater either
 kind_of_lesser : (c d : Field) → component_cmp c d ≢ Greater → c.0 ≤ d.0
 kind_of_lesser c d h =
     elim (cases_lt d.0 c.0) [

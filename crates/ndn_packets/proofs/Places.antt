@@ -278,7 +278,7 @@ pub has_following : (kind : ℕ) (front back : List Field) → Has kind back →
 has_following kind [] back h = h
 has_following kind (f ∷ front) back h = inr (has_following kind front back h)
 
--- a field of type `kind` comes after fields of other types
+-- if `front` has only fields of other types, a field of type `kind` is in `back`
 pub has_back : (kind : ℕ) (front back : List Field) → Others kind front → Has kind (front ++ back) → Has kind back
 has_back kind [] back others h = h
 has_back kind (f ∷ front) back others (inl h) = absurd (others.0 h)

@@ -138,7 +138,7 @@ abbrev pub InOrder : List ℕ → List Field → Type 0
 InOrder schema [] = Unit {0}
 InOrder schema (f ∷ fields) = (later : List ℕ) × Counts f.0 later schema × InOrder later fields
 
--- fields in the order of their schema are exactly the fields of that schema
+-- if all elements are in the order of a schema, then all of them are fields of the schema
 pub in_order : (ignores : ℕ → Bool) (schema : List ℕ) (fields : List Field) → InOrder schema fields → Fields ignores schema fields fields
 in_order ignores schema [] h = refl
 in_order ignores schema (f ∷ fields) h = inl (h.0, fields, h.1, refl, in_order ignores h.0 fields h.2)
@@ -171,7 +171,8 @@ counts_following first kind later schema p h =
     let other = (all_following (λ k. k ≢ first) h.0 kind later (subst (AllByRecursion (λ k. k ≢ first)) h.1 p.0)).0 in
     (first ∷ h.0, ap (λ (ks : List ℕ). first ∷ ks) h.1, ((λ same. other (sym same)), h.2), λ follows. absurd (both_tests (needs_previous_field kind) (subst IsLoose (h.1 ∙ ap (λ (front : List ℕ). front ++ kind ∷ later) (h.3 follows)) p.1) follows))
 
--- an optional field may come before others, and so may a flag
+-- fields in order stay in order if an optional field of an earlier type, or a flag, is put before
+-- them
 pub maybe : (schema : List ℕ) (kind : ℕ) (value : Option (List ℕ)) (fields : List Field) → Precedes kind schema → InOrder schema fields → InOrder (kind ∷ schema) (optional kind value ++ fields)
 maybe schema kind (Some v) fields p h = leads schema kind v fields h
 maybe schema kind None [] p h = tt
@@ -265,7 +266,8 @@ info_written signed time seq time_fits seq_fits short =
 
 -- ---- packets
 
--- a written packet is in the grammar, given its elements and their fields
+-- if the elements of a written packet are in the order of the schema and the packet has at most
+-- 8,800 octets, it is in the grammar
 unfoldable pub packet_written : (kind : ℕ) (schema : List ℕ) (name_value : List ℕ) (elements fields : List Field) → IsType kind → AllByRecursion IsType schema → InOrder schema elements → elements ≡ fields
     → AreBytes ((7, name_value) ∷ elements) → length (element (kind, octets ((7, name_value) ∷ elements))) ≤ 8800 → IsPacket (element (kind, octets ((7, name_value) ∷ elements))) kind is_even_high schema name_value fields
 packet_written kind schema name_value elements fields is types order same fits short =
@@ -319,7 +321,7 @@ bytes_of_meta freshness final_block = of_fields (meta_fields freshness final_blo
     of_fields [] h = tt
     of_fields (f ∷ fields) h = IsBytes-octets (f ∷ fields) h
 
--- the cut before the first field of type `kind` in what is written
+-- if no field in `before` has type `kind`, the cut in what is written is directly after `before`
 pub cut_written : (kind : ℕ) (value : List ℕ) (before following : List Field) → AllByRecursion IsField (before ++ (kind, value) ∷ following) → AllByRecursion (λ f. f.0 ≢ kind) before
     → IsCut kind (octets (before ++ (kind, value) ∷ following)) (octets before) (octets ((kind, value) ∷ following))
 cut_written kind value before following fit first =
@@ -404,7 +406,7 @@ data_covered signed name freshness meta content sign_fits name_fits meta_fits co
       refl,
     )
 
--- without a refusal, each of the checks has passed
+-- if nothing is refused, the first check has passed, and the other checks refuse nothing either
 pub not_refused : (b : Bool) (fault : WriteFault) (others : Option WriteFault) → cond b (Some fault) others ≡ None → (b ≡ false) × (others ≡ None)
 not_refused true fault others e = absurd cc
 not_refused false fault others e = (refl, e)

@@ -51,8 +51,8 @@ bytes_with name (f ∷ later) h =
     let digest = digest_of (f ∷ later) in
     subst IsBytes (sym (flat_map-append element name (digest ∷ []))) (IsBytes-append (octets name) (octets (digest ∷ [])) h (IsBytes-octets (digest ∷ []) (IsBytes-sha256 (octets (f ∷ later)), tt)))
 
--- no field before `later` is ApplicationParameters, so the octets from the parameters on are those
--- of `later`
+-- if no field in `front` is ApplicationParameters, the fields from the parameters on are those of
+-- `later` from the parameters on
 no_parameters : (front later : List Field) → AllByRecursion (λ f. f.0 ≢ 36) front → from_parameters (front ++ later) ≡ from_parameters later
 no_parameters [] later h = refl
 no_parameters (f ∷ front) later h = rw (ne_eqb f.0 36 h.0) (no_parameters front later h.1)
@@ -131,7 +131,7 @@ record Ends (i : PlainInterest) (later : List Field) : Type 0 where
   digested : IsDigested i.name later i.parameters
   signed : IsSigned info value i.signature
 
--- what the other fields of the Interest must satisfy
+-- what the Name and the fields before the ApplicationParameters must satisfy
 record Fits (i : PlainInterest) (lifetime : Option ℕ) : Type 0 where
   is_name : IsName i.name
   named : i.name ≢ []
@@ -177,7 +177,8 @@ interest_written i lifetime later ends fits short =
       signature = ends.signed;
     }
 
--- the octets that a signature covers, if the last three fields are all present
+-- if the last three fields are all present, the signature covers the components before the digest,
+-- and the ApplicationParameters and the InterestSignatureInfo
 interest_covered : (i : PlainInterest) (lifetime : Option ℕ) (name : List Field) (digest p info value : List ℕ) → i.name ≡ name ++ (2, digest) ∷ []
     → (ends : Ends i ((36, p) ∷ (44, info) ∷ (46, value) ∷ [])) → Fits i lifetime → length (text_of i lifetime ((36, p) ∷ (44, info) ∷ (46, value) ∷ [])) ≤ 8800
     → CoversInterest i.name (text_of i lifetime ((36, p) ∷ (44, info) ∷ (46, value) ∷ [])) (octets name) (octets ((36, p) ∷ (44, info) ∷ []))
@@ -308,7 +309,7 @@ is_good w e =
     let bad = neither (is_nil (components w.name)) (not (is_nil (digests_in (components w.name)))) name.0 in
     record { named = not_nil (components w.name) bad.0; none = nothing (digests_in (components w.name)) bad.1; few = ltb-false _ _ sizes.0; short = ltb-false _ _ sizes.1 }
 
--- a SignatureTime and a SignatureSeqNum are written only with a signature
+-- if there is a signature, the SignatureTime and the SignatureSeqNum are both below 2^64
 times_of : (w : InterestWriter) (sign : Option Sign) → OnSome sign (IsU64 w.time) → OnSome sign (IsU64 w.seq) → OnSome sign (IsU64 w.time × IsU64 w.seq)
 times_of w None time seq = tt
 times_of w (Some signed) time seq = (time, seq)

@@ -22,7 +22,8 @@ pub record IsCut (kind : ℕ) (octets before from : List ℕ) : Type 0 where
   pub from_is : from ≡ element (kind, value) ++ after
   pub octets_are : octets ≡ before ++ from
 
--- The octets from the first element of type `kind` on, if it is among the first n elements.
+-- The octets from the first element of type `kind` on, if it is among the first `n` elements, where
+-- `n` is the first argument.
 unfoldable pub from_within : ℕ → ℕ → List ℕ → Option (List ℕ)
 from_within zero kind octets = None
 from_within (suc n) kind octets =
@@ -43,8 +44,9 @@ pub record CoversData (text covered : List ℕ) : Type 0 where
 -- The signature of an Interest covers two parts. The first part is the components of its name
 -- before the digest of parameters, which is the last component. The second part is the octets from
 -- the ApplicationParameters up to, but not including, the InterestSignatureValue. If there are
--- several, these are the first ApplicationParameters, the first InterestSignatureInfo after them,
--- and the first InterestSignatureValue after that.
+-- several elements of these types, the first ApplicationParameters count, the first
+-- InterestSignatureInfo after them, and the first InterestSignatureValue after that
+-- InterestSignatureInfo.
 pub record CoversInterest (name : List Field) (text first second : List ℕ) : Type 0 where
   pub components : List Field
   pub digest : List ℕ

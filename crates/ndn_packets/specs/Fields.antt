@@ -10,16 +10,16 @@ use Rattle.ndn_packets.specs.declared.types.TheConstants.{APPLICATION_PARAMETERS
 abbrev pub is_even_high : ℕ → Bool
 is_even_high kind = nat_le 32 kind && (kind % 2 == 0)
 
--- the types that are ignored in a MetaInfo: also those from 128 to 252
+-- the types that are ignored in a MetaInfo: even types from 32 on, and all types from 128 to 252
 abbrev pub is_ignored_in_meta_info : ℕ → Bool
 is_ignored_in_meta_info kind = is_even_high kind || (nat_le 128 kind && nat_le kind 252)
 
--- the types that are ignored in a SignatureInfo: also the ValidityPeriod
+-- the types that are ignored in a SignatureInfo: even types from 32 on, and the ValidityPeriod
 abbrev pub is_ignored_in_signature_info : ℕ → Bool
 is_ignored_in_signature_info kind = is_even_high kind || kind == VALIDITY_PERIOD
 
--- the types of the fields of an Interest and of a Data after their Name, of a MetaInfo and of a
--- SignatureInfo
+-- The schemas list the types of fields in order: for an Interest and a Data the fields after the
+-- Name, for a MetaInfo and a SignatureInfo all fields.
 abbrev pub interest_schema : List ℕ
 interest_schema =
     CAN_BE_PREFIX ∷ MUST_BE_FRESH ∷ FORWARDING_HINT ∷ NONCE ∷ INTEREST_LIFETIME ∷ HOP_LIMIT

@@ -30,8 +30,9 @@ abbrev pub starts_small : List Field → Bool
 starts_small [] = true
 starts_small (c ∷ cs) = nat_lt c.0 PARAMETERS_SHA256_DIGEST
 
--- The full name is near the name in canonical order. Every full name that answers an Interest with
--- the name is near the name.
+-- `full` is near `name`: it begins with `name`, and without CanBePrefix the next component, if
+-- there is one, has at most the type of an implicit digest. Every full name that answers an
+-- Interest with this name is near it.
 abbrev pub is_near : List Field → Bool → List Field → Bool
 is_near name can_be_prefix full =
     begins_with name full && (can_be_prefix || starts_small (drop (length name) full))

@@ -276,8 +276,8 @@ in_link (h ∷ headers) packet =
 abbrev pub lp_text : Option (List ℕ) → Option ℕ → List ℕ → List ℕ
 lp_text token nack packet = in_link (lp_headers token nack) packet
 
--- the value of a link packet with an optional token and an optional Nack, and the whole link
--- packet; it is a link packet even with neither of them
+-- The value of a link packet with an optional token and an optional Nack, and the whole link
+-- packet. Without a token and a Nack, the packet is still inside a link packet.
 abbrev pub link_value : Option (List ℕ) → Option ℕ → List ℕ → List ℕ
 link_value token nack packet =
     (octets (optional PIT_TOKEN token) ++ octets (nack_headers nack)) ++ element (FRAGMENT, packet)

@@ -77,7 +77,7 @@ pub(crate) fn from_first(octets: &[u8], kind: u32) -> Option<&[u8]>
     None
 }
 
-/// Removes as many octets from the end of `octets` as `end` has.
+/// Returns `octets` without the last `end.len()` octets.
 #[inline(always)]
 pub(crate) fn octets_before<'a>(octets: &'a [u8], end: &[u8]) -> &'a [u8]
     requires { length end.now ≤ length octets.now }

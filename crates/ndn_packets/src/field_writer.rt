@@ -1,5 +1,5 @@
-//! What the writers of packets share: lengths that are computed before anything is written, and
-//! fields.
+//! What the writers of packets share: functions that compute lengths before anything is written,
+//! and functions that write fields.
 
 ghost use Rattle.std.specs.Prelude.{◌≡◌, ◌<◌, ◌≤◌, ◌+◌, ◌^◌, ◌++◌, ℕ, IfSome, List, drop, length, take, option_map};
 ghost use Rattle.ndn_tlv.specs.Number.{spelling, shortest_nni};

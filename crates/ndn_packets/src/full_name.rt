@@ -104,8 +104,9 @@ impl FullName {
         self.octets.as_slice().starts_with(name.as_octets())
     }
 
-    /// Returns whether the full name is near `name` in canonical order. Every full name that
-    /// answers an Interest with the name `name` and this CanBePrefix is near `name`.
+    /// Returns whether the full name is near `name`: it begins with `name`, and without CanBePrefix
+    /// the next component, if there is one, has at most the type of an implicit digest. Every full
+    /// name that answers an Interest with the name `name` and this CanBePrefix is near `name`.
     pub fn is_near(&self, name: Name<'_>, can_be_prefix: bool) -> bool
         ensures { result ≡ is_near (components name.entry) can_be_prefix
             (all_components self.now) }

@@ -27,7 +27,8 @@ puts_one old new (Err fault) octets ok err room capacity = record {
   capacity = capacity;
 }
 
--- two calls in sequence append the octets of the first call, and then those of the second call
+-- two calls in sequence append the octets of the first call, followed by the octets of the second
+-- call
 pub puts_both : (old mid new : Vec ℕ) (before : Unit {0}) (result : Result (Unit {0}) Memory) (front back : List ℕ)
     → Puts old mid (Ok before) front → Puts mid new result back → Puts old new result (front ++ back)
 puts_both old mid new before (Ok done) front back p q = record {
@@ -43,7 +44,7 @@ puts_both old mid new before (Err fault) front back p q = record {
   capacity = omega (arith, p.capacity, q.capacity);
 }
 
--- `Puts` for some octets implies `Puts` for equal octets
+-- if `octets` and `others` are equal, `Puts` for `octets` implies `Puts` for `others`
 pub puts_same : (old new : Vec ℕ) (result : Result (Unit {0}) Memory) (octets others : List ℕ)
     → octets ≡ others → Puts old new result octets → Puts old new result others
 puts_same old new result octets others same p = subst (λ (x : List ℕ). Puts old new result x) same p

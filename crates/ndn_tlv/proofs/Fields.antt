@@ -158,7 +158,7 @@ element_fault bytes f fits e =
 
 -- ---- elements in sequence
 
--- a property of both alternatives also holds for the chosen alternative
+-- if both alternatives of a conditional have a property, the conditional has it
 chosen : {R : Type 0} (c : Bool) (x y : R) (P : R → Type 0) → P x → P y → P (cond c x y)
 chosen true x y P p q = p
 chosen false x y P p q = q
@@ -185,7 +185,7 @@ number_leaves (b ∷ bytes) x e =
     let all = chosen (ltb b 253) (done (b, bytes)) (cond (eqb b 253) (long_number_at w16 253 bytes) (cond (eqb b 254) (long_number_at w32 (2 ^ 16) bytes) (long_number_at w64 (2 ^ 32) bytes))) (Leaves (length bytes)) one more in
     omega (arith, all x e)
 
--- an element has at least one octet
+-- if `element_at` returns an element, fewer octets remain after it
 pub element_leaves : (bytes : List ℕ) (x : Field × List ℕ) → element_at bytes ≡ Ok x → length x.1 < length bytes
 element_leaves bytes x e =
     let a = bind_ok (type_at bytes) valued x (sym (element_is bytes) ∙ e) in
@@ -205,7 +205,7 @@ same_next : (r : Result (Field × List ℕ) TlvFault) (k g : List ℕ → List I
 same_next (Ok x) k g h = ap (λ (l : List Item). Ok x.0 ∷ l) (h x refl)
 same_next (Err f) k g h = refl
 
--- every limit that is at least the number of octets gives the same elements
+-- `elements_within` returns the same elements for all limits that are at least the number of octets
 within_same : (n m : ℕ) (bytes : List ℕ) → length bytes ≤ n → length bytes ≤ m → elements_within n bytes ≡ elements_within m bytes
 unfolding elements_within
 within_same zero zero bytes p q = refl
@@ -298,7 +298,7 @@ elements_found bytes fields fits short e = elements_read bytes fields fits e
 pub elements_exact : (bytes : List ℕ) (fields : List Field) → IsElements bytes fields → elements_of bytes ≡ map (λ f. read f) fields
 elements_exact bytes fields p = ap elements_of p.1 ∙ elements_again fields p.0
 
--- lists of elements with the same octets are equal
+-- if two lists of valid elements have the same octets, the lists are equal
 pub elements_same : (fs gs : List Field) → AllByRecursion IsField fs → AllByRecursion IsField gs → flat_map element fs ≡ flat_map element gs → fs ≡ gs
 elements_same fs gs p q e = reads_same fs gs (sym (elements_again fs p) ∙ ap elements_of e ∙ elements_again gs q)
 

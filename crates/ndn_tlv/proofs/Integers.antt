@@ -15,7 +15,8 @@ integer n = Ok n
 integer_is : (n m : ℕ) → integer n ≡ integer m → n ≡ m
 integer_is n m e = cc
 
--- a conditional equals one of its two alternatives, and its test decides which one
+-- if a conditional equals `z`, its first alternative equals `z` and the test is true, or its second
+-- alternative equals `z` and the test is false
 split : {A : Type 0} (b : Bool) (x y z : A) → cond b x y ≡ z → ((b ≡ true) × (x ≡ z)) ⊎ ((b ≡ false) × (y ≡ z))
 split true x y z e = inl (refl, e)
 split false x y z e = inr (refl, e)

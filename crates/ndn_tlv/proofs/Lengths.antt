@@ -13,7 +13,7 @@ pub ruleset header_lengths = (length-spelling_nine, length-shortest_eight)
 
 pub ruleset element_lengths = (length-spelling_nine, length-shortest_eight, length-element)
 
--- an upper bound for the length of an element whose type has one octet
+-- if the type of an element is below 253, the element is at most 10 octets longer than its value
 pub element_fits : (kind : ℕ) (value : List ℕ) → kind < 253 → length (element (kind, value)) ≤ length value + 10
 element_fits kind value lt = omega (arith, length-element kind value, length-spelling_one kind lt, length-spelling_nine (length value))
 
@@ -23,7 +23,7 @@ number_fits kind n lt =
     let one = length-spelling_one (length (shortest_nni n)) (omega (arith, few)) in
     omega (arith, few, one, length-element kind (shortest_nni n), length-spelling_one kind lt)
 
--- an element is its header followed by its value
+-- if the type, the length and then the value are appended, an element has been appended
 pub element_put : (old : List ℕ) (kind len : ℕ) (value : List ℕ) → len ≡ length value → (old ++ (spelling kind ++ spelling len)) ++ value ≡ old ++ element (kind, value)
 element_put old kind len value is = rw is (simp append_assoc)
 

@@ -218,7 +218,8 @@ spelling_head n x =
 
 -- ---- reading
 
--- a test followed by a step succeeds only if the test does not return its fault
+-- if a test that may return a fault is followed by a step, and both succeed, the test is false and
+-- the step succeeds
 pub guard_ok : {A : Type 0} (b : Bool) (d : TlvFault) (r : Result A TlvFault) (y : A) → cond b (Err d) r ≡ Ok y → (b ≡ false) × (r ≡ Ok y)
 guard_ok true d r y e = absurd cc
 guard_ok false d r y e = (refl, e)
@@ -241,7 +242,8 @@ long_again w limit wide least n rest lt le =
     let long : ltb (length (to_be_bytes w n ++ rest)) (byte_len w) ≡ false = le-ltb _ _ (omega (arith, length-append (to_be_bytes w n) rest)) in
     rw (long, take_at (to_be_bytes w n) rest (byte_len w) len, drop_at (to_be_bytes w n) rest (byte_len w) len, wide.again n lt, le-ltb n least le) refl
 
--- the first octets are the big-endian encoding of the number that is read from them
+-- the number that is read from the first octets is below `limit`, and these octets are its
+-- big-endian encoding
 long_front : (w : Width) (limit : ℕ) (wide : IsWide w limit) (bytes : List ℕ) → IsBytes bytes → byte_len w ≤ length bytes → (from_be_bytes w (take (byte_len w) bytes) < limit) × (bytes ≡ to_be_bytes w (from_be_bytes w (take (byte_len w) bytes)) ++ drop (byte_len w) bytes)
 long_front w limit wide bytes fits long =
     let front = wide.back (take (byte_len w) bytes) (omega (arith, length-take (byte_len w) bytes)) (IsBytes-take (byte_len w) bytes fits) in
@@ -258,7 +260,8 @@ long_found w limit wide least bytes n rest fits e =
     let least_is : least ≤ v = ltb-false _ _ h.0 in
     (subst (λ (m : ℕ). bytes ≡ to_be_bytes w m ++ rest) is.0 (subst (λ (r : List ℕ). bytes ≡ to_be_bytes w v ++ r) is.1 front.1), rw (← is.0) front.0, rw (← is.0) least_is)
 
--- why the octets after a first octet do not form a number
+-- the fault of the octets after a first octet of 253, 254 or 255: `Truncated` if octets are
+-- missing, or `NotShortest` if the number is below `least`
 abbrev LongFault : Width → ℕ → ℕ → List ℕ → TlvFault → Type 0
 LongFault w limit least bytes f =
     ((f ≡ Truncated) × ((missing : List ℕ) × (n : ℕ) × (missing ≢ []) × (n < limit) × (bytes ++ missing ≡ to_be_bytes w n)))

@@ -2,8 +2,8 @@
 use Rattle.std.specs.Prelude.{◌≡◌, ℕ, ◌<◌, ◌≤◌, ◌^◌, ◌⊎◌, List, [], ◌∷◌, length, nat_lt, if◌then◌else◌}
 use Rattle.std.specs.Int.{w16, w32, w64, to_be_bytes}
 
--- The encodings of a number as a VAR-NUMBER: one octet up to 252; or 253, 254 or 255, followed by
--- 2, 4 or 8 octets in network order.
+-- The encodings of a number as a VAR-NUMBER: one octet for a number up to 252; or an octet 253, 254
+-- or 255, followed by the number in 2, 4 or 8 octets in network order.
 abbrev pub IsForm : List ℕ → ℕ → Type 0
 IsForm text n =
     ((n < 253) × (text ≡ n ∷ []))
@@ -23,8 +23,8 @@ spelling n =
     if nat_lt n (2 ^ 32) then 254 ∷ to_be_bytes w32 n else
     255 ∷ to_be_bytes w64 n))
 
--- the text is a NonNegativeInteger: n in 1, 2, 4 or 8 octets in network order, not necessarily the
--- shortest
+-- the text encodes n as a NonNegativeInteger: 1, 2, 4 or 8 octets in network order, not necessarily
+-- the shortest encoding
 abbrev pub IsNni : List ℕ → ℕ → Type 0
 IsNni text n =
     ((n < 2 ^ 8) × (text ≡ n ∷ []))

@@ -30,7 +30,7 @@ number_at (b ∷ bytes) =
     if b == 254 then long_number_at w32 (2 ^ 16) bytes else
     long_number_at w64 (2 ^ 32) bytes))
 
--- the number that a value encodes as a NonNegativeInteger
+-- the number that a value encodes as a NonNegativeInteger, or the fault `BadInteger`
 unfoldable pub nni_at : List ℕ → Result ℕ TlvFault
 nni_at value =
     if length value == 1 then Ok (slice_index value 0) else (
@@ -69,7 +69,7 @@ elements_within (suc n) (b ∷ bytes) =
 unfoldable pub elements_of : List ℕ → List (Result Field TlvFault)
 elements_of bytes = elements_within (length bytes) bytes
 
--- the octets end within the encoding of some number
+-- the octets are the beginning of some number's encoding, of which at least one octet is missing
 abbrev pub IsCutNumber : List ℕ → Type 0
 IsCutNumber bytes = (missing : List ℕ) × (n : ℕ) × (missing ≢ []) × IsForm (bytes ++ missing) n
 
@@ -78,7 +78,7 @@ abbrev pub BeginsTooLong : List ℕ → Type 0
 BeginsTooLong bytes =
     (text rest : List ℕ) × (n : ℕ) × (bytes ≡ text ++ rest) × IsForm text n × (Spells text n → ⊥)
 
--- why no number can be read
+-- the fault is the reason why no number can be read at the front of the octets
 abbrev pub NumberFault : List ℕ → TlvFault → Type 0
 NumberFault bytes Truncated = IsCutNumber bytes
 NumberFault bytes NotShortest = BeginsTooLong bytes
@@ -86,18 +86,18 @@ NumberFault bytes TypeZero = ⊥
 NumberFault bytes TypeTooLarge = ⊥
 NumberFault bytes BadInteger = ⊥
 
--- the octets begin with a type, and the octets after it have the property P
+-- the octets begin with a valid TLV-TYPE, and the octets after it have the property `P`
 abbrev pub AfterType : List ℕ → (List ℕ → Type 0) → Type 0
 AfterType bytes P =
     (text rest : List ℕ) × (kind : ℕ) × (bytes ≡ text ++ rest) × Spells text kind × (1 ≤ kind)
     × (kind < 2 ^ 32) × P rest
 
--- the octets begin with a length that is greater than the number of octets after it
+-- the octets begin with the length of a value, and fewer octets than this length follow it
 abbrev pub IsCutValue : List ℕ → Type 0
 IsCutValue bytes =
     (text rest : List ℕ) × (n : ℕ) × (bytes ≡ text ++ rest) × Spells text n × (length rest < n)
 
--- why no element can be read
+-- the fault is the reason why no element can be read at the front of the octets
 abbrev pub ElementFault : List ℕ → TlvFault → Type 0
 ElementFault bytes Truncated =
     IsCutNumber bytes ⊎ (AfterType bytes IsCutNumber ⊎ AfterType bytes IsCutValue)

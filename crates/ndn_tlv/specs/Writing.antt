@@ -10,7 +10,7 @@ use Rattle.ndn_tlv.specs.Element.{Field, element}
 abbrev pub octets : List Field → List ℕ
 octets fields = flat_map element fields
 
--- an optional field
+-- a list of one field if there is a value, otherwise the empty list
 abbrev pub optional : ℕ → Option (List ℕ) → List Field
 optional kind None = []
 optional kind (Some value) = (kind, value) ∷ []

@@ -79,8 +79,8 @@ pub fn first_element<'a>(octets: &'a [u8]) -> Result<(Element<'a>, &'a [u8]), Tl
     Ok((Element { kind, value, whole }, rest))
 }
 
-/// Appends an element. If memory runs out, some octets may have been appended after the old octets
-/// of `out`.
+/// Appends an element. If memory runs out, the old octets of `out` are kept, but some octets may
+/// have been appended after them.
 #[inline(always)]
 fn put_parts(out: &mut Vec<u8>, kind: u32, value: &[u8]) -> Result<(), Memory>
     ensures ok { OnOk result (out.new.items ≡ out.old.items ++ element (kind, value.now)) }
@@ -95,8 +95,9 @@ fn put_parts(out: &mut Vec<u8>, kind: u32, value: &[u8]) -> Result<(), Memory>
     Ok(())
 }
 
-/// Appends an element: the shortest forms of its type and of its value's length, and its value (NDN
-/// Packet Format 0.3, "Type-Length-Value (TLV) Encoding"). If memory runs out, nothing is appended.
+/// Appends an element: its type and the length of its value, both in shortest form, and then its
+/// value (NDN Packet Format 0.3, "Type-Length-Value (TLV) Encoding"). If memory runs out, nothing
+/// is appended.
 #[inline(always)]
 pub fn put_element(out: &mut Vec<u8>, kind: u32, value: &[u8]) -> Result<(), Memory>
     requires { 1 ≤ kind }
@@ -115,8 +116,8 @@ pub fn put_element(out: &mut Vec<u8>, kind: u32, value: &[u8]) -> Result<(), Mem
     done
 }
 
-/// Law: octets are the concatenation of at most one list of elements. `elements_of` returns this
-/// list.
+/// Law: octets are the concatenation of at most one list of elements. If there is such a list,
+/// `elements_of` returns it.
 pub fn elements_have_one_reading()
     ensures one { (text : List ℕ) (xs ys : List Field) → IsElements text xs → IsElements text ys
         → xs ≡ ys }

@@ -21,8 +21,8 @@ pub fn single_element(octets: &[u8], kind: u32) -> Option<&[u8]>
     None
 }
 
-/// Returns the value of the first field of type `kind`. A field after an element that cannot be
-/// read is not found.
+/// Returns the value of the first field of type `kind`. The search ends at the first element that
+/// cannot be read.
 pub fn first_field(octets: &[u8], kind: u32) -> Option<&[u8]>
     ensures exact { option_map (λ v. v.now) result ≡ first_of kind (elements_of octets.now) }
     ensures short { IfSome result (λ v. length v.now ≤ length octets.now) }

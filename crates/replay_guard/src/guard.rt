@@ -74,7 +74,7 @@ impl Guard {
         place_of(&self.rows, signer).is_some()
     }
 
-    /// Records a command. It returns `Memory` only for a signer without recorded commands. In that
+    /// Records a command. `Memory` is returned only for a signer without recorded commands. In that
     /// case the recorded commands are unchanged, but a prepared call is cancelled.
     pub fn record(&mut self, signer: Signer<'_>, time: u64, seq: Option<u64>) -> Result<(), Memory>
         ensures ok { OnOk result (self.new.latest ≡ with_recorded self.old.latest
@@ -109,8 +109,8 @@ impl Guard {
     }
 
     /// Prepares one `record` of this signer. The prepared call cannot run out of memory. The next
-    /// `record` or `prepare`, of any signer, ends this preparation, even if that call fails. A
-    /// signer with a recorded command needs no memory.
+    /// `record` or `prepare`, of any signer, ends this preparation, even if that call fails. For a
+    /// signer that has a recorded command, no memory is needed.
     pub fn prepare(&mut self, signer: Signer<'_>) -> Result<(), Memory>
         ensures latest { self.new.latest ≡ self.old.latest }
         ensures ok { OnOk result (IsPrepared self.new (signer_of signer.entry)) }
