@@ -1,4 +1,4 @@
--- How a change of the list affects the freshness bounds of its blocks.
+-- Changes of one row, stated as changes of the list for which freshness bounds are updated.
 use Rattle.std.proofs.Common.{◌≡◌, ◌≢◌, ◌⊎◌, inl, inr, ℕ, ◌+◌, ◌<◌, ◌≤◌, List, length, get_or, sym, ap, subst, ◌∙◌, arith}
 use Rattle.std.specs.Prelude.{Option, Some}
 use Rattle.std.specs.List.{remove}
@@ -16,7 +16,7 @@ use Rattle.content_store.proofs.Erased.{range_one}
 use Rattle.std.proofs.lemmas.List.{take-append-drop}
 use Rattle.std.specs.Prelude.{IsSome}
 
--- removing one row keeps the freshness bounds of the blocks
+-- removing the row at position `at` is the change `Removed at (at + 1)`
 pub one_removed : (rows rows' : List Placed) (at : ℕ) → at < length rows → rows' ≡ remove rows at → Follows (Removed at (at + 1)) rows rows'
 one_removed rows rows' at lt is = (
   omega arith,
@@ -27,7 +27,8 @@ one_removed rows rows' at lt is = (
 order_of : (m n : ℕ) → (m < n) ⊎ ((m ≡ n) ⊎ (n < m))
 order_of m n = grind arith
 
--- renewing one row keeps the freshness bounds of the blocks
+-- renewing the row at position `at` so that it is fresh until `until` at the latest is the change
+-- `Renewed at until`
 pub one_renewed : (h f : ℕ → Option Row) (order : List ℕ) (at p until : ℕ) (row new : Row) → IsRows h order → IsRows f order → at < length order → get_or order at 0 ≡ p → h p ≡ Some row → f p ≡ Some new
     → ((q : ℕ) → q ≢ p → f q ≡ h q) → fresh_until new.entry ≤ until → Follows (Renewed at until) (shown h order) (shown f order)
 one_renewed h f order at p until row new rows rows' lt place was is others le = (

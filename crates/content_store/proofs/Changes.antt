@@ -38,7 +38,7 @@ all_insert P xs zero y py h = (py, h)
 all_insert P [] (suc at) y py h = (py, h)
 all_insert P (x ∷ xs) (suc at) y py h = (h.0, all_insert P xs at y py h.1)
 
--- a lookup of a new key after it is inserted at any position
+-- if a new key is inserted at any position, a lookup of this key finds its value
 lookup_inserted : {X : Type 0} (p : ℕ) (x : X) (rows : List (ℕ × X)) (at : ℕ) → lookup (nat_eq p) rows ≡ None → lookup (nat_eq p) (insert rows at (p, x)) ≡ Some x
 lookup_inserted p x rows zero none = ap (λ b. cond b (Some x) (lookup (nat_eq p) rows)) (eq-eqb p p refl)
 lookup_inserted p x [] (suc at) none = ap (λ b. cond b (Some x) None) (eq-eqb p p refl)
@@ -163,7 +163,7 @@ take_whole zero (u ∷ us) e = absurd cc
 take_whole (suc n) [] e = refl
 take_whole (suc n) (u ∷ us) e = ap (λ l. u ∷ l) (take_whole n us e)
 
--- if a list has one element too many, taking n elements removes the last one
+-- if a list has one element too many, taking `n` elements removes the last one
 pub take_last : {X : Type 0} (n : ℕ) (us : List (ℕ × X)) (e : ℕ × X) → IsDistinct nat_eq (keys_of us) → length us ≤ n + 1 → slice_get us n ≡ Some e
     → (take n us ≡ remove_entry (nat_eq e.0) us) × (lookup (nat_eq e.0) us ≡ Some e.1)
 take_last zero [] e distinct le at = absurd cc
@@ -241,7 +241,7 @@ all_get P [] n e h at = absurd cc
 all_get P (u ∷ us) zero e h at = subst P (same_Some u e at) h.0
 all_get P (u ∷ us) (suc n) e h at = all_get P us n e h.1 at
 
--- the evicted row is among the rows
+-- the evicted row is among the rows after the insertion of the new row
 pub displaced_there : (rows : List Placed) (used : LruCache ℕ ℕ) (s p at : ℕ) (row : Row) (e : ℕ × ℕ) → Sound rows used.entries s → lookup (nat_eq p) rows ≡ None
     → displaced nat_eq used s p ≡ Some e → IsSome (lookup (nat_eq e.1) (insert rows at (p, row)))
 displaced_there rows used s p at row e sound absent is =

@@ -100,7 +100,8 @@ lookup_vacant h (q ∷ ps) p a = split (h q) (lookup_vacant h ps p a.1)
     split None rest = rest
     split (Some r) rest = ap (λ b. cond b (Some r) (lookup (nat_eq p) (shown h ps))) (ne_eqb p q (λ e. a.0 (sym e))) ∙ rest
 
--- one row is added to the slab, and its slab index to the list
+-- if one row is added to the slab, and its slab index to the list, the list shows the old rows and
+-- the new row at its position
 pub inserted : (h f : ℕ → Option Row) (ps new : List ℕ) (at p : ℕ) (row : Row) → IsRows h ps → h p ≡ None → f p ≡ Some row → ((q : ℕ) → q ≢ p → f q ≡ h q) → new ≡ insert ps at p
     → Rising (insert (shown h ps) at (p, row)) → (shown f new ≡ insert (shown h ps) at (p, row)) × IsRows f new
 inserted h f ps new at p row rows none here others is rising =
@@ -130,7 +131,8 @@ places_apart h (p ∷ ps) q a k =
     let d = subst (λ (o : Option Row). AllByRecursion (λ t. nat_eq q t ≡ false) (keys_of (with_slot p o (shown h ps)))) r.1 k in
     ((λ e. eqb-false q p d.0 (sym e)), places_apart h ps q a.1 d.1)
 
--- one slab index is removed from the list
+-- if one slab index is removed from the list, the list shows the other rows, and no longer has this
+-- slab index
 shown_remove : (h : ℕ → Option Row) (ps : List ℕ) (k p : ℕ) → AllByRecursion (λ q. IsSome (h q)) ps → IsDistinct nat_eq (keys_of (shown h ps)) → k < length ps → get_or ps k 0 ≡ p
     → (shown h (remove ps k) ≡ remove_entry (nat_eq p) (shown h ps)) × AllByRecursion (λ q. q ≢ p) (remove ps k)
 unfolding shown
@@ -176,7 +178,8 @@ shown_without h (p ∷ ps) (suc k) a =
     let r = some_is (h p) a.0 in
     ap (λ o. with_slot p o (shown h (remove ps k))) r.1 ∙ ap (λ l. (p, r.0) ∷ l) (shown_without h ps k a.1) ∙ sym (ap (λ o. remove (with_slot p o (shown h ps)) (suc k)) r.1)
 
--- one row is removed from the slab, and its slab index from the list
+-- if one row is removed from the slab, and its slab index from the list, the list shows the other
+-- rows
 pub forgotten : (h f : ℕ → Option Row) (ps new : List ℕ) (k p : ℕ) → IsRows h ps → k < length ps → get_or ps k 0 ≡ p → ((q : ℕ) → q ≢ p → f q ≡ h q) → new ≡ remove ps k
     → (shown f new ≡ remove_entry (nat_eq p) (shown h ps)) × IsRows f new × (shown f new ≡ remove (shown h ps) k)
 forgotten h f ps new k p rows lt at others is =
@@ -195,7 +198,8 @@ forgotten h f ps new k p rows lt at others is =
       ap (shown f) is ∙ same ∙ shown_without h ps k rows.there,
     )
 
--- a row in the slab is replaced by another row with the same name
+-- if a row in the slab is replaced by another row with the same name, the list shows the new row in
+-- its place
 shown_valued : (h f : ℕ → Option Row) (ps : List ℕ) (p : ℕ) (new : Row) → AllByRecursion (λ q. IsSome (h q)) ps → IsDistinct nat_eq (keys_of (shown h ps)) → f p ≡ Some new
     → ((q : ℕ) → q ≢ p → f q ≡ h q) → shown f ps ≡ set_value (nat_eq p) (shown h ps) new
 unfolding shown

@@ -124,7 +124,7 @@ range_none start end =
     let back : drop {A = ℕ} end [] ≡ [] = drop_all end [] (omega arith) in
     λ k. front k ++ back k
 
--- a range of two concatenated lists
+-- removing a range from two concatenated lists removes from each list its part of the range
 range_append : (xs ys : List ℕ) (start end s e : ℕ) → start ≤ end → s ≡ start - length xs → e ≡ end - length xs → without_range start end (xs ++ ys) ≡ without_range start end xs ++ without_range s e ys
 range_append [] ys start end s e le low high =
     let one : start ≡ s = omega arith in

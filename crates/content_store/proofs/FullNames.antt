@@ -38,8 +38,8 @@ decided Less p never = refl
 decided Equal p never = absurd (never refl)
 decided Greater p never = refl
 
--- comparing the list `u`, extended by at least one element, with a list `v` that is at most as long
--- as `u`
+-- if `v` is at most as long as `u`, then `u` extended by at least one element compares with `v` as
+-- `u` does, or is greater if `u` equals `v`
 pub cmp_longer : (u v : List ℕ) (x : ℕ) (t : List ℕ) → length v ≤ length u → slice_cmp nat_cmp (u ++ x ∷ t) v ≡ ordering_then (slice_cmp nat_cmp u v) Greater
 cmp_longer [] [] x t le = refl
 cmp_longer [] (b ∷ v) x t le = absurd (omega arith)
@@ -47,8 +47,8 @@ cmp_longer (a ∷ u) [] x t le = refl
 cmp_longer (a ∷ u) (b ∷ v) x t le =
     ap (ordering_then (nat_cmp a b)) (cmp_longer u v x t (omega arith)) ∙ sym (then_assoc (nat_cmp a b) (slice_cmp nat_cmp u v) Greater)
 
--- a comparison of two concatenations whose first lists are equally long: first their first lists,
--- then their second lists, are compared
+-- if `u` and `v` are equally long, comparing `u ++ x` with `v ++ y` is comparing `u` with `v`, and
+-- then `x` with `y` if `u` equals `v`
 pub cmp_split : (u v x y : List ℕ) → length u ≡ length v → slice_cmp nat_cmp (u ++ x) (v ++ y) ≡ ordering_then (slice_cmp nat_cmp u v) (slice_cmp nat_cmp x y)
 cmp_split [] [] x y e = refl
 cmp_split [] (b ∷ v) x y e = absurd (omega arith)
@@ -118,7 +118,8 @@ then_less Greater cs = refl
 digest_field : (d : List ℕ) → length d ≡ 32 → octets_of ((1, d) ∷ []) ≡ digest_octets d
 digest_field d len = let o = full_octets [] d [] ((tt, refl), (omega arith, tt)) len in o.0
 
--- comparing the component of a digest with other components followed by the component of a digest
+-- a digest component compares with `rest` followed by a digest component as it does with `rest`
+-- alone; if it equals `rest`, it is less
 digest_before : (rest : List Field) (d e : List ℕ) → AllByRecursion IsField rest → 0 < length (octets_of rest) → length d ≡ 32 → length e ≡ 32
     → slice_cmp nat_cmp (digest_octets d) (octets_of rest ++ digest_octets e) ≡ ordering_then (slice_cmp nat_cmp (digest_octets d) (octets_of rest)) Less
 digest_before [] d e h some dl el = absurd (omega arith)
@@ -214,7 +215,8 @@ tie_is a b o is = (
   λ e. (Equal-is o).1 (is ∙ ap (λ (n : List Field). name_cmp n b) (sym e) ∙ tied_itself name_cmp-total b),
 )
 
--- the components that follow a name in a full name with that prefix
+-- if `m` is a prefix of `n`, then `starts_small` is the same for what follows `m` in a full name of
+-- `n` and for what follows `m` in `n`
 pub small_full : (n m : List Field) (d : List ℕ) → IsPrefix m n → starts_small (drop (length m) (n ++ (1, d) ∷ [])) ≡ starts_small (drop (length m) n)
 small_full n m d p =
     ap (λ (t : List Field). starts_small (drop (length m) (t ++ (1, d) ∷ []))) p.1 ∙ ap (λ (t : List Field). starts_small (drop (length m) t)) (append_assoc m p.0 ((1, d) ∷ []))
@@ -254,7 +256,7 @@ module _ (u v : List ℕ) (n m : List Field) (d : List ℕ) (flag : Bool) (h : I
 
 -- ---- heads
 
--- if the first n octets of two lists differ, they decide the comparison of the lists
+-- if the first `n` octets of two lists differ, they decide the comparison of the lists
 first_decide : (n : ℕ) (u v x y : List ℕ) (o : Ordering) → n ≤ length u → n ≤ length v → o ≡ slice_cmp nat_cmp (take n u) (take n v) → (o ≡ Equal → ⊥) → o ≡ slice_cmp nat_cmp (u ++ x) (v ++ y)
 first_decide n u v x y o lu lv e never =
     let parts = λ (w z : List ℕ). ap (λ (t : List ℕ). t ++ z) (sym (take-append-drop n w)) ∙ append_assoc (take n w) (drop n w) z in

@@ -63,7 +63,7 @@ place_at rows p row at =
     let i = place_from_lookup (nat_eq p) rows row at in
     (i.0, slice_get_within rows i.0 (i.1, row) i.2, i.1, λ d. get_or_from_slice_get rows i.0 (i.1, row) d i.2)
 
--- a lookup finds the row at a position of the list
+-- a lookup of the slab index at a position of the list finds the row at this position
 pub found_at : (rows : List Placed) (at : ℕ) (r : Placed) → IsValidRows rows → at < length rows → get_or rows at r ≡ r → lookup (nat_eq r.0) rows ≡ Some r.1
 found_at rows at r valid lt is = lookup_from_place nat_eq_equiv rows at r.0 r.1 valid.distinct (slice_get-get_or rows at r lt ∙ ap (λ (x : Placed). Some x) is)
 

@@ -28,13 +28,14 @@ all_stay (x ∷ xs) = ap (λ (t : List CachedData). x ∷ t) (all_stay xs)
 pub nothing_lost : (cs : List CachedData) → LosesSome cs cs
 nothing_lost cs = record { stays = λ _. true; left = all_stay cs }
 
--- a store that either stays unchanged or becomes empty
+-- if a store stays unchanged or becomes empty, the cached Data are the earlier ones without some of
+-- them
 pub loses_either : (old new : StoreState) → (new ≡ old) ⊎ (new ≡ record old { cached = [] }) → LosesSome old.cached new.cached
 loses_either old new (inl e) = subst (λ (s : StoreState). LosesSome old.cached s.cached) (sym e) (nothing_lost old.cached)
 loses_either old new (inr e) =
     subst (λ (s : StoreState). LosesSome old.cached s.cached) (sym e) (record { stays = λ _. false; left = none_stay old.cached })
 
--- every element that remains was there before
+-- if a list has lost some elements, each remaining element was in the list before
 pub loses_some-contained : (xs ys : List CachedData) → LosesSome xs ys → All (Contains xs) ys
 loses_some-contained xs ys h = All-same (Contains xs) _ _ h.left (All-filter h.stays (Contains xs) xs (All-contains_itself xs))
 

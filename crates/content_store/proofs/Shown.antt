@@ -32,7 +32,7 @@ module _ (h : ℕ → Option Row) where
       let r = some_is (h p) a.0 in
       ap (λ o. length (with_slot p o (shown h ps))) r.1 ∙ ap (λ n. suc n) (length-shown ps a.1)
 
-  -- the row at a position of the list
+  -- the list shows at position `k` its slab index and the row at this slab index
   pub shown_at : (ps : List ℕ) (k : ℕ) (row : Row) → AllByRecursion (λ q. IsSome (h q)) ps → k < length ps → h (get_or ps k 0) ≡ Some row
       → (d : Placed) → get_or (shown h ps) k d ≡ (get_or ps k 0, row)
   unfolding shown
@@ -82,7 +82,7 @@ module _ (name : List Field) (rows : List Placed) (rising : Rising rows) (mid : 
   pub high_moves : (low high : ℕ) → LowerSoFar name rows low high → low ≤ mid → (name_cmp (name_at r) name ≡ Less → ⊥) → LowerSoFar name rows low mid
   high_moves low high so le never = record { ordered = le; below = so.below; above = none_below never }
 
--- one more step of a binary search
+-- one step of a binary search at least halves the range, so one step less suffices for the rest
 pub halved : (left low high next : ℕ) → high - low < 2 ^ left → low < high → next ≤ (high - low) / 2
     → (n : ℕ) × (left ≡ n + 1) × (next < 2 ^ n)
 halved zero low high next h lt le = absurd (omega arith)
@@ -100,7 +100,7 @@ key_at [] k d x lt = absurd (omega arith)
 key_at (r ∷ rows) zero d x lt = refl
 key_at (r ∷ rows) (suc k) d x lt = key_at rows k d x (omega arith)
 
--- two slab indexes whose rows have the same name are equal
+-- the rows that the list shows are valid: two slab indexes whose rows have the same name are equal
 pub valid_shown : (h : ℕ → Option Row) (ps : List ℕ) → IsRows h ps → IsValidRows (shown h ps)
 valid_shown h ps rows = record {
   rising = rows.rising;

@@ -48,7 +48,8 @@ others_greater name ys c least =
       | inr (inr greater) ↦ absurd (not_less greater)
     ]
 
--- one more Data is removed: the one with the least full name that begins with the name
+-- if one more Data is removed, the one with the least full name that begins with the name, then
+-- `TakesLeast` still holds, with one more removed Data
 pub one_taken : (name : List Field) (xs ys : List CachedData) (n : ℕ) (c : CachedData) → TakesLeast name xs ys n → IsLeast (λ d. IsPrefix name (full_name_of d)) ys c
     → length (without (full_name_of c) ys) + 1 ≡ length ys → TakesLeast name xs (without (full_name_of c) ys) (n + 1)
 one_taken name xs ys n c h least fewer =
@@ -71,7 +72,8 @@ one_taken name xs ys n c h least fewer =
           ];
     }
 
--- an erase without a count is an erase of at most 2^64 - 1 Data
+-- if the `n` least full names that begin with the name were removed, and `n` is `most` or no such
+-- full name remains, this is an erase; without a count, `most` is 2^64 - 1
 pub erases : (name : List Field) (count : Option ℕ) (xs ys : List CachedData) (n most : ℕ) → most ≡ unwrap_or count 18446744073709551615 → TakesLeast name xs ys n → n ≤ most
     → (n ≡ most) ⊎ All (λ d. IsPrefix name (full_name_of d) → ⊥) ys → length xs ≤ 65536 → Erases name count xs ys n
 erases name None xs ys n most is taken le ended few = (

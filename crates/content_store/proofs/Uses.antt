@@ -81,7 +81,7 @@ lookup_other s t (u ∷ us) ne = split (eqb s u.0) refl (lookup_other s t us ne)
         sym (ap (λ b. cond b (Some u.1) (lookup (nat_eq t) us)) other)
     split false e rest = ap (λ o. cond (eqb t u.0) (Some u.1) o) rest
 
--- the keys that remain are different from the removed key
+-- after a key is removed, the remaining keys differ from it
 pub others_left : {X : Type 0} (s : ℕ) (us : List (ℕ × X)) → IsDistinct nat_eq (keys_of us) → AllByRecursion (λ t. nat_eq s t ≡ false) (keys_of (remove_entry (nat_eq s) us))
 others_left s [] h = tt
 others_left s (u ∷ us) h = split (eqb s u.0) refl (others_left s us (IsDistinct-tail nat_eq u.0 (keys_of us) h))
@@ -197,7 +197,8 @@ module _ (rows : List Placed) (used : List (ℕ × ℕ)) (next : ℕ) (sound : S
   pub promoted_to : promoted (nat_eq row.serial) used ≡ (row.serial, p) ∷ remove_entry (nat_eq row.serial) used
   promoted_to = ap (λ o. option_map_or (λ (e : ℕ × ℕ). e ∷ remove_entry (nat_eq row.serial) used) o used) (entry_of row.serial p used uses)
 
-  -- the LRU order after one Data is used
+  -- after a Data is used, it comes first in the LRU order, followed by the other Data in their
+  -- order
   pub used_first : cached_in rows (promoted (nat_eq row.serial) used) ≡ row.entry ∷ without (full_name_of row.entry) (cached_in rows used)
   unfolding cached_by
   used_first =

@@ -7,7 +7,8 @@ unfoldable pub flat : List Block → List ℕ
 flat [] = []
 flat (b ∷ bs) = b.items.items ++ flat bs
 
--- the first block starts at position n, and each other block starts where the block before it ends
+-- the first block starts at position `n`, and each other block starts where the block before it
+-- ends
 unfoldable pub AreLaid : ℕ → List Block → Type 0
 AreLaid n [] = Unit {0}
 AreLaid n (b ∷ bs) = (b.start ≡ n) × AreLaid (n + length b.items.items) bs

@@ -45,7 +45,7 @@ pub record IsLower (name : List Field) (rows : List Placed) (at : ℕ) : Type 0 
   pub above : (k : ℕ) (d : Placed) → at ≤ k → k < length rows
       → name_cmp (name_at (slice_index_or rows k d)) name ≡ Less → ⊥
 
--- the position of the first row with the property P, or None if no row has this property
+-- the position of the first row with the property `P`, or None if no row has this property
 abbrev pub FirstWith : (CachedData → Type 0) → List Placed → Option ℕ → Type 0
 FirstWith P rows None =
     (k : ℕ) (d : Placed) → k < length rows → ¬ P (held_at (slice_index_or rows k d))

@@ -76,7 +76,7 @@ CanServe key now c =
     Answers c.name c.digest key.name key.can_be_prefix
     × (key.must_be_fresh ≡ true → IsFreshData c now)
 
--- Among the cached Data with the property P, `c` has the least full name in canonical order.
+-- Among the cached Data with the property `P`, `c` has the least full name in canonical order.
 pub record IsLeast (P : CachedData → Type 0) (cs : List CachedData) (c : CachedData) : Type 0 where
   pub is_cached : Contains cs c
   pub has : P c
@@ -102,8 +102,8 @@ with_cached s c = record s {
 abbrev pub with_used : StoreState → CachedData → StoreState
 with_used s c = record s { cached = c ∷ without (full_name_of c) s.cached }
 
--- What a store returns for a key: the octets of the Data with the least full name that can serve an
--- Interest, or nothing if no Data can.
+-- What a store returns for a key: the octets of the Data with the least full name among those that
+-- can serve an Interest of this key, or nothing if no Data can.
 abbrev pub GivesData : PlainKey → ℕ → List CachedData → Option (List ℕ) → Type 0
 GivesData key now cached None = All (λ c. ¬ CanServe key now c) cached
 GivesData key now cached (Some octets) =
@@ -118,8 +118,8 @@ Finds key now before (Some octets) after =
     (c : CachedData) × IsLeast (CanServe key now) before.cached c × (octets ≡ c.octets)
     × (after ≡ with_used before c)
 
--- `stays` marks the Data that remain, in their order. All removed Data are under the name, and
--- their full names are less than those of the Data under the name that remain.
+-- `stays` marks the Data that remain, in their order. The full names of all removed Data begin with
+-- `name`. They are less than each remaining full name that begins with `name`.
 pub record TakesLeast (name : List Field) (before after : List CachedData) (gone : ℕ) : Type 0 where
   pub stays : CachedData → Bool
   pub left : after ≡ filter stays before
@@ -129,7 +129,7 @@ pub record TakesLeast (name : List Field) (before after : List CachedData) (gone
       → Less (full_name_of c) (full_name_of d)) after) before
 
 -- The effect of an erase: it removes at most `count` Data. It removes fewer than `count` only if no
--- Data under the name remains.
+-- Data remains whose full name begins with `name`.
 abbrev pub Erases : List Field → Option ℕ → List CachedData → List CachedData → ℕ → Type 0
 Erases name count before after gone =
     TakesLeast name before after gone × IfSome count (λ n. gone ≤ n)

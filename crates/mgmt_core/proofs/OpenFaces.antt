@@ -1,5 +1,5 @@
--- If each face of one rising list is in another rising list, the first list is at most as long as
--- the second.
+-- If each face of one ascending list is in another ascending list, the first list is at most as
+-- long as the second. Ascending lists are those with `IsRising`.
 use Rattle.std.proofs.Common.{◌≡◌, ℕ, ◌<◌, ◌≤◌, true, List, [], ◌∷◌, length, sym, subst, inl, inr, arith}
 use Rattle.std.specs.Prelude.{◌⊎◌}
 use Rattle.std.specs.List.{AllByRecursion}
@@ -12,7 +12,7 @@ use Rattle.mgmt_core.specs.Tables.{AllAreUp}
 abbrev pub AreIn : List ℕ → List ℕ → Type 0
 AreIn xs ys = AllByRecursion (λ f. has_face f ys ≡ true) xs
 
--- a face in a list that is greater than the first face is among the other faces
+-- if a face in a list is greater than the first face of the list, it is among the other faces
 in_rest : (x y : ℕ) (ys : List ℕ) → y < x → has_face x (y ∷ ys) ≡ true → has_face x ys ≡ true
 in_rest x y ys lt h = grind (arith, h)
 
@@ -22,7 +22,7 @@ all_in_rest x y (z ∷ xs) ys lt above h =
     let first = above.0 in
     (in_rest z y ys (omega (arith, first)) h.0, all_in_rest x y xs ys lt above.1 h.1)
 
--- two lists with the same first face: the other faces of the first are among those of the second
+-- if all faces of `xs` are greater than `x` and in the list `x ∷ ys`, they are in `ys`
 same_first : (x : ℕ) (xs ys : List ℕ) → AllByRecursion (λ m. x < m) xs → AreIn xs (x ∷ ys) → AreIn xs ys
 same_first x [] ys above h = tt
 same_first x (z ∷ xs) ys above h = (in_rest z x ys above.0 h.0, same_first x xs ys above.1 h.1)

@@ -143,7 +143,8 @@ module _ (up : List ℕ) where
   not_refused true e = refl
   not_refused false e = absurd cc
 
-  -- a next hop or a route is added only if its face is up
+  -- if adding a next hop or a route on a face that is up leaves all faces up, then the command that
+  -- adds it leaves all faces up, whatever its status
   if_added : (too_long not_open full : Bool) (after before : Routes) → (not_open ≡ false → AllAreUp after up) → AllAreUp before up
       → AllAreUp (if_done (cond too_long 414 (cond not_open 410 (cond full 503 200))) after before) up
   if_added true not_open full after before done left = left

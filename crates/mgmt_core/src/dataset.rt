@@ -50,7 +50,7 @@ pub fn segment_of(text: &[u8], number: u64) -> Option<(&[u8], u64)>
 }
 
 /// Returns the same as `segment_of` for the dataset of routes, without storing the whole dataset.
-/// Reads all names in order, and stores only the segment, one entry and one name at a time.
+/// Reads all names in order. At any time, only the segment, one entry and one name are stored.
 pub fn fib_segment(
     alloc: Global,
     fib: &Fib,

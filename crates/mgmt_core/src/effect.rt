@@ -27,15 +27,16 @@ use pit_fib::{Faces, Fib, MAX_DEPTH, StrategyTable};
 ///   `strategy-choice/set`);
 /// - 410 if the face is not up (`fib/add-nexthop`, `rib/register`);
 /// - 404 if the strategy does not exist (`strategy-choice/set`);
-/// - 503 if the name is new and the table already has 4,096 names (the same three commands), or the
-///   route is new and the table already has 16,384 routes (`rib/register`);
+/// - 503 if the name is new and the table already has 4,096 names (`fib/add-nexthop`,
+/// `rib/register`, `strategy-choice/set`), or the route is new and the table already has 16,384
+/// routes (`rib/register`);
 /// - 200 otherwise. All other commands, such as `rib/unregister`, always return 200.
 ///
 /// Only a command with status 200 changes a table. If memory runs out, which can happen only with
 /// status 200 and for a command that was not prepared, `Memory` is returned and no table changes.
 ///
-/// If a period is given, a registered route expires after this period, at `u64::MAX` at the latest.
-/// A registered route replaces the route with the same name, face and origin.
+/// If the command gives a lifetime, the registered route expires after this lifetime, at `u64::MAX`
+/// at the latest. A registered route replaces the route with the same name, face and origin.
 pub fn apply(
     tables: &mut Tables,
     command: &Command<'_>,

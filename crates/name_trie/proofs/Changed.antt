@@ -38,7 +38,7 @@ unless_some k (Some i) j e =
       | false ↦ λ t e. (e, λ is. let same : i ≡ k = (let one : i ≡ j = cc in one ∙ is) in eqb-false i k t same)
     ] refl e
 
--- a case distinction: two indexes are equal or not
+-- if a property follows from `j ≡ k` and from `j ≢ k`, it holds
 pub same_or : (j k : ℕ) (P : Type 0) → (j ≡ k → P) → (j ≢ k → P) → P
 same_or j k P same other =
     elim (eqb j k) as (λ b. eqb j k ≡ b → P) [
@@ -228,14 +228,15 @@ module _ {V : Type 0} (k at : ℕ) (c : Field) (h h' : Heap V) (joins : Joins k 
       (λ not_at. ap (option_map (λ n. n.parent)) (joins.others a not_k not_at))
 
   module _ (root : Option ℕ) (sound : Sound h root) (absent : child h at c ≡ None) where
-    -- no link led to k before
+    -- no link led to k before the child was added
     unlinked : (a : ℕ) (d : Field) → child h a d ≢ Some k
     unlinked a d e = (let low = sound.back a d k e in let none = up_none in cc)
 
     rootless : root ≢ Some k
     rootless e = (let high = sound.top k e in let none = up_none in cc)
 
-    -- the links after the child is added
+    -- each link after the child is added is the link from `at` to k for the component `c`, or
+    -- existed before
     child_now : (a : ℕ) (d : Field) (j : ℕ) → child h' a d ≡ Some j → ((a ≡ at) × (d ≡ c) × (j ≡ k)) ⊎ (child h a d ≡ Some j)
     child_now a d j e =
         same_or a k _

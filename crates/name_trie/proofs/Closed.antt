@@ -25,7 +25,7 @@ up_of (Some n) x e = (n.parent, refl)
 pub up_there : {V : Type 0} (f : Heap V) (j : ℕ) → IsSome (f j) → (u : Option ℕ) × (up f j ≡ Some u)
 up_there {V} f j some = elim (f j) as (λ (o : Option (Node V)). IsSome o → (u : Option ℕ) × (option_map (λ n. n.parent) o ≡ Some u)) [ None ↦ λ e. absurd cc | (Some n) ↦ λ e. (n.parent, refl) ] some
 
--- two successive changes of one value
+-- two successive changes of the value of one node have the effect of the second change alone
 pub turned_twice : {V : Type 0} (k : ℕ) (v w : Option V) (h h1 h2 : Heap V) → Turns k v h h1 → Turns k w h1 h2 → Turns k w h h2
 turned_twice k v w h h1 h2 first second = record {
   links = λ a c. second.links a c ∙ first.links a c;
@@ -78,7 +78,8 @@ module _ {V : Type 0} (k : ℕ) (v : Option V) (h h' : Heap V) (turns : Turns k 
         stays None = refl
         stays (Some j) = same_or j k (value h' j ≡ value h j) (λ e. ap (value h') e ∙ turns.here ∙ now ∙ sym (ap (value h) e ∙ was)) (λ ne. turns.others j ne)
 
-    -- the number of names with a value after the change
+    -- if the change removes the node's value, one name fewer has a value; otherwise the number of
+    -- names with a value stays the same
     pub count_turned : (change : V → Option V) → v ≡ option_and_then change (value h k)
         → len (table_of h' root) + cond (is_some (value h k) && is_none v) 1 0 ≡ len (table_of h root)
     count_turned change is =
@@ -124,14 +125,17 @@ module _ {V : Type 0} (k : ℕ) (v : Option V) (h h' : Heap V) (sets : Sets k v 
     pub lookup_set : (name : List Field) → walk h root name ≡ Some k → (q : List Field) → lookup h' root q ≡ cond (eq_by_cmp name_cmp q name) v (lookup h root q)
     lookup_set = lookup_turned k v h h' (set_turns k v h h' sets) root sound
 
--- the table after the value of `name` is set to `v`, or removed if `v` is None
+-- if a lookup of `name` in `h'` gives `v`, and all other lookups give the same in `h'` as in `h`,
+-- the table of `h'` is the table of `h` with the value `v` for `name`, or without a value for
+-- `name` if `v` is None
 pub with_value_table : {V : Type 0} (h h' : Heap V) (root root' : Option ℕ) (name : List Field) (v : Option V) → length name ≤ 64
     → ((q : List Field) → lookup h' root' q ≡ cond (eq_by_cmp name_cmp q name) v (lookup h root q))
     → table_of h' root' ≡ with_value (table_of h root) name v
 with_value_table h h' root root' name None le is = remove_table h h' root root' name le is
 with_value_table h h' root root' name (Some x) le is = put_table h h' root root' name x le is
 
--- every value is changed or removed
+-- if each lookup in `h'` gives what `change` makes of the value in `h`, the table of `h'` is the
+-- table of `h` with `change` applied to each value
 module _ {V : Type 0} (change : V → Option V) (h h' : Heap V) (root root' : Option ℕ) where
   pub revise_table : ((q : List Field) → lookup h' root' q ≡ option_and_then change (lookup h root q)) → table_of h' root' ≡ revise change (table_of h root)
   revise_table is = same_map name_cmp-total name_cmp-antisymmetric _ _ (λ q.

@@ -128,11 +128,12 @@ module _ {N V : Type 0} {R : N → N → Ordering} (order : IsTotalOrder R) (ant
         | Greater ↦ λ _. omega (arith, total_put k v es (second_of _ _ h))
       ] refl
 
-  -- the total size after a value is inserted
+  -- inserting a value adds its size to the total size, and subtracts the size of the key's old
+  -- value
   pub total-insert : (t : FinMap R V) (k : N) (v : V) → total size (entries (insert t k v)) + size_of size (get t k) ≡ total size (entries t) + size v
   total-insert t k v = (λ i. total size (entries-insert order t k v i) + size_of size (get-entries t k i)) ∙ total_put k v (entries t) (entries_sorted t)
 
-  -- the total size after a value is removed
+  -- removing a key subtracts the size of its value from the total size
   pub total-remove : (t : FinMap R V) (k : N) → total size (entries (remove t k)) + size_of size (get t k) ≡ total size (entries t)
   total-remove t k =
       elim (get t k) as (λ o. get t k ≡ o → total size (entries (remove t k)) + size_of size o ≡ total size (entries t)) [

@@ -19,7 +19,7 @@ module _ {K X : Type 0} (R : K → K → Ordering) (change : X → Option X) whe
   unfolding revise
   entries-revise m = entries-from_sorted R (revised change (entries m)) (sorted_revised R change (entries m) (entries_sorted m))
 
-  -- the value that a lookup finds after each value is changed
+  -- after each value is changed, a lookup finds the value that `change` made of the old value
   pub get-each : IsAntisymmetric R → (m : FinMap R X) (k : K) → option_and_then (λ (n : FinMap R X). get n k) (each change m) ≡ option_and_then change (get m k)
   get-each anti m k =
       elim (eqb (len (revise change m)) 0) as (λ b. eqb (len (revise change m)) 0 ≡ b → option_and_then (λ (n : FinMap R X). get n k) (cond b None (Some (revise change m))) ≡ option_and_then change (get m k)) [
@@ -82,7 +82,8 @@ module _ {K X : Type 0} (timer : X → ℕ) (change : X → Option X) (now : ℕ
         not_none [] all some = absurd (some refl)
         not_none (e ∷ es) all some = least_after (timer e.1) es all.0 all.1
 
--- changing the entries of each row is the same as changing the entry of each key
+-- changing each value in each row, and then flattening the rows, is the same as changing each value
+-- of the flattened map
 module _ {N F K X : Type 0} {R : N → N → Ordering} {S : F → F → Ordering} {Q : K → K → Ordering} (key : N → F → K) (name : K → N) (rest : K → F) (makes : MakesKeys R S Q key name rest) where
   pub flatten-revise : IsAntisymmetric R → IsAntisymmetric S → IsTotalOrder Q → IsAntisymmetric Q → (change : X → Option X) (t : FinMap R (FinMap S X))
       → flatten Q key (revise (each change) t) ≡ revise change (flatten Q key t)

@@ -53,7 +53,8 @@ unfolding revise
 from_revised R change es sorted = ap (λ l. from_sorted {R = R} (revised change l)) (sym (entries-from_sorted R es sorted))
 
 module _ {K X Y : Type 0} {R : K → K → Ordering} (anti : IsAntisymmetric R) (change : X → Option Y) where
-  -- a lookup of the first key, whose value is kept or removed
+  -- if the later rows lack the key `q` of the first row, a lookup of `q` finds the first row's new
+  -- value, or nothing if this row is removed
   first_found : (q k : K) (o : Option Y) (rest : List (K × Y)) → eq_by_cmp R q k ≡ true → find R q rest ≡ None → find R q (with_entry k o rest) ≡ o
   first_found q k None rest t none = none
   first_found q k (Some x) rest t none = ap (λ b. cond b (Some x) (find R q rest)) t

@@ -79,7 +79,8 @@ pub same_timers : {V : Type 0} (timer : V → ℕ) (h h' : Heap V) (timers : Tim
 same_timers timer h h' timers same was t = was t ∙ ap (λ o. rings (option_map timer o) t.deadline) (sym (same t.key))
 
 module _ {V : Type 0} (timer : V → ℕ) (k : ℕ) (h h' : Heap V) (others : (j : ℕ) → j ≢ k → value h' j ≡ value h j) (timers : TimerSet) (was : IsTimed timer h timers) where
-  -- the old timer is stopped, and the new one is started
+  -- if only the value of the node k changes, stopping its old timer and starting its new timer
+  -- gives each value its timer again
   pub retimed : IsTimed timer h' (started k (timer_at timer h' k) (stopped k (timer_at timer h k) timers))
   retimed t =
       let o = timer_at timer h k in
@@ -90,11 +91,11 @@ module _ {V : Type 0} (timer : V → ℕ) (k : ℕ) (h h' : Heap V) (others : (j
       (λ ne. started_elsewhere k o' (stopped k o timers) t ne ∙ stopped_elsewhere k o timers t ne ∙ was t
       ∙ ap (λ w. rings (option_map timer w) t.deadline) (sym (others t.key ne)))
 
--- the timer of each value exists
+-- if a node's value has the deadline d, the set contains the timer of this node with the deadline d
 pub timer_there : {V : Type 0} (timer : V → ℕ) (h : Heap V) (timers : TimerSet) → IsTimed timer h timers → (k d : ℕ) → timer_at timer h k ≡ Some d → contains timers (timer_for k d) ≡ true
 timer_there timer h timers was k d e = was (timer_for k d) ∙ ap (λ o. rings o d) e ∙ eq-eqb d d refl
 
--- a node that has a timer after the change had one before
+-- a node that has a timer after the change had a timer before the change
 pub had_timer : {V : Type 0} (timer : V → ℕ) (f : V → Option V) (o : Option V) → IsSome (option_map timer (option_and_then f o)) → (d : ℕ) × (option_map timer o ≡ Some d)
 had_timer timer f None some = absurd cc
 had_timer timer f (Some v) some = (timer v, refl)
@@ -147,7 +148,7 @@ not_empty s t is =
     ] in
     cases (set.len s) refl
 
--- replacing an expired timer by one with a later deadline, or by none, reduces the number of
+-- replacing an expired timer by a timer that has not expired, or removing it, reduces the number of
 -- expired timers
 pub fewer_due : (now k d : ℕ) (o : Option ℕ) (timers : TimerSet) → contains timers (timer_for k d) ≡ true → d ≤ now → ((e : ℕ) → o ≡ Some e → now < e)
     → due now (started k o (stopped k (Some d) timers)) < due now timers

@@ -40,14 +40,15 @@ module _ {K X : Type 0} {R : K → K → Ordering} (total : IsTotalOrder R) wher
       let apart : eq_by_cmp R row.0 e.0 ≡ false = (eq_by_cmp_equiv total).symm row.0 e.0 ∙ ap is_eq less in
       ap (λ b. cond b (Some e.1) (find R row.0 es)) apart ∙ found_at es (second_of _ _ sorted) i d (omega (arith, lt))
 
-  -- a map contains each of its entries
+  -- a lookup of the key of an entry finds the value of this entry
   pub entry_is_there : (m : FinMap R X) (i : ℕ) (d : K × X) → i < length (entries m) → get m (get_or (entries m) i d).0 ≡ Some (get_or (entries m) i d).1
   entry_is_there m i d lt = get-entries m (get_or (entries m) i d).0 ∙ found_at (entries m) (entries_sorted m) i d lt
 
 -- ---- the state of a walk below a node
 
 module _ {S V : Type 0} (own below : S → V → S) where
-  -- the result is the same for `front` and `front'` if their extensions have the same values
+  -- two walks, below `front` and below `front'`, leave the visitor in the same state if the
+  -- extensions of `front` have the same values in `f` as the extensions of `front'` have in `g`
   taken_moved : (s : S) (f g : List Field → Option V) (front front' rest : List Field) → ((p : List Field) → f (front ++ p) ≡ g (front' ++ p))
       → taken_along own below s f front rest ≡ taken_along own below s g front' rest
   taken_moved s f g front front' [] same = ap (taken own s) (ap f (sym (append-nil front)) ∙ same [] ∙ ap g (append-nil front'))
@@ -56,12 +57,13 @@ module _ {S V : Type 0} (own below : S → V → S) where
       ∙ taken_moved (taken below s (g front')) f g (front ++ c ∷ []) (front' ++ c ∷ []) rest
       (λ p. ap f (append_assoc front (c ∷ []) p) ∙ same (c ∷ p) ∙ sym (ap g (append_assoc front' (c ∷ []) p)))
 
--- the state at a name is the state after its value, or `before` if it has no value
+-- the state at a name is `before` updated with the name's value, or `before` itself if the name has
+-- no value
 pub here_is : {W V : Type 0} (past : W → V → W) (before : W) (v : Option V) (o : Option W) → o ≡ option_map (past before) v → unwrap_or o before ≡ taken past before v
 here_is past before None o is = ap (λ o. unwrap_or o before) is
 here_is past before (Some v) o is = ap (λ o. unwrap_or o before) is
 
--- each child is found under its component
+-- if a row is among the entries of a node's links, a lookup of its component finds its child
 pub linked_row : (m : Links) (items : List (Field × ℕ)) (i : ℕ) (row : Field × ℕ) → i < length items → row ≡ get_or items i row → items ≡ entries m → get m row.0 ≡ Some row.1
 linked_row m items i row lt is all =
     let at_place : row ≡ get_or (entries m) i row = is ∙ ap (λ l. get_or l i row) all in
@@ -107,7 +109,8 @@ module _ {S W V : Type 0} (show : S → List ℕ → W → S) where
       ap (λ t. shown_after show front known t (named (c ∷ []) es)) (λ i. show s (sym (append_assoc front (element c) (octets_of e.0)) i) (same e.0 i))
       ∙ shown_under (show s ((front ++ element c) ++ octets_of e.0) (known' e.0)) front known known' c es same
 
-  -- the visitor after it is shown the names below one more child
+  -- if a visitor is shown the names below the first i children, and then the names below the child
+  -- at index i, it is shown the names below the first i + 1 children
   pub shown_more : (s s1 s2 : S) (front : List ℕ) (known known' : List Field → W) (f : Option ℕ → List (List Field × V)) (items : List (Field × ℕ)) (i : ℕ) (row : Field × ℕ)
       → i < length items → row ≡ get_or items i row → ((q : List Field) → known (row.0 ∷ q) ≡ known' q)
       → s1 ≡ shown_after show front known s (below f (take i items)) → s2 ≡ shown_after show (front ++ element row.0) known' s1 (f (Some row.1))
@@ -158,7 +161,7 @@ module _ {S W V : Type 0} (show : S → List ℕ → W → S) where
       ap (λ w. shown_known show known (show s (octets_of e.0) w) es) (same e.0 short.0)
       ∙ known_same (show s (octets_of e.0) (known' e.0)) known known' n es short.1 same
 
-  -- the result depends only on the states at names of at most 64 components
+  -- what a visitor is shown of a trie depends only on the states at names of at most 64 components
   pub rows_same : (s : S) (known known' : List Field → W) (h : Heap V) (root : Option ℕ) → ((q : List Field) → length q ≤ 64 → known q ≡ known' q)
       → shown_known show known s (rows h 65 root) ≡ shown_known show known' s (rows h 65 root)
   rows_same s known known' h root same = known_same s known known' 65 (rows h 65 root) (short_rows h 65 root) (λ q lt. same q (omega (arith, lt)))

@@ -32,7 +32,7 @@ module _ {X : Type 0} where
   or_cond true x o p = refl
   or_cond false x o p = refl
 
-  -- rows under one component
+  -- the rows with the component `e` in front of each name
   under : Field → List (List Field × X) → List (List Field × X)
   under e rs = map (λ r. (e ∷ r.0, r.1)) rs
 

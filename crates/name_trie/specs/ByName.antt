@@ -11,13 +11,13 @@ abbrev pub with_entry : {K X : Type 0} → K → Option X → List (K × X) → 
 with_entry k None es = es
 with_entry k (Some x) es = (k, x) ∷ es
 
--- the entries with `change` applied to each value; if it gives None for a value, the entry is
+-- the entries with `change` applied to each value; an entry for which `change` gives None is
 -- removed
 abbrev pub revised : {K X Y : Type 0} → (X → Option Y) → List (K × X) → List (K × Y)
 revised change [] = []
 revised change (e ∷ es) = with_entry e.0 (change e.1) (revised change es)
 
--- the map with `change` applied to each value; if it gives None for a value, the entry is removed
+-- the map with `change` applied to each value; an entry for which `change` gives None is removed
 unfoldable pub revise : {K X Y : Type 0} {R : K → K → Ordering} → (X → Option Y) → FinMap R X
     → FinMap R Y
 revise change m = from_sorted (revised change (entries m))
@@ -42,7 +42,7 @@ IsLongest table name n =
     (n ≤ length name) × IsSome (get table (take n name))
     × ((m : ℕ) → n < m → m ≤ length name → get table (take m name) ≡ None)
 
--- the map after a name's value is set, or removed
+-- the map after the value of a name is set to `x`, or removed if the new value is None
 abbrev pub with_value : {X : Type 0} → ByName X → List Field → Option X → ByName X
 with_value table name None = remove table name
 with_value table name (Some x) = insert table name x

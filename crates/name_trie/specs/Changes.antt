@@ -61,11 +61,11 @@ module _ {V : Type 0} where
     pub values : (a : ℕ) → value h' a ≡ value h a
     pub ups : (a : ℕ) → a ≢ k → up h' a ≡ up h a
 
-  -- each name leads to the same value as before
+  -- each name leads to the same value in `h'` as in `h`
   abbrev pub SameLookups : Heap V → Option ℕ → Heap V → Option ℕ → Type 0
   SameLookups h root h' root' = (q : List Field) → lookup h' root' q ≡ lookup h root q
 
-  -- each name that led to a node still leads to that node
+  -- each name that leads to a node in `h` leads to the same node in `h'`
   abbrev pub KeepsWalks : Heap V → Option ℕ → Heap V → Option ℕ → Type 0
   KeepsWalks h root h' root' =
       (q : List Field) (k : ℕ) → walk h root q ≡ Some k → walk h' root' q ≡ Some k

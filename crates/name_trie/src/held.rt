@@ -64,7 +64,7 @@ pub fn hold<V: Drop>(
     Ok((key, k))
 }
 
-/// Returns the reserved node.
+/// Returns the reserved node, or `None` if no name is reserved.
 pub fn held_node(held: &Option<(NameBuf, usize)>) -> Option<usize>
     ensures { result ≡ option_map (λ p. p.1) held.now }
 {
@@ -74,7 +74,7 @@ pub fn held_node(held: &Option<(NameBuf, usize)>) -> Option<usize>
     }
 }
 
-/// Returns the node of a successful reservation.
+/// Returns the node that a reservation returned, or `None` if the reservation failed.
 pub fn node_held(made: &Result<(NameBuf, usize), Memory>) -> Option<usize>
     ensures ok { IfOk made.now (λ p. result ≡ Some p.1) }
     ensures err { OnErr made.now (result ≡ None) }

@@ -44,8 +44,8 @@ pub fn size_at<V: Timed>(nodes: &Slab<Node<V>>, k: usize) -> usize
     }
 }
 
-/// Returns the total size after the size `was` of one value is replaced by `is`. The total wraps on
-/// overflow, so it needs no bound.
+/// Returns the total size `len` after the size of one value changes from `was` to `is`. The total
+/// wraps on overflow, so it needs no bound.
 pub fn recount(len: usize, was: usize, is: usize) -> usize
     ensures { Recounts was is len result }
 {

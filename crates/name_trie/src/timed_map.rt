@@ -27,12 +27,13 @@ pub struct TimedMap<V: Timed> {
     alloc: Global,
     nodes: Slab<Node<V>>,
     root: Option<usize>,
-    // The reserved name and its node: those of the last prepared call. The node is not removed, and
-    // calls for this name find it without a walk.
+    // The reserved name, which is the name of the last prepared call, and its node. The node is not
+    // removed, and calls for this name find it without a walk.
     held: Option<(NameBuf, usize)>,
     // Whether the prepared call has not been made yet.
     is_ready: bool,
-    // The timers, one for each value. While a call is prepared, memory is reserved for one more.
+    // The timers, one for each value. While a call is prepared, memory is reserved for one more
+    // timer.
     timers: Timers,
     // The total size of all values, which wraps.
     len: usize,

@@ -31,7 +31,8 @@ pub struct NameTrie<V> {
     alloc: Global,
     nodes: Slab<Node<V>>,
     root: Option<usize>,
-    // The reserved name and its node: those of the prepared call. The node is not removed.
+    // The reserved name, which is the name of the prepared call, and its node. The node is not
+    // removed.
     held: Option<(NameBuf, usize)>,
 }
 

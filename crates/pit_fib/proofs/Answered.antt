@@ -222,7 +222,8 @@ module _ (P : ℕ → Type 0) (few : AtMost64 P) where
 
 -- ---- the faces with an in-record along a name
 
--- a key under which the face has an in-record; the key's name is `front` followed by `t`
+-- the face has an in-record under a key whose name is `front` followed by some `t`, where `t` and
+-- the key's CanBePrefix pass the test
 abbrev pub AsksAt : (List Field → Option Row) → List Field → (List Field → Bool → Bool) → ℕ → Type 0
 AsksAt value front test f = (t : List Field) × (g : Flags) × IsTrue (test t g.can_be_prefix) × IsTrue (asks_in (kept_in (value (front ++ t)) g) f)
 

@@ -28,8 +28,8 @@ or_so true b h = refl
 or_so false b (inl e) = absurd cc
 or_so false b (inr e) = e
 
--- the entry after the Interest of a face arrived, if the face has an in-record or fewer than 64
--- faces have one
+-- if the face has an in-record, or fewer than 64 faces have one, the arrival of an Interest sets
+-- the face's in-record, and changes nothing else in the entry
 pub asked_is : (face : ℕ) (in_record : InRecord) (s : Kept) → IsSome (get s.records.in_records face) ⊎ (len s.records.in_records < 64)
     → with_in_record face in_record s ≡ record { records = record { in_records = map.insert s.records.in_records face in_record; out_records = s.records.out_records }; is_wide = s.is_wide }
 asked_is face in_record s room =
@@ -87,7 +87,7 @@ module _ {X : Type 0} (room face : ℕ) (x : X) (f : Faced X) where
 wide_or_not : (n : ℕ) → (64 ≤ n) ⊎ (n < 64)
 wide_or_not n = elim (leb 64 n) as (λ b. leb 64 n ≡ b → (64 ≤ n) ⊎ (n < 64)) [ true ↦ λ e. inl (leb-true 64 n e) | false ↦ λ e. inr (leb-false 64 n e) ] refl
 
--- the memory of the calls that are still prepared after an Interest arrives
+-- after an Interest arrives, there is memory for the calls that are still prepared
 pub memory_arrived : (old new : NameTable Row) (spare : ℕ) (key : PlainKey) (prepared after : Option Prepared) → HasMemory old spare prepared → HasNoArrival after
     → (((size : ℕ) → calls_of prepared ≡ Some (key, Some size) → ⊥) → calls_of after ≡ None) → HasMemory new spare after
 memory_arrived old new spare key prepared after has left ended =
@@ -109,8 +109,8 @@ one_of {k} e = ap (key_in k) e
     key_in k None = k
     key_in k (Some c) = c.0
 
--- the memory of the calls that are still prepared after an Interest is sent; the entry has memory
--- for the out-records of all faces if it had that memory before, or if this call gave it
+-- after an Interest is sent, there is memory for the calls that are still prepared; the entry has
+-- memory for the out-records of all faces if it had this memory before, or if this call gave it
 pub memory_sent : (old new : NameTable Row) (spare left : ℕ) (key : PlainKey) (prepared after : Option Prepared) (has_place : Bool) (was is : Kept) → HasMemory old spare prepared → HasNoArrival after
     → (calls_of after ≡ None) ⊎ ((calls_of prepared ≡ Some (key, None)) × (calls_of after ≡ Some (key, None)))
     → kept_at old.table key ≡ Some was → kept_at new.table key ≡ Some is → (has_place ≡ true → left ≡ spare) → ((has_place ≡ false) ⊎ (was.is_wide ≡ true) → is.is_wide ≡ true)

@@ -212,7 +212,7 @@ module _ (wanted : Route → Bool) (f : ℕ) where
 
 -- ---- the costs that a name inherits from its prefixes
 
--- a cost for a face that a name inherits from its prefixes with fewer than n components
+-- the name inherits this cost for the face from its prefixes with fewer than n components
 record IsHandedDown (routes : Routes) (name : List Field) (n face cost : ℕ) : Type 0 where
   from : ℕ
   shorter : from < n

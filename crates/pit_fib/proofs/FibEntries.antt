@@ -21,7 +21,7 @@ use Rattle.name_trie.specs.Flat.{size_of}
 use Rattle.pit_fib.proofs.FibTables.{EntryLeads, IsPartOf, count_insert, count_remove}
 use Rattle.pit_fib.proofs.Routes.{from_kept, sorted_kept}
 
--- an entry that is not removed is unchanged and not vacant
+-- if `unless_vacant` returns an entry, this entry is its argument, and has next hops or routes
 pub left_is : (e part : Entry) → unless_vacant e ≡ Some part → (part ≡ e) × (is_vacant e ≡ false)
 left_is e part is =
     elim (is_vacant e) as (λ b. cond b None (Some e) ≡ Some part → (part ≡ e) × (b ≡ false)) [
@@ -72,7 +72,7 @@ part_without_route key whole part is =
 
 -- ---- the hops and routes of a face, or the routes that expire by a moment, are removed
 
--- a key that has no value before a removal has no value afterwards
+-- changing or removing the values of rows does not increase the number of rows
 pub fewer_rows : {K X : Type 0} (change : X → Option X) (es : List (K × X)) → length (revised change es) ≤ length es
 fewer_rows change [] = omega arith
 fewer_rows change (e ∷ es) =
@@ -122,7 +122,7 @@ module _ (face : ℕ) where
   alike : (q x : RouteKey) → route_cmp q x ≡ Equal → other x ≡ other q
   alike q x tie = ap other (sym (route_cmp-antisymmetric q x tie))
 
-  -- there are no more keys than before
+  -- removing the routes of the face does not increase the number of routes
   fewer_keys : (m : Registered) → len (retain_keys m other) ≤ len m
   fewer_keys m =
       let whole : from_sorted {R = route_cmp} (entries m) ≡ m = same_entries_map _ _ (entries-from_sorted route_cmp (entries m) (entries_sorted m)) in
@@ -174,7 +174,7 @@ some_in total m k x =
     positive : (n : ℕ) → 0 < n → eqb n 0 ≡ false
     positive n less = elim (eqb n 0) as (λ b. eqb n 0 ≡ b → b ≡ false) [ true ↦ λ e. (let zero = eqb-true n 0 e in absurd (omega (arith, zero, less))) | false ↦ λ e. refl ] refl
 
--- a value that a map has after an insertion was there before, or is the inserted one
+-- a key that has a value after an insertion had a value before, or its value is the inserted one
 set_or : {X : Type 0} (b : Bool) (x : X) (o : Option X) {A : Type 0} → (b ≡ true → A) → IsSome (cond b (Some x) o) → IsSome o ⊎ A
 set_or true x o is some = inr (is refl)
 set_or false x o is some = inl some
@@ -244,7 +244,8 @@ size_left e =
       | false ↦ λ v. refl
     ] refl
 
--- the number of routes after one entry changed
+-- if the entry of one name changes, the number of routes of this name is subtracted from the number
+-- of all routes, and its new number of routes is added
 pub count_changed : (t : Routes) (name : List Field) (e : Entry) → route_count (with_value t name (unless_vacant e)) + len (registered_at t name) ≡ route_count t + len e.registered
 count_changed t name e =
     elim (unless_vacant e) as (λ o. unless_vacant e ≡ o → route_count (with_value t name o) + len (registered_at t name) ≡ route_count t + len e.registered) [

@@ -16,7 +16,7 @@ use Rattle.pit_fib.specs.Effective.{effective, entry_listed, listed}
 use Rattle.pit_fib.specs.Fib.{Entry, Routes, entry_left_at, left_at}
 use Rattle.pit_fib.specs.Hops.{hops_of}
 
--- the entry at index `i` of the list
+-- the table has the entry at index `i` of its list under the name at that index
 pub entry_at_place : (t : Routes) (i : ℕ) (row : List Field × Entry) → i < length (entries t) → row ≡ get_or (entries t) i row → get t row.0 ≡ Some row.1
 entry_at_place t i row lt is =
     ap (λ (r : List Field × Entry). get t r.0) is ∙ entry_is_there name_cmp-total t i row lt ∙ ap (λ (r : List Field × Entry). Some r.1) (sym is)

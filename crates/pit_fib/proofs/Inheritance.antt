@@ -55,7 +55,7 @@ or_none (Some x) = refl
 none_last : (a : ByFace) → prefer a empty ≡ a
 none_last a = same_map nat_cmp_total nat_cmp-IsAntisymmetric _ _ (λ f. get-prefer a empty f ∙ ap (option_or (get a f)) (get-empty nat_cmp f) ∙ or_none (get a f))
 
--- a property of each key with a value is a property of the key of each entry
+-- if each key with a value has a property, the key of each entry has it
 keys_all : {K X : Type 0} {R : K → K → Ordering} → IsTotalOrder R → (P : K → Type 0) (es : List (K × X)) → ((k : K) → IsSome (find R k es) → P k) → AllByRecursion (λ (e : K × X). P e.0) es
 keys_all total P [] there = tt
 keys_all {R = R} total P (e ∷ es) there = (
@@ -250,7 +250,7 @@ module _ (P : ℕ → Type 0) (few : AtMost64 P) (s : Inheriting) (among : (f : 
   hops_among : Among P few e.hops
   hops_among f some = leads f (inl some)
 
-  -- the costs that the names below this entry inherit
+  -- the costs that the walk passes on from this entry are the costs that the names below it inherit
   inherited_is : laid_over (least_within s.at true (entries e.registered)) (cond (not (has_capture_at s.at (entries e.registered))) s.inherited empty) ≡ passed_on (Some (live s.at e)) s.inherited
   inherited_is =
       laid_is P few _ _ (least_of true).1 (among_if (not (has_capture_at s.at (entries e.registered))))
@@ -263,7 +263,8 @@ module _ (P : ℕ → Type 0) (few : AtMost64 P) (s : Inheriting) (among : (f : 
   own_among : Among P few own
   own_among = laid_among P few _ _ (least_of false).1 (among_if (has_route_at s.at (entries e.registered) && not (has_capture_at s.at (entries e.registered))))
 
-  -- the costs of the effective next hops of this name
+  -- the costs that the walk collects at this entry are the costs of the effective next hops of its
+  -- name
   costs_are : laid_over e.hops own ≡ effective_of (live s.at e) s.inherited
   costs_are =
       laid_is P few e.hops own hops_among own_among
@@ -403,7 +404,8 @@ module _ (t : Routes) (few : AtMost64 (LeadsTo t)) (at : Option ℕ) (name : Lis
       none_left None = refl
       none_left (Some now) = refl
 
-  -- the effective costs at a prefix that has an entry
+  -- if a prefix has an entry, the costs that the walk has collected there are the costs of the
+  -- effective next hops of the prefix
   costs_here : (n : ℕ) (e : Entry) → get t (take n name) ≡ Some e → (known (suc n)).costs ≡ effective_of (live at e) (handed_down (live_table at t) name n)
   unfolding known
   costs_here n e is =

@@ -102,7 +102,7 @@ step_follows cause rows new dead step k =
           | false ↦ refl
         ]
 
--- an entry that a cause does not remove has an in-record, and has the same memory
+-- if a cause does not remove an entry, the entry has an in-record and keeps its memory
 left_alive : (t s : Kept) → living t ≡ Some s → (is_alive s.records ≡ true) × (s.is_wide ≡ t.is_wide)
 left_alive t s e =
     elim (is_alive t.records) as (λ b. is_alive t.records ≡ b → cond b (Some t) None ≡ Some s → (is_alive s.records ≡ true) × (s.is_wide ≡ t.is_wide)) [

@@ -9,7 +9,8 @@ use Rattle.pit_fib.specs.Kept.{Row, Rows}
 use Rattle.pit_fib.specs.Last.{last_above, last_along, last_in_row, last_seen}
 use Rattle.pit_fib.specs.Records.{InRecord}
 
--- the component at index `n`, between the components before it and those after it
+-- if a name has more than n components, its component at index n comes after the first n
+-- components, and before the components from index n + 1 on
 parts : (n : ℕ) (name : List Field) → n < length name → (c : Field) × (drop n name ≡ c ∷ drop (suc n) name) × (take n name ++ c ∷ [] ≡ take (suc n) name)
 parts n [] less = absurd (omega arith)
 parts zero (c ∷ name) less = (c, refl, refl)

@@ -60,8 +60,8 @@ one_token records name digest face a b (inr some) (inr other) =
 
 -- ---- the last in-record under the keys that were searched
 
--- this in-record is the last of the in-records under the keys that were searched, or None if there
--- is none
+-- the last argument is the last of the in-records under the keys in `Seen`, or None if there is no
+-- such in-record
 abbrev pub IsLastOf : (PlainKey → Option InRecord) → (PlainKey → Type 0) → Option InRecord → Type 0
 IsLastOf at Seen None = (k : PlainKey) (r : InRecord) → Seen k → at k ≡ Some r → ⊥
 IsLastOf at Seen (Some best) =
@@ -83,8 +83,9 @@ not_greater o e g = cc
 not_itself : (k key : PlainKey) → k ≡ key → key_cmp k key ≢ Greater
 not_itself k key e g = let tied : key_cmp k key ≡ Equal = ap (key_cmp k) (sym e) ∙ tied_itself key_cmp-total k in cc
 
--- if `r` does not come after `b`, it does not come after an `s` whose deadline is not less than
--- that of `b`, and whose key is not less than that of `r`
+-- if the in-record `r` does not come after `b`, it does not come after `s` either, provided the
+-- deadline of `s` is not earlier than the deadline of `b`, and the key of `s` is not less than the
+-- key of `r`
 moved : (k key new : PlainKey) (r b s : InRecord) → b.deadline ≤ s.deadline → key_cmp k new ≢ Greater → IsNotAfter k r key b → IsNotAfter k r new s
 moved k key new r b s le order (inl less) = inl (omega arith)
 moved k key new r b s le order (inr same) =
@@ -215,7 +216,8 @@ one_of : (k : PlainKey) (q : List Field) (x y : Bool) → k.name ≡ q → k.can
 one_of k q x y n p m = λ i. record { name = n i; can_be_prefix = p i; must_be_fresh = m i }
 
 module _ (rows : Rows) (face : ℕ) (at : PlainKey → Option InRecord) (shown : (k : PlainKey) → at k ≡ ask_in face (kept_at rows k)) where
-  -- the search through those keys of a name that have CanBePrefix
+  -- if `best` is the last in-record under the keys in `Seen`, `last_prefix` gives the last
+  -- in-record under these keys and the two keys of the name with CanBePrefix
   prefix_more : (Seen : PlainKey → Type 0) (q : List Field) (best : Option InRecord) (row : Row) → get rows q ≡ Some row → ((k : PlainKey) (y : Bool) → Seen k → key_cmp k (key_at q (flags true y)) ≢ Greater) → IsLastOf at Seen best
       → IsLastOf at (λ k. (Seen k ⊎ (k ≡ key_at q (flags true false))) ⊎ (k ≡ key_at q (flags true true))) (last_prefix face best row)
   prefix_more Seen q best row here order h =
@@ -230,7 +232,8 @@ module _ (rows : Rows) (face : ℕ) (at : PlainKey → Option InRecord) (shown :
       ]) (is (flags true true))
       (one_more at Seen third best (ask (flags true false)) (λ k s. order k false s) (is (flags true false)) h)
 
-  -- the search through those keys of a name that do not have CanBePrefix
+  -- if `best` is the last in-record under the keys in `Seen`, `last_exact` gives the last in-record
+  -- under these keys and the two keys of the name without CanBePrefix
   exact_more : (Seen : PlainKey → Type 0) (q : List Field) (best : Option InRecord) (row : Row) → get rows q ≡ Some row → ((k : PlainKey) (y : Bool) → Seen k → key_cmp k (key_at q (flags false y)) ≢ Greater) → IsLastOf at Seen best
       → IsLastOf at (λ k. (Seen k ⊎ (k ≡ key_at q (flags false false))) ⊎ (k ≡ key_at q (flags false true))) (last_exact face best row)
   exact_more Seen q best row here order h =
@@ -254,7 +257,8 @@ module _ (rows : Rows) (face : ℕ) (at : PlainKey → Option InRecord) (shown :
       none_more at Seen (OfName is_own q) best
       (λ k own. shown k ∙ ap (λ n. ask_in face (option_and_then (λ r. get r (flags_of k)) (get rows n))) own.0 ∙ ap (λ (o : Option Row). ask_in face (option_and_then (λ r. get r (flags_of k)) o)) none) h
 
-  -- the search through a row whose name is a proper prefix of the Data's name
+  -- for a name that is a proper prefix of the Data's name, `last_prefix` also takes into account
+  -- the in-records under the name's keys that the Data answers
   prefix_row : (Seen : PlainKey → Type 0) (q : List Field) (best : Option InRecord) (row : Row) → get rows q ≡ Some row → ((k : PlainKey) → Seen k → IsProperPrefix k.name q) → IsLastOf at Seen best
       → IsLastOf at (λ k. Seen k ⊎ OfName false q k) (last_prefix face best row)
   prefix_row Seen q best row here order h =
@@ -280,7 +284,8 @@ module _ (rows : Rows) (face : ℕ) (at : PlainKey → Option InRecord) (shown :
   abbrev Four : (PlainKey → Type 0) → List Field → PlainKey → Type 0
   Four Seen q k = (Two Seen q k ⊎ (k ≡ key_at q (flags true false))) ⊎ (k ≡ key_at q (flags true true))
 
-  -- the search through the row of the Data's own name
+  -- for the Data's own name, `last_exact` and then `last_prefix` also take into account the
+  -- in-records under all keys of the name
   own_row : (Seen : PlainKey → Type 0) (q : List Field) (best : Option InRecord) (row : Row) → get rows q ≡ Some row → ((k : PlainKey) → Seen k → IsProperPrefix k.name q) → IsLastOf at Seen best
       → IsLastOf at (λ k. Seen k ⊎ OfName true q k) (last_prefix face (last_exact face best row) row)
   own_row Seen q best row here order h =

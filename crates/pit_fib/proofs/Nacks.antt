@@ -88,7 +88,8 @@ module _ (least : ℕ) where
         | false ↦ λ e. all_found rows all.1 face sent e
       ] e
 
-  -- the out-record of a face in the later rows is its out-record in all rows
+  -- if a face has an out-record in the rows after the first row, it has the same out-record in all
+  -- rows
   kept : (row : Row) (rows : List Row) → T (is_sorted nat_cmp (row ∷ rows)) → (face : ℕ) (sent : OutRecord) → find nat_cmp face rows ≡ Some sent → find nat_cmp face (row ∷ rows) ≡ Some sent
   kept row rows sorted face sent e =
       elim (eq_by_cmp nat_cmp face row.0) as (λ b. eq_by_cmp nat_cmp face row.0 ≡ b → cond b (Some row.1) (find nat_cmp face rows) ≡ Some sent) [

@@ -1,4 +1,4 @@
--- The calls that are prepared.
+-- The prepared calls of a pending Interest table, and the memory for these calls.
 use Rattle.std.proofs.Common.{◌≡◌, ◌⊎◌, inl, inr, ℕ, ◌≤◌, Bool, true, false, refl, sym, ap, subst, ◌∙◌}
 use Rattle.std.specs.Prelude.{Option, None, Some, IfSome, is_some, not}
 use Rattle.ndn_packets.specs.Key.{PlainKey}
@@ -28,7 +28,8 @@ none_left (Some r) b e t = absurd cc
 pub some_left : (ready : Option Ready) (b : Bool) → is_some ready ≡ not b → b ≡ false → is_some ready ≡ true
 some_left ready b e f = e ∙ ap not f
 
--- the prepared calls are `sent` calls of this key
+-- if no `arrive` is prepared, and the prepared calls are calls of this key, they are `sent` calls
+-- of this key
 pub are_sendings : (p : Prepared) (key : PlainKey) (b : Bool) → is_some p.arrival ≡ not b → b ≡ true → same_key p.key key ≡ true → calls_of (Some p) ≡ Some (key, None)
 are_sendings p key b e t same = λ i. Some (one_key p.key key same i, room_of (none_left p.arrival b e t i))
 
@@ -46,7 +47,8 @@ not_sendings p key (inl some) e = at p.arrival some (ap room_in e)
     at None some e = absurd cc
     at (Some r) some e = absurd cc
 
--- the prepared calls begin with an `arrive` of this key, with memory for `room` octets
+-- if an `arrive` is prepared, and the prepared calls are calls of this key, they begin with an
+-- `arrive` of this key with memory for some number `room` of octets
 pub is_arrival : (p : Prepared) (key : PlainKey) → is_some p.arrival ≡ true → same_key p.key key ≡ true → (room : ℕ) × (calls_of (Some p) ≡ Some (key, Some room))
 is_arrival p key some same =
     let found = at p.arrival some in (found.0, λ i. Some (one_key p.key key same i, found.1 i))
@@ -100,7 +102,8 @@ pub memory_after : (rows : NameTable Row) (spare : ℕ) (prepared : Option Prepa
 memory_after rows spare None none h = tt
 memory_after rows spare (Some p) none h = (h p.key (λ i. Some (p.key, room_of (none i))), rw none tt)
 
--- the memory of a prepared `arrive` with `size` octets, and of the `sent` calls after it
+-- a new preparation of an `arrive` with `size` octets has memory for this call and for the `sent`
+-- calls after it
 pub memory_new : (rows : NameTable Row) (spare size : ℕ) (p : Prepared) → 64 ≤ spare → rows.prepared ≡ Some p.key.name → room_of p.arrival ≡ Some size → IfSome p.arrival IsReady
     → HasMemory rows spare (Some p)
 memory_new rows spare size p room name is ready = (inl room, at p.arrival ready)

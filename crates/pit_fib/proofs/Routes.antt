@@ -12,7 +12,8 @@ use Rattle.pit_fib.specs.declared.route.RouteKey.{RouteKey}
 use Rattle.pit_fib.specs.Tally.{left_of}
 use Rattle.pit_fib.specs.Route.{is_due, route_cmp, route_cmp-antisymmetric, route_cmp-total, until_due}
 
--- the routes that do not expire by the moment `now`
+-- the rows that do not expire by the moment `now` are the rows that `revised` with `until_due`
+-- leaves
 pub left_rows : (now : ℕ) (rows : List (RouteKey × Route)) → filter (λ row. not (is_due now row.1)) rows ≡ revised (until_due now) rows
 left_rows now [] = refl
 left_rows now (row ∷ rows) =
@@ -20,7 +21,7 @@ left_rows now (row ∷ rows) =
     elim (is_due now row.1) as (λ b. cond (not b) (row ∷ filter (λ row. not (is_due now row.1)) rows) (filter (λ row. not (is_due now row.1)) rows)
     ≡ with_entry row.0 (cond b None (Some row.1)) (revised (until_due now) rows)) [ true ↦ rest | false ↦ ap (λ l. row ∷ l) rest ]
 
--- the routes whose keys pass a test
+-- if only the routes whose keys pass a test are kept, sorted routes stay sorted
 pub sorted_kept : (test : RouteKey → Bool) (rows : List (RouteKey × Route)) → T (is_sorted route_cmp rows) → T (is_sorted route_cmp (filter (λ row. test row.0) rows))
 sorted_kept test rows sorted = is_sorted-where_key route_cmp test rows sorted
 
@@ -48,7 +49,8 @@ any_at test (row ∷ rows) (suc at) d lt passes = later (test row) (any_at test 
 pub both_true : {a b : Bool} → a ≡ true → b ≡ true → (a && b) ≡ true
 both_true {a} {b} p q = ap (λ x. x && b) p ∙ q
 
--- the number of remaining routes among the first `at + 1` rows
+-- the row at index `at` adds one to the number of remaining routes, unless its route expires by
+-- `now`
 pub left_more : (now : ℕ) (rows : List (RouteKey × Route)) (at : ℕ) (d : RouteKey × Route) → at < length rows
     → left_of now (take (at + 1) rows) ≡ left_of now (take at rows) + cond (is_due now (get_or rows at d).1) 0 1
 left_more now rows at d lt = ap (left_of now) (take_more rows at d lt) ∙ counted (take at rows) (get_or rows at d)

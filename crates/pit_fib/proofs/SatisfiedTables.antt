@@ -22,7 +22,8 @@ use Rattle.pit_fib.proofs.Answered.{along, and_some, answers_along, below_stays,
 use Rattle.pit_fib.proofs.KeptTables.{Steps, get-with_value, row_changes}
 use Rattle.pit_fib.proofs.PendingTables.{dead_none}
 
--- the table after the walk along the name
+-- `new` is the table `rows` after the walk along the name, which removes the entries that the Data
+-- answers
 abbrev pub TakesAlong : List Field → Rows → Rows → Type 0
 TakesAlong name rows new =
     (q : List Field) → get new q ≡ option_and_then (changed_along (changed_row (unanswered true)) (changed_row (unanswered false)) q name) (get rows q)
@@ -37,7 +38,7 @@ module _ (name : List Field) (digest : List ℕ) (rows taken : Rows) (along_is :
   pub full_stays : get taken full ≡ get rows full
   full_stays = along_is full ∙ ap (λ (g : Row → Option Row). option_and_then g (get rows full)) (below_stays (changed_row (unanswered true)) (changed_row (unanswered false)) name (1, digest)) ∙ and_some (get rows full)
 
-  -- the entries under the full name are removed too, or there are no such entries
+  -- if there are entries under the full name, they are removed in addition
   abbrev pub TakesFull : Rows → Type 0
   TakesFull new = (k : PlainKey) → kept_at new k ≡ cond (eq_by_cmp name_cmp k.name full) None (kept_at taken k)
 

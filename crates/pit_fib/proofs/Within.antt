@@ -6,7 +6,8 @@ use Rattle.std.specs.FinMap.{contains_key, get, insert, len}
 use Rattle.pit_fib.specs.Tables.{ByFace}
 use Rattle.pit_fib.specs.Within.{set_within}
 
--- the costs after an insertion that may fail at the limit of 64 faces
+-- if an insertion fails exactly when the face is new and 64 faces have a cost, the costs afterwards
+-- are `set_within`
 pub set_is : (b : Bool) (old new : ByFace) (face cost : ℕ) → b ≡ (contains_key old face || nat_lt (len old) 64) → (b ≡ true → new ≡ insert old face cost) → (b ≡ false → new ≡ old)
     → new ≡ set_within old face cost
 set_is true old new face cost is ok full = ok refl ∙ ap (λ b. cond b (insert old face cost) old) is

@@ -106,8 +106,8 @@ HasNone wanted registered face =
     → map.get registered (record { face = face; origin = origin }) ≡ Some r → wanted r ≡ false
 
 -- The name inherits this cost for the face: it is the least cost of the child-inherit routes on
--- that face at the nearest proper prefix that has such a route, and no prefix between that one and
--- the name has a capture route.
+-- that face at the nearest proper prefix that has such a route, and no prefix between that prefix
+-- and the name has a capture route.
 pub record IsInherited (routes : Routes) (name : List Field) (face cost : ℕ) : Type 0 where
   pub from : ℕ
   pub shorter : from < length name

@@ -68,7 +68,7 @@ is_vacant e = (map.len e.hops == 0) && (map.len e.registered == 0)
 abbrev pub unless_vacant : Entry → Option Entry
 unless_vacant e = if is_vacant e then None else Some e
 
--- the entry with a next hop on this face, with this cost
+-- the entry after its next hop on this face is set to this cost
 abbrev pub entry_with_hop : ℕ → ℕ → Entry → Entry
 entry_with_hop face cost e = record e { hops = map.insert e.hops face cost }
 

@@ -23,7 +23,7 @@ counts_at None r = true
 counts_at (Some now) r = not (is_due now r)
 
 -- whether a route counts for a name itself or, if `below` is true, for the names below that name;
--- for these, only child-inherit routes count
+-- for the names below it, only child-inherit routes count
 abbrev pub counts_for : Option ℕ → Bool → Route → Bool
 counts_for at below r = counts_at at r && (not below || is_child_inherit r)
 

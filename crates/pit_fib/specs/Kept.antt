@@ -116,7 +116,7 @@ abbrev pub with_asking : Option Kept → List ℕ → List ℕ
 with_asking None faces = faces
 with_asking (Some s) faces = with_faces_of (map.entries s.records.in_records) faces
 
--- the lesser of two moments; if one is None, the other
+-- the lesser of two moments; if only one moment is given, this moment
 abbrev pub lesser : Option ℕ → Option ℕ → Option ℕ
 lesser None b = b
 lesser (Some a) None = Some a

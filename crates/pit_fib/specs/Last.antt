@@ -1,6 +1,6 @@
--- Which in-record of a face is the last: the one with the latest deadline and, among in-records
--- with the same deadline, the one with the greatest key. Also whether any in-record has a token.
--- For the contracts of private functions.
+-- Which in-record of a face is the last: the in-record with the latest deadline and, if several
+-- have this deadline, the in-record under the greatest key. Also whether any in-record has a token.
+-- These definitions are for the contracts of private functions.
 use Rattle.std.specs.Prelude.{◌≡◌, ℕ, zero, suc, Bool, true, false, List, Option, None, Some, length, nat_lt, if◌then◌else◌, take}
 use Rattle.std.specs.Option.{option_and_then}
 use Rattle.std.specs.FinMap as map

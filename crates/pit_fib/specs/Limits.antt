@@ -25,7 +25,7 @@ abbrev pub HaveSome : Routes → Type 0
 HaveSome routes =
     (name : List Field) (e : Entry) → map.get routes name ≡ Some e → is_vacant e ≡ false
 
--- a table of routes is within its limits
+-- A table of routes is within its limits, and each of its names has next hops or routes.
 pub record IsWithinFib (routes : Routes) : Type 0 where
   pub names : IsWithinLimits routes
   pub some : HaveSome routes

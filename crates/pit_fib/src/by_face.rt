@@ -119,7 +119,7 @@ impl Used {
         self.len = without_face(&mut self.places, self.len, face);
     }
 
-    /// Returns a copy.
+    /// Returns a copy of the map.
     pub(crate) fn copied(&self) -> Used
         ensures { result ≡ self.now }
     {

@@ -432,7 +432,7 @@ pub fn in_record_of(entry: &Option<Entry>, face: u64) -> Option<&InRecord>
     }
 }
 
-/// Adds the faces with an in-record in the entry, if there is one.
+/// Adds the faces with an in-record in the entry, if there is an entry.
 pub fn add_faces(entry: &Option<Entry>, faces: &mut Faces)
     ensures { faces.new ≡ with_asking entry.now faces.old }
 {

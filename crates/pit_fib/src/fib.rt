@@ -85,8 +85,8 @@ impl Fib {
         }
     }
 
-    /// Returns the number of names. The contract clauses other than `exact` state properties of
-    /// every table.
+    /// Returns the number of names. The contract clause `exact` gives this number. Each of the
+    /// other contract clauses states a property that every table has.
     pub fn len(&self) -> usize
         ensures exact { result ≡ map.len self.now.table }
         ensures bounded { map.len self.now.table ≤ MAX_ENTRIES }
@@ -142,10 +142,10 @@ impl Fib {
         Some(TableFault::TableFull)
     }
 
-    /// Registers a route. If the route has a deadline, in milliseconds since 1970, it expires then.
-    /// In the flags, 1 is child-inherit and 2 is capture. The route replaces the name's route with
-    /// the same face and origin. The faces of all next hops and routes, together with `face`, must
-    /// be at most 64.
+    /// Registers a route. If `deadline` is a moment, in milliseconds since 1970, the route expires
+    /// at that moment. In the flags, 1 is child-inherit and 2 is capture. The route replaces the
+    /// name's route with the same face and origin. The faces of all next hops and routes, together
+    /// with `face`, must be at most 64.
     ///
     /// On failure, it returns the first fault in the order of `TableFault`. In that case the table
     /// is unchanged, but a prepared call is cancelled. The table is full for a new name when it has
@@ -245,7 +245,8 @@ impl Fib {
         self.entries.change(name, &WithoutRoute { key });
     }
 
-    /// Removes the next hops and the routes of a face. Entries that then have neither are removed.
+    /// Removes the next hops and the routes of a face. An entry that then has neither next hops nor
+    /// routes is removed.
     pub fn close_face(&mut self, face: u64)
         ensures table { self.new.table ≡ without_face self.old.table face }
         ensures prepared { self.new.prepared ≡ self.old.prepared }

@@ -32,7 +32,7 @@ impl Inheriting {
         }
     }
 
-    /// Returns a copy.
+    /// Returns a copy of the state.
     pub fn copied(&self) -> Inheriting
         ensures { result ≡ self.now }
     {
@@ -85,8 +85,8 @@ fn counts_at(route: Route, at: Option<u64>) -> bool
     }
 }
 
-/// Returns whether some route counts: one that does not expire by `at` or, if `at` is `None`, any
-/// route.
+/// Returns whether some route counts. A route counts if it does not expire by `at`. If `at` is
+/// `None`, every route counts.
 fn has_route_at(rows: &[(RouteKey, Route)], at: Option<u64>) -> bool
     ensures { result ≡ has_route_at at rows.now }
 {
@@ -98,8 +98,8 @@ fn has_route_at(rows: &[(RouteKey, Route)], at: Option<u64>) -> bool
     false
 }
 
-/// Returns whether some capture route counts: one that does not expire by `at` or, if `at` is
-/// `None`, any capture route.
+/// Returns whether some capture route counts. A route counts if it does not expire by `at`. If `at`
+/// is `None`, every route counts.
 fn has_capture_at(rows: &[(RouteKey, Route)], at: Option<u64>) -> bool
     ensures { result ≡ has_capture_at at rows.now }
 {

@@ -1,5 +1,6 @@
-//! The search for the last in-record of a face that a Data answers. The last in-record is the one
-//! with the latest deadline and, among those with the same deadline, the one with the greatest key.
+//! The search for the last in-record of a face that a Data answers. The last in-record is the
+//! in-record with the latest deadline. If several in-records have this deadline, it is the
+//! in-record under the greatest key.
 ghost use Rattle.std.specs.Prelude.{◌≡◌};
 ghost use Rattle.std.specs.Option.{option_map};
 ghost use Rattle.sha2.specs.Sha256.{sha256};
@@ -14,7 +15,7 @@ use ndn_names::{Component, Name};
 use ndn_packets::Data;
 use std::marker::Model;
 
-/// The last in-record of a face among those in the rows that the search has visited.
+/// The last in-record of a face among its in-records in the rows that the search has visited.
 #[derive(Drop)]
 struct LastOf<'a> {
     face: u64,
@@ -45,8 +46,8 @@ impl<'a> Look<'a, Row> for LastOf<'a> {
 }
 
 /// Of the face's in-records under the keys of this name, and under those keys of its proper
-/// prefixes that have CanBePrefix, returns the one with the latest deadline and, among those with
-/// the same deadline, the one with the greatest key.
+/// prefixes that have CanBePrefix, returns the in-record with the latest deadline. If several
+/// in-records have this deadline, returns the in-record under the greatest key.
 fn last_along<'a>(rows: &'a TimedMap<Row>, name: Name<'_>, face: u64) -> Option<&'a InRecord>
     ensures { option_map (λ r. r.now) result
         ≡ last_along rows.now.table face (components name.entry) }
@@ -56,9 +57,9 @@ fn last_along<'a>(rows: &'a TimedMap<Row>, name: Name<'_>, face: u64) -> Option<
     look.last
 }
 
-/// Of the face's in-records that a Data answers, returns the one with the latest deadline and,
-/// among those with the same deadline, the one with the greatest key. The Data's digest is computed
-/// only if some key has a digest.
+/// Of the face's in-records that a Data answers, returns the in-record with the latest deadline. If
+/// several in-records have this deadline, returns the in-record under the greatest key. The Data's
+/// digest is computed only if some key has a digest.
 pub fn last_for<'a>(rows: &'a TimedMap<Row>, packet: &Data<'_>, face: u64) -> Option<&'a InRecord>
     ensures { option_map (λ r. r.now) result ≡ last_of rows.now.table face
         (components packet.now.name) (sha256 packet.now.whole.now) }

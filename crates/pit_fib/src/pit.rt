@@ -51,8 +51,8 @@ pub struct Pit {
     prepared: Option<Prepared>,
     // Spare memory for the out-records of an entry whose own memory is full.
     spare: Room<OutRecord>,
-    // Whether any Interest so far had a PIT token. While this is false, no search looks for a
-    // token.
+    // Whether any Interest that has ever arrived had a PIT token. While this is false, no search
+    // looks for a token.
     has_tokens: bool,
 }
 
@@ -90,8 +90,8 @@ impl Pit {
         }
     }
 
-    /// Returns the number of keys with pending Interests. The contract clauses other than `exact`
-    /// state properties of every table.
+    /// Returns the number of keys with pending Interests. The contract clause `exact` gives this
+    /// number. Each of the other contract clauses states a property that every table has.
     pub fn len(&self) -> usize
         ensures exact { result ≡ map.len self.now.pending }
         ensures living { HoldsTheLiving self.now.pending }
@@ -253,11 +253,11 @@ impl Pit {
         Ok(())
     }
 
-    /// Records that an Interest with this key and Nonce was sent to a face now, in milliseconds
-    /// since 1970. This replaces the face's older out-record. The key must have an in-record, and
-    /// the faces that have records, together with `face`, must be at most 64. A call that is not
-    /// prepared may run out of memory. In that case the records are unchanged, but a prepared call
-    /// is cancelled.
+    /// Records that an Interest with this key and Nonce was sent to a face at the moment `now`, in
+    /// milliseconds since 1970. This replaces the face's older out-record. The key must have an
+    /// in-record, and the faces that have records, together with `face`, must be at most 64. A call
+    /// that is not prepared may run out of memory. In that case the records are unchanged, but a
+    /// prepared call is cancelled.
     pub fn sent(&mut self, key: Key<'_>, face: u64, nonce: [u8; 4], now: u64) -> Result<(), Memory>
         requires stands { is_alive (records_at self.old.pending (plain_key key)) ≡ true }
         requires room { HasRoomFor self.old.pending face }

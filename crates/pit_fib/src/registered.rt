@@ -32,7 +32,7 @@ impl Model for Registered {
 }
 
 impl Registered {
-    /// Returns a value without routes.
+    /// Returns an empty collection of routes.
     pub fn new(alloc: Global) -> Registered
         ensures { result ≡ map.empty }
     {

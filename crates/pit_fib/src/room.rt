@@ -30,7 +30,7 @@ impl<V> Model for Room<V> {
 }
 
 impl<V: Drop> Room<V> {
-    /// Returns a value without memory.
+    /// Returns memory with capacity for no values.
     pub fn none(alloc: Global) -> Room<V>
         ensures { result ≡ 0 }
     {

@@ -85,9 +85,10 @@ impl Row {
     }
 
     /// Of `last` and the face's in-records under the keys of this name that the Data answers,
-    /// returns the one with the latest deadline. Among those with the same deadline, a greater key
-    /// takes precedence over a lesser one, and any key over `last`. If the name is the Data's own,
-    /// the Data answers all keys; otherwise it answers the keys with CanBePrefix.
+    /// returns the in-record with the latest deadline. Among in-records with the same deadline, a
+    /// greater key takes precedence over a lesser key, and every key takes precedence over `last`.
+    /// If the name is the Data's own, the Data answers all keys; otherwise it answers the keys with
+    /// CanBePrefix.
     pub fn last_of<'a>(
         &'a self,
         is_own: bool,

@@ -146,9 +146,9 @@ impl Slots {
         add_faces(&self.prefix_fresh, faces);
     }
 
-    /// Of `last` and the face's in-records under the keys without CanBePrefix, returns the one with
-    /// the latest deadline. Among those with the same deadline, a greater key takes precedence over
-    /// a lesser one, and any key over `last`.
+    /// Of `last` and the face's in-records under the keys without CanBePrefix, returns the
+    /// in-record with the latest deadline. Among in-records with the same deadline, a greater key
+    /// takes precedence over a lesser key, and every key takes precedence over `last`.
     fn last_exact<'a>(&'a self, face: u64, last: Option<&'a InRecord>) -> Option<&'a InRecord>
         ensures { option_map (λ r. r.now) result
             ≡ last_exact face (option_map (λ r. r.now) last.entry) self.now }
@@ -157,9 +157,9 @@ impl Slots {
         later(last, in_record_of(&self.exact_fresh, face))
     }
 
-    /// Of `last` and the face's in-records under the keys with CanBePrefix, returns the one with
-    /// the latest deadline. Among those with the same deadline, a greater key takes precedence over
-    /// a lesser one, and any key over `last`.
+    /// Of `last` and the face's in-records under the keys with CanBePrefix, returns the in-record
+    /// with the latest deadline. Among in-records with the same deadline, a greater key takes
+    /// precedence over a lesser key, and every key takes precedence over `last`.
     fn last_prefix<'a>(&'a self, face: u64, last: Option<&'a InRecord>) -> Option<&'a InRecord>
         ensures { option_map (λ r. r.now) result
             ≡ last_prefix face (option_map (λ r. r.now) last.entry) self.now }
@@ -169,9 +169,10 @@ impl Slots {
     }
 
     /// Of `last` and the face's in-records under the keys of this name that the Data answers,
-    /// returns the one with the latest deadline. Among those with the same deadline, a greater key
-    /// takes precedence over a lesser one, and any key over `last`. If the name is the Data's own,
-    /// the Data answers all keys; otherwise it answers the keys with CanBePrefix.
+    /// returns the in-record with the latest deadline. Among in-records with the same deadline, a
+    /// greater key takes precedence over a lesser key, and every key takes precedence over `last`.
+    /// If the name is the Data's own, the Data answers all keys; otherwise it answers the keys with
+    /// CanBePrefix.
     pub fn last_of<'a>(
         &'a self,
         is_own: bool,

@@ -77,8 +77,8 @@ impl StrategyTable {
         }
     }
 
-    /// Returns the number of names, including `/`. The contract clauses other than `exact` state
-    /// properties of every table.
+    /// Returns the number of names, including `/`. The contract clause `exact` gives this number.
+    /// Each of the other contract clauses states a property that every table has.
     pub fn len(&self) -> usize
         ensures exact { result ≡ map.len self.now.table }
         ensures bounded { map.len self.now.table ≤ MAX_ENTRIES }

@@ -25,7 +25,7 @@ impl See<Entry> for Tally {
     }
 }
 
-/// How many routes do not expire by a moment.
+/// A visitor that counts the routes that do not expire by the moment `now`.
 #[derive(Drop)]
 pub struct Left {
     pub now: u64,

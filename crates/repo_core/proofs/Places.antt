@@ -21,7 +21,7 @@ stands (x ∷ xs) zero lt = (x, refl)
 stands (x ∷ xs) (suc n) lt = stands xs n (omega arith)
 
 -- a property of each element at an index below `at` is a property of all elements of `take at xs`;
--- `all_from` is the same for the elements from `at` on and `drop at xs`
+-- `all_from` states this for the elements from index `at` on, which are those of `drop at xs`
 pub all_before : {X : Type 0} (P : X → Type 0) (xs : List X) (at : ℕ) → ((k : ℕ) (d : X) → k < at → k < length xs → P (get_or xs k d)) → AllByRecursion P (take at xs)
 all_before P [] zero h = tt
 all_before P [] (suc n) h = tt
@@ -124,7 +124,7 @@ module _ {K X : Type 0} {R : K → K → Ordering} (total : IsTotalOrder R) wher
     find_at true sorted is = sym (find_there (is.0 refl))
     find_at false sorted is = sym (find_new sorted (λ has. let t = is.1 has in cc))
 
--- the list after a successful insertion
+-- after a successful insertion, the list is the new one
 pub inserted : {X A E : Type 0} (r : Result A E) (new old : List X) → IsOk r → (if is_ok r then new else old) ≡ new
 inserted (Ok u) new old h = refl
 inserted (Err e) new old h = absurd cc

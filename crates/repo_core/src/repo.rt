@@ -224,7 +224,7 @@ impl Repo {
         self.wants.expire(now);
     }
 
-    /// Returns the number of objects and wants. The clauses other than `exact` hold for every
+    /// Returns the number of objects and wants. The clauses `limits` and `objects` hold for every
     /// repository.
     pub fn held_len(&self) -> usize
         ensures exact { result ≡ map.len self.now.held.objects + map.len self.now.held.wants }

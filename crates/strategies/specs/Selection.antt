@@ -20,8 +20,8 @@ is_recent now time = nat_lt now (time + 10)
 abbrev pub is_new : ByFace → Hop → Bool
 is_new asked hop = not (map.contains_key asked hop.face)
 
--- whether hop `a` was used longer ago than hop `b`; if they were used at the same moment, whether
--- `a` comes before `b` by cost, then by face; both hops must have been used
+-- whether hop `a` was used longer ago than hop `b`, where both hops were used; if they were used at
+-- the same moment, whether `a` comes before `b` by cost and then by face
 abbrev pub is_staler : ByFace → Hop → Hop → Bool
 is_staler asked a b =
     let s = unwrap_or (map.get asked a.face) 0 in
@@ -37,8 +37,8 @@ abbrev pub least : (Hop → Hop → Bool) → List Hop → Option Hop
 least before [] = None
 least before (hop ∷ hops) = Some (lesser before hop (least before hops))
 
--- No hop if some face was used less than 10 ms ago. Otherwise the least hop, by cost, then by face,
--- among the hops that were not used; if all hops were used, the hop that was used longest ago.
+-- No hop if some face was used less than 10 ms ago. Otherwise, of the hops that were not used, the
+-- least by cost and then by face; if all hops were used, the hop that was used longest ago.
 abbrev pub best_route : Selection
 best_route hops asked now =
     if list_any (λ e. is_recent now e.1) (map.entries asked) then [] else

@@ -10,9 +10,9 @@ use crate::eligible::{any_eligible, eligible_at, is_recent};
 use crate::strategy::{Ask, Choice, Strategy};
 use pit_fib::{Faces, Hop, Hops, Used};
 
-/// Sends to one hop: the least hop, by cost and then by face, that was not used. If all hops were
-/// used, sends to the hop that was used longest ago. Sends to no hop if some face was used less
-/// than 10 milliseconds ago.
+/// Sends to no hop if some face was used less than 10 milliseconds ago. Otherwise sends to one
+/// eligible hop. Of the eligible hops that were not used, it is the least by cost and then by face.
+/// If all eligible hops were used, it is the hop that was used longest ago.
 #[derive(Clone, Copy, Debug)]
 pub struct BestRoute;
 
@@ -51,7 +51,7 @@ fn any_recent(used: &Used, now: u64) -> bool
     false
 }
 
-/// Returns the least eligible hop, by cost and then by face, that was not used.
+/// Of the eligible hops that were not used, returns the least by cost and then by face.
 fn least_new(hops: &Hops, used: &Used, ask: Ask) -> Option<Hop>
     ensures { result ≡ least is_hop_before (filter (is_hop_new used.now) (eligible ask hops.now)) }
 {

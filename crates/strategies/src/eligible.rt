@@ -7,7 +7,7 @@ ghost use Rattle.strategies.specs.Selection.{is_recent as came_recently};
 use crate::strategy::Ask;
 use pit_fib::{Hop, Hops};
 
-/// For how long a face is not used again after an Interest is sent to it, in milliseconds.
+/// The time in milliseconds for which a face is not used again after an Interest is sent to it.
 const RETRY_AFTER: u64 = 10;
 
 /// Returns whether the Interest may be sent to a hop. An Interest may never be sent back to the

@@ -33,7 +33,8 @@ loop-next-preserved g c =
       small = c.loop-next.invariant.small;
     }
 
--- there are no values below the end of the walk
+-- the visitor has seen all values along the name, since there are no values below the end of the
+-- walk
 pub returns-clause-seen : goal.returns-clause-seen
 returns-clause-seen g c =
     let seen = g.S.See.seen in

@@ -96,7 +96,7 @@ returns-in_default-next-clause-counted g c =
     counted_turned g.V.Timed.size c.in-Some.at _ (get c.loop-next.nodes) (get c.take_at.new.nodes) c.take_at.ensures.turns c.args.root c.loop-next.invariant.sound (g.T.Take.left true) refl
     c.loop-next.len c.take_at.new.len c.take_at.ensures.counted c.loop-next.invariant.counted
 
--- the walk ends at the node of the name
+-- if the walk does not stop early, it ends at the node of the whole name
 whole : (g : given.Over) (c : goal.After-take_at g) → c.loop-next.invariant.path.0 ≡ components c.args.name
 whole g c =
     let path = c.loop-next.invariant.path in
@@ -154,7 +154,7 @@ returns-in_default-next-clause-few g c = omega (arith, c.loop-next.invariant.few
 pub returns-in_default-next-clause-capacity : goal.returns-in_default-next-clause-capacity
 returns-in_default-next-clause-capacity g c = omega (arith, c.loop-next.invariant.capacity, c.take_at.ensures.capacity)
 
--- the walk ends before the end of the name
+-- if the walk stops early, no node is at the prefix that it has reached
 nowhere : (g : given.Over) (c : goal.In_default g) → walk (get c.args.nodes.now) c.args.root c.loop-next.invariant.path.0 ≡ None
 nowhere g c = sym (c.loop-next.invariant.walks c.loop-next.invariant.path.0) ∙ c.loop-next.invariant.path.2 ∙ c.in_default.is
 

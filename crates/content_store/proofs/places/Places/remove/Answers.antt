@@ -15,7 +15,7 @@ block_at-index-requires-clause-some c =
     let a = (goal.at.block_at-index-requires-clause-some c).After-deref in
     subst (λ (l : List Block). 0 < length l) (sym c.deref.ensures.value) (some_laid c.self.inside.blocks.items c.args.at (within a))
 
--- the slab indexes that remain in the blocks
+-- after the removal, the blocks contain all slab indexes of the list except the removed one
 left : (c : After-remove)
     → flat (set c.self.inside.blocks.items c.block_at-index.result (record { start = c.index_mut.result.now.start; items = c.remove.new.self })) ≡ remove (flat c.self.inside.blocks.items) c.args.at
 left c =

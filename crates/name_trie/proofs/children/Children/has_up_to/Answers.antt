@@ -24,7 +24,7 @@ no_rows : (rows : List (Field × ℕ)) → None ≡ slice_get rows 0 → rows �
 no_rows [] first = refl
 no_rows (x ∷ rows) first = absurd cc
 
--- no component with a type less than that of the first row is found
+-- a component whose type is less than the type of the first row's component is not found
 not_found : (rows : List (Field × ℕ)) (row : Field × ℕ) → Some row ≡ slice_get rows 0 → T (is_sorted component_cmp rows) → (c : Field) → c.0 < row.0.0 → find component_cmp c rows ≡ None
 not_found [] row first sorted c lt = absurd cc
 not_found (x ∷ rows) row first sorted c lt =

@@ -18,7 +18,7 @@ inserted c =
     let absent = rw (c.as_slice.ensures, c.view.ensures) at c.in-Err.ensures.absent in
     c.in_ok-insert-in-Err.ensures.ok ∙ sym (absent.1 c.args.child)
 
--- the component has no child yet
+-- the search does not find the component, since it has no child yet
 pub unreachable-requires : goal.unreachable-requires
 unreachable-requires c =
     let found = rw (c.as_slice.ensures, c.view.ensures) at c.in-Ok.ensures.found in

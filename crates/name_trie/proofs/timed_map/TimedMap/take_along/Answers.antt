@@ -76,7 +76,8 @@ returns-clause-taken g c =
     ∙ taken_same (g.T.Take.taken true) (g.T.Take.taken false) c.args.how.now (lookup h root) _ [] (components c.args.name) 64 (λ q le. sym (get-table h root q le)) (omega (arith, c.args.name.spelled.1.0))
     ∙ ap (λ t. taken_along (g.T.Take.taken true) (g.T.Take.taken false) c.args.how.now (map.get t.table) [] (components c.args.name)) c.self.view_is
 
--- the node of the name, if there is one, has no child with such a component
+-- the node of the name, if there is one, has no child whose component has a type number of at most
+-- `kind`
 no_child : (g : given.Over) (c : goal.After-prune g) → c.if-end.below ≡ false → (x : Field) → x.0 ≤ c.args.kind
     → down (get c.take_along.new.nodes) (walk (get c.take_along.new.nodes) c.self.inside.root (components c.args.name)) x ≡ None
 no_child g c none x le =

@@ -11,7 +11,7 @@ use Rattle.pit_fib.proofs.face_map.FaceMap.put.Given as given
 use Rattle.pit_fib.proofs.face_map.FaceMap.put.Goals as goal
 use Rattle.pit_fib.proofs.face_map.FaceMap.put.Goals.{After-drop-index_mut, After-unwrap_or}
 
--- the face has a row, and its value is overwritten there
+-- if the face has a row, overwriting the value in this row sets the value of the face
 written : (g : given.Over) (c : After-drop-index_mut g) → set c.self.inside.rows.items c.in-Ok.at (c.args.face, c.args.value) ≡ put nat_cmp c.args.face c.args.value c.self.inside.rows.items
 written g c = let found = rw c.deref.ensures.value at c.in-Ok.ensures.found in sym (found.1 c.args.value)
 
@@ -19,7 +19,7 @@ few : {X : Type 0} {P : Type 0} (o : Option X) → o ≡ None → IsSome o ⊎ P
 few o none (inl some) = (let never = rw none at some in cc)
 few o none (inr p) = p
 
--- the face has no row, and there is capacity for one more row
+-- if the face has no row, there are fewer than 64 rows, and there is capacity for one more row
 room : (g : given.Over) (c : After-unwrap_or g) → (vec_len c.self.inside.rows < 64) × (vec_len c.self.inside.rows < vec_capacity c.self.inside.rows)
 room g c =
     let rows = c.self.inside.rows.items in
@@ -31,7 +31,8 @@ room g c =
     let less : vec_len c.self.inside.rows < 64 = omega (arith, place.0, count, len-faced rows c.self.invariant.0 _ c.args.self.now c.self.view_is) in
     (less, room_left rows c.self.invariant.0 _ (vec_len c.self.inside.rows) c.args.self.now c.self.view_is count less c.self.invariant.2 place.1)
 
--- the face has no row, and one is inserted in rising order
+-- if the face has no row, inserting a row at the index that the search returned sets the value of
+-- the face
 inserted : (g : given.Over) (c : After-unwrap_or g) → c.insert.new.self.items ≡ put nat_cmp c.args.face c.args.value c.self.inside.rows.items
 inserted g c =
     let absent = rw c.deref.ensures.value at c.in-Err.ensures.absent in

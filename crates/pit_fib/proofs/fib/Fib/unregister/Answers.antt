@@ -37,7 +37,7 @@ left c =
 pub returns-clause-table : goal.returns-clause-table
 returns-clause-table c = left c ∙ ap (λ s. without_route s.table (components c.args.name) (record { face = c.args.face; origin = c.args.origin })) c.self.view_is
 
--- the number of routes afterwards
+-- after the call, `count` is the number of routes in the new table
 counted : (c : goal.After-change) → c.if-has_route.self-inside.count ≡ route_count c.change.new.self.table
 counted c =
     let t = c.self.inside.entries.table in
