@@ -100,7 +100,7 @@ later_sound old was moment sound later = step_sound old was _ _ sound (tick_step
 
 -- ---- the Data that can answer an Interest when time has advanced to its moment
 
--- if the least Data that may be served is `c`, then some Data may be served
+-- if `c` is the least cached Data that can serve the key, then some cached Data can serve it
 pub nothing_served : (key : PlainKey) (now : ℕ) (cached : List CachedData) (c : CachedData) → IsLeast (CanServe key now) cached c → All (λ d. ¬ CanServe key now d) cached → ⊥
 nothing_served key now cached c least none = All-contains (λ d. ¬ CanServe key now d) cached c none least.is_cached least.has
 
@@ -207,8 +207,8 @@ module _ (old was : NodeState) (moment face : ℕ) (token : Token) (whole : List
             (looked_up None none)
 
         module _ (unheld : served i.name i.can_be_prefix was.policy.held.objects ≡ None) where
-          -- an Interest that is dropped leaves the cache unchanged, and the lookup found no Data
-          -- for it
+          -- If the lookup found no Data, the cache after it is as `CacheAfter` requires, whether
+          -- the Interest is passed or is dropped because the PIT is full.
           by_verdict : (new : NodeState) (v : Verdict) → (v ≡ Passed) ⊎ (v ≡ Dropped PitFull) → new.cache ≡ after
               → CacheAfter was.policy.now was.pending (packet_use was.policy.now face (AnInterest whole i) v) was.cache new.cache
           by_verdict new v (inl e) same =
@@ -233,7 +233,8 @@ module _ (old was : NodeState) (moment face : ℕ) (token : Token) (whole : List
               (where_false _ _ is_loop once (None, none.0, h.replied ∙ sym (ap (by_repository (seen_by was) face token whole i) unheld))) h.policy h.pending h.alive
               (missed answer new h)
 
--- an Interest that was sent on was handled
+-- If an Interest for Data does not loop, neither the cache nor the repository answers it, and the
+-- strategy's choice was carried out, then the Interest was handled.
 pub forwards_handled : (old passed new : State) (was : NodeState) (before after : List Send) (moment face : ℕ) (token : Token) (whole : List ℕ) (i : PlainInterest)
     → IfSome token IsToken → IsLater (state_of old) moment was → request_of (state_of old).policy face i ≡ ForData
     → loops (records_at was.pending (key_of i)) face i.nonce ≡ false

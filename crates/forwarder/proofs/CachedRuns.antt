@@ -24,7 +24,8 @@ use Rattle.forwarder.specs.Runs.{Run, Start, Then, IsRun, MayHold, MayReply, now
 use Rattle.forwarder.specs.Allowed.{Allows, AllowedAt, AllowedIn}
 use Rattle.forwarder.proofs.Uses.{closing_inserts, read_inserts}
 
--- these octets are a Data that was allowed at the moment that is recorded as its arrival
+-- the octets of `c` are a Data that was allowed at the moment `c.arrival`, and `c` has the name,
+-- the implicit digest and the FreshnessPeriod of this Data
 abbrev pub CameAllowed : Policy → Run → CachedData → Type 0
 CameAllowed first run c = (d : PlainData) × AllowedAt first run (AData c.octets d) c.arrival × (c.name ≡ d.name) × (c.digest ≡ sha256 c.octets) × (c.freshness ≡ d.freshness)
 

@@ -43,7 +43,8 @@ use Rattle.forwarder.specs.Node.{NodeState}
 use Rattle.forwarder.specs.CommandStep.{IsCommanded}
 
 module _ (was new : NodeState) (face : ℕ) (token : Token) (status : ℕ) (i : PlainInterest) (content : List ℕ) where
-  -- a command on the tables is carried out, where `read` is the command that the name encodes
+  -- If the status, the reply and the new node are those of the command `read`, which the name
+  -- encodes, then a command on the tables was carried out.
   pub tables_done : (read : Result PlainCommand ℕ) → command_at i.name ≡ read
       → status ≡ tables_status was.policy face read
       → content ≡ tables_reply was.policy face read
@@ -59,7 +60,8 @@ module _ (was new : NodeState) (face : ℕ) (token : Token) (status : ℕ) (i : 
     cache = subst (λ (c : Result PlainCommand ℕ). CacheAfter was.policy.now was.pending (command_use c status) was.cache new.cache) (sym is) cache;
   }
 
--- the reply to a command on the tables is at most as long as the limit for that command
+-- the Content of the reply to a command on the tables is at most as long as the limit for that
+-- command
 pub response_fits : (c : PlainCommand) (face status : ℕ) (up : List ℕ) (routes : Routes) (choices : Choices)
     → status ≡ status_of c face up routes choices
     → length (response status (unwrap_or (text_of status) []) (body_after c face status)) ≤ reply_limit c
@@ -79,14 +81,16 @@ response_within c face status up routes choices body limit is same most =
     (subst (λ (b : List ℕ). length (response status (unwrap_or (text_of status) []) b) ≤ reply_limit c) (sym same)
     (response_fits c face status up routes choices is))
 
--- `n` octets fit into an empty buffer whose capacity is at least their limit
+-- if `n` is at most `limit`, then `n` octets fit into an empty buffer with a capacity of at least
+-- `limit`
 pub has_room : (len n limit cap : ℕ) → len ≡ 0 → n ≤ limit → limit ≤ cap → len + n ≤ cap
 has_room len n limit cap none few most = omega arith
 
 pub at_most : (n limit cap : ℕ) → n ≤ limit → limit ≤ cap → n ≤ cap
 at_most n limit cap few most = omega arith
 
--- the preparation of a command remains valid when routes expire
+-- if tables change only in the FIB, and the preparation of the FIB is kept, a command that was
+-- prepared is still prepared
 pub still_ready : (old new : Tables) (c : PlainCommand) → new ≡ record old { fib = new.fib } → new.fib.prepared ≡ old.fib.prepared → IsPrepared old c → IsPrepared new c
 still_ready old new c same prepared ready =
     subst (λ (t : Tables). IsPrepared t c) (sym same) (ready.0, by_action c.action ready.1)
@@ -100,7 +104,8 @@ still_ready old new c same prepared ready =
     by_action UnsetStrategy h = tt
     by_action EraseCache h = tt
 
--- the tables after a command, given its status
+-- If the routes and strategies are those that a command with this status leaves, then the policy
+-- with the next version of the lists is `after_tables`.
 pub after_applied : (p : Policy) (c : PlainCommand) (face status : ℕ) (routes : Routes) (choices : Choices)
     → status ≡ tables_status p face (Ok c)
     → routes ≡ if_done status (routes_after c face p.now p.routes) p.routes
@@ -114,8 +119,8 @@ after_applied p c face status routes choices is to_routes to_choices =
 same_store : (old new : StoreState) → new.cached ≡ old.cached → new.capacity ≡ old.capacity → new ≡ old
 same_store old new cached capacity = λ j. record { cached = cached j; capacity = capacity j }
 
--- the cache after a command, given its status; an erase is never refused, so its status is always
--- 200
+-- If the cached Data are those that a command leaves, the cache is as `CacheAfter` requires for the
+-- command's status. An erase is never refused, so its status is always 200.
 pub cache_applied : (now : ℕ) (waiting : Pending) (c : PlainCommand) (face status : ℕ) (up : List ℕ) (routes : Routes) (choices : Choices) (old new : StoreState)
     → status ≡ status_of c face up routes choices
     → CachedAfter c old.cached new.cached → new.capacity ≡ old.capacity
@@ -133,7 +138,7 @@ cache_applied now waiting c face status up routes choices old new is cached capa
     by_action EraseCache s h =
         subst (λ (b : Bool). CacheAfter now waiting (cond b (Erases c.name c.count) Untouched) old new) (sym (ap (λ (n : ℕ). n == OK) s)) (h, capacity)
 
--- a node stays the same if its routes, strategies and cache are unchanged
+-- replacing the routes, strategies and cache of a node by equal ones gives the same node
 pub with_tables : (n : NodeState) (routes : Routes) (choices : Choices) (cache : StoreState)
     → routes ≡ n.policy.routes → choices ≡ n.policy.choices → cache ≡ n.cache
     → record n { policy = record n.policy { routes = routes; choices = choices }; cache = cache } ≡ n
@@ -142,14 +147,15 @@ with_tables n routes choices cache r k s =
 
 -- ---- commands to the repository
 
--- the preparation of a command to the repository remains valid
+-- if the repository's prefix and prepared want are unchanged, a command to the repository that was
+-- prepared is still prepared
 pub still_prepared : (old new : RepoState) (name : List Field) → new.start ≡ old.start → new.prepared_want ≡ old.prepared_want
     → IsCommandPrepared old name → IsCommandPrepared new name
 still_prepared old new name start want ready =
     subst (λ (w : Option (List Field)). IfSome (repo_command_at new.start name) (λ c. is_insert c.verb ≡ true → w ≡ Some c.name)) (sym want)
     (subst (λ (s : List Field). IfSome (repo_command_at s name) (λ c. is_insert c.verb ≡ true → old.prepared_want ≡ Some c.name)) (sym start) ready)
 
--- the repository's reply is at most as long as its limit
+-- the Content of a reply of the repository has at most 55 octets
 pub content_fits : (s : Held) (c : Option RepoCommand) (reply : RepoReply) → reply ≡ reply_to s c → length (repository_content reply) ≤ 55
 content_fits s c reply is =
     by_text (repo_text_of reply.status) refl (subst (λ (r : RepoReply). IsSome (repo_text_of r.status)) (sym is) (reply_has_text s c))
@@ -164,7 +170,7 @@ pub same_fetches : (p : Policy) (start : List Field) (held : Held) (nonce : List
 same_fetches p start held nonce None = refl
 same_fetches p start held nonce (Some want) = refl
 
--- a node stays the same if its repository is unchanged
+-- replacing the repository of a node by an equal one gives the same node
 pub with_repository : (n : NodeState) (start : List Field) (held : Held) → start ≡ n.policy.repo → held ≡ n.policy.held
     → record n { policy = record n.policy { repo = start; held = held } } ≡ n
 with_repository n start held s h = λ j. record n { policy = record n.policy { repo = s j; held = h j } }
@@ -174,7 +180,8 @@ pub sum_is : (o : Option ℕ) (r : Result ℕ Memory) (n sum : ℕ) (P : Type 0)
 sum_is o r n sum P fits same given =
     (subst (λ (o : Option ℕ). SomeIff o P sum) (same ∙ ap (λ (r : Result ℕ Memory). result_ok r) given) fits).1
 
--- the space reserved for a reply and a packet is enough for the reply, and then for the packet
+-- if space is reserved for a reply and a packet, it is enough for the reply; once the reply is
+-- written, the space that is left is enough for the packet
 pub has_reply_room : (total room len space : ℕ) → total ≡ room + 8800 → len ≤ room → total ≤ space → len ≤ space
 has_reply_room total room len space is few most = omega arith
 
@@ -184,7 +191,7 @@ has_packet_room total room len space left is few most rest = omega arith
 pub has_places : (places left : ℕ) → 1 + MAX_FACES ≤ places → places ≤ left + 1 → MAX_FACES ≤ left
 has_places places left most rest = omega arith
 
--- an Interest that can be written fits in a packet of 8,800 octets
+-- an Interest of the node that can be encoded fits in a space of 8,800 octets
 pub written_fits : (w : InterestWriter) (space : ℕ) → interest_refusal w ≡ None → 8800 ≤ space → length (interest_text w) ≤ space
 written_fits w space none most = by (is_bad_name (components w.name)) (nat_lt 64 (length (interest_name w))) (nat_lt 8800 (length (interest_text w))) refl none
   where
@@ -195,7 +202,8 @@ written_fits w space none most = by (is_bad_name (components w.name)) (nat_lt 64
     by false false true is none = absurd cc
     by false false false is none = grind (arith, nat_tests, is, most)
 
--- a command to the repository is carried out, where `reply` is the repository's reply
+-- If `reply` is the repository's reply to a command, and the new node has the command's effect,
+-- then the command was carried out.
 pub repository_done : (was new : NodeState) (face : ℕ) (token : Token) (i : PlainInterest) (reply : RepoReply) → reply ≡ repository_reply was.policy i
     → new.policy ≡ with_record (after_repository was.policy i) (recorded_of i) → new.pending ≡ was.pending → new.cache ≡ was.cache
     → IsCommanded was face token i ForRepository reply.status (replied face token i (repository_content reply) ∷ fetch_sends was.policy i.nonce reply.fetch) new

@@ -47,8 +47,8 @@ begins_data value = refl
 
 -- ---- an Interest and a Data
 
--- the element of type `kind`, where `len` has the length of its value and the octets from its value
--- on
+-- the element of type `kind` and the octets after it; `len` has the length of the element's value,
+-- and the octets from the value on
 abbrev sized : ℕ → ℕ × List ℕ → Result (Field × List ℕ) TlvFault
 sized kind len = cond (ltb (length len.1) len.0) (Err Truncated) (Ok ((kind, take len.0 len.1), drop len.0 len.1))
 
@@ -243,7 +243,7 @@ length-one kind value = omega (arith, length-element kind value, length-spelling
 is_one : (token : List ℕ) → IsToken token → is_token token ≡ true
 is_one token is = rw (le-leb 1 (length token) is.0, le-leb (length token) 32 is.1) refl
 
--- the first header of a link packet may be a token
+-- a valid token is accepted as the first header of a link packet
 token_taken : (token : List ℕ) → IsToken token → take_header no_headers_yet (98, token) ≡ Ok (record no_headers_yet { token = Some token })
 token_taken token is = ap (λ (b : Bool). cond (not b) (Err LpField) (Ok (record no_headers_yet { token = Some token }))) (is_one token is)
 
@@ -391,7 +391,7 @@ module _ (token packet : List ℕ) (is : IsToken token) (small : length (wrapped
       next_element (98, token) after_token first
       ∙ ap (λ (l : List (Result Field TlvFault)). Ok (98, token) ∷ l) (next_element (80, packet) [] second ∙ ap (λ (l : List (Result Field TlvFault)). Ok (80, packet) ∷ l) elements_of-nil)
 
-  -- a packet with a token is read as the same packet without a token
+  -- a packet in a link packet with a token is read as the packet alone is read
   pub wrapped_is : frame_at (wrapped token packet) ≡ (((only_element packet >>= packet_of packet) >>= λ f. Ok (framed_with (Some token) f)) >>= λ f. Ok f.frame)
   wrapped_is =
       let few = value_short in
@@ -433,7 +433,7 @@ back_reads None octets whole d is short read = data_alone octets whole d read
 back_reads (Some token) octets whole d is short read =
     wrapped_is token whole is (wrapped_short token whole is short) ∙ ap (λ (r : Result PlainFrame PacketFault). (r >>= λ f. Ok (framed_with (Some token) f)) >>= λ f. Ok f.frame) (data_packet octets whole d read)
 
--- octets that are read as a Data are not too long for a link
+-- octets that are read as a Data are at most 9,000 octets
 never_long : (text whole : List ℕ) (d : PlainData) → frame_at text ≡ Ok (AData whole d) → length text ≤ 9000
 never_long text whole d read = by_long (nat_lt 9000 (length text)) refl
   where

@@ -1,4 +1,4 @@
--- A denied event changes nothing but the time.
+-- A denied event changes nothing, except that time advances to its moment.
 use Rattle.std.proofs.Common.{◌≡◌, ℕ, Bool, true, false, List, [], ◌∷◌, refl, sym, ap, subst, ◌∙◌, Result, Ok, Err}
 use Rattle.std.specs.Prelude.{Option, Some, None, nat_le, length, not, ◌==◌, ◌&&◌, if◌then◌else◌}
 use Rattle.hmac_keys.specs.KeyFile.{AreApart}

@@ -64,7 +64,7 @@ nack_explained : (seen : Seen) (event : PlainEvent) (face : ℕ) (token : Token)
     → IsExplained seen event (nacked_back face token reason interest)
 nack_explained seen event face token reason interest is short = inr (inr (nack_is_no_data token reason interest is short))
 
--- the Interest that an insert command sends begins with the type of an Interest
+-- the Interest by which the node fetches a Data begins with the type of an Interest
 fetch_begins : (want : Want) (nonce : List ℕ) → begins 5 (fetch_text want nonce) ≡ true
 fetch_begins want nonce = begins_interest _
 

@@ -65,7 +65,8 @@ in_rest y (x ∷ some) faces above all = (
   in_rest y some faces above.1 all.1,
 )
 
--- of two rising lists, a list that contains each face of the other is at least as long as the other
+-- if each face of the rising list `some` is in the rising list `faces`, then `faces` is at least as
+-- long as `some`
 rising_within : (some faces : List ℕ) → IsRising some → IsRising faces → AllByRecursion (λ f. has_face f faces ≡ true) some → length some ≤ length faces
 rising_within [] faces rises rising all = omega arith
 rising_within (x ∷ some) [] rises rising all = absurd (never all.0)
@@ -153,7 +154,7 @@ has_at (f ∷ faces) (suc i) face at = ap (λ (b : Bool). (f == face) || b) (has
 
 -- ---- the face that asks
 
--- records are alive after an Interest arrives
+-- the records of a key are alive after an Interest of this key arrives
 pub arrived_alive : (key : PlainKey) (face : ℕ) (ask : InRecord) (r : Records) → is_alive (records_after (Arrives key face ask) key r) ≡ true
 arrived_alive key face ask r =
     let asking : Records = record { in_records = fin.insert r.in_records face ask; out_records = r.out_records } in
@@ -259,7 +260,8 @@ begins_spelled whole i spelled = by_octet (begins 5 whole) refl
 
 -- ---- the causes of an Interest that is sent on
 
--- an arrival with an equal key and an equal deadline is the same cause
+-- if `k` equals `key` and `d` equals `deadline`, the records that follow an arrival with `k` and
+-- `d` also follow the arrival with `key` and `deadline`
 pub arrives_as : {k key : PlainKey} (face : ℕ) (token : Token) (whole nonce : List ℕ) {d deadline : ℕ} (old new : Pending) → k ≡ key → d ≡ deadline
     → Follows (Arrives k face (record { interest = whole; nonce = nonce; deadline = d; token = token })) old new
     → Follows (Arrives key face (record { interest = whole; nonce = nonce; deadline = deadline; token = token })) old new
@@ -267,7 +269,8 @@ arrives_as {k} {key} face token whole nonce {d} {deadline} old new same until ar
     subst (λ (n : ℕ). Follows (Arrives key face (record { interest = whole; nonce = nonce; deadline = n; token = token })) old new) until
     (subst (λ (q : PlainKey). Follows (Arrives q face (record { interest = whole; nonce = nonce; deadline = d; token = token })) old new) same arrives)
 
--- the causes of an Interest, if nothing is sent back to its face
+-- if no Nack is sent and no send goes to the face of an Interest, its causes are its arrival and
+-- one `SentTo` for each send
 kept_causes : (now face : ℕ) (token : Token) (whole : List ℕ) (i : PlainInterest) (sends : List Send) → is_nacked sends ≡ false → is_answered face sends ≡ false
     → interest_causes now face token whole i sends
     ≡ Arrives (key_of i) face (in_record_for now token whole i) ∷ map (λ (sent : Send). SentTo (key_of i) sent.0 i.nonce now) sends
@@ -289,7 +292,8 @@ sent_on_causes now face token whole i faces old mid new spelled apart arrives se
     ∙ ap (λ (causes : List Cause). after_causes causes key (records_after arrived key (records_at old key))) (sym (sent_to_each (key_of i) i.nonce now faces octets))
     ∙ ap (λ (causes : List Cause). after_causes causes key (records_at old key)) (sym is)
 
--- the PIT is not full for a key that has records, or if fewer than 4,096 keys have records
+-- if a key has an in-record, or fewer than 4,096 keys have records, an Interest of this key is not
+-- dropped because the PIT is full
 pub takes_key : (alive : Bool) (n : ℕ) → ((alive ≡ false) × (4096 ≤ n) → ⊥) → (not alive && leb 4096 n) ≡ false
 takes_key true n never = refl
 takes_key false n never =
@@ -312,7 +316,8 @@ nack_spelled token reason whole i is octets spelled fits = by_nack (is_nack (lp_
     by_nack true e = refl
     by_nack false e = absurd (never e)
 
--- when a Nack is sent back, the face no longer waits under that key
+-- if a Nack is sent back and the in-record of the face is withdrawn, then the records follow the
+-- causes of the Interest
 pub nack_causes_are : (now face : ℕ) (token : Token) (reason : ℕ) (whole : List ℕ) (i : PlainInterest) (old new : Pending) → IfSome token IsToken → IfSome token AreOctets
     → ∥ IsInterest whole i ∥₁ → reason < 2 ^ 64 → Follows (Withdrawn (key_of i) face) old new
     → FollowAll (interest_causes now face token whole i (nacked_back face token reason whole ∷ [])) old new

@@ -41,7 +41,7 @@ module _ (old was new : NodeState) (face now : ℕ) (octets : List ℕ) (answer 
   abbrev p : Policy
   p = at_moment old.policy now
 
-  -- a packet that was read from octets that came on an open face
+  -- the octets came on an open face and were read as `packet`, and the packet was answered
   module _ (is_here : is_open face old.policy.faces ≡ true) (packet : PlainFrame) (read : frame_at octets ≡ Ok packet)
       (answered : IsAnswered was face (token_at octets) packet answer new) where
     replies_read : RepliesToPacket (seen_in p was.pending old.cache) face (token_at octets) (frame_at octets) answer
@@ -84,7 +84,8 @@ module _ (old was new : NodeState) (face now : ℕ) (octets : List ℕ) (answer 
       cache = cache_read;
     }
 
--- what `NeedsNoMemory` says if the octets are a packet that came on an open face
+-- if octets that came on an open face are read as `packet`, and the event needs no memory, then
+-- `packet` needs no memory
 pub needs_read : (p : Policy) (face : ℕ) (read : Result PlainFrame PacketFault) (packet : PlainFrame) → is_open face p.faces ≡ true → read ≡ Ok packet
     → (is_open face p.faces ≡ false) ⊎ NeedsNoMemory p face read → NeedsNoMemory p face (Ok packet)
 needs_read p face read packet here is (inl closed) = cc (here, closed)

@@ -47,7 +47,7 @@ use Rattle.forwarder.proofs.Requests.{for_list}
 abbrev sendings : PlainKey → List ℕ → ℕ → List Send → List Cause
 sendings key nonce now sends = map (λ (sent : Send). SentTo key sent.0 nonce now) sends
 
--- the causes of an Interest that is kept: it arrives, and is sent to each face
+-- the causes of an Interest that becomes pending are its arrival, and one `SentTo` for each send
 kept_causes : (now : ℕ) (event : PlainEvent) (answer : Answer) (key : PlainKey) (face : ℕ) (ask : InRecord) (kept : IsKept now event answer key face ask)
     → causes_of now event answer ≡ Arrives key face ask ∷ sendings (key_of kept.interest) kept.interest.nonce now answer.sends
 kept_causes now event answer key face ask kept =

@@ -88,8 +88,8 @@ keys_after (FaceDown face now) keys = keys
 keys_after (Tick now) keys = keys
 keys_after (NewRules rules new now) keys = new
 
--- these parts once an event has had its effect, with the rules and keys that the event may have
--- brought
+-- the parts in `Lasting` after an event; the rules and keys are those that the event brings, if it
+-- brings any
 abbrev lasting_after : PlainEvent → Policy → Lasting
 lasting_after event p = (p.now, (rules_after event p.rules, (keys_after event p.keys, p.repo)))
 

@@ -100,7 +100,8 @@ then_listed old p moment now due number is at ends counted = (
       ∙ sym (counted ∙ ap (λ (n : ℕ). min (old.table_number + n) (2 ^ 64 - 1)) ends),
 )
 
--- the answer that was made for a list is the answer to the Interest
+-- if an Interest asks for a list, then the answer that `list_answer` gives answers it, and the node
+-- does not change once time has advanced
 pub list_handled : (old was : NodeState) (moment face : ℕ) (token : Token) (whole : List ℕ) (i : PlainInterest) (asked : ListAsked) (answer : Answer) → IfSome token IsToken → IsLater old moment was
     → request_of old.policy face i ≡ ForList asked → list_answer was.policy face token asked ≡ answer → IsAnswered was face token (AnInterest whole i) answer was
 list_handled old was moment face token whole i asked answer tok later is given =

@@ -49,17 +49,18 @@ no e = absurd cc
 
 -- ---- the Nacks to the faces of a list, one face after the other
 
--- the Nack to a face, if the face asks
+-- the Nack to a face, if the face has an in-record
 abbrev pub nack_for : ℕ → ℕ → Option InRecord → List Send
 nack_for reason face None = []
 nack_for reason face (Some ask) = nacked_back face ask.token reason ask.interest ∷ []
 
--- the Nacks to those faces of the list that ask
+-- the Nacks to those faces of the list that have an in-record
 abbrev pub nacks_by : ℕ → (ℕ → Option InRecord) → List ℕ → List Send
 nacks_by reason ask_of [] = []
 nacks_by reason ask_of (face ∷ faces) = nack_for reason face (ask_of face) ++ nacks_by reason ask_of faces
 
--- the room for the Nack to a face that asks with an Interest of these octets
+-- the room for the Nack to a face is `LINK_EXTRA` plus the length of the Interest in the face's
+-- in-record
 pub asker_room : (o : Option InRecord) (octets : List ℕ) → Some octets ≡ option_map (λ (ask : InRecord). ask.interest) o → room_for o ≡ length octets + LINK_EXTRA
 asker_room None octets e = absurd cc
 asker_room (Some ask) octets e = let same : octets ≡ ask.interest = cc e in ap (λ (l : List ℕ). length l + LINK_EXTRA) (sym same)
@@ -75,7 +76,8 @@ pub no_asker : (o : Option InRecord) → None ≡ option_map (λ (ask : InRecord
 no_asker None e = refl
 no_asker (Some ask) e = absurd cc
 
--- the room for the Nacks to the faces from index `i` on
+-- the room for the Nacks to the faces from index `i` on is the room for the face at index `i` plus
+-- the room for the faces from index `i + 1` on
 pub room_here : (asks : InRecords) (faces : List ℕ) (i face : ℕ) → slice_get faces i ≡ Some face
     → nack_room asks (drop i faces) ≡ room_for (get asks face) + nack_room asks (drop (i + 1) faces)
 room_here asks faces i face at = ap (nack_room asks) (drop_here faces i face at) ∙ sum_by-cons (λ f. room_for (get asks f)) face (drop (i + 1) faces)
@@ -199,7 +201,7 @@ module _ (P : InRecord → Type 0) where
   pub all_entries : (asks : InRecords) → ((f : ℕ) (r : InRecord) → get asks f ≡ Some r → P r) → EachOf OfEntry (entries asks)
   all_entries asks are = all_found (entries asks) (entries_sorted asks) (λ f r found. are f r (get-entries asks f ∙ found))
 
--- ---- the faces that still ask after time has passed
+-- ---- the in-records that remain after time has passed
 
 -- each in-record of `some` is in `all`, unchanged
 abbrev IsPart : InRecords → InRecords → Type 0
@@ -270,7 +272,8 @@ module _ (pending : Pending) (living : HoldsTheLiving pending) (key : PlainKey) 
         | false ↦ λ dead. sym (none_where_dead dead)
       ] refl
 
-  -- if a Nack is sent back to some face, the key has a face that asks
+  -- if Nacks are sent back in answer to a Nack, some face has an in-record under the key of that
+  -- Nack
   pub awaited_alive : (face : ℕ) (nonce : List ℕ) (reason least : ℕ) → nacked_answer (records_at pending key) face nonce reason ≡ All least → is_alive (records_at pending key) ≡ true
   awaited_alive face nonce reason least answer =
       elim (is_alive (records_at pending key)) as (λ b. is_alive (records_at pending key) ≡ b → b ≡ true) [
@@ -331,7 +334,8 @@ some_nacks asks reason alive = go (entries asks) (sym (ap (ltb 0) (len-entries a
     go [] some = no some
     go (e ∷ es) some = refl
 
--- if Nacks are sent back to the faces that ask, the records of the key are removed
+-- if Nacks are sent back to the faces with in-records, and the records of the key are then removed,
+-- the records follow the causes of the received Nack
 pub removed_causes : (face reason least : ℕ) (i : PlainInterest) (old mid new : Pending) → is_alive (records_at old (key_of i)) ≡ true
     → Follows (NackCame (key_of i) face i.nonce reason) old mid → Follows (Removed (key_of i)) mid new
     → FollowAll (nack_causes face reason i (nacks_to (in_records_at old (key_of i)) least)) old new

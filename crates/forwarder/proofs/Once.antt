@@ -83,7 +83,8 @@ packet_guard p face (AData whole d) = inl refl
 packet_guard p face (ANack reason whole i) = inl refl
 packet_guard p face Idle = inl refl
 
--- what a decision on the packet does to the guard
+-- a decision on a packet leaves the guard unchanged, or allows the packet, which is recorded as a
+-- command
 said_guard : (p : Policy) (face : ℕ) (packet : PlainFrame) (said : Decision) → ((after_decision p face packet said).guard ≡ p.guard)
     ⊎ (Records p packet (after_decision p face packet said).guard × ((rule : RuleNo) × (said ≡ decided.Allowed rule)))
 said_guard p face packet (decided.Allowed rule) = by_packet (packet_guard p face packet)
@@ -103,8 +104,8 @@ abbrev HasSeen : Table → Recorded → Type 0
 HasSeen table r =
     (time : ℕ) (number : Option ℕ) → IsLater (map.get table r.signer) time number → (r.time < time) × NumberRises r.number number
 
--- a command that is later than the record of its signer after `r` was recorded is later than that
--- record before, and newer than `r` if the signers are equal
+-- If a command is later than its signer's record in the table with `r` added, then it is later than
+-- its signer's record in `table`, and newer than `r` if both have the same signer.
 added : (table : Table) (r : Recorded) (signer : Signer) (time : ℕ) (number : Option ℕ) → IsLater (map.get (with_recorded table r) signer) time number
     → IsLater (map.get table signer) time number × IsNewer signer time number r
 added table r signer time number h =
@@ -183,7 +184,7 @@ seen_in_run first (Then before event answer) p whole i r apart h is (inr (was, w
     let keys = policy_apart first before h.0 apart.0 h.1 in
     seen_when_allowed h.0 p event whole i r keys (subst (λ (q : Policy). Allows q event (AnInterest whole i)) one allows) is h.2
 
--- an allowed command with a SignatureTime can be recorded
+-- for a command with a SignatureTime, `recorded_of` gives the values to record
 recorded_there : (i : PlainInterest) (s : PlainSignature) (time : Option ℕ) → i.signature ≡ Some s → s.info.time ≡ time → IsSome time → (r : Recorded) × (recorded_of i ≡ Some r)
 recorded_there i s None e t some = cc some
 recorded_there i s (Some time) e t some = (
@@ -211,7 +212,7 @@ never_again first was run event whole other i j apart allowed h allows same =
     let time : r.0.time ≡ s.0.time = ap (λ (x : Recorded). x.time) one in
     let low = rises.0 in omega (arith, low, time)
 
--- an allowed command of the run, as the guard records it
+-- `r` has the values that are recorded of some allowed command of the run
 abbrev pub IsRecordIn : Policy → Run → Recorded → Type 0
 IsRecordIn first run r = (whole : List ℕ) × (i : PlainInterest) × AllowedIn first run (AnInterest whole i) × (recorded_of i ≡ Some r)
 

@@ -105,7 +105,7 @@ more_here f (y ∷ ys) (suc i) x e =
 one_more : (i : ℕ) → suc i ≡ i + 1
 one_more i = omega arith
 
--- the loop over the faces keeps a face other than `f`
+-- if the face at index `i` is not `f`, the loop over the faces keeps it
 pub kept_here : (f : ℕ) (xs : List ℕ) (i x : ℕ) (rest new : List ℕ) → IsRising xs → slice_get xs i ≡ Some x → i < MAX_FACES → rest ≡ but_for f (take i xs) → eqb x f ≡ false → new ≡ (adding x rest).1 → new ≡ but_for f (take (i + 1) xs)
 kept_here f xs i x rest new rising at lt was apart is =
     let few : length (but_for f (take i xs)) < MAX_FACES = omega (arith, length_filter (λ g. not (eqb g f)) (take i xs), length_here xs i, lt) in
@@ -113,7 +113,7 @@ kept_here f xs i x rest new rising at lt was apart is =
     ∙ ap (λ b. but_for f (take i xs) ++ cond (not b) (x ∷ []) []) (sym apart) ∙ sym (more_here f xs i x at)
     ∙ ap (λ m. but_for f (take m xs)) (one_more i)
 
--- the loop over the faces leaves out the face `f`
+-- if the face at index `i` is `f`, the loop over the faces leaves it out
 pub left_out : (f : ℕ) (xs : List ℕ) (i x : ℕ) (rest : List ℕ) → slice_get xs i ≡ Some x → rest ≡ but_for f (take i xs) → eqb x f ≡ true → rest ≡ but_for f (take (i + 1) xs)
 left_out f xs i x rest at was same =
     was ∙ sym (append-nil (but_for f (take i xs))) ∙ ap (λ b. but_for f (take i xs) ++ cond (not b) (x ∷ []) []) (sym same) ∙ sym (more_here f xs i x at)
@@ -200,7 +200,7 @@ entries_with f scope (x ∷ xs) old new out same is =
       | false ↦ ap (λ b. (x, cond b Local Far) ∷ entries_of (numbers_of.with_face f xs) new) (same x h.0) ∙ ap (λ l. (x, scope_in old x) ∷ l) (entries_with f scope xs old new h.1 same is)
     ]
 
--- a face that is added to a list appears in the filtered list only if it passes the test
+-- adding a face that fails the test does not change the filtered list
 filter-with_out : (p : ℕ → Bool) (f : ℕ) (xs : List ℕ) → p f ≡ false → filter p (numbers_of.with_face f xs) ≡ filter p xs
 filter-with_out p f [] e = ap (λ b. cond b (f ∷ []) []) e
 filter-with_out p f (x ∷ xs) e =
@@ -262,14 +262,14 @@ module _ (f : ℕ) (all local : List ℕ) (are : AreOpen all local) (out : has_f
   pub few_local : length all < MAX_FACES → length local < MAX_FACES
   few_local lt = omega (arith, ap length are, length_filter (λ g. has_face g local) all, lt)
 
-  -- opening a face with the scope Far
+  -- after a face with the scope Far opens, each Local face is still open
   pub far_opens : AreOpen (numbers_of.with_face f all) local
   far_opens = are ∙ sym (filter-with_out (λ g. has_face g local) f all not_local)
 
   pub far_entries : entries_of (numbers_of.with_face f all) local ≡ with_face f Far (entries_of all local)
   far_entries = entries_with f Far all local local out (λ g e. refl) (ap (λ b. cond b Local Far) not_local)
 
-  -- opening a face with the scope Local
+  -- adding the face `f` to the Local faces leaves the other Local faces the same
   same_elsewhere : SameElsewhere f local (numbers_of.with_face f local)
   same_elsewhere g e = has-with_face g f local ∙ ap (λ b. b || has_face g local) (apart g e)
     where

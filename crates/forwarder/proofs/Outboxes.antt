@@ -40,7 +40,8 @@ sends_of-placed octets more (f ∷ faces) =
     let one : send_of (octets ++ more) (placed (length octets) (length (octets ++ more)) f) ≡ (f, more) = ap (λ (t : List ℕ). let pair : Send = (f, t) in pair) (slice_range-last octets more) in
     let rest = sends_of-placed octets more faces in cc (one, rest)
 
--- the sends of an outbox, after octets are appended and sent to these faces
+-- after octets are appended and sent to these faces, an outbox has its earlier sends, and then one
+-- send of these octets to each face
 sends_of-added : (octets more : List ℕ) (sends : List Sent) (faces : List ℕ) → AreWithin octets sends
     → sends_of (octets ++ more) (sends ++ map (placed (length octets) (length (octets ++ more))) faces) ≡ sends_of octets sends ++ map {A = ℕ} {B = Send} (λ f. (f, more)) faces
 sends_of-added octets more sends faces h =
@@ -80,7 +81,8 @@ no_more-added octets more sends faces h some =
     let sum = sum_by-append size_of sends (map (placed (length octets) (length (octets ++ more))) faces) in
     omega (arith, h, added, sum, length-append octets more)
 
--- the octets of an outbox after a send, stated for the values that the code computed
+-- `AreOctetsOf` remains true when octets are appended and sent to at least one face; this is stated
+-- for the values that the code computes
 octets_after : (octets more all : List ℕ) (sends after : List Sent) (faces : List ℕ) (start end : ℕ)
     → start ≡ length octets → end ≡ length all → all ≡ octets ++ more → after ≡ sends ++ map (placed start end) faces
     → AreOctetsOf octets sends → 0 < length faces → AreOctetsOf all after
@@ -94,7 +96,8 @@ sends_after : (octets more all : List ℕ) (sends after : List Sent) (faces : Li
     → AreWithin octets sends → sends_of all after ≡ sends_of octets sends ++ map {A = ℕ} {B = Send} (λ f. (f, more)) faces
 sends_after octets more all sends after faces start end s e a n h = rw (n, s, e, a) (sends_of-added octets more sends faces h)
 
--- the octets of an outbox, where the earlier sends were kept and the sends to `faces` follow them
+-- `AreOctetsOf` remains true if the earlier sends are kept, and the sends to `faces`, at least one,
+-- follow them
 pub octets_placed : {octets all : List ℕ} (more : List ℕ) (faces : List ℕ) {sends kept after : List Sent} {start end : ℕ}
     → start ≡ length octets → end ≡ length all → all ≡ octets ++ more → kept ≡ sends → after ≡ kept ++ map (placed start end) faces
     → AreOctetsOf octets sends → 0 < length faces → AreOctetsOf all after
@@ -108,7 +111,8 @@ sends_placed {octets} {all} more faces {sends} {kept} {after} {start} {end} s e 
     sends_after octets more all sends after faces start end s e a (n ∙ ap (λ (old : List Sent). old ++ map (placed start end) faces) k) h.within
     ∙ ap (λ (old : List Send). old ++ to_each faces more) view
 
--- the sends to one more face
+-- the values of `f` for the first `i + 1` numbers are those for the first `i` numbers, and then the
+-- value for the number at index `i`
 pub map-take_next : {X : Type 0} (f : ℕ → X) (xs : List ℕ) (i : ℕ) (x : ℕ) → slice_get xs i ≡ Some x → map f (take (suc i) xs) ≡ map f (take i xs) ++ f x ∷ []
 map-take_next f [] i x h = cc h
 map-take_next f (y ∷ ys) zero x h = let same : y ≡ x = cc h in ap (λ (z : ℕ). f z ∷ []) same

@@ -10,12 +10,13 @@ use Rattle.forwarder.specs.Causes.{after_causes, before_earlier, causes_of}
 use Rattle.forwarder.specs.Runs.{Run, Then, now_of, past_causes, records_of}
 use Rattle.forwarder.specs.Verdict.{Answer}
 
--- the records after these causes, in their order, follow from the records after the earlier causes
+-- applying these causes in order to the records after the earlier causes gives the records after
+-- all of these causes
 all_causes : (causes earlier : List Cause) (key : PlainKey) → after_causes causes key (records_of_causes earlier key) ≡ records_of_causes (before_earlier causes earlier) key
 all_causes [] earlier key = refl
 all_causes (cause ∷ causes) earlier key = all_causes causes (cause ∷ earlier) key
 
--- the records after one more event
+-- the records of a key after an event, if `r` are its records before the event
 abbrev pub next_records : ℕ → PlainEvent → Answer → PlainKey → Records → Records
 next_records now event answer key r = after_causes (causes_of now event answer) key (records_after (Expires now) key r)
 

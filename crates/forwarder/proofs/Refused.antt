@@ -57,11 +57,11 @@ other_command named.ForTables other e = absurd (other refl)
 other_command named.ForRepository other e = refl
 other_command named.ForData other e = absurd cc
 
--- a node stays the same if its guard is unchanged
+-- replacing the guard of a node by an equal one gives the same node
 pub with_guard : (n : NodeState) (guard : Table) → guard ≡ n.policy.guard → record n { policy = record n.policy { guard = guard } } ≡ n
 with_guard n guard g = λ j. record n { policy = record n.policy { guard = g j } }
 
--- if the node and the sends are unchanged, at most the cache changed
+-- if the node is unchanged, `ChangesCacheOnly` is true of it
 pub kept_unharmed : (old new : NodeState) (before after : List Send) → (new ≡ old) × (after ≡ before) → ChangesCacheOnly old new × (after ≡ before)
 kept_unharmed old new before after (same, sent) =
     (unharmed old new (ap (λ (n : NodeState). n.policy) same) (ap (λ (n : NodeState). n.pending) same) (ap (λ (n : NodeState). n.cache) same), sent)
@@ -86,7 +86,8 @@ module _ (was new : NodeState) (face : ℕ) (token : Token) (whole : List ℕ) (
   no_causes (decided.Denied rule reason) now = refl
   no_causes decided.NoRule now = refl
 
-  -- the answer to a command on which the decision is `said`
+  -- If the decision on a command is `said`, and the answer and the new node are those that `said`
+  -- gives, then the command was answered.
   command_answered : (said : Decision) (answer : Answer) → command_answer was.policy face token i said ≡ answer → IsDecidedAs was.policy (AnInterest whole i) said
       → new.policy ≡ after_decision was.policy face (AnInterest whole i) said → new.pending ≡ was.pending
       → CacheAfter was.policy.now was.pending (packet_use was.policy.now face (AnInterest whole i) answer.verdict) was.cache new.cache → IsAnswered was face token (AnInterest whole i) answer new

@@ -18,11 +18,11 @@ use Rattle.mgmt_core.specs.Writing.{last_segment, segment_at}
 use Rattle.forwarder.specs.Datasets.{segment_data, segment_name}
 use Rattle.forwarder.specs.Request.{ListKind, RouteList, StrategyList, list_name}
 
--- the length of an element whose type takes one octet
+-- an element whose type takes one octet is at most 10 octets longer than its value
 element_fits : (kind : ℕ) (value : List ℕ) → kind < 253 → length (element (kind, value)) ≤ length value + 10
 element_fits kind value lt = omega (arith, length-element kind value, length-spelling_one kind lt, length-spelling_nine (length value))
 
--- the length of the SignatureInfo
+-- the SignatureInfo of a reply has at most 5 octets
 info_len : length (element (22, octets (info_fields sign.Digest None None))) ≤ 5
 unfolding spelling
 info_len = omega arith
@@ -103,7 +103,7 @@ segment_name_len kind version segment =
       number_fits 50 segment (omega arith),
     )
 
--- the length of the octets of a segment
+-- a segment has at most 4,096 octets of its list
 pub segment_at_len : (text : List ℕ) (k : ℕ) (part : List ℕ × ℕ) → segment_at text k ≡ Some part → length part.0 ≤ 4096
 segment_at_len text k part e = split (nat_lt (last_segment text) k) e
   where

@@ -146,7 +146,7 @@ begins_before cs c e = split (nat_lt (length cs) 4) (action_at cs) refl e
     split false None k e = cc e
     split false (Some action) k e = begins_with_action cs action k
 
--- no other name is a command on the tables
+-- a name that does not begin with /localhost/nfd is not a command on the tables
 pub no_command : (name : List Field) (c : PlainCommand) → begins_with management name ≡ false → command_at name ≡ Ok c → ⊥
 no_command name c other e =
     let begins = begins_whole management name PARAMETERS_SHA256_DIGEST (begins_before (without_last PARAMETERS_SHA256_DIGEST name) c e) in cc (begins, other)

@@ -26,7 +26,8 @@ same_name a b e = name_cmp-antisymmetric a b ((Equal-is (name_cmp a b)).0 e)
 pub same_face : (f face : ℕ) → eq_by_cmp nat_cmp f face ≡ eqb f face
 same_face f face = grind (arith, nat_tests)
 
--- an entry without next hops and without routes equals `no_entry`, as for a name without an entry
+-- an entry without next hops and without routes equals `no_entry`, the value for a name without an
+-- entry
 pub vacant_is : (e : Entry) → is_vacant e ≡ true → e ≡ no_entry
 vacant_is e is =
     let both = parts (eqb (map.len e.hops) 0) (eqb (map.len e.registered) 0) is in
@@ -74,8 +75,9 @@ module _ {V : Type 0} (read : Entry → V) (routes : Routes) (n : List Field) (e
       by true t = here ∙ ap (λ (m : List Field). cond b y (read (entry_at routes m))) (sym (same_name name n t))
       by false t = refl
 
-  -- if `read` gives `y` or the old value for the new entry `e`, it gives the same for the changed
-  -- routes
+  -- If `read` gives `y` for the new entry `e` when `b` is true, and the old value otherwise, then
+  -- for the changed routes it gives `y` for the name `n` when `b` is true, and the old value in all
+  -- other cases.
   pub changed_with : (b : Bool) (y : V) → read e ≡ cond b y (read (entry_at routes n))
       → read (entry_at (map.insert routes n e) name) ≡ cond (eq_by_cmp name_cmp name n && b) y (read (entry_at routes name))
   changed_with b y = changed_there (read (entry_at (map.insert routes n e) name)) b y read_with
@@ -98,7 +100,8 @@ module _ {V : Type 0} (read : Entry → V) (routes : Routes) (n : List Field) (e
 
 -- ---- changes to all entries at once
 
--- a change to the next hops and to the routes of every entry, as it affects one entry
+-- If next hops and routes are changed in every entry, and vacant entries are then removed, looking
+-- up a name gives its old entry with these changes.
 revised_at : (hops : ByFace → ByFace) (registered : Registered → Registered) → hops map.empty ≡ map.empty → registered map.empty ≡ map.empty
     → (o : Option Entry)
     → unwrap_or (option_and_then (λ (e : Entry). unless_vacant (record { hops = hops e.hops; registered = registered e.registered })) o) no_entry

@@ -248,7 +248,8 @@ module _ (seen : Seen) (P : ℕ → Type 0) (face : ℕ) (token : Token) (asker 
 
 -- ---- what follows from events alone
 
--- the faces are the same, and if all faces with routes were open, they still are
+-- the open faces are the same, and if all faces with routes were open, all faces with routes are
+-- still open
 abbrev KeepsOpen : Policy → Policy → Type 0
 KeepsOpen p q = (q.faces ≡ p.faces) × (AllAreUp p.routes (open_faces p) → AllAreUp q.routes (open_faces q))
 
@@ -361,7 +362,7 @@ module _ (old new : NodeState) (sound : IsSound old) where
       → (f : ℕ) → HasRecord waiting f → is_open f old.policy.faces ≡ true
   waits_open now waiting expiry f has = sound.records f (had_records (Expires now) old.pending waiting (λ f none. none) expiry f has)
 
-  -- the node is sound if the open faces are unchanged
+  -- if the open faces are unchanged, and each face with a record is open, the node is sound
   same_faces : KeepsOpen old.policy new.policy → ((f : ℕ) → HasRecord new.pending f → is_open f old.policy.faces ≡ true) → IsSound new
   same_faces (is, up) records = record {
     few = subst (λ (faces : List FaceEntry). length faces ≤ MAX_FACES) (sym is) sound.few;

@@ -1,4 +1,5 @@
--- How nodes agree with runs.
+-- A new node agrees with the empty run, and a step of a node that agrees with a run extends the
+-- run.
 use Rattle.std.proofs.Common.{◌≡◌, ℕ, [], refl, sym, ap, subst, ◌∙◌}
 use Rattle.std.specs.Prelude.{Option, unwrap_or}
 use Rattle.std.specs.FinMap as map

@@ -121,7 +121,8 @@ inserts_by now (DataCame whole d) c e = let same : held_from now whole d ≡ c =
 inserts_by now (NackPassed face reason i) c e = cc e
 inserts_by now (FaceClosed face) c e = cc e
 
--- if the outcome is that a Data was allowed, the event brings that Data and its rule allows it
+-- if the outcome is that a Data was allowed, the octets are read as that Data, and the verdict is
+-- `DataAllowed`
 data_came : (face : ℕ) (read : Result PlainFrame PacketFault) (v : Verdict) (whole : List ℕ) (d : PlainData) → read_outcome face read v ≡ DataCame whole d
     → (read ≡ Ok (AData whole d)) × ((rule : ℕ) × (v ≡ DataAllowed rule))
 data_came face (Err fault) v whole d e = cc e

@@ -10,7 +10,7 @@ use Rattle.forwarder.specs.Deciding.{IsDecidedAs}
 use Rattle.forwarder.specs.Effects.{decided_packet}
 use Rattle.forwarder.specs.Runs.{Run, Start, Then, IsPolicyOf, now_of}
 
--- under the policy `was`, the event brings this packet, and the first rule that applies allows it
+-- the event brings this packet, and the packet is allowed; `was` is the policy before the event
 pub record Allows (was : Policy) (event : PlainEvent) (packet : PlainFrame) : Type 0 where
   pub rule : RuleNo
   pub brings : decided_packet (at_moment was (moment event)) event ≡ Some packet
@@ -23,8 +23,8 @@ AllowedIn first (Then before event answer) packet =
     AllowedIn first before packet
     ⊎ ((was : Policy) × IsPolicyOf first before was × Allows was event packet)
 
--- some event of the run brought this packet and it was allowed, when the greatest moment so far was
--- `now`
+-- some event of the run brought this packet, and the packet was allowed; `now` is the greatest
+-- moment of the run up to this event
 abbrev pub AllowedAt : Policy → Run → PlainFrame → ℕ → Type 0
 AllowedAt first Start packet now = ⊥
 AllowedAt first (Then before event answer) packet now =

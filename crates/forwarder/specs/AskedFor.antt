@@ -1,4 +1,5 @@
--- Why a Data is sent to a face: the face asked for it, and gets that Data or the node's own answer.
+-- Why a Data is sent to a face: the face sent an Interest, and the Data answers this Interest or is
+-- the node's own answer to it.
 use Rattle.std.specs.Prelude.{◌≡◌, ◌⊎◌, ℕ, List, Some, IsTrue, Ok, max}
 use Rattle.std.specs.FinMap as map
 use Rattle.sha2.specs.Sha256.{sha256}

@@ -80,8 +80,8 @@ CacheAfter now waiting (Erases name count) old new =
     ((gone : ℕ) × IsErased name count old.cached new.cached gone)
     × (new.capacity ≡ old.capacity)
 
--- The use removes every cached Data with the full name of `c`. An erase with Count may also remove
--- this Data, but the event does not determine which Data such an erase removes.
+-- The use is an erase without Count that removes every cached Data with the full name of `c`. An
+-- erase with Count is left out: the event does not determine which Data it removes.
 abbrev pub TakesAway : CacheUse → CachedData → Type 0
 TakesAway Untouched c = ⊥
 TakesAway (LooksUp key) c = ⊥

@@ -28,7 +28,8 @@ in_record_for now token whole i = record {
   token = token;
 }
 
--- whether a packet was sent back to the face: for an Interest, such a packet is a Data or a Nack
+-- whether some send goes to the face; if the face sent the Interest of this event, the send is a
+-- Data or a Nack
 abbrev pub is_answered : ℕ → List Send → Bool
 is_answered face sends = list_any (λ sent. sent.0 == face) sends
 
@@ -61,7 +62,7 @@ interest_causes now face token whole i sends =
     Arrives key face (in_record_for now token whole i)
     ∷ map (λ (sent : Send). SentTo key sent.0 i.nonce now) sends)
 
--- The reason of a passed Nack is recorded. If Nacks were sent back to the faces that ask, the
+-- The reason of a passed Nack is recorded. If Nacks were sent to the faces with in-records, the
 -- records of the key are removed.
 abbrev pub nack_causes : ℕ → ℕ → PlainInterest → List Send → List Cause
 nack_causes face reason i sends =
@@ -78,8 +79,8 @@ causes_by now token sends (DataCame whole d) = Satisfied d.name (sha256 whole) �
 causes_by now token sends (NackPassed face reason i) = nack_causes face reason i sends
 causes_by now token sends (FaceClosed face) = Closed face ∷ []
 
--- the causes of an event and its answer, in order, at the moment `now`, after the expiry of records
--- at that moment
+-- the causes of an event and its answer, in order; they apply at the moment `now`, after the
+-- records that expire by then are removed
 abbrev pub causes_of : ℕ → PlainEvent → Answer → List Cause
 causes_of now event answer =
     causes_by now (token_in event) answer.sends (outcome_of event answer.verdict)

@@ -20,8 +20,8 @@ request_use i status ForTables = command_use (command_at i.name) status
 request_use i status ForRepository = Untouched
 request_use i status ForData = Untouched
 
--- an allowed command with the request `request` was answered and took effect on the node `was`,
--- after time had advanced to the moment of the command
+-- an allowed command with the request `request` was answered and took effect; `was` is the node
+-- before this effect, once time has advanced to the moment of the command
 pub record IsCommanded (was : NodeState) (face : ℕ) (token : Token) (i : PlainInterest)
     (request : Request) (status : ℕ) (sends : List Send) (new : NodeState) : Type 0 where
   pub answered : status ≡ (allowed_reply was.policy face i request).status

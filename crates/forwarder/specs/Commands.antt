@@ -38,7 +38,7 @@ use Rattle.forwarder.specs.Deciding.{recorded_of}
 use Rattle.forwarder.specs.NextHops.{choice_for, ask_for}
 use Rattle.forwarder.specs.Verdict.{Answer, Allowed, Denied, NoRule}
 
--- the status of a command that no rule allows
+-- the status in the reply to a command that is not allowed
 abbrev pub NOT_AUTHORIZED : ℕ
 NOT_AUTHORIZED = 403
 
@@ -99,8 +99,8 @@ abbrev pub to_chosen : Choice → List ℕ → List Send
 to_chosen choices.NoRoute text = []
 to_chosen (choices.Send faces) text = to_each faces text
 
--- The node's Interest is sent to the faces that the strategy chooses for a new Interest that no
--- face asked for.
+-- The node's Interest is sent to the faces that the strategy chooses. For the strategy, the
+-- Interest came from no face and was not sent before.
 abbrev pub fetch_sends : Policy → List ℕ → Option Want → List Send
 fetch_sends p nonce None = []
 fetch_sends p nonce (Some want) =

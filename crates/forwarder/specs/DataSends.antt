@@ -28,7 +28,7 @@ use Rattle.forwarder.specs.Verdict.{Answer, passed}
 
 -- The event brings a Data that is allowed, and its received octets are sent to another face that
 -- has a pending Interest for it, under some key that the Data answers. They are sent with the token
--- of that face's latest such Interest.
+-- of that face's latest Interest that the Data answers.
 pub record IsForwardedData (seen : Seen) (event : PlainEvent) (sent : Send) : Type 0 where
   pub face : ℕ
   pub now : ℕ
@@ -108,12 +108,12 @@ abbrev pub holds_data : Result Field PacketFault → Bool
 holds_data (Err fault) = false
 holds_data (Ok e) = if e.0 == LINK_PACKET then carries_data (elements_of e.1) else (e.0 == DATA)
 
--- Whether octets that go over a link are a Data or a link packet that carries a Data: a Data that
--- can be read, or a Data that is too long to be read, such as a long reply of the node.
+-- Whether octets that go over a link are a Data, or a link packet that carries a Data. A Data that
+-- is too long to be read also counts, such as a long reply of the node.
 abbrev pub is_data : List ℕ → Bool
 is_data octets = is_data_frame (frame_at octets) || holds_data (only_element octets)
 
--- each sent Data is a forwarded Data or a reply; nothing else that is sent is a Data
+-- a send is a forwarded Data, or a Data that is a reply, or it is no Data
 abbrev pub IsExplained : Seen → PlainEvent → Send → Type 0
 IsExplained seen event sent =
     IsForwardedData seen event sent ⊎ (IsReply seen event sent ⊎ (is_data sent.1 ≡ false))

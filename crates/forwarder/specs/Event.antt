@@ -59,7 +59,7 @@ token_in (FaceDown face now) = None
 token_in (Tick now) = None
 token_in (NewRules rules keys now) = None
 
--- octets that are sent to a face
+-- a face, and the octets that are sent to it
 abbrev pub Send : Type 0
 Send = ℕ × List ℕ
 

@@ -48,8 +48,8 @@ packet_causes now face token packet answer =
 abbrev pub packet_use : ℕ → ℕ → PlainFrame → Verdict → CacheUse
 packet_use now face packet verdict = cache_use now (packet_outcome face packet verdict)
 
--- a packet that came with this token was answered and took effect on the node `was`, after time had
--- advanced to the moment of the packet
+-- a packet that came with this token was answered and took effect; `was` is the node before this
+-- effect, once time has advanced to the moment of the packet
 pub record IsAnswered (was : NodeState) (face : ℕ) (token : Token) (packet : PlainFrame)
     (answer : Answer) (new : NodeState) : Type 0 where
   pub replies : RepliesToPacket (seen_by was) face token (Ok packet) answer
@@ -61,7 +61,7 @@ pub record IsAnswered (was : NodeState) (face : ℕ) (token : Token) (packet : P
   pub cache : CacheAfter was.policy.now was.pending
       (packet_use was.policy.now face packet answer.verdict) was.cache new.cache
 
--- the packet was handled, and its sends were appended to the earlier sends
+-- the packet was handled, and the sends of its answer were appended to the earlier sends
 abbrev pub IsHandled : State → State → List Send → List Send → ℕ → Token → ℕ → PlainFrame
     → code.Verdict → Type 0
 IsHandled old new before after face token moment packet verdict =

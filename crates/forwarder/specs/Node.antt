@@ -46,9 +46,9 @@ seen_in p waiting cache = record {
 }
 
 -- One step, from received octets to sent octets: time passes, then the event is answered and has
--- its effect. Both the decision on a packet and what the cache gives are stated twice in this
--- record; the two statements agree if the keys of the book have different names and the cache is a
--- store.
+-- its effect. The decision on a packet is stated in `replies` and in `policy`; both decisions are
+-- the same if no two keys of the book have the same name. What the cache gives is stated in
+-- `replies` and in `cache`; both give the same Data if the cache satisfies `IsStore`.
 pub record IsStep (old : NodeState) (event : PlainEvent) (answer : Answer)
     (new : NodeState) : Type 0 where
   -- the Interests that are pending once time has advanced to the moment of the event
@@ -75,7 +75,7 @@ pub record ChangesCacheOnly (old new : NodeState) : Type 0 where
 
 -- The packets that need no memory: octets that are no packet, or a link packet that contains no
 -- packet; a packet out of scope, or an Interest whose HopLimit is 0; and a Data that is not
--- allowed, if no checker of its rule expands a template.
+-- allowed, unless a checker of the first rule that applies expands a template.
 abbrev pub NeedsNoMemory : Policy → ℕ → Result PlainFrame PacketFault → Type 0
 NeedsNoMemory p face (Err fault) = ⊤
 NeedsNoMemory p face (Ok (AnInterest whole i)) =

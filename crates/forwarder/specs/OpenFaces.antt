@@ -36,10 +36,11 @@ without_entry face faces = filter (λ entry. not (entry.0 == face)) faces
 abbrev pub scope_in : List ℕ → ℕ → Scope
 scope_in local face = if has_face face local then Local else Far
 
--- the open faces with the numbers `all`, if `local` are the Local ones
+-- the open faces with their scopes, if their numbers are `all` and the numbers of the Local faces
+-- are `local`
 abbrev pub entries_of : List ℕ → List ℕ → List FaceEntry
 entries_of all local = map (λ face. (face, scope_in local face)) all
 
--- each Local face is open
+-- each Local face is open, and both lists have the same order
 abbrev pub AreOpen : List ℕ → List ℕ → Type 0
 AreOpen all local = local ≡ filter (λ face. has_face face local) all

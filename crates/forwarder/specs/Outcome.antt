@@ -9,8 +9,8 @@ use Rattle.forwarder.specs.Event.{PlainEvent, Packet, FaceUp, FaceDown, Tick, Ne
 use Rattle.forwarder.specs.Verdict.{Verdict, Passed, Allowed, DataAllowed, Denied, NoRule, Dropped}
 
 pub data Outcome : Type 0 where
-  -- apart from what expires at its moment, the event changes no record, cached Data, next hop or
-  -- route: a tick, a face that opens, new rules, or anything dropped or denied
+  -- a tick, a face that opens, new rules, or anything dropped or denied; apart from what expires at
+  -- its moment, the event changes no record, cached Data, next hop or route
   Nothing : Outcome
   -- an Interest for Data, or for a segment of a list, was passed
   InterestPassed : (face : ℕ) (whole : List ℕ) (i : PlainInterest) → Outcome
@@ -18,7 +18,7 @@ pub data Outcome : Type 0 where
   CommandAllowed : (face : ℕ) (i : PlainInterest) (status : ℕ) → Outcome
   -- a Data was allowed
   DataCame : (whole : List ℕ) (d : PlainData) → Outcome
-  -- a Nack for an Interest that was sent to the face was passed
+  -- a Nack was passed; the Interest in it had been sent to the face
   NackPassed : (face reason : ℕ) (i : PlainInterest) → Outcome
   -- a face closed
   FaceClosed : (face : ℕ) → Outcome

@@ -15,7 +15,7 @@ use Rattle.forwarder.specs.declared.event.Scope.TheVariants.{Local, Far}
 use Rattle.forwarder.specs.OpenFaces.{FaceEntry, find_scope, numbers}
 
 pub record Policy : Type 0 where
-  -- the greatest moment of the events so far, in milliseconds since 1970
+  -- the greatest moment of the events that were handled, in milliseconds since 1970
   pub now : ℕ
   -- the version of the lists: the number of allowed commands under /localhost/nfd, of faces that
   -- were closed, and of routes that expired, all counted together; at most the greatest u64
@@ -28,12 +28,12 @@ pub record Policy : Type 0 where
   pub faces : List FaceEntry
   pub routes : Routes
   pub choices : Choices
-  -- the greatest time and number of each signer of allowed commands
+  -- for each signer of allowed commands, the greatest SignatureTime and SignatureSeqNum
   pub guard : Table
   -- the objects that the repository stores, and the Data that it wants
   pub held : Held
 
--- a node with these rules, keys and prefix, before its first event
+-- the policy of a node with these rules, keys and repository's prefix, before its first event
 abbrev pub first_policy : List PlainRule → List NamedKey → List Field → Policy
 first_policy rules keys repo = record {
   now = 0;
@@ -90,8 +90,8 @@ is_far p face = is_far_scope (find_scope face p.faces)
 
 -- ---- two policies compared
 
--- the policies have the same time, prefix of the repository, open faces, times and numbers of
--- signers, stored Data and wants
+-- the policies have the same time, repository's prefix, open faces, replay guard, stored Data and
+-- wants
 pub record HasSameParts (p q : Policy) : Type 0 where
   pub now : p.now ≡ q.now
   pub repo : p.repo ≡ q.repo

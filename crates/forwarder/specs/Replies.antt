@@ -39,7 +39,8 @@ pub record Seen : Type 1 where
   -- the records of each key, and whether the PIT is full, that is, has records for 4,096 keys
   pub records : PlainKey → Records
   pub is_full : Bool
-  -- the cache may give these octets for an Interest of this key; with None, it may give nothing
+  -- the cache may give these octets for an Interest of this key; None means that the cache may give
+  -- no Data
   pub MayGive : PlainKey → Option (List ℕ) → Type 0
 
 -- ---- Interests for Data, pipeline by pipeline
@@ -56,7 +57,7 @@ abbrev pub content_store_hit : ℕ → Token → List ℕ → Answer
 content_store_hit face token octets = passed (sent_back face token octets ∷ [])
 
 -- Outgoing Interest: the Interest is sent to each of these faces without a token, or the Interest
--- is dropped if it needs a new key and the PIT is full
+-- is dropped if its key has no in-record and the PIT is full
 abbrev pub outgoing_interest : Seen → PlainKey → List ℕ → PlainInterest → List ℕ → Answer
 outgoing_interest seen key whole i faces =
     if not (is_alive (seen.records key)) && seen.is_full then dropped PitFull
@@ -133,14 +134,14 @@ Askers = List (ℕ × Token)
 abbrev pub faces_of : Askers → List ℕ
 faces_of askers = map_list {A = ℕ × Token} {B = ℕ} (λ a. a.0) askers
 
--- the received octets of a Data, sent back to each of these faces
+-- the received octets of a Data, sent to each of these faces with the face's token
 abbrev pub sent_to : Askers → List ℕ → List Send
 sent_to askers whole =
     map_list {A = ℕ × Token} {B = Send} (λ a. sent_back a.0 a.1 whole) askers
 
 -- The received octets are sent once to each face with a pending Interest for the Data, except the
 -- face that the Data came from, in rising order of the faces, with the token of each face's latest
--- such Interest.
+-- Interest that the Data answers.
 abbrev pub IsSentToAskers : Seen → ℕ → List ℕ → PlainData → List Send → Type 0
 IsSentToAskers seen face whole d sends =
     (askers : Askers) × IsRising (faces_of askers)
@@ -195,8 +196,8 @@ RepliesToPacket seen face token (Ok AnIdle) answer = answer ≡ dropped Idle
 
 -- ---- all events
 
--- the answer to a face that opens: the face is refused if its number is 0, it is open, or 64 faces
--- are open
+-- the answer to a face that opens: the face is refused if its number is 0, if it is open already,
+-- or if 64 faces are open
 abbrev pub opening_answer : Policy → ℕ → Answer
 opening_answer p face =
     if face == 0 then dropped BadFace else (

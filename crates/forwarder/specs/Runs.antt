@@ -50,8 +50,8 @@ BringsKeysApart (FaceDown face t) = ⊤
 BringsKeysApart (Tick t) = ⊤
 BringsKeysApart (NewRules rules keys t) = AreApart keys
 
--- No book of the run has two keys of the same name: neither the first book nor those that its
--- events brought.
+-- No book of keys in the run has two keys of the same name: neither the book of the policy `first`
+-- nor a book that an event brought.
 abbrev pub KeysAreApart : Policy → Run → Type 0
 KeysAreApart first Start = AreApart first.keys
 KeysAreApart first (Then before event answer) = KeysAreApart first before × BringsKeysApart event

@@ -86,9 +86,9 @@ impl State {
     }
 
     /// Sends an allowed Data to the other faces with a pending Interest for the Data, caches the
-    /// Data if any face has such an Interest, and stores the Data if the repository wants it.
-    /// Memory does not run out: memory for 64 sends and their octets is already reserved, and the
-    /// offer to the repository is prepared.
+    /// Data if any face has a pending Interest for it, and stores the Data if the repository wants
+    /// it. Memory does not run out: memory for 64 sends and their octets is already reserved, and
+    /// the offer to the repository is prepared.
     fn deliver(
         &mut self,
         face: u64,
@@ -131,7 +131,7 @@ impl State {
     }
 
     /// Sends a Data to each other face with a pending Interest for it, with the token of that
-    /// face's latest such Interest.
+    /// face's latest Interest that the Data answers.
     fn send_with_tokens(&self, face: u64, packet: &Data<'_>, out: &mut Sends) -> Result<(), Memory>
         requires places { MAX_FACES ≤ out.old.places }
         requires space { room_for_data packet.now.whole.now true ≤ out.old.space }

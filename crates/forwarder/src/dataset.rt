@@ -30,7 +30,7 @@ const FRESHNESS: u64 = 1000;
 
 /// Returns the Data of the requested segment (NFD Management, "Status Dataset"). `table_number` is
 /// the version of the lists after the routes that expire by `now` are removed. Returns `None` if
-/// another version is requested, or if the list has no such segment.
+/// another version is requested, or if the list has no segment with the requested number.
 pub(crate) fn list_segment(
     alloc: Global,
     tables: &Tables,

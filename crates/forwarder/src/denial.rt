@@ -11,7 +11,7 @@ use ndn_tlv::Memory;
 use repo_core::put_repo_reply;
 use std::alloc::Global;
 
-/// The status of a command that no rule allows.
+/// The status in the reply to a command that is not allowed.
 const NOT_AUTHORIZED: u16 = 403;
 
 /// Returns the id of the rule at this index, or an empty string if no rule has this index.

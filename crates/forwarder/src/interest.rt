@@ -58,7 +58,7 @@ impl State {
 
     /// Handles an Interest for Data: if the Interest loops, sends a Nack back; otherwise answers
     /// the Interest from the cache or the repository, or forwards the Interest. Looks up the cache
-    /// and the repository first, so that no PIT record is prepared for a hit.
+    /// and the repository before a PIT record is prepared, since a hit needs no PIT record.
     fn answer(
         &mut self,
         arrived: &Arrived<'_, Interest<'_>>,

@@ -97,7 +97,7 @@ pub fn refused_steps_stand_still()
 /// For the next event, all valid answers after both runs are equal if the event brings a command, a
 /// request for a list, or an Interest that is dropped because of its HopLimit or scope. The
 /// verdicts of these answers are equal if the event brings a Data. So these statements are true at
-/// each event of two whole runs.
+/// each event of two runs with the same events.
 pub fn histories_decide()
     ensures policy { (first p q : Policy) (past other : Run) → KeysAreApart first past
         → HaveOneHistory past other → IsPolicyOf first past p → IsPolicyOf first other q → p ≡ q }
@@ -131,9 +131,9 @@ pub fn each_send_is_explained()
         event answer }
 {}
 
-/// Law: if no two keys of the first book have the same name, and no two keys that an event brings
-/// have the same name, then no two keys of any book of the run, or of the book in force after the
-/// run, have the same name.
+/// Law: if no two keys of the first book of keys have the same name, and no two keys that an event
+/// brings have the same name, then no two keys of any book of the run, or of the book in force
+/// after the run, have the same name.
 pub fn keys_stay_apart()
     ensures books { (first : Policy) (past : Run) → AreApart first.keys
         → All BringsKeysApart (events_back past) → KeysAreApart first past }
@@ -200,7 +200,7 @@ pub fn commands_are_allowed_once()
         → IsFreshCommand (at_moment was now) i }
 {}
 
-/// Law: a guard that was empty at first records the times and numbers of allowed commands only.
+/// Law: a guard that was empty at first records only the times and numbers of allowed commands.
 pub fn guards_hold_allowed_commands()
     ensures { (first p : Policy) (past : Run) → first.guard ≡ map.empty → IsPolicyOf first past p
         → (records : List Recorded) × (p.guard ≡ table_of records)

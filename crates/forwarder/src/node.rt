@@ -152,7 +152,7 @@ impl Node {
         &self.state.keys
     }
 
-    /// Returns the greatest moment so far, in milliseconds since 1970.
+    /// Returns the greatest moment of the events that were handled, in milliseconds since 1970.
     pub fn now(&self) -> u64
         ensures { result ≡ self.now.policy.now }
     {
@@ -168,8 +168,8 @@ impl Node {
     }
 
     /// Returns whether two nodes have the same time, repository's prefix, open faces, routes,
-    /// strategies, times and numbers of signers, stored Data and wants. The version of the lists,
-    /// rules and keys are not compared. The contract says only what a result `true` means.
+    /// strategies, replay guard, stored Data and wants. The version of the lists, the rules and the
+    /// keys are not compared. The contract says only what a result `true` means.
     pub fn has_same_tables(&self, other: &Node) -> Result<bool, Memory>
         ensures { IfOk result
             (λ same. IsTrue same → HasSameTables self.now.policy other.now.policy) }

@@ -57,7 +57,7 @@ pub(crate) fn is_local_name(name: Name<'_>) -> bool
     begins(name, b"\x08\x09localhost")
 }
 
-/// Returns whether the name is that of a command or a list, that is, begins with `/localhost/nfd`.
+/// Returns whether the name begins with `/localhost/nfd`, as the names of commands and lists do.
 pub(crate) fn is_management(name: Name<'_>) -> bool
     ensures { result ≡ begins_with management (components name.entry) }
 {

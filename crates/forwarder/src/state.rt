@@ -16,7 +16,7 @@ use std::alloc::Global;
 #[derive(Drop)]
 pub struct State {
     pub alloc: Global,
-    /// The greatest moment so far, in milliseconds since 1970.
+    /// The greatest moment of the events that were handled, in milliseconds since 1970.
     pub now: u64,
     /// The version of the lists of routes and strategies.
     pub table_number: u64,
@@ -58,8 +58,8 @@ impl State {
         self.table_number = self.table_number.saturating_add(1);
     }
 
-    /// Returns whether both states have the same time, prefix of the repository, open faces, routes,
-    /// strategies, times and numbers of signers, stored Data and wants.
+    /// Returns whether both states have the same time, repository's prefix, open faces, routes,
+    /// strategies, replay guard, stored Data and wants.
     pub fn has_same_tables(&self, other: &State) -> Result<bool, Memory>
         ensures { IfOk result (λ same. IsTrue same
             → HasSameTables (policy_of self.entry.now) (policy_of other.entry.now)) }
@@ -75,8 +75,8 @@ impl State {
         Ok(are_routes && are_choices)
     }
 
-    /// Returns whether both states have the same time, prefix of the repository, open faces, times
-    /// and numbers of signers, stored Data and wants.
+    /// Returns whether both states have the same time, repository's prefix, open faces, replay
+    /// guard, stored Data and wants.
     fn has_same_parts(&self, other: &State) -> bool
         ensures { IsTrue result
             → HasSameParts (policy_of self.entry.now) (policy_of other.entry.now) }

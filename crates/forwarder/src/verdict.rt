@@ -38,7 +38,8 @@ pub enum DropReason {
     PitFull,
     /// No Interest with the Nack's key and Nonce is recorded as sent to this face.
     NoPending,
-    /// The list has no such segment, or has another version.
+    /// The list has no segment with the requested number, or its version is not the requested
+    /// version.
     NoSegment,
     /// The face number is 0.
     BadFace,

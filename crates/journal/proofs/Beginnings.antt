@@ -13,7 +13,7 @@ pub whole_begins : (past : Run) → IsBeginningOf past past
 whole_begins Start = refl
 whole_begins (Then before event answer) = inl refl
 
--- `left` is a prefix of the journal without the journal's last event
+-- `left` is a prefix of `earlier`, which is the journal without its last event
 pub record Fewer (left earlier : List PlainEvent) : Type 0 where
   pub rest : List PlainEvent
   pub is : earlier ≡ left ++ rest
@@ -31,7 +31,7 @@ fewer_with : (chosen : Bool) (left earlier lost journal : List PlainEvent) (even
 fewer_with true left earlier lost journal event x grows e = fewer left earlier lost event x (sym grows ∙ e)
 fewer_with false left earlier lost journal event x grows e = record { rest = x ∷ lost; is = sym grows ∙ e }
 
--- a journal cannot be both longer and shorter than another
+-- one journal cannot be both longer and shorter than another journal
 too_long : (left written more lost : List PlainEvent) (x : PlainEvent) → left ≡ written ++ more → written ≡ left ++ (x ∷ lost) → ⊥
 too_long left written more lost x e f = omega (arith, ap length e, ap length f, length-append written more, length-append left (x ∷ lost))
 

@@ -57,7 +57,8 @@ one_journal first (Then before event answer) a b apart h k =
 
 -- ---- the journal's events lead to the policy of the run
 
--- the policy after a run of the journal's events, if the original run leads to the policy `p`
+-- the run `again` of the journal's events leads to a policy that is the same as `p` from the time
+-- of `p` on, and `again` has the same journal
 pub record Keeps (first p : Policy) (again : Run) (journal : List PlainEvent) : Type 0 where
   pub left : Policy
   pub is_policy : IsPolicyOf first again left
@@ -68,7 +69,7 @@ pub record Keeps (first p : Policy) (again : Run) (journal : List PlainEvent) : 
 -- a run with one more event
 module _ (first was p : Policy) (event : PlainEvent) (earlier journal : List PlainEvent) (keys : AreApart was.keys) (brings : BringsKeysApart event) (after : IsAfter was event p)
     (before_keeps : (again : Run) → events_of again ≡ earlier → Keeps first was again earlier) where
-  -- the event is not journalled
+  -- if the event is not journalled, replaying the journal still leads to the policy of the run
   more_idle : (again : Run) → IsJournalled was event false → journal ≡ earlier → events_of again ≡ journal → Keeps first p again journal
   more_idle again is grows e =
       let k = before_keeps again (e ∙ grows) in
@@ -80,7 +81,8 @@ module _ (first was p : Policy) (event : PlainEvent) (earlier journal : List Pla
         apart = k.apart;
       }
 
-  -- the event is journalled
+  -- if the event is journalled, replaying the journal with this event leads to the policy of the
+  -- run
   more_last : (again : Run) → IsJournalled was event true → journal ≡ earlier ++ (with_moment (max was.now (moment event)) event ∷ []) → events_of again ≡ journal → Keeps first p again journal
   more_last Start is grows e = absurd (not_empty earlier _ (sym (e ∙ grows)))
   more_last (Then before other answer) is grows e =

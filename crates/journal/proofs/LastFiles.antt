@@ -96,7 +96,7 @@ no_files_or_last text files h k =
 
 -- ---- the loop
 
--- These lines were read. `last` are the files of the last line of new rules.
+-- The lines that were read so far. `last` are the files of the last line of new rules among them.
 pub record ReadSoFar {A : Type 0} (items : A → List ℕ) (unread left : Option (List ℕ)) (last : Option A) : Type 0 where
   pub lines : List (List ℕ)
   pub are_lines : AreLines lines
@@ -136,7 +136,7 @@ read_all items (Some text) between left cut (Some files) h is rest lacks =
 
 -- ---- a comparison
 
--- without a line of new rules, no files are the last
+-- if no line of new rules was found, no files are the last files of the text
 pub are_none : {A : Type 0} (items : A → List ℕ) (unread : Option (List ℕ)) (last : Option A) (files : List ℕ) → last ≡ None
     → IfSome unread (λ text. MatchOption last (HasNoFiles text) (λ found. HasLastFiles text (items found)))
     → IfSome unread (λ text. IsTrue false ↔ HasLastFiles text files)

@@ -28,7 +28,8 @@ one_later was q m one n le =
     let same : max m n ≡ n = omega arith in
     one n after ∙ sym (moments_in_a_row was m n ∙ ap (at_moment was) same)
 
--- the time of one policy is advanced to the time of the other
+-- if two policies are the same from a time on, advancing both to the same later time gives the same
+-- policy
 pub one_now : (was q : Policy) (m : ℕ) → AreOneFrom was.now q was → at_moment q (max was.now m) ≡ at_moment was m
 one_now was q m one =
     let after : was.now ≤ max was.now m = omega arith in

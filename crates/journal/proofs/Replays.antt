@@ -139,7 +139,7 @@ pub none_lacks : (octets : List ℕ) → length octets ≡ 0 → Lacks 10 octets
 none_lacks [] none = tt
 none_lacks (o ∷ octets) none = absurd (omega (arith, none))
 
--- the event of the line was answered
+-- if the event of a line was answered, the line was handled, and it has an event
 pub plays_step : (line : List ℕ) (event : PlainEvent) (verdict : Verdict) (held out : List Send) (old new : NodeState) → Lacks 10 line → IsEventLine event line → IsEvent event
     → (sends : List Send) × (out ≡ held ++ sends) × IsStep old event (record { verdict = verdict_of verdict; sends = sends }) new → PlaysLine line old new true
 plays_step line event verdict held out old new lacks is is_event h =

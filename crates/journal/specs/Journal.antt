@@ -75,7 +75,7 @@ IsJournalAfter was event old new =
     (chosen : Bool) × IsJournalled was event chosen
     × (new ≡ with_event chosen (with_moment (max was.now (moment event)) event) old)
 
--- The journal of a run from the policy `first`. It does not depend on the answers.
+-- The journal of a run from the policy `first`. The journal does not depend on the answers.
 abbrev pub IsJournalOf : Policy → Run → List PlainEvent → Type 0
 IsJournalOf first Start journal = journal ≡ []
 IsJournalOf first (Then before event answer) journal =
@@ -90,8 +90,8 @@ events_of Start = []
 events_of (Then before event answer) = events_of before ++ (event ∷ [])
 
 -- From the time `now` on, the two policies are the same. Before `now`, they may differ in their
--- time, in the wants and routes that expire by `now`, and in how many of these routes the version
--- of the lists counts.
+-- time, in the wants and routes that expire by `now`, and in the version of the lists, which may
+-- not count these routes yet.
 abbrev pub AreOneFrom : ℕ → Policy → Policy → Type 0
 AreOneFrom now p q = (m : ℕ) → now ≤ m → at_moment p m ≡ at_moment q m
 

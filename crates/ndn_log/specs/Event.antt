@@ -37,7 +37,7 @@ end_words (Closed face) outcome = []
 end_words Tick outcome = []
 end_words NewRules outcome = []
 
--- what happened, and the verdict by these rules
+-- what happened, and the verdict, which shows rules by their ids in `rules`
 abbrev pub event_words : List PlainRule → Entry → Result code.Verdict Memory → List ℕ
 event_words rules entry outcome =
     let frame = frame_in (octets_in entry.came) in

@@ -36,7 +36,7 @@ first_is_new rules keys repo cache = record {
   stands = new_stands (first_policy rules keys repo) cache;
 }
 
--- a node was created, so its parts are valid
+-- if a node was created, its parts have no fault, so only the case that `why` is None is left
 pub made_of_good_parts : {N : Type 0} (P : Type 0) (Q : NodeFault → Type 0) (why : Option NodeFault) (made : Result N NodeFault) (node : N) → made ≡ Ok node
     → MatchOption why (IfErr made (λ f. f ≡ Memory)) (λ f. made ≡ Err f) → P → MatchOption why P Q
 made_of_good_parts P Q None made node is h p = p
@@ -134,7 +134,8 @@ shape_end j l = rw (append-nil l, append-nil (l ++ (10 ∷ []))) (append_assoc j
 shape_all : (j l : List ℕ) → j ++ ((l ++ (10 ∷ [])) ++ []) ≡ (j ++ ((l ++ (10 ∷ [])) ++ [])) ++ []
 shape_all j l = sym (append-nil (j ++ ((l ++ (10 ∷ [])) ++ [])))
 
--- the text with an LF appended after its last line
+-- if a text is whole lines and a last line without an LF, appending an LF makes it a text of whole
+-- lines
 ended_whole : (front line : List ℕ) (lines : List (List ℕ)) → front ≡ joined lines ++ (line ++ []) → ended front ≡ joined (lines ++ (line ∷ [])) ++ []
 ended_whole front line lines is =
     ap ended is ∙ shape_end (joined lines) line ∙ shape_all (joined lines) line
@@ -170,7 +171,7 @@ module _ (first : NodeState) (fresh : IsNew first) where
   Stops-from_feed fault.Memory unread left held holds stream read h =
       (h.4.events, h.2, IsTextOfRun-from_plays h.0 h.1 h.2 h.4, h.5, BeginsWith-known unread left stream h.0 h.3 h.1 h.2 h.4 read h.6)
 
-  -- memory ran out before anything was read
+  -- if memory runs out before anything is read, the run stops with the fault Memory
   pub Stops-memory : (unread held : Option (List ℕ)) → Stops first fault.Memory unread unread held held
   Stops-memory unread held =
       Stops-from_feed fault.Memory unread unread held held [] (Consumes-start unread)
@@ -229,7 +230,7 @@ module _ (first : NodeState) (fresh : IsNew first) where
             (fed.lines, ended line ++ [], (plays.are_lines, ap ended fed.stream_is ∙ shape_end (joined fed.lines) line), plays.say),
       )
 
-  -- the whole script was run
+  -- if the last line is run without a fault, and the reader is at its end, the whole script was run
   pub Ends-last : (unread left held holds new : Option (List ℕ)) (front : List ℕ) (mid to : Place) (line text : List ℕ) → Fed front (start first) mid line [] held holds
       → Consumes unread left front → IsAtEnd left → Plays (line ∷ []) mid to text → Appends holds new text → Ends first unread left held new
   Ends-last unread left held holds new front mid to line text fed read end last written =

@@ -41,7 +41,7 @@ pub record SameCut (a b c d : List ℕ) : Type 0 where
   pub front : a ≡ c
   pub back : b ≡ d
 
--- splitting a text at the first octet of a value gives one result
+-- a text can be split in only one way at its first octet that equals `octet`
 pub cut_once : (octet : ℕ) (a b c d : List ℕ) → Lacks octet a → Lacks octet c → a ++ (octet ∷ b) ≡ c ++ (octet ∷ d) → SameCut a b c d
 cut_once octet [] b [] d ha hc e = record { front = refl; back = cc }
 cut_once octet [] b (o ∷ c) d ha hc e = absurd (hc.0 cc)
@@ -51,7 +51,7 @@ cut_once octet (o ∷ a) b (p ∷ c) d ha hc e =
     let first : o ≡ p = cc in
     record { front = cc (first, same.front); back = same.back }
 
--- the slice `&text[i..]`
+-- the text after its first i octets equals the result of the slice `&text[i..]`
 pub take_rest : (i : ℕ) (text : List ℕ) → drop i text ≡ take (length text - i) (drop i text)
 take_rest i text = sym (take_all (length text - i) (drop i text) (simp length-drop (omega arith)))
 
@@ -59,7 +59,7 @@ pub get_or-empty : (text : List ℕ) → length text ≡ 0 → get_or text 0 0 �
 get_or-empty [] h = refl
 get_or-empty (o ∷ text) h = absurd (omega arith)
 
--- two ways to split a text into three parts are the same
+-- the three parts `a`, `b` and `c` of a text are the same as the three parts `d`, `e` and `f`
 pub record SameCuts (a b c d e f : List ℕ) : Type 0 where
   pub first : a ≡ d
   pub second : b ≡ e
@@ -97,7 +97,8 @@ full_list (o ∷ text) h = omega arith
 pub differ_bytes : (xs ys : List ℕ) (r : Bool) → r ≡ pointwise eqb xs ys → r ≡ false → xs ≡ ys → ⊥
 differ_bytes xs ys r h apart e = let same = (slice_eq-Decides Decides-eqb xs ys r h).1 e in cc (apart, same)
 
--- the front of a text becomes longer by the first `n` octets of the remaining text
+-- if a text is `front` and then `rest`, it is also `front` with the first `n` octets of `rest`, and
+-- then the other octets of `rest`
 pub front_longer : (whole front rest : List ℕ) (n : ℕ) → whole ≡ front ++ rest → whole ≡ (front ++ take n rest) ++ take (length rest - n) (drop n rest)
 front_longer whole front rest n e =
     e ∙ ap (λ (d : List ℕ). front ++ d) (sym (take-append-drop n rest) ∙ ap (λ (d : List ℕ). take n rest ++ d) (take_rest n rest)) ∙ sym (append_assoc front (take n rest) (take (length rest - n) (drop n rest)))

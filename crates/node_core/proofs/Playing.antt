@@ -60,7 +60,8 @@ next_rules : (old new : NodeState) (event : PlainEvent) (outcome : Outcome) → 
 next_rules old new event (Answered answer) h = after_rules old.policy new.policy event h.1.policy
 next_rules old new event NoMemory h = ap (λ (p : Policy). p.rules) h.1.policy ∙ sym (refused_rules old new event h)
 
--- the line of an event is the same with the rules before the event and with the rules after it
+-- the text of an answer is the same, whether it is written with the rules before the event or with
+-- the rules after it
 answered_text : (old new : NodeState) (event : PlainEvent) (answer : Answer) (n : ℕ) → IsStep old event answer new
     → outcome_text new.policy.rules n (Answered answer) ≡ outcome_text old.policy.rules n (Answered answer)
 answered_text old new (Packet face now octets) answer n h = ap (λ (l : List PlainRule). outcome_text l n (Answered answer)) (after_rules old.policy new.policy (Packet face now octets) h.policy)
@@ -128,7 +129,7 @@ LineStops-from_fails fault.Write line from held h = absurd h
 LineStops-from_fails (fault.Node n) line from held h = absurd h
 LineStops-from_fails fault.Memory line from held h = Keeps-from_none held held (Appends-start held)
 
--- the answer to a line could not be written
+-- if the answer to a line cannot be written, the run of this line stops with the fault Write
 pub LineStops-cut : (result : Result (Unit {0}) RunFault) (line : List ℕ) (from to : Place) (text : List ℕ) (held holds : Option (List ℕ)) → Plays (line ∷ []) from to text
     → OnErr result (AppendsFront held holds text) → IfErr result (λ f. f ≡ fault.Write) → IfErr result (λ f. LineStops f line from held holds)
 LineStops-cut (Ok done) line from to text held holds plays cut is = tt
@@ -205,7 +206,8 @@ joined-append (l ∷ a) b = ap (λ (t : List ℕ). ended l ++ t) (joined-append 
 pub IsBadLine-long : (line : List ℕ) → 20000 < length line → IsBadLine line
 IsBadLine-long line long = (λ h. omega (arith, h.0), λ event h. omega (arith, h.0))
 
--- a line that is too long is bad
+-- a fault of appending octets to a line is also a fault of handling this line, since a line that is
+-- too long is bad
 pub LineFails-from_add : (f : RunFault) (line : List ℕ) (from : Place) → AddStops f line from → LineFails f line from
 LineFails-from_add (fault.BadLine n) line from h = (h.0, IsBadLine-long line h.1)
 LineFails-from_add fault.Read line from h = absurd h
@@ -259,7 +261,8 @@ Fed-start place line rest held =
 shape_line : (j l f a : List ℕ) → j ++ (l ++ (f ++ (10 ∷ a))) ≡ (j ++ ((l ++ f) ++ (10 ∷ []))) ++ a
 shape_line j l f a = simp append_assoc
 
--- the unfinished line is completed by the octets up to the next LF
+-- the stream is the finished lines, then the unfinished line completed by the octets up to the next
+-- LF, then this LF and the octets after it
 Fed-line_is : (stream : List ℕ) (from to : Place) (line rest front after : List ℕ) (held holds : Option (List ℕ)) → (fed : Fed stream from to line rest held holds)
     → rest ≡ front ++ (10 ∷ after) → stream ≡ joined fed.lines ++ ((line ++ front) ++ (10 ∷ after))
 Fed-line_is stream from to line rest front after held holds fed is =
@@ -285,7 +288,8 @@ Fed-then stream from mid to line rest front after text held holds new fed is pla
           ∙ ap (λ (t : List ℕ). t ++ ([] ++ after)) (sym (joined-append fed.lines ((line ++ front) ∷ [])));
     }
 
--- an unfinished line is too long, or memory runs out for this line
+-- if an unfinished line is too long, or memory runs out for it, handling the octets stops with this
+-- fault
 pub FeedStops-last : (f : RunFault) (stream : List ℕ) (from mid : Place) (line rest : List ℕ) (held holds : Option (List ℕ)) → Fed stream from mid line rest held holds
     → Lacks 10 line → Lacks 10 rest → AddStops f (line ++ rest) mid → FeedStops f stream from held holds
 FeedStops-last (fault.BadLine n) stream from mid line rest held holds fed la lb h =
@@ -296,7 +300,7 @@ FeedStops-last (fault.Node n) stream from mid line rest held holds fed la lb h =
 FeedStops-last fault.Memory stream from mid line rest held holds fed la lb h =
     (fed.lines, mid, fed.text, line ++ rest, fed.plays, AppendsFront-all held holds fed.text fed.written, fed.stream_is)
 
--- the fault of a finished line
+-- if handling a finished line has a fault, handling the octets stops with this fault
 pub FeedStops-line : (f : RunFault) (stream : List ℕ) (from mid : Place) (line rest front after : List ℕ) (held holds : Option (List ℕ)) → Fed stream from mid line rest held holds
     → rest ≡ front ++ (10 ∷ after) → Lacks 10 line → Lacks 10 front → LineFails f (line ++ front) mid → FeedStops f stream from held holds
 FeedStops-line (fault.BadLine n) stream from mid line rest front after held holds fed is la lb h =
@@ -310,7 +314,7 @@ FeedStops-line fault.Memory stream from mid line rest front after held holds fed
 
 -- ---- answers that were gathered and are then written
 
--- the text that was written is the text that was gathered
+-- if `text` was gathered, and the gathered text was then written, `text` was written
 gathered : (a : List ℕ) (text : List ℕ) (held holds : Option (List ℕ)) → a ≡ [] ++ text → Appends held holds a → Appends held holds text
 gathered a text held holds is written = subst (Appends held holds) is written
 
@@ -339,7 +343,8 @@ TurnsBad-begins stream lines turns =
     let n = nonempty t.0 t.1 in
     init_after stream (joined lines) n.1 10 n.0 (ap ended (sym (append-nil stream)) ∙ t.2 ∙ ap (λ (s : List ℕ). joined lines ++ s) n.2)
 
--- the answers before the fault of a line were written
+-- if the answers before a fault were gathered and then written, handling the octets stops with the
+-- same fault
 pub FeedStops-written : (f : RunFault) (stream : List ℕ) (from : Place) (text : List ℕ) (held holds : Option (List ℕ)) → FeedStops f stream from (Some []) (Some text)
     → Appends held holds text → FeedStops f stream from held holds
 FeedStops-written (fault.BadLine n) stream from text held holds h written = (h.0, h.1, h.2, h.3, gathered text h.2 held holds h.4 written, h.5, h.6)
@@ -348,7 +353,8 @@ FeedStops-written fault.Write stream from text held holds h written = (h.0, h.1,
 FeedStops-written (fault.Node n) stream from text held holds h written = absurd h
 FeedStops-written fault.Memory stream from text held holds h written = (h.0, h.1, h.2, h.3, h.4, gathered_front text h.2 held holds h.5 (AppendsFront-all held holds text written), h.6)
 
--- the answers before the fault of a line could not be written
+-- if the answers before a fault were gathered, but could not be written, handling the octets stops
+-- with the fault Write
 pub FeedStops-cut : (f : RunFault) (stream : List ℕ) (from : Place) (text : List ℕ) (held holds : Option (List ℕ)) → FeedStops f stream from (Some []) (Some text)
     → AppendsFront held holds text → FeedStops fault.Write stream from held holds
 FeedStops-cut (fault.BadLine n) stream from text held holds h cut =

@@ -42,7 +42,7 @@ scope_word-Lacks Far = Lacks-from_test 32 (codes "far") refl
 pub number-Lacks : (n : ℕ) → n < 2 ^ 64 → Lacks 32 (decimal n)
 number-Lacks n lt = decimal-Lacks 32 (omega arith) n lt
 
--- the words after `up`
+-- `a`, `b` and `c` are the words after `up` in the line of the event
 pub record UpWords (event : PlainEvent) (a b c : List ℕ) : Type 0 where
   pub face : ℕ
   pub scope : Scope
@@ -53,7 +53,7 @@ pub record UpWords (event : PlainEvent) (a b c : List ℕ) : Type 0 where
   pub scope_is : b ≡ scope_word scope
   pub now_is : c ≡ decimal now
 
--- the words after `in`
+-- `a`, `b` and `c` are the words after `in` in the line of the event
 pub record InWords (event : PlainEvent) (a b c : List ℕ) : Type 0 where
   pub face : ℕ
   pub now : ℕ
@@ -64,7 +64,7 @@ pub record InWords (event : PlainEvent) (a b c : List ℕ) : Type 0 where
   pub now_is : b ≡ decimal now
   pub spelled : HexSpells octets c
 
--- the words after `down`
+-- `a` and `b` are the words after `down` in the line of the event
 pub record DownWords (event : PlainEvent) (a b : List ℕ) : Type 0 where
   pub face : ℕ
   pub now : ℕ
@@ -73,7 +73,7 @@ pub record DownWords (event : PlainEvent) (a b : List ℕ) : Type 0 where
   pub face_is : a ≡ decimal face
   pub now_is : b ≡ decimal now
 
--- the words after `rules`
+-- `a`, `b` and `c` are the words after `rules` in the line of the event
 pub record RulesWords (event : PlainEvent) (a b c : List ℕ) : Type 0 where
   pub rules : List PlainRule
   pub keys : List NamedKey
@@ -90,7 +90,7 @@ first text = get_or text 0 0
 abbrev second : List ℕ → ℕ
 second text = get_or text 1 0
 
--- a line with `up`, split at its spaces
+-- the text after `up` in an event's line is three words of an event `up`, separated by spaces
 pub up_text : (event : PlainEvent) (text : List ℕ) → LineSpells event (codes "up" ++ (32 ∷ text))
     → (a b c : List ℕ) × UpWords event a b c × (text ≡ a ++ (32 ∷ (b ++ (32 ∷ c))))
 up_text (FaceUp face scope now) text h =
@@ -161,7 +161,8 @@ up_lacks event a b c u = (rw u.face_is (number-Lacks u.face u.wide.0), rw u.scop
 pub in_lacks : (event : PlainEvent) (a b c : List ℕ) → InWords event a b c → Lacks 32 a × Lacks 32 b
 in_lacks event a b c u = (rw u.face_is (number-Lacks u.face u.wide.0), rw u.now_is (number-Lacks u.now u.wide.1))
 
--- the words into which the text was already split are the words of the event
+-- if the text after `up` was split at its first two spaces, the three parts are the words of the
+-- event
 pub up_words : (event : PlainEvent) (text a b c : List ℕ) → Lacks 32 a → Lacks 32 b → text ≡ a ++ (32 ∷ (b ++ (32 ∷ c)))
     → LineSpells event (codes "up" ++ (32 ∷ text)) → UpWords event a b c
 up_words event text a b c la lb is h =
@@ -249,7 +250,7 @@ no_space line lacks event h =
     let w = kind_first event line h in
     Lacks-no_cut 32 (kind_word event) w.0 (rw w.1 at lacks)
 
--- a line whose first word is not the kind of an event spells no event
+-- a line whose first word is none of `up`, `down`, `tick`, `in` and `rules` spells no event
 pub no_kind : (line kind text : List ℕ) → Lacks 32 kind → line ≡ kind ++ (32 ∷ text)
     → (kind ≡ codes "up" → ⊥) → (kind ≡ codes "down" → ⊥) → (kind ≡ codes "tick" → ⊥) → (kind ≡ codes "in" → ⊥)
     → (kind ≡ codes "rules" → ⊥) → (event : PlainEvent) → LineSpells event line → ⊥

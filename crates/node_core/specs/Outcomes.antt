@@ -12,13 +12,13 @@ pub data Outcome : Type 0 where
   Answered : (answer : Answer) → Outcome
   NoMemory : Outcome
 
--- the properties of every event: a packet consists of octets, and the keys of a key book have
--- different names
+-- the event is valid: the packet that it brings consists of octets, and the keys that it brings
+-- have different names
 abbrev pub IsEvent : PlainEvent → Type 0
 IsEvent event = BringsOctets event × BringsKeysApart event
 
--- The outcome of an event. Either a step answers it, or memory ran out; then the cache may have
--- dropped some Data.
+-- The outcome of an event. Either a step answers the event, or memory ran out. If memory ran out,
+-- the cache may have dropped some Data.
 abbrev pub IsOutcome : NodeState → PlainEvent → Outcome → NodeState → Type 0
 IsOutcome old event (Answered answer) new = IsEvent event × IsStep old event answer new
 IsOutcome old event NoMemory new =
@@ -32,7 +32,8 @@ AreOutcomes old (event ∷ events) [] new = ⊥
 AreOutcomes old (event ∷ events) (done_as ∷ outcomes) new =
     (next : NodeState) × IsOutcome old event done_as next × AreOutcomes next events outcomes new
 
--- The run after these events and their answers. Events for which memory ran out are left out.
+-- The run `past`, extended by these events and their answers. Events for which memory ran out are
+-- left out.
 abbrev pub run_from : Run → List PlainEvent → List Outcome → Run
 run_from past [] outcomes = past
 run_from past (event ∷ events) [] = past

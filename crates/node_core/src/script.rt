@@ -48,7 +48,8 @@ pub enum RunFault {
 /// leading zeros, and `-` stands for no octets. A line has at most 20,000 octets and ends with an
 /// LF or at the end of the input. The two HEX words of `rules` are the octets of a rule file and of
 /// a key file. Empty lines and lines that begin with `#` are skipped. An event for which memory
-/// runs out is answered `memory`. Its only effect is that the cache may have dropped Data.
+/// runs out is answered `memory`. Such an event has no effect, except that the cache may have
+/// dropped Data.
 pub fn run_script<R: Read, W: Write>(
     alloc: Global,
     reader: &mut R,
@@ -85,9 +86,9 @@ pub fn run_script<R: Read, W: Write>(
     player.play(chunk.as_mut_slice(), reader, writer)
 }
 
-/// Law: a text is a script of at most one list of events. A text that is not a script has at most
-/// one first bad line, and at most one list of events before that line. No text is both a script
-/// and bad.
+/// Law: a text is a script of at most one list of events. A text has at most one first bad line,
+/// and at most one list of events before that line. No text is both a script and a text with a bad
+/// line.
 pub fn scripts_have_one_reading()
     ensures whole { (text : List ℕ) (a b : List PlainEvent) → IsScript text a → IsScript text b
         → a ≡ b }

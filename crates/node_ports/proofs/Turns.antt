@@ -140,7 +140,8 @@ module _ (old new : NodeState) (event : PlainEvent) (v : PlainVerdict) (sends : 
   abbrev pub answer : Answer
   answer = record { verdict = v; sends = sends }
 
-  -- the text that the event appends to a run's journal
+  -- if a run has a journal with this text, the run with the event in addition has a journal, whose
+  -- text is the old text followed by the text that is appended for the event
   grows : (text : List ℕ) → before ≡ Some text → (is_journalled_entry coming.entry coming.is_wanted v ≡ true → IsLineAt time coming.entry) → (first : Policy) (past : Run) (journal : List PlainEvent) → Stands first past old
       → IsJournalOf first past journal → IsTextOf journal text
       → (longer : List PlainEvent) × IsJournalOf first (Then past event answer) longer
@@ -240,7 +241,7 @@ Serves-refused old mid new before between after events refused failed h k =
     let P : ℕ → Type 0 = λ n. Serves old new before after (events + 1) (refused + 1) n in
     subst P (add-zero failed) (Serves-then old mid new before between after events refused failed 0 NoMemory h k)
 
--- adding to a count that is limited gives the same as limiting the sum
+-- limiting n to the greatest u64, adding m and limiting the sum gives the same as limiting n + m
 pub count_of-add : (n m : ℕ) → min (count_of n + m) (2 ^ 64 - 1) ≡ count_of (n + m)
 count_of-add n m = omega arith
 
@@ -257,7 +258,8 @@ take-next [] i x h = cc h
 take-next (y ∷ ys) zero x h = let same : y ≡ x = cc h in ap (λ (t : Send). t ∷ []) same
 take-next (y ∷ ys) (suc i) x h = ap (λ (t : List Send). y ∷ t) (take-next ys i x h)
 
--- one more send after those that were made
+-- if the sends before index i were made, and then the send at index i, the sends up to index i were
+-- made, and the numbers of failed sends add up
 pub sent_next : (xs : List Send) (i failed more : ℕ) (x : Send) (y : List Send) (a b c : Option (List Send)) → slice_get xs i ≡ Some x
     → ((taken : List Send) × AreSendsTaken (take i xs) failed taken × Takes a b taken) → AreSendsTaken (x ∷ []) more y → Takes b c y
     → (taken : List Send) × AreSendsTaken (take (i + 1) xs) (failed + more) taken × Takes a c taken
@@ -314,7 +316,8 @@ Handles-answered old new before mid after event v out failed known gives taken f
       failures = counted ∙ ap (λ (n : ℕ). count_after n failed) failures;
     }
 
--- the step of an event, if the outbox was empty before and contains these sends
+-- if the outbox was empty before the step of an event, the sends of this step are the content of
+-- the outbox afterwards
 pub step_of_outbox : (old new : NodeState) (event : PlainEvent) (verdict : Verdict) (held out : List Send) → held ≡ []
     → ((sends : List Send) × (out ≡ held ++ sends) × IsStep old event (record { verdict = verdict_of verdict; sends = sends }) new) → IsStep old event (record { verdict = verdict_of verdict; sends = out }) new
 step_of_outbox old new event verdict held out none step =

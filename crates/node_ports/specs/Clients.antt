@@ -27,7 +27,8 @@ abbrev pub GivesWay : Option ℕ → ℕ → Client → Type 0
 GivesWay None now client = ⊥
 GivesWay (Some idle) now client = IsSilent GIVE_WAY_MILLISECONDS now client
 
--- the client at index `place` has been silent longest, and it is the first such client
+-- the client at index `place` has been silent longest; if several have been silent equally long, it
+-- is the first of them
 pub record IsSilentLongest (clients : List Client) (place : ℕ) (client : Client) : Type 0 where
   pub is : slice_get clients place ≡ Some client
   pub least : All (λ other. client.heard ≤ other.heard) clients

@@ -59,8 +59,8 @@ OpensNew before after endpoint now face =
       refused = None;
     })
 
--- No face opens for the endpoint. The endpoint gets a face number, which stays the same until a
--- face opens.
+-- No face opens for the endpoint. The endpoint gets a face number. All endpoints without a face get
+-- this number until a face opens.
 abbrev pub OpensNone : KnownEndpoints → KnownEndpoints → ℕ → Type 0
 OpensNone before after face =
     (face ≡ unwrap_or before.refused before.next)
@@ -88,8 +88,8 @@ NoneGivesWay before now =
 -- has been silent longest closes, whatever the endpoint. In this case, if the endpoint is a client
 -- that is not idle, the time of its last datagram becomes `now`. If no client is idle, the datagram
 -- arrives on the face of its endpoint. If the endpoint has no face and fewer than 64 endpoints are
--- known, a face opens. If 64 are known, the face of a client that gives way (`GivesWay`) closes; if
--- no client gives way, no face opens.
+-- known, a face opens for it. If it has no face and 64 endpoints are known, the face of a client
+-- that gives way (`GivesWay`) closes; if no client gives way, no face closes and none opens.
 abbrev pub Meets : KnownEndpoints → KnownEndpoints → SocketAddr → ℕ → Met → Type 0
 Meets before after endpoint now (Face face) =
     NoneIsIdle before now × Knows before after endpoint now face

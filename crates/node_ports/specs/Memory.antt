@@ -12,8 +12,8 @@ plain_arrival (owned.Tick now) = Tick now
 plain_arrival (owned.NewRules renewal now) = NewRules renewal.rules renewal.keys now
 
 -- The events that have not yet arrived, the packets that were accepted, and the number of failed
--- calls. For each kind of call, the number of the call that is told to fail, where the next call
--- has number 1, or 0 if no call is told to fail.
+-- calls. `next_told` and `send_told` are the numbers of the calls of `next` and `send` that are
+-- told to fail. The next call has number 1; the number 0 means that no call is told to fail.
 pub record MemoryState : Type 0 where
   pub events : List PlainEvent
   pub sent : List Send

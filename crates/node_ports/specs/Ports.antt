@@ -31,7 +31,7 @@ cut_to size (Tick now) = Tick now
 cut_to size (NewRules rules keys now) = NewRules rules keys now
 
 -- The first of the events to come arrived, with its packet truncated to this size, or there was no
--- event to come. If the events to come are not known, nothing is claimed of the event.
+-- event to come. If the events to come are not known, nothing is stated about the event.
 abbrev pub Gives : Option (List PlainEvent) → Option (List PlainEvent) → ℕ → Option PlainEvent
     → Type 0
 Gives None new size event = new ≡ None

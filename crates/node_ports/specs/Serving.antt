@@ -29,7 +29,7 @@ abbrev pub shown : ℕ → Option (List PlainEvent) → Option (List Send) → O
 shown failures coming taken journal =
     record { failures = failures; coming = coming; taken = taken; journal = journal }
 
--- if the events to come are known, there are none
+-- no event is still to come, or the events to come are not known
 abbrev pub HasEnded : Option (List PlainEvent) → Type 0
 HasEnded None = ⊤
 HasEnded (Some events) = events ≡ []
@@ -50,7 +50,7 @@ AreSendsTaken (sent ∷ sends) failed taken =
     ((rest : List Send) × (taken ≡ sent ∷ rest) × AreSendsTaken sends failed rest)
     ⊎ ((fewer : ℕ) × (failed ≡ fewer + 1) × AreSendsTaken sends fewer taken)
 
--- the count of failures after this number of further failures
+-- the count of failures after n further failures
 abbrev pub count_after : ℕ → ℕ → ℕ
 count_after count zero = count
 count_after count (suc n) = one_more (count_after count n)
@@ -69,9 +69,8 @@ refused_count [] = 0
 refused_count (Answered answer ∷ outcomes) = refused_count outcomes
 refused_count (NoMemory ∷ outcomes) = refused_count outcomes + 1
 
--- If the old node agrees with a run, and the journal `before` is the text of that run's journal,
--- then the journal `after` is the text of the longer run's journal, after these events and
--- outcomes.
+-- If the old node agrees with a run, and `before` is the text of this run's journal, then `after`
+-- is the text of the journal of the longer run, which has these events and outcomes in addition.
 abbrev pub KeepsJournal : NodeState → Option (List ℕ) → List PlainEvent → List Outcome
     → Option (List ℕ) → Type 0
 KeepsJournal old before events outcomes after =
@@ -95,8 +94,8 @@ pub record Handles (old new : NodeState) (before after : Shown) (done_as : Outco
   pub journal : KeepsJournal old before.journal (event ∷ []) (done_as ∷ []) after.journal
   pub failures : after.failures ≡ count_after before.failures failed
 
--- The journal `after` is the journal `before`, possibly followed by a prefix of this event's line,
--- if the old node agrees with a run whose journal's text is `before`.
+-- If the old node agrees with a run, and `before` is the text of this run's journal, then `after`
+-- is `before`, possibly followed by a prefix of this event's line.
 abbrev pub HasFront : NodeState → Option (List ℕ) → PlainEvent → Answer → Option (List ℕ) → Type 0
 HasFront old before event answer after =
     (first : Policy) (past : Run) (journal : List PlainEvent) (text : List ℕ)
@@ -162,7 +161,8 @@ pub record Serves (old new : NodeState) (before after : Shown)
   pub events_is : events ≡ length arrivals
   pub refused_is : refused ≡ refused_count outcomes
 
--- each turn had an event, or the events ended before the last turn
+-- if the port did not reach its end, each turn had an event; otherwise the events ended before the
+-- last turn
 abbrev pub EndsAfter : ℕ → Bool → ℕ → Option (List PlainEvent) → Type 0
 EndsAfter turns false events coming = events ≡ turns
 EndsAfter turns true events coming = (events < turns) × HasEnded coming

@@ -58,7 +58,7 @@ bound_to peers local told = record {
   failures = 0;
 }
 
--- the same ports with this idle time, after which faces close
+-- the same ports, where the idle time after which faces close is set to `idle`
 abbrev pub closes_after : ℕ → UdpState → UdpState
 closes_after idle ports = record ports {
   known = record ports.known { clients = record ports.known.clients { idle = Some idle } };
@@ -92,8 +92,8 @@ OpensPeer before after (FaceDown face now) = ⊥
 OpensPeer before after (Tick now) = ⊥
 OpensPeer before after (NewRules renewal now) = ⊥
 
--- In the turn after the opening of its face, the waiting datagram arrives on that face. The
--- datagram is unchanged, except that it is truncated to the buffer.
+-- A face was opened for the waiting datagram in the turn before, and now the datagram arrives on
+-- that face. The datagram is unchanged, except that it is truncated to the length of the buffer.
 abbrev pub GivesWaiting : UdpState → UdpState → List ℕ → Arrival → Type 0
 GivesWaiting before after buffer (Packet face now len) =
     (endpoint : SocketAddr) × (octets : List ℕ) × (rows : List Client) × HasOpened before

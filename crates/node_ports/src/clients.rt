@@ -44,7 +44,8 @@ impl Default for Client {
 pub struct Clients {
     rows: ArrayVec<Client, MAX_FACES>,
     idle: Option<u64>,
-    // No client becomes idle before this time, so until then no search is needed.
+    // No client becomes idle before this time, so no search for an idle client is needed until
+    // then.
     heard_until: u64,
 }
 
@@ -190,7 +191,8 @@ impl Clients {
         hear_at(self.rows.as_mut_slice(), place, now)
     }
 
-    /// Returns the index of the client that has been silent longest, if that client is idle.
+    /// Returns the index of the client that has been silent longest, or `None` if that client is
+    /// not idle or there is no client.
     pub fn idle_place(&mut self, now: u64) -> Option<usize>
         ensures same { self.new ≡ self.old }
         ensures none { result ≡ None

@@ -15,22 +15,23 @@ pub enum Met {
     /// The endpoint has this face.
     Face(u64),
     /// The endpoint has no face. A face with this number is opened for the endpoint, and the
-    /// datagram arrives on that face. If 64 endpoints are already known, no node opens the face.
+    /// datagram arrives on that face. If 64 endpoints are already known, the endpoint is not
+    /// stored, and a node with 64 faces does not open the face.
     Opening(u64),
-    /// This face must close before the datagram is handled.
+    /// The face with this number must close before the datagram is handled.
     Closing(u64),
 }
 
 /// The endpoints that have faces: the peers, which have the faces from 1 on, and the clients. The
-/// number of a face that was opened is not used again.
+/// number of an opened face is never used for another face.
 #[derive(Drop)]
 pub struct KnownEndpoints {
     pub peers: Peers,
     pub clients: Clients,
     /// The number of the next face to open.
     pub next: u64,
-    /// The face number for endpoints that get no face, if such a number was assigned since a face
-    /// was last opened.
+    /// The face number that all endpoints without a face get, or `None` if no endpoint was refused
+    /// a face since the last face was opened.
     pub refused: Option<u64>,
 }
 

@@ -39,7 +39,8 @@ pub enum OwnedArrival {
 /// Ports in memory. Their arrivals are the events of a list, and they store the packets that are
 /// sent.
 ///
-/// `fail_next` and `fail_send` each make one later call fail. A send also fails if memory runs out.
+/// `fail_next` makes one later call of `next` fail, and `fail_send` makes one later call of `send`
+/// fail. A send also fails if memory runs out.
 #[derive(Drop)]
 pub struct MemoryPorts {
     arrivals: VecDeque<OwnedArrival>,
@@ -65,7 +66,7 @@ impl Model for MemoryPorts {
 }
 
 impl MemoryPorts {
-    /// Returns ports whose arrivals are these events. No call is told to fail.
+    /// Returns ports whose arrivals are these events. No call has been told to fail.
     pub fn new(alloc: Global, arrivals: Vec<OwnedArrival>) -> MemoryPorts
         ensures { result ≡ record {
           events = map plain_arrival arrivals.items;

@@ -12,8 +12,8 @@ use journal::Coming;
 use ndn_packets::MAX_FRAME;
 use thiserror::Error;
 
-/// The greatest number of octets that are read of a packet or datagram. A node accepts one octet
-/// less, so the node drops a longer packet as too long.
+/// The greatest number of octets that are read of a packet or datagram. It is one octet more than a
+/// node accepts, so that the node drops a longer packet as too long.
 pub const FRAME_ROOM: usize = MAX_FRAME + 1;
 
 /// Law: a buffer has room for 9,001 octets, one more than the longest packet that a node accepts.
@@ -95,7 +95,7 @@ pub trait Ports {
 
     /// Is called for each answered event with its verdict, before the event's packets are sent. If
     /// the event is journalled, a port with a journal appends the event's line with `time`, the
-    /// latest time so far, and returns when the line survives a crash.
+    /// latest time of all events up to this one, and returns when the line survives a crash.
     fn commit(&mut self, event: &Coming<'_>, time: u64, verdict: &Verdict) -> Result<(), PortFault>
         ensures done { OnOk result (Journals (journal self.old) (journal self.new) time
             event.now (verdict_of verdict.now)) }

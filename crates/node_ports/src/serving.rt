@@ -17,7 +17,7 @@ use thiserror::Error;
 pub enum Turn {
     /// An event was answered. `failed` is the number of its sends that failed.
     Done { verdict: Verdict, failed: u64 },
-    /// Memory ran out for a step. The event is treated as if it had not arrived.
+    /// Memory ran out for handling an event. The event is treated as if it had not arrived.
     Refused,
     /// An event was answered but could not be journalled. None of its packets is sent, and the node
     /// must stop.

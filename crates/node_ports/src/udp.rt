@@ -33,9 +33,10 @@ pub trait Moments: Drop {
 /// The peers' endpoints have the faces 1, 2 and so on. Each of these faces is opened in a turn of
 /// its own before any datagram is received. For an unknown endpoint, a Far face with the next
 /// number is opened before the endpoint's first packet arrives. While 64 endpoints are known, an
-/// unknown endpoint is not stored. The opening and the packet then have the next number, which is
-/// 65 if no face has closed. A node with 64 faces does not open such a face. The number of a face
-/// that was opened is not used again. The ports never end.
+/// unknown endpoint is not stored. The arrivals for its datagram, which are the opening of a face
+/// and the packet, then have the next face number, which is 65 if no face has closed. A node with
+/// 64 faces does not open a face with this number. The number of an opened face is never used for
+/// another face. The ports never end.
 ///
 /// After `close_after`, idle faces close. A peer's face never closes. After `ignore_strangers`,
 /// only datagrams from peers are accepted.
@@ -51,7 +52,8 @@ pub struct UdpPorts<M: Moments> {
     waiting: Option<Waiting>,
     octets: [u8; FRAME_ROOM],
     len: usize,
-    // Whether receiving ends after a short time. If not, receiving waits until a datagram arrives.
+    // Whether receiving ends after `SOON_MILLISECONDS`. If not, receiving waits until a datagram
+    // arrives.
     is_brief: bool,
     accepts_strangers: bool,
     strangers: u64,
@@ -93,8 +95,8 @@ impl<M: Moments> Model for UdpPorts<M> {
 }
 
 impl<M: Moments> UdpPorts<M> {
-    /// Binds port `listen` of 127.0.0.1. The peers are ports of 127.0.0.1. Otherwise the same as
-    /// `bind_at`.
+    /// Binds port `listen` of 127.0.0.1. The peers are ports of 127.0.0.1. In all other respects,
+    /// does the same as `bind_at`.
     pub fn bind(
         rt: &impl Net,
         listen: u16,
@@ -154,8 +156,8 @@ impl<M: Moments> UdpPorts<M> {
     /// milliseconds.
     ///
     /// A face closes when a datagram from any endpoint has arrived, before that datagram is
-    /// handled. At most one face closes in each turn. A datagram for which a face was opened in the
-    /// turn before is handled first.
+    /// handled. At most one face closes in each turn. If a face was opened for a datagram in the
+    /// turn before, that datagram is handled first.
     pub fn close_after(&mut self, idle: u64)
         ensures { self.new ≡ closes_after idle self.old }
     {
@@ -344,9 +346,9 @@ impl<M: Moments> UdpPorts<M> {
     }
 
     /// Receives a datagram and returns its arrival, or `None` if the socket gives no datagram. A
-    /// datagram from an endpoint that is not accepted is counted. Then, if `is_brief` is set,
-    /// `None` is returned; otherwise the next datagram is received. Precondition: no datagram
-    /// waits.
+    /// datagram from an endpoint that is not accepted is counted. After such a datagram, returns
+    /// `None` if `is_brief` is set, and otherwise receives the next datagram. Precondition: no
+    /// datagram is stored for the next turn.
     fn receive(&mut self, buffer: &mut [u8], is_brief: bool) -> Option<Arrival>
         requires { Listens self.old }
         ensures fits { IfSome result (LiesWithin (length buffer.new)) }

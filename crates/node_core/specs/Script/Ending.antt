@@ -14,7 +14,8 @@ abbrev pub AppendsFront : Option (List ℕ) → Option (List ℕ) → List ℕ �
 AppendsFront old new octets =
     (front back : List ℕ) × (octets ≡ front ++ back) × Appends old new front
 
--- a run whose node has valid parts may have this fault
+-- this fault may occur in a run whose node was created from valid parts: of the faults of creating
+-- the node, it can only be `Memory`
 abbrev pub ComesWithGoodParts : RunFault → Type 0
 ComesWithGoodParts (fault.Node f) = f ≡ node.Memory
 ComesWithGoodParts (fault.BadLine n) = Unit {0}

@@ -13,7 +13,7 @@ use Rattle.node_core.specs.declared.script.player.Player.{Player}
 use Rattle.node_core.specs.declared.script.RunFault.{RunFault}
 use Rattle.node_core.specs.declared.script.RunFault.TheVariants as fault
 
--- the state of a run: the node, and the numbers of lines and events so far
+-- the state of a run: the node, and the numbers of lines and events that were handled
 pub record Place : Type 0 where
   pub node : NodeState
   pub lines : ℕ
@@ -37,11 +37,11 @@ pub record IsStart (place : Place) : Type 0 where
 abbrev pub HasRoom : Place → ℕ → Type 0
 HasRoom place n = (place.lines + n < 2 ^ 64) × (place.events + n < 2 ^ 64)
 
--- at most `n` lines and events lie between the two states
+-- at most `n` lines and at most `n` events were handled between the two states
 abbrev pub IsNear : Place → ℕ → Place → Type 0
 IsNear from n to = (to.lines ≤ from.lines + n) × (to.events ≤ from.events + n)
 
--- an unfinished line that is not too long
+-- the text is an unfinished line of at most 20,000 octets
 abbrev pub IsPending : List ℕ → Type 0
 IsPending line = Lacks 10 line × (length line ≤ 20000)
 
@@ -66,7 +66,7 @@ pub record Plays (lines : List (List ℕ)) (from to : Place) (text : List ℕ) :
   pub numbered : to.lines ≡ from.lines + length lines
   pub counted : to.events ≡ from.events + length outcomes
 
--- the possible faults of handling one line
+-- the faults that handling this line in the state `from` may have
 abbrev pub LineFails : RunFault → List ℕ → Place → Type 0
 LineFails (fault.BadLine n) line from = (n ≡ from.lines + 1) × IsBadLine line
 LineFails fault.Memory line from = Unit {0}
@@ -84,7 +84,7 @@ LineStops fault.Memory line from held holds = Keeps held holds
 LineStops fault.Read line from held holds = ⊥
 LineStops (fault.Node _) line from held holds = ⊥
 
--- the possible faults of appending octets to a line
+-- the faults that appending octets to this line may have
 abbrev pub AddStops : RunFault → List ℕ → Place → Type 0
 AddStops (fault.BadLine n) line from = (n ≡ from.lines + 1) × (20000 < length line)
 AddStops fault.Memory line from = Unit {0}

@@ -70,7 +70,7 @@ outcome_text rules number (Answered answer) =
     lines_text number (verdict_text rules answer.verdict) answer.sends
 outcome_text rules number NoMemory = lines_text number (codes "memory") []
 
--- The text of the answers to events, numbered from `number` on, with these rules in force before
+-- The text of the answers to events, numbered from `number` on, if these rules are in force before
 -- the first event. The id in the line of an event is taken from the rule file that decided the
 -- event.
 abbrev pub outcomes_text : List PlainRule → ℕ → List PlainEvent → List Outcome → List ℕ

@@ -21,7 +21,7 @@ use std::io::{Read, Write};
 pub const CHUNK: usize = 65_536;
 
 /// The state of running a script: the node, the answers that are not yet written, and the numbers
-/// of lines and events so far.
+/// of lines and events that were handled.
 #[derive(Drop)]
 pub struct Player {
     pub alloc: Global,
@@ -190,7 +190,7 @@ impl Player {
         Ok(())
     }
 
-    // Passes the event to the node, and appends its answer to the text.
+    // Passes the event to the node, and appends the node's answer to the text.
     fn answer(&mut self, event: OwnedEvent) -> Result<(), RunFault>
         requires room { HasRoom (place_of self.old) 1 }
         ensures handled { OnOk result ((text : List ℕ)
