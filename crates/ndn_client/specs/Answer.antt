@@ -1,4 +1,4 @@
--- What the program prints for a job, and why it refuses one.
+-- What the program prints for a job, and why it refuses a job.
 use Rattle.std.specs.Prelude.{◌≡◌, ◌⊎◌, ℕ, List, [], false, Option, None, Some, ⊤}
 use Rattle.std.specs.Option.{option_map}
 use Rattle.ndn_tlv.specs.Element.{Field}

@@ -15,8 +15,8 @@ key_status (TwiceNamed line) = 1
 key_status TooMany = 1
 key_status KeyMemory = 3
 
--- the exit status: 1 for a fault in the key file or a request that was not done, 3 for a system
--- error
+-- the exit status: that of the job's fault; or 1 for a fault in the key file or a request that was
+-- not done, 2 for an argument that is not UTF-8, 3 for a system error
 abbrev pub status_of : Fault → ℕ
 status_of (fault.Tool why) = tool_status why
 status_of fault.NoKeyFile = 1

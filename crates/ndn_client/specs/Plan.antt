@@ -34,7 +34,7 @@ input_form (job.Explain asked) = if is_none asked.packet then Lines else Nothing
 input_form (job.Send asked) = if is_none asked.packet then Packet else Nothing
 input_form asked = Nothing
 
--- the ports to which and from which the job is sent
+-- the ports that the job's packet is sent to and from
 abbrev pub ports_of : Job → Ports
 ports_of (job.Command asked) = asked.stamp.ports
 ports_of (job.Ask asked) = asked.ports

@@ -29,7 +29,7 @@ pub enum InputForm {
     Nothing,
     /// One packet.
     Packet,
-    /// Lines, each of which is a separate job.
+    /// Lines. The job is run for each line separately.
     Lines,
 }
 
@@ -68,7 +68,7 @@ pub fn plan_of(alloc: Global, job: &Job, book: &KeyBook, input: &str) -> Result<
     }
 }
 
-/// Returns the ports to which and from which the job is sent.
+/// Returns the ports that the job's packet is sent to and from.
 fn ports_of(job: &Job) -> Ports
     ensures { result ≡ ports_of job.now }
 {

@@ -1,4 +1,4 @@
--- How the calls that build a command change the rules for parsing it.
+-- How the calls that build a command change the rules by which `clap` parses the command.
 use Rattle.std.proofs.Common.{◌≡◌, ◌<◌, ◌+◌, ◌≤◌, ℕ, List, [], ◌∷◌, ◌++◌, length, get_or, take, map, Option, Some, Bool, true, false, refl, sym, ap, ap₂, subst, ◌∙◌, ◌||◌}
 use Rattle.std.proofs.lemmas.List.{get_or_default, take_more, map-append, take_all}
 use Rattle.std.specs.Borrow.{Bor}
@@ -12,7 +12,7 @@ use Rattle.ndn_command_line.specs.declared.argument.Argument.{Argument}
 use Rattle.ndn_command_line.specs.declared.subcommand.Subcommand.{Subcommand}
 use Rattle.ndn_command_line.specs.CommandLine.{HasApp, HasRule, rule_for, app_for, with_rules, with_subcommands}
 
--- a new command with its help texts
+-- adding help texts to a new command does not change how the command is parsed
 pub described : (name : List ℕ) (new about help : Command) (a h : Option (Bor (List ℕ))) → app_of new ≡ new_app name → (out-Command new).has_globals ≡ false
     → out-Command about ≡ record (out-Command new) { about = a } → out-Command help ≡ record (out-Command about) { after_help = h } → HasApp (new_app name) help
 described name new about help a h app local e d =

@@ -1,4 +1,5 @@
--- The program's command line is simple enough for `clap` to specify its matches.
+-- The program's command line is simple enough for the specification of `clap` to determine its
+-- matches.
 use Rattle.std.proofs.Common.{◌≡◌, true, refl}
 use Rattle.clap.specs.Words.{is_simple}
 use Rattle.clap.specs.Faults.{is_simple_and_free}

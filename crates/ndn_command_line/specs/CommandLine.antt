@@ -1,4 +1,4 @@
--- The command line of the program, as `clap` parses commands.
+-- The rules by which `clap` parses the program's command line.
 use Rattle.std.specs.Prelude.{◌≡◌, ℕ, List, [], ◌∷◌, Option, None, Some, true, false, codes, bytes_eq, if◌then◌else◌}
 use Rattle.clap.specs.declared.builder.action.ArgAction.TheVariants.{SetTrue}
 use Rattle.clap.specs.declared.builder.arg.Arg.{Arg}
@@ -42,12 +42,12 @@ rule_for (Flag id help) = a_flag id.now
 
 -- ---- commands
 
--- the command with more arguments, in order
+-- the command with these arguments added, in order
 abbrev pub with_rules : App → List Rule → App
 with_rules app [] = app
 with_rules app (rule ∷ rules) = with_rules (with_rule app rule) rules
 
--- the command with more subcommands, in order
+-- the command with these subcommands added, in order
 abbrev pub with_subcommands : App → List App → App
 with_subcommands app [] = app
 with_subcommands app (below ∷ more) = with_subcommands (with_subcommand app below.top) more

@@ -1,4 +1,4 @@
-//! The help texts.
+//! The help texts of the program and its subcommands.
 
 pub const VERSION: &str = "0.1.0";
 

@@ -36,7 +36,8 @@ nothing_said keys more h =
     let first = subst (λ (r : Result (List ℕ) FromHexError). IsExplainedPart keys [] [] r line.0) no_digits line.2 in
     line.4 ∙ ap₂ (λ (a b : List ℕ). a ++ b) first line.3
 
--- the first line of a text, and the text after it
+-- `line` is the first line of `text`, and `after` is the text after this line, or no text if this
+-- line is the last
 abbrev pub BeginsWith : List ℕ → List ℕ → List ℕ → Type 0
 BeginsWith text line after = (lines_of text ≡ line ∷ lines_of after) ⊎ ((lines_of text ≡ line ∷ []) × (after ≡ []))
 
@@ -47,7 +48,8 @@ line_said keys text line after first more (inr e) h others =
     let none = nothing_said keys more (subst (λ (t : List ℕ). IsExplainedInput keys t more) e.1 others) in
     subst (λ (lines : List (List ℕ)). AreExplained keys lines (first ++ more)) (sym e.0) (first, more, h, none, refl)
 
--- the text printed for octets that are not empty
+-- if a line has octets, and `words` explains them as a packet, then the text before the packet is
+-- printed as a line, followed by `words`
 pub octets_said : (keys : Option (List NamedKey)) (text head octets words : List ℕ) → octets ≢ [] → IsExplainedPacket keys octets words → IsExplainedPart keys text head (Ok octets) (repeated head ++ words)
 octets_said keys text head [] words some h = absurd (some refl)
 octets_said keys text head (o ∷ octets) words some h = (words, h, refl)
@@ -55,7 +57,8 @@ octets_said keys text head (o ∷ octets) words some h = (words, h, refl)
 pub no_octets_said : (keys : Option (List NamedKey)) (text head octets : List ℕ) → octets ≡ [] → IsExplainedPart keys text head (Ok octets) (repeated text)
 no_octets_said keys text head octets e = subst (λ (o : List ℕ). IsExplainedPart keys text head (Ok o) (repeated text)) (sym e) refl
 
--- the text before a packet in a line, and the digits of the packet
+-- in a line that begins with `>`, `parts_of` gives the text before the last space and the digits
+-- after it
 pub parts_found : (line head digits : List ℕ) → is_send line ≡ true → at_last_space line ≡ Some (head, digits) → (head, digits) ≡ parts_of line
 parts_found line head digits s e = rw (s, e) refl
 

@@ -40,7 +40,7 @@ signature_of (AData whole d) = Some d.signature
 signature_of (ANack reason whole i) = i.signature
 signature_of Idle = None
 
--- the line of a Content that is one line of text
+-- the line of a Content that is not empty and is printable ASCII; no line for any other Content
 abbrev pub text_lines : List ℕ → List ℕ
 text_lines [] = []
 text_lines (o ∷ content) =

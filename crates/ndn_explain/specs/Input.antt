@@ -21,8 +21,8 @@ abbrev pub is_send : List ℕ → Bool
 is_send [] = false
 is_send (o ∷ line) = o == 62
 
--- the text before a packet in a line, and the packet's digits, which follow the last space in a
--- line that begins with `>`
+-- The text before a packet in a line, and the packet's digits. In a line that begins with `>`, the
+-- digits follow the last space. Any other line is read as digits only.
 abbrev pub parts_of : List ℕ → List ℕ × List ℕ
 parts_of text =
     if is_send text then on_option (λ parts. parts) ([], text) (at_last_space text)

@@ -162,8 +162,8 @@ node_reply_lines es = status_line STATUS_CODE es ++ body_lines (first_of CONTROL
 abbrev pub repository_reply_lines : Elements → List ℕ
 repository_reply_lines es = status_line REPO_STATUS_CODE es ++ field_lines es
 
--- the lines of the node's response, if the Content is one, and otherwise of the repository's
--- response; no lines for any other Content
+-- the lines of a Content that is a response of the node or a response of a repository; no lines for
+-- any other Content
 abbrev pub or_repository : Option (List ℕ) → Option (List ℕ) → List ℕ
 or_repository (Some fields) other = node_reply_lines (elements_of fields)
 or_repository None (Some fields) = repository_reply_lines (elements_of fields)

@@ -15,14 +15,15 @@ data_field kind octets =
     option_and_then (λ fields. first_of kind (elements_of fields))
     (single DATA (elements_of octets))
 
--- the Content, if the octets are the reply with this name and this Content as a node writes it
+-- the Content `content`, if the octets are exactly the reply that a node writes with this name and
+-- this Content
 abbrev pub written_content : List Field → List ℕ → Option (List ℕ)
 written_content name octets =
     option_and_then
     (λ content. if bytes_eq octets (reply_text name content) then Some content else None)
     (data_field CONTENT octets)
 
--- the reply with this name and Content, and the signature value in the octets
+-- a reply as a Data: with this name, this Content and the signature value that is in the octets
 abbrev pub written_data : List Field → List ℕ → List ℕ → PlainData
 written_data name content octets = record {
   name = name;

@@ -36,6 +36,7 @@ segment_line (Some segment) (Some last) =
     named_line (codes "segment") (decimal segment ++ (codes " last " ++ decimal last))
 segment_line segment last = []
 
--- the line of a Data with this name and these octets, if it is a segment and gives the last segment
+-- the line of a Data with this name and these octets, if the Data is a segment and gives the number
+-- of the last segment
 abbrev pub segment_lines : List Field → List ℕ → List ℕ
 segment_lines name whole = segment_line (segment_of name) (last_segment whole)

@@ -153,7 +153,8 @@ pub fn put_content(alloc: Global, text: &mut Vec<u8>, content: &[u8]) -> Result<
     put_text(text, content)
 }
 
-/// Appends the line of a Content that is one line of text.
+/// Appends the line of a Content that consists of printable ASCII, or nothing for any other
+/// Content.
 fn put_text(text: &mut Vec<u8>, content: &[u8]) -> Result<(), Memory>
     ensures { OnOk result (text.new.items ≡ text.old.items ++ text_lines content.now) }
 {

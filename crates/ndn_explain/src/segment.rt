@@ -10,8 +10,8 @@ use ndn_packets::types::{DATA, FINAL_BLOCK_ID, META_INFO};
 use ndn_tlv::{Memory, first_field, nni_of, single_element};
 use std::io::Write;
 
-/// Appends the segment line of a Data with this name and these received octets, if it is a segment
-/// and gives the last segment; otherwise appends nothing.
+/// Appends the segment line of a Data with this name and these received octets, if the Data is a
+/// segment and gives the number of the last segment. Otherwise appends nothing.
 pub fn put_segment(text: &mut Vec<u8>, name: Name<'_>, whole: &[u8]) -> Result<(), Memory>
     ensures { OnOk result (text.new.items ≡ text.old.items
         ++ segment_lines (components name.entry) whole.now) }

@@ -1,4 +1,4 @@
--- What a short form's verb and command tell about the whole command line.
+-- How the verb and the options of a short form determine its command.
 use Rattle.std.proofs.Common.{◌≡◌, ℕ, List, Option, None, Some, Result, Ok, Err, sym, ap, subst, ◌∙◌}
 use Rattle.clap.specs.Walk.{Row}
 use Rattle.ndn_jobs.specs.declared.job.CommandJob.{CommandJob}
@@ -25,7 +25,7 @@ short_read now words subcommand rows said form has (Err why) h =
     refused_part (IsFormJob form now words rows) (λ job. (f : Action) × Has said (IsVerb subcommand) f × IsFormJob f now words rows job)
     (λ job s. (job, subst (λ (f : Action). IsFormJob f now words rows job) (same_form subcommand said form s.0 has s.1) s.2)) why h
 
--- a verb that names no action
+-- if the verb that is given names no action, then the options spell no action
 pub no_verb : (subcommand : List ℕ) (said : Option (List ℕ)) (verb : List ℕ) → said ≡ Some verb → action_of subcommand verb ≡ None → (form : Action) → Has said (IsVerb subcommand) form → ⊥
 no_verb subcommand said verb is none form h =
     let words : Some h.0 ≡ Some verb = sym h.1 ∙ is in

@@ -38,7 +38,8 @@ IsPath value path = string_bytes path ≡ value
 abbrev pub Has : {A : Type 0} → Option (List ℕ) → (List ℕ → A → Type 0) → A → Type 0
 Has value Spells x = (w : List ℕ) × (value ≡ Some w) × Spells w x
 
--- either the option is given and spells the value, or there is neither an option nor a value
+-- either the option is given and spells the value `x`, or the option is not given and the value is
+-- None
 abbrev pub MayHave : {A : Type 0} → Option (List ℕ) → (List ℕ → A → Type 0) → Option A → Type 0
 MayHave value Spells None = value ≡ None
 MayHave value Spells (Some x) = Has value Spells x

@@ -256,7 +256,7 @@ impl CommandJob {
     }
 
     /// Returns the command that a short form asks for: the subcommand with this name and these
-    /// options. If the time is not given it is `now`, and if the Nonce is not given it is computed
+    /// options. If no time is given, the time is `now`. If no Nonce is given, the Nonce is computed
     /// from the time and the words.
     pub fn read_short(
         alloc: Global,
@@ -272,8 +272,8 @@ impl CommandJob {
         CommandJob::read_form(alloc, action, options, now, words)
     }
 
-    /// Returns the command that the options of `repo` ask for. If the time is not given it is
-    /// `now`, and if the Nonce is not given it is computed from the time and the words.
+    /// Returns the command that the options of `repo` ask for. If no time is given, the time is
+    /// `now`. If no Nonce is given, the Nonce is computed from the time and the words.
     pub fn read_repository(
         alloc: Global,
         options: &ArgMatches<'_>,

@@ -28,7 +28,7 @@ all_read fields ok = elements_again fields ok
 pub one_read : (f : Field) → IsField f → elements_of (element f) ≡ as_read f ∷ []
 one_read f ok = ap elements_of (sym (append-nil (element f)) ∙ sym (flat_map-cons element f [])) ∙ all_read (f ∷ []) (ok, tt)
 
--- the length of an element's value is below 2^64 if the length of the whole element is
+-- if the length of an element is below 2^64, the length of its value is below 2^64
 pub value_fits : (kind : ℕ) (value : List ℕ) → length (element (kind, value)) < 2 ^ 64 → length value < 2 ^ 64
 value_fits kind value lt = omega (arith, lt, length-element kind value)
 
@@ -72,7 +72,8 @@ pub part_right : {X : Type 0} (P : X → Type 0) (xs ys : List X) → AllByRecur
 part_right P [] ys all = all
 part_right P (x ∷ xs) ys all = part_right P xs ys all.1
 
--- the length of the last component's value is below 2^64
+-- if the components of a name are the value of a Name, the length of the last component's value is
+-- below 2^64
 pub last_fits : (name : List Field) (kind : ℕ) (value : List ℕ) → IsWhole (name ++ (kind, value) ∷ []) → length value < 2 ^ 64
 last_fits name kind value whole = (part_right IsField name ((kind, value) ∷ []) whole.0.0).0.2
 

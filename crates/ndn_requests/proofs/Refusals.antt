@@ -20,7 +20,7 @@ pub answered_error : (refusal : Option WriteFault) (why : WriteFault) (r : Resul
 answered_error None why r e h = rw e at h
 answered_error (Some cause) why r e h = cc
 
--- if a packet was written, there was no cause to refuse it
+-- if a writer succeeded, its packet had no cause for a refusal
 pub none_told : (refusal : Option WriteFault) (r : Result Unit WriteFault) → r ≡ Ok tt
     → MatchOption refusal (IfErr r (λ fault. fault ≡ Memory)) (λ fault. r ≡ Err fault) → refusal ≡ None
 none_told None r e h = refl

@@ -98,8 +98,8 @@ wanted_of verb p = record {
 
 -- ---- the name of a command's Interest
 
--- the name of a command with its parameters, and with the parameters digest of the Interest after
--- them
+-- the name of a command's Interest: the command's name, its parameters, and then the parameters
+-- digest
 abbrev pub signed_name : List Field → Parameters → List ℕ → List Field
 signed_name name p digest =
     command_name name p ++ (PARAMETERS_SHA256_DIGEST, digest) ∷ []

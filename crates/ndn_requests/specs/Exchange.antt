@@ -154,8 +154,8 @@ IsNextRefusal why frame = ⊥
 
 -- ---- no answer
 
--- Whether segments of the list have been received. If so and no more come, the node no longer has
--- this version of the list.
+-- Whether any segment of the list has been received. If one has, and the next segment does not
+-- come, the node no longer has this version of the list.
 abbrev pub has_begun : Exchange → Bool
 has_begun x = not (is_nil x.contents.items)
 

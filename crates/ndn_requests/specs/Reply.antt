@@ -63,7 +63,7 @@ node_outcome None = Err NoStatus
 node_outcome (Some code) = done_if (code == 200)
 
 -- the outcome of a command to a repository, given the status in the reply; status 100 in the reply
--- to an insert is a success too, since the Data is then pending
+-- to an insert is a success too, since the repository then waits for the Data
 abbrev pub repository_outcome : List Field → Option ℕ → Outcome
 repository_outcome name None = Err NoStatus
 repository_outcome name (Some code) = done_if (code == 200 || (code == 100 && is_insert name))
@@ -91,9 +91,9 @@ is_right check = false
 abbrev pub is_same_name : List Field → List Field → Bool
 is_same_name a b = bytes_eq (octets a) (octets b)
 
--- The outcome of a request, given a Data that answers its Interest. For a plain Interest, any such
--- Data is accepted. For a command, the Data must also have the command's name and a right
--- signature.
+-- The outcome of a request, given a Data that answers its Interest. If the Interest is not a
+-- command, the Data is accepted. If it is a command, the Data must also have the command's name and
+-- a right signature.
 abbrev pub data_outcome : PlainInterest → PlainData → Option TagCheck → Option Outcome
 data_outcome asked d check =
     if is_command asked.name

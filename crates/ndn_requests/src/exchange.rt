@@ -31,7 +31,7 @@ pub enum View {
     Table(NodeList),
 }
 
-/// A request to send, and what has been received for it so far.
+/// A request to send, and the contents of the segments that have been received.
 #[derive(Drop)]
 pub struct Exchange {
     /// The packet to send.
@@ -42,7 +42,7 @@ pub struct Exchange {
     pub from: Option<u16>,
     /// What is printed of the answer.
     pub view: View,
-    /// The contents of the segments received so far, joined in order.
+    /// The contents of the segments that have been received, joined in order.
     pub contents: Vec<u8>,
 }
 

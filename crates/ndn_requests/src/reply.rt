@@ -27,11 +27,11 @@ pub type Outcome = Result<(), Failure>;
 /// Returns the outcome of a request, given a received datagram, or `None` if the datagram does not
 /// answer the request.
 ///
-/// A Nack of the request's Interest is an answer. A Data that answers the Interest is an answer
-/// too, and the request is then done. But if the request is a command, the Data must be exactly
-/// what a node writes as its reply, of any length, or it must have the command's name and a right
-/// signature, by DigestSha256 or by a key of the book. A command is done if the status is 200, or
-/// 100 for an insert to a repository.
+/// A Nack of the request's Interest is an answer. If the request is not a command, a Data that
+/// answers the Interest is an answer too, and the request is then done. If the request is a
+/// command, a Data is an answer if it is exactly the reply that a node writes, of any length, or if
+/// it has the command's name and a right signature, by DigestSha256 or by a key of the book. A
+/// command is done if the status is 200, or 100 for an insert to a repository.
 pub fn judge(
     alloc: Global,
     request: &[u8],

@@ -141,8 +141,8 @@ fn asked_job<R: Clock + Env + AllocGlobal>(rt: &R) -> Result<Job, Fault> {
 }
 
 /// Waits for the answer to the last request on this socket. Returns `None` if the next request is
-/// to be sent. If the exchange is over, prints the answer and returns the outcome. Any other
-/// datagram is reported on standard error.
+/// to be sent. If the exchange is over, prints the answer and returns the outcome. A datagram that
+/// does not answer the request is reported on standard error.
 fn next_answer<R: Clock + AllocGlobal + Eprint + Print>(
     rt: &R,
     socket: &UdpSocket,

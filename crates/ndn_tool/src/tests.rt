@@ -81,7 +81,8 @@ fn has_part(alloc: Global, command: &str, status: u8, part: &str) -> Option<bool
     Some(ended == status && is_line && text.contains(part.as_str()))
 }
 
-/// Checks rows. Each row is a command, ` => `, and a part of the text that the command ends with.
+/// Checks rows. Each row is a command, ` => `, and a part of the text that the command prints when
+/// it ends with the exit status `status`.
 fn check_parts(rt: &(impl Abort + AllocGlobal), status: u8, rows: &str) {
     assert!(rt; rows.contains(" => "), "there are no rows");
     for row in rows.lines() {
@@ -1064,7 +1065,7 @@ fn reads_keys(alloc: Global, octets: &[u8], len: usize) -> bool {
     read_book(alloc, octets).is_ok_and(|book| book.len() == len)
 }
 
-/// Key files as the program reads them.
+/// Key files that the program accepts, and key files that it refuses with a message.
 #[test]
 fn key_files(rt: HostRuntime) {
     let not_text = "keys:0: BadLine\n  the file is not UTF-8 text: write it in UTF-8 or ASCII\n";
@@ -1244,7 +1245,8 @@ fn refused_memory(rt: HostRuntime) {
 }
 
 /// A command, followed by datagrams, each with the outcome of the command if that datagram arrives.
-/// These packets and the ones below were made by an independent program.
+/// The packets in this constant, and in the constants below whose names end with `ANSWERS`, were
+/// made by an independent program.
 const ROUTE_ANSWERS: &str =
     "0598075008096c6f63616c686f737408036e66640803666962080b6164642d6e657874686f70080a680807030801416901020220b3efe71974da9dc26e88d0c074c8f0ff34ea85c38b109d9e9c6400b87694f2f20a040102030424002c1a1b01041c0f070d08036f707308034b45590801312804000f42402e20d113cf38056af9bbbec876471f4b51934978ef69345464b05cb762148eaa5dbb
 0684075008096c6f63616c686f737408036e66640803666962080b6164642d6e657874686f70080a680807030801416901020220b3efe71974da9dc26e88d0c074c8f0ff34ea85c38b109d9e9c6400b87694f2f2150965076601c867024f4b16031b01001720b6e80976e9dc6c36e0492f03adf2cda6bfa93df5c7b4489a5fc035173b9449cc done
@@ -1477,7 +1479,8 @@ fn silence(alloc: Global, rows: &str, from: Option<u16>) -> Option<Silence> {
     Some(silence_of(&request, from, false))
 }
 
-/// A command under `/localhost` needs the port of a Local peer.
+/// If no answer arrives to a command under `/localhost`, the reason is `Far` without a source port
+/// and `Late` with one. For a command to a repository, the reason is `Late`.
 #[test]
 fn silences(rt: HostRuntime) {
     assert!(rt; silence(rt.alloc(), ROUTE_ANSWERS, None) == Some(Silence::Far));

@@ -4,7 +4,8 @@ use Rattle.ndn_tlv.specs.Reading.{elements_of}
 use Rattle.ndn_explain.specs.Dataset.{hop_line}
 use Rattle.ndn_explain.proofs.dataset.put_hops.Given as goal
 
--- the text so far, followed by the lines of the remaining elements, is the whole text
+-- the text that is already written, followed by the lines of the remaining elements, is the whole
+-- text
 abbrev pub invariant-loop-rest : goal.invariant-loop-rest
 invariant-loop-rest l =
     l.text.items ++ flat_map (hop_line l.layout l.name) (elements_of l.rest)
