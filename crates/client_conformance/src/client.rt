@@ -139,8 +139,8 @@ pub fn ends_as(
     Some(word == wanted && printed.ends_with(lines.as_bytes()))
 }
 
-/// Returns whether a command line ends as its row says, when it runs a millisecond after the one
-/// before it.
+/// Returns whether a command line ends as its row says. It runs one millisecond after the previous
+/// command line.
 pub fn plays(alloc: Global, scene: &mut Scene, book: &KeyBook, row: &str) -> Option<bool> {
     let (line, wanted) = row.split_once(" => ").unwrap_or((row, "no end"));
     scene.now = scene.now.saturating_add(1);

@@ -72,8 +72,8 @@ fn hears(
     ends_as(alloc, exchange, progress, wanted)
 }
 
-/// Does the same as `hears` on a new node. The node gets another command before the one in `line`,
-/// and its reply to the command in `line` must have `len` octets.
+/// Does the same as `hears` on a new node. The node gets another command before the command in
+/// `line`. Its reply to the command in `line` must have `len` octets.
 fn hears_on(
     alloc: Global,
     scene: &mut Scene,
@@ -102,19 +102,19 @@ fn hears_of(alloc: Global, line: &str, len: usize, row: &str) -> Option<bool> {
     )
 }
 
-/// Does the same as `hears_of` for a route for `/A`; in the reply, the name and its parameters take
-/// 85 octets.
+/// Does the same as `hears_of` for a command that adds a route for `/A`. Its reply has 150 octets,
+/// of which the Name, including the parameters, takes 85 octets.
 fn is_heard(alloc: Global, row: &str) -> bool {
     hears_of(alloc, "route add /A --face 2 --cost 5 $KEY $NODE", 150, row) == Some(true)
 }
 
-/// A command ends only with its own reply that has the right signature.
+/// A command ends only when its own reply arrives with the right signature.
 #[test]
 fn forged_and_earlier_replies(rt: HostRuntime) {
     assert!(rt; first_wrong(rt.alloc(), HEARD, is_heard) == 0);
 }
 
-/// The same datagrams for a command whose name replaces the character `~`.
+/// Rows as in `HEARD`, for a command with a long name, which replaces the character `~`.
 const LONG: &str = "
 reply => done status 200 OK␊name ~␊face 2␊cost 0␊
 forged earlier reply => done status 200 OK␊name ~␊face 2␊cost 0␊
@@ -150,7 +150,7 @@ fn is_long_heard(alloc: Global, row: &str) -> bool {
     }
 }
 
-/// A reply of more than 8,800 octets is accepted if it is complete.
+/// A reply of more than 8,800 octets is accepted if it is exactly what the node sent.
 #[test]
 fn reply_of_16063_octets(rt: HostRuntime) {
     assert!(rt; first_wrong(rt.alloc(), LONG, is_long_heard) == 0);

@@ -52,7 +52,7 @@ fn ends_with_table(
 }
 
 /// Returns whether the exchange ends without a second segment if the list changes after the first
-/// one.
+/// segment.
 fn ends_with_change(
     alloc: Global,
     scene: &mut Scene,

@@ -26,7 +26,7 @@ pub struct Scene {
     pub now: u64,
 }
 
-/// Returns the parts of a node whose repository is at `/repo`.
+/// Returns the parts of a node whose repository has the prefix `/repo`.
 fn parts_of(alloc: Global, rules: &str) -> Option<NodeParts> {
     Some(NodeParts {
         rules: Rules::read(alloc, &InfoTree::read(alloc, rules).ok()?).ok()?,
@@ -59,7 +59,8 @@ fn produced(alloc: Global, packet: &[u8]) -> Option<Vec<u8>> {
 }
 
 impl Scene {
-    /// Returns a node under these rules, at its first moment.
+    /// Returns a scene with a new node under these rules. The three faces are open, and the moment
+    /// is 1,000,000.
     pub fn new(alloc: Global, rules: &str) -> Option<Scene> {
         let node = Node::new(alloc, parts_of(alloc, rules)?).ok()?;
         let mut scene = Scene {
@@ -108,8 +109,8 @@ impl Scene {
     }
 
     /// Returns the packets that the node sends to a client in answer to a packet, including those
-    /// that it sends after the producer's Data. If `from` is a port, the client is at port 6401,
-    /// and otherwise at the new port.
+    /// that it sends after the producer's Data. If `from` is a port, the client is at port 6401.
+    /// Otherwise the client is at a port that the node does not know yet.
     pub fn answers(
         &mut self,
         alloc: Global,

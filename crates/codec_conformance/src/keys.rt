@@ -8,7 +8,7 @@ use std::test::*;
 use test_support::octets;
 
 /// Returns the HMAC of a text under a key. Returns `None` if the HMAC of the text in two parts, or
-/// by an `HmacKey`, is another one.
+/// the HMAC that an `HmacKey` computes, is different.
 fn tag(alloc: Global, input: &str) -> Option<String> {
     let (key, text) = input.split_once(" | ")?;
     let key = octets(alloc, key)?;
@@ -49,7 +49,8 @@ aax131 | 5468697320697320612074657374207573696e672061206c6172676572207468616e206
     check_rows(&rt, rt.alloc(), rows, tag);
 }
 
-/// Keys of the octets 0, 1, 2 and so on. Their lengths are around the length of a block.
+/// An empty key, and keys of the octets 0, 1, 2 and so on with lengths near 64 octets, the block
+/// length of SHA-256.
 #[test]
 fn keys_around_a_block(rt: HostRuntime) {
     let rows = "

@@ -97,8 +97,8 @@ fn append(alloc: Global, name: &mut NameBuf, component: &str) -> Option<()> {
     name.append(kind, &octets(alloc, value)?).ok()
 }
 
-/// Returns the octets of a name after a component is appended, or the fault, which leaves the name
-/// unchanged.
+/// Returns the octets of a name after a component is appended, or the fault. Returns `None` if a
+/// fault changed the name.
 fn appended(alloc: Global, input: &str) -> Option<String> {
     let (start, component) = input.split_once("+ ")?;
     let (kind, value) = component.split_once(':')?;
@@ -526,7 +526,7 @@ fn order_of(left: &NameBuf, right: &NameBuf) -> Option<Ordering> {
     agree.then_some(order)
 }
 
-/// Returns the relation of one name to another one.
+/// Returns the order of two names, and whether the first name is a prefix of the second.
 fn relation(alloc: Global, input: &str) -> Option<String> {
     let (left, right) = input.split_once(' ')?;
     let left = NameBuf::from_uri(alloc, left).ok()?;
@@ -579,7 +579,7 @@ fn order_of_components(left: &Component<'_>, right: &Component<'_>) -> Option<Or
     agree.then_some(order)
 }
 
-/// Returns the relation between the first components of two names.
+/// Returns how the first components of two names compare.
 fn first_components(alloc: Global, input: &str) -> Option<String> {
     let (left, right) = input.split_once(' ')?;
     let left = NameBuf::from_uri(alloc, left).ok()?;
@@ -701,7 +701,8 @@ sha256digest=00 -> BadUri
     check_rows(&rt, rt.alloc(), rows, component);
 }
 
-/// Returns whether each of these calls succeeds, or fails only because memory runs out.
+/// Reads and writes a name, copies it and appends a component. Returns whether each of these calls
+/// succeeds, or fails only because memory runs out.
 fn give_all_or_memory(alloc: Global, text: &str) -> bool {
     let mut name = match NameBuf::from_uri(alloc, text) {
         Ok(name) => name,

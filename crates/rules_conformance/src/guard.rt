@@ -30,8 +30,8 @@ fn number_in(text: &str) -> Option<Option<u64>> {
     Some(Some(text.parse().ok()?))
 }
 
-/// Records a command, which is given as its signer, time and number. After the word `prepare`,
-/// prepares the recording of a command by that signer.
+/// Records a command, which is given as its signer, time and number. If the first word is
+/// `prepare`, only prepares the recording of a command by the signer that follows.
 fn record(alloc: Global, guard: &mut Guard, command: &str) -> Option<()> {
     let (signer, rest) = command.split_once(' ')?;
     if signer == "prepare" {
@@ -177,7 +177,7 @@ fn refused_memory_for_records(rt: HostRuntime) {
 }
 
 /// Returns whether earlier records are unchanged by a recording for a new signer that may run out
-/// of memory. It may run out because another signer's recording used up the preparation.
+/// of memory. Memory may run out because another signer's recording used up the preparation.
 fn leaves_earlier_records(alloc: Global) -> Option<bool> {
     let mut guard = Guard::new(alloc);
     let (first, second) = (key_in(alloc, "/k")?, key_in(alloc, "/l")?);

@@ -4,7 +4,7 @@ use std::alloc::Global;
 use std::process::Abort;
 use test_support::first_misshown;
 
-/// Fails at the first row whose input is shown differently than the row says. Also fails if there
+/// Fails at the first row whose input gives a text other than the expected one. Also fails if there
 /// are no rows.
 pub fn check_rows(
     rt: &impl Abort,

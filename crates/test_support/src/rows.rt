@@ -2,7 +2,8 @@
 
 use std::alloc::Global;
 
-/// Reads octets from hexadecimal words, where `0800x64` stands for 64 repetitions of two octets.
+/// Reads octets from hexadecimal words, where `0800x64` stands for 64 repetitions of the two octets
+/// `0800`.
 pub fn octets(alloc: Global, text: &str) -> Option<Vec<u8>> {
     let mut octets = Vec::new(alloc);
     for word in text.split_ascii_whitespace() {
@@ -34,9 +35,8 @@ pub fn first_wrong<F: Fn(Global, &str) -> bool>(alloc: Global, rows: &str, is_ri
     without_rows
 }
 
-/// Returns the first row whose input is not shown as the row says, and the text that the input is
-/// shown as. A row consists of an input, ` -> `, and the text that the input must be shown as. A
-/// text without rows is wrong.
+/// Returns the first wrong row, and the text that `show` gives for its input. A row consists of an
+/// input, ` -> `, and the text that `show` must give for the input. A text without rows is wrong.
 pub fn first_misshown<'a>(
     alloc: Global,
     rows: &'a str,

@@ -60,8 +60,8 @@ fn link_packets(rt: HostRuntime) {
     check_rows(&rt, rt.alloc(), rows, cut);
 }
 
-/// Sequence, FragIndex, FragCount and PitToken, in any order. In this test and those below, the
-/// fault is the same with a Fragment and without one.
+/// Sequence, FragIndex, FragCount and PitToken, in any order. In this test and the tests below, the
+/// fault is the same with a Fragment and without a Fragment.
 #[test]
 fn header_fields(rt: HostRuntime) {
     let rows = "
@@ -134,7 +134,8 @@ no Nack -> 64136202a1b2500d050b07030801410a0401020304
     check_rows(&rt, rt.alloc(), rows, with_token);
 }
 
-/// The octets before the packet stay unchanged, and without a token so does the packet.
+/// Writing a link packet leaves the octets before it unchanged. Without a token, the packet is
+/// written without a link packet.
 #[test]
 fn octets_in_a_link_packet(rt: HostRuntime) {
     let bare = b"\xfe\xff\x05\x0b\x07\x03\x08\x01\x41\x0a\x04\x01\x02\x03\x04";
@@ -144,7 +145,7 @@ fn octets_in_a_link_packet(rt: HostRuntime) {
     assert!(rt; wraps(rt.alloc(), Some(b"\xa1\xb2"), wrapped));
 }
 
-/// A header field that this profile knows occurs twice.
+/// A link packet is refused if a header field that this profile knows occurs twice.
 #[test]
 fn a_known_field_twice(rt: HostRuntime) {
     let rows = "

@@ -8,7 +8,8 @@ use std::alloc::Global;
 use std::test::*;
 use test_support::octets;
 
-/// Returns what a writer appended to an octet, or its fault if it appended nothing.
+/// Returns the octets that a writer appended to the octet 9, or the writer's fault if the writer
+/// appended nothing.
 fn appended(alloc: Global, fault: Option<&str>, out: &[u8]) -> Option<String> {
     let written = out.strip_prefix(&[9])?;
     match fault {
@@ -164,7 +165,8 @@ fn refused_interests(rt: HostRuntime) {
     check_rows(&rt, rt.alloc(), rows, interest);
 }
 
-/// The management command from the tests of reading.
+/// The signed management command that is also the constant `COMMAND` in the tests of reading
+/// packets.
 #[test]
 fn command_signed_by_a_key(rt: HostRuntime) {
     let rows = "

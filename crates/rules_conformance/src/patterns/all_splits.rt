@@ -1,4 +1,5 @@
-//! Tests of matching against a simple program that tries all splits, from the greatest to the
+//! Tests that compare the matching of patterns with a simple program. This program tries all ways
+//! to split the components of a name among the atoms of a pattern, from the greatest split to the
 //! least.
 
 use name_patterns::Pattern;
@@ -40,7 +41,7 @@ struct Spelled {
     most: Option<usize>,
 }
 
-/// The atom that matches no components.
+/// The atom that matches zero components.
 const NOTHING: Spelled = Spelled {
     letters: b"",
     least: 0,

@@ -326,7 +326,8 @@ const FIRST_FAULT: &str = r"
 [<a*>]{3,2} → Syntax(0)
 ";
 
-/// If several items are faulty, the leftmost is reported, with its least fault.
+/// If several items are faulty, the fault of the leftmost item is reported. If this item has
+/// several faults, `Syntax` is reported before `Inner`.
 #[test]
 fn first_fault(rt: HostRuntime) {
     assert_right(&rt, first_wrong(rt.alloc(), FIRST_FAULT, is_read_so));

@@ -149,7 +149,7 @@ data /B/x by /ops/KEY/1 key → denied 1 SigType
 data /B/x by digest → allowed 1
 ";
 
-/// Only the first rule that applies decides, although the later rule would allow what the first one
+/// Only the first rule that applies decides, although a later rule would allow what the first rule
 /// denies.
 #[test]
 fn the_first_rule_decides(rt: HostRuntime) {
@@ -206,7 +206,7 @@ interest /A by /ops/KEY/1 kez → denied 0 Tag
 interest /A by digest → denied 0 SigType
 ";
 
-/// All reasons of a checker for HmacWithSha256, for Data and for Interests.
+/// All reasons for which a checker for HmacWithSha256 refuses a Data or an Interest.
 #[test]
 fn reasons_of_keys(rt: HostRuntime) {
     assert_right(&rt, first_wrong_of(rt.alloc(), REASONS_OF_KEYS));
@@ -223,7 +223,7 @@ data /A by digest → allowed 0
 octets 062f070308014115017816031b01001720e4f0b5aed03446e702356a360c7194c208b8b6a28ff30de430f1baa08ba29267 → denied 0 Tag
 ";
 
-/// All reasons of a checker for DigestSha256.
+/// All reasons for which a checker for DigestSha256 refuses a packet.
 #[test]
 fn reasons_of_digests(rt: HostRuntime) {
     assert_right(&rt, first_wrong_of(rt.alloc(), REASONS_OF_DIGESTS));
@@ -411,7 +411,8 @@ rule {␊ id a␊ for data␊ checker {␊ type customized␊ sig-type hmac-sha2
 data /a/b/c by /a/b/KEY/1 key → denied 0 KeyLocator
 "#;
 
-/// The name expanded from the key's name comes first in the comparison.
+/// In a hyper-relation, the name expanded from the key's name is the first name: with
+/// `is-prefix-of`, it must be a prefix of the name expanded from the packet's name.
 #[test]
 fn hyper_relations(rt: HostRuntime) {
     assert_right(&rt, first_wrong_of(rt.alloc(), HYPER_RELATIONS));
@@ -438,7 +439,8 @@ rule {␊ id a␊ for data␊ checker {␊ type customized␊ sig-type hmac-sha2
 data /1/2/3/4/5/6/7/8 by /1/2/3/4/5/6/7/8 key → denied 0 KeyLocator
 "#;
 
-/// Names of more than 64 components are not compared, even if they are equal.
+/// If the expanded names have more than 64 components, the packet is denied, even if the two names
+/// are equal.
 #[test]
 fn expansions_that_are_too_long(rt: HostRuntime) {
     assert_right(&rt, first_wrong_of(rt.alloc(), LONG_EXPANSIONS));

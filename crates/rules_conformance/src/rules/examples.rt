@@ -381,7 +381,7 @@ data /A by digest → allowed 2
 data /A by /ops/KEY/1 key → denied 2 SigType
 ";
 
-/// For each packet, the rule of the sample that applies to the packet.
+/// For each packet, the first rule in `SAMPLE` that applies to the packet.
 const FOR_SAMPLE: &str = r"
 any interest /localhost/nfd → rule 0
 any interest /repo → rule 1
@@ -391,7 +391,7 @@ any data /repo → rule 2
 any data / → rule 2
 ";
 
-/// Returns whether the rule of the sample with this number has this id.
+/// Returns whether the rule with this number in `SAMPLE` has this id.
 fn has_id(alloc: Global, number: usize, id: &str) -> bool {
     let Ok(rules) = rules_of(alloc, SAMPLE) else {
         return false;

@@ -1,4 +1,4 @@
-//! Tests which texts are rule files, and the faults of other texts.
+//! Tests which texts are rule files, and the faults of texts that are not rule files.
 
 use crate::rows::{assert_right, check_rows};
 use info_rules::{InfoTree, Reason, Rules, RulesFault, RulesFaultKind};

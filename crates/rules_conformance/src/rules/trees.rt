@@ -1,4 +1,4 @@
-//! Tests which entries a text has, and the faults of other texts.
+//! Tests which entries a text has, and the faults of texts that cannot be read.
 
 use crate::rows::assert_right;
 use info_rules::{InfoTree, RulesFault, RulesFaultKind};
