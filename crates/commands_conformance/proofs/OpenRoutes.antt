@@ -1,4 +1,5 @@
--- If each face that has a next hop or a route is up before a command, this also holds after it.
+-- If, before a command, each face that has a next hop or a route is up, the same is true after the
+-- command.
 use Rattle.std.proofs.Common.{◌≡◌, ℕ, List, ap, subst, sym, ◌∙◌}
 use Rattle.std.specs.Prelude.{Result, Ok, Err, IfOk, OnErr}
 use Rattle.pit_fib.specs.Fib.{Routes}

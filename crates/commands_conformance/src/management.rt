@@ -5,9 +5,10 @@ mod registered_routes;
 mod segments_and_unknown_commands;
 
 use crate::rows::check_rows;
-use effects::Station;
+use effects::{Station, shown_on_station};
 use mgmt_core::*;
-use ndn_names::NameBuf;
+use ndn_names::{Name, NameBuf};
+use ndn_packets::{Data, Frame, Interest, read_frame};
 use std::alloc::Global;
 use test_support::octets;
 
@@ -26,14 +27,39 @@ fn action_shown(action: Action) -> &'static str {
 /// Reads a name, given as a URI and the values of further components in hexadecimal. The word
 /// `digest` stands for a digest of 32 zero octets.
 pub fn name_in(alloc: Global, text: &str) -> Option<NameBuf> {
-    let mut words = text.split(' ');
-    let mut name = NameBuf::from_uri(alloc, words.next()?).ok()?;
-    for word in words {
-        append(alloc, &mut name, word)?;
-    }
+    let uri = text.split(' ').next()?;
+    let mut name = NameBuf::from_uri(alloc, uri).ok()?;
+    append_all(alloc, &mut name, text)?;
     Some(name)
 }
 
+/// Returns the Data in a packet.
+pub fn data_in(packet: &[u8]) -> Option<Data<'_>> {
+    match read_frame(packet) {
+        Ok(Frame::Data(data)) => Some(data),
+        _ => None,
+    }
+}
+
+/// Returns the Interest in a packet.
+pub fn interest_in(packet: &[u8]) -> Option<Interest<'_>> {
+    match read_frame(packet) {
+        Ok(Frame::Interest(interest)) => Some(interest),
+        _ => None,
+    }
+}
+
+/// Appends the components that all words but the first stand for.
+fn append_all(alloc: Global, name: &mut NameBuf, text: &str) -> Option<()> {
+    let mut words = text.split(' ');
+    words.next()?;
+    for word in words {
+        append(alloc, name, word)?;
+    }
+    Some(())
+}
+
+/// Appends the component that a word stands for.
 fn append(alloc: Global, name: &mut NameBuf, word: &str) -> Option<()> {
     if word == "digest" {
         return name.append(2, &[0; 32]).ok();
@@ -47,22 +73,39 @@ fn command_shown(alloc: Global, row: &str) -> Option<String> {
     let name = name_in(alloc, row)?;
     match Command::read(name.view()) {
         Ok(command) => fields_shown(alloc, &command),
-        Err(status) => format!(in alloc; "{status}").ok(),
+        Err(status) => status_shown(alloc, status),
     }
 }
 
+/// Shows a status.
+fn status_shown(alloc: Global, status: u16) -> Option<String> {
+    format!(in alloc; "{status}").ok()
+}
+
+/// Shows the action, name, face, cost, count and strategy of a command.
 fn fields_shown(alloc: Global, command: &Command<'_>) -> Option<String> {
     let (action, name) = (action_shown(command.action), command.name);
     let (face, cost) = (command.face, command.cost);
     let mut text = format!(in alloc; "{action} {name} {face} {cost}").ok()?;
-    match command.count {
-        None => text.push_str(" -").ok()?,
-        Some(count) => write!(text, " {count}").ok()?,
-    }
-    if let Some(strategy) = command.strategy {
-        write!(text, " {strategy}").ok()?;
-    }
+    put_count(&mut text, command.count)?;
+    put_strategy(&mut text, command.strategy)?;
     Some(text)
+}
+
+/// Appends a space and a number, or `-` for no number.
+fn put_count(text: &mut String, count: Option<u64>) -> Option<()> {
+    match count {
+        None => text.push_str(" -").ok(),
+        Some(count) => write!(text, " {count}").ok(),
+    }
+}
+
+/// Appends a space and the name of a strategy, if there is one.
+fn put_strategy(text: &mut String, strategy: Option<Name<'_>>) -> Option<()> {
+    match strategy {
+        None => Some(()),
+        Some(strategy) => write!(text, " {strategy}").ok(),
+    }
 }
 
 /// If fields are absent, the face is 0 and the cost is 0.
@@ -108,8 +151,8 @@ fn numbers_of_each_length(rt: HostRuntime) {
     check_rows(&rt, rt.alloc(), rows, command_shown);
 }
 
-/// A field with a wrong form, a missing field that is required, and a field that the command does
-/// not take.
+/// Commands with a field of a wrong form, commands without a required field, and commands with a
+/// field that they do not take.
 #[test]
 fn fields_that_commands_need_and_take(rt: HostRuntime) {
     let rows = "
@@ -136,19 +179,31 @@ fn fields_that_commands_need_and_take(rt: HostRuntime) {
 /// reply, and the dataset of routes. For a command that sets a strategy, shows the dataset of
 /// strategies instead.
 fn applied_shown(alloc: Global, row: &str) -> Option<String> {
-    let name = name_in(alloc, row)?;
-    let mut station = Station::new(alloc)?;
-    let applied = station.apply_prepared(&Command::read(name.view()).ok()?)?;
-    let list = station.list(
-        alloc,
-        row.starts_with("/localhost/nfd/strategy-choice/set "),
-    )?;
-    reply_and_list(alloc, &applied, &list)
+    shown_on_station(alloc, row, applied_on)
 }
 
-fn reply_and_list(alloc: Global, applied: &Applied, list: &[u8]) -> Option<String> {
-    let status = applied.status;
-    let body = hex::encode(alloc, applied.body.as_slice()).ok()?;
+/// Does the same on this station.
+fn applied_on(alloc: Global, station: &mut Station, row: &str) -> Option<String> {
+    let of_strategies = row.starts_with("/localhost/nfd/strategy-choice/set ");
+    let name = name_in(alloc, row)?;
+    reply_and_list(alloc, station, name.view(), of_strategies)
+}
+
+/// Applies the command with this name. Shows its status, the body of its reply, and a dataset.
+fn reply_and_list(
+    alloc: Global,
+    station: &mut Station,
+    name: Name<'_>,
+    of_strategies: bool,
+) -> Option<String> {
+    let applied = station.apply_named(name)?;
+    let list = station.list(alloc, of_strategies)?;
+    octets_shown(alloc, applied.status, applied.body.as_slice(), &list)
+}
+
+/// Shows a status, and a body and a dataset in hexadecimal.
+fn octets_shown(alloc: Global, status: u16, body: &[u8], list: &[u8]) -> Option<String> {
+    let body = hex::encode(alloc, body).ok()?;
     let list = hex::encode(alloc, list).ok()?;
     format!(in alloc; "{status} {body} {list}").ok()
 }
@@ -215,21 +270,24 @@ fn the_count_of_an_erase_is_repeated(rt: HostRuntime) {
     check_rows(&rt, rt.alloc(), rows, applied_shown);
 }
 
-/// Returns whether a reply is encoded as the octets `expected`.
-fn replies(alloc: Global, status: u16, text: &str, body: &str, expected: &str) -> bool {
-    let (Some(body), Some(expected)) = (octets(alloc, body), octets(alloc, expected)) else {
-        return false;
-    };
-    let mut out: Vec<u8> = Vec::new(alloc);
-    put_response(&mut out, status, text, &body).is_ok() && out.as_slice() == expected.as_slice()
+/// Returns whether a reply is encoded as the octets `expected`. Both are in hexadecimal.
+fn replies(alloc: Global, status: u16, text: &str, body: &str, expected: &str) -> Option<bool> {
+    let body = octets(alloc, body)?;
+    let reply = encoded_reply(alloc, status, text, &body)?;
+    Some(reply.as_str() == expected)
+}
+
+/// Encodes a reply, and returns its octets in hexadecimal.
+fn encoded_reply(alloc: Global, status: u16, text: &str, body: &[u8]) -> Option<String> {
+    let mut out = Vec::new(alloc);
+    put_response(&mut out, status, text, body).ok()?;
+    hex::encode(alloc, &out).ok()
 }
 
 /// Encodes a reply with this status and its text, and without a body.
 fn reply_written(alloc: Global, row: &str) -> Option<String> {
     let status = row.parse().ok()?;
-    let mut out = Vec::new(alloc);
-    put_response(&mut out, status, status_text(status)?, &[]).ok()?;
-    hex::encode(alloc, &out).ok()
+    encoded_reply(alloc, status, status_text(status)?, &[])
 }
 
 #[test]
@@ -251,7 +309,7 @@ fn texts_of_statuses(rt: HostRuntime) {
 fn replies_of_commands(rt: HostRuntime) {
     let body = "680b07030801416901026a0100";
     let reply = "65146601c867024f4b680b07030801416901026a0100";
-    assert!(rt; replies(rt.alloc(), 200, "OK", body, reply));
+    assert!(rt; replies(rt.alloc(), 200, "OK", body, reply) == Some(true));
     let denial = "651066020193670a546167206279206f7073";
-    assert!(rt; replies(rt.alloc(), 403, "Tag by ops", "", denial));
+    assert!(rt; replies(rt.alloc(), 403, "Tag by ops", "", denial) == Some(true));
 }

@@ -4,49 +4,70 @@ mod full;
 mod random_sequences;
 mod repository_life;
 
-use crate::management::name_in;
-use crate::rows::check_rows;
+use crate::management::{data_in, interest_in, name_in};
+use crate::rows::{check_rows, push_answer};
 use ndn_names::{Name, NameBuf};
 use ndn_packets::*;
 use repo_core::*;
 use std::alloc::Global;
 use test_support::{content_shown, data_of, octets};
 
-/// Returns the Name and CanBePrefix of an Interest, encoded as fields of parameters.
-fn fields_of(alloc: Global, name: &str, can_be_prefix: bool) -> Option<Vec<u8>> {
-    let name = NameBuf::from_uri(alloc, name).ok()?;
-    let mut fields = Vec::new(alloc);
-    ndn_tlv::put_element(&mut fields, 7, name.view().as_octets()).ok()?;
-    if can_be_prefix {
-        ndn_tlv::put_element(&mut fields, 33, &[]).ok()?;
+/// Returns a text without `mark` at its end, and whether it ends with `mark`.
+fn without_mark(text: &str, mark: char) -> (&str, bool) {
+    match text.strip_suffix(mark) {
+        Some(text) => (text, true),
+        None => (text, false),
     }
+}
+
+/// Returns the fields of a command about the Data that answer an Interest: see `command_on`.
+fn fields_of(alloc: Global, asked: &str, lifetime: Option<u64>) -> Option<Vec<u8>> {
+    let (uri, can_be_prefix) = without_mark(asked, '*');
+    let name = NameBuf::from_uri(alloc, uri).ok()?;
+    let mut fields = Vec::new(alloc);
+    put_fields(&mut fields, name.view(), can_be_prefix, lifetime)?;
     Some(fields)
 }
 
-/// Returns a command's name: the verb, the parameters, and a digest of zeros.
-fn command_name(alloc: Global, verb: &str, fields: &[u8]) -> Option<NameBuf> {
+/// Appends a Name, a CanBePrefix if it is set, and a lifetime if there is one.
+fn put_fields(
+    fields: &mut Vec<u8>,
+    name: Name<'_>,
+    can_be_prefix: bool,
+    lifetime: Option<u64>,
+) -> Option<()> {
+    ndn_tlv::put_element(fields, 7, name.as_octets()).ok()?;
+    ndn_tlv::put_flag(fields, 33, can_be_prefix).ok()?;
+    ndn_tlv::put_number_field(fields, 12, lifetime).ok()
+}
+
+/// Returns a command's parameters, which have these fields.
+fn parameters_of(alloc: Global, fields: &[u8]) -> Option<Vec<u8>> {
     let mut parameters = Vec::new(alloc);
     ndn_tlv::put_element(&mut parameters, 201, fields).ok()?;
+    Some(parameters)
+}
+
+/// Returns a command's name: the verb, the parameters, and a digest of zeros.
+fn command_name(alloc: Global, verb: &str, parameters: &[u8]) -> Option<NameBuf> {
     let mut name = NameBuf::from_uri(alloc, "/repo").ok()?;
-    name.append(8, verb.as_bytes()).ok()?;
-    name.append(8, &parameters).ok()?;
-    name.append(2, &[0; 32]).ok()?;
+    put_command(&mut name, verb, parameters)?;
     Some(name)
 }
 
-/// Returns the name of a command about the Data that answer an Interest. A lifetime may be given.
+/// Appends a verb, parameters, and a digest of zeros.
+fn put_command(name: &mut NameBuf, verb: &str, parameters: &[u8]) -> Option<()> {
+    name.append(8, verb.as_bytes()).ok()?;
+    name.append(8, parameters).ok()?;
+    name.append(2, &[0; 32]).ok()
+}
+
+/// Returns the name of a command about the Data that answer an Interest. The Interest's name is
+/// `asked`, where `*` at the end means CanBePrefix. A lifetime may be given.
 fn command_on(alloc: Global, verb: &str, asked: &str, lifetime: Option<u64>) -> Option<NameBuf> {
-    let (uri, can_be_prefix) = match asked.strip_suffix('*') {
-        Some(uri) => (uri, true),
-        None => (asked, false),
-    };
-    let mut fields = fields_of(alloc, uri, can_be_prefix)?;
-    if let Some(lifetime) = lifetime {
-        let mut value = Vec::new(alloc);
-        ndn_tlv::put_nni(&mut value, lifetime).ok()?;
-        ndn_tlv::put_element(&mut fields, 12, &value).ok()?;
-    }
-    command_name(alloc, verb, &fields)
+    let fields = fields_of(alloc, asked, lifetime)?;
+    let parameters = parameters_of(alloc, &fields)?;
+    command_name(alloc, verb, &parameters)
 }
 
 /// Shows a reply: its status, its count, and the Interest to send.
@@ -79,42 +100,55 @@ fn command(alloc: Global, repo: &mut Repo, verb: &str, words: &str) -> Option<St
     answered(alloc, repo, name.view(), now)
 }
 
-/// Offers a Data, given as its name and its Content.
-fn offer(alloc: Global, repo: &mut Repo, words: &str) -> Option<String> {
-    let (name, content) = words.split_once(' ')?;
-    let filled = offer_packet(repo, &data_of(alloc, name, content, None)?)?;
-    format!(in alloc; "{filled}").ok()
+/// Shows `true` or `false`.
+fn truth_shown(alloc: Global, truth: bool) -> Option<String> {
+    format!(in alloc; "{truth}").ok()
 }
 
+/// Offers a Data, given as its name and its Content. Returns whether it answers a want.
+fn offer(alloc: Global, repo: &mut Repo, words: &str) -> Option<bool> {
+    let (name, content) = words.split_once(' ')?;
+    let packet = data_of(alloc, name, content, None)?;
+    offer_packet(repo, &packet)
+}
+
+/// Offers a Data, and returns whether it answers a want.
 fn offer_packet(repo: &mut Repo, packet: &[u8]) -> Option<bool> {
-    match read_frame(packet).ok()? {
-        Frame::Data(data) => repo.offer(&data).ok(),
-        _ => None,
-    }
+    let data = data_in(packet)?;
+    repo.offer(&data).ok()
 }
 
 /// Returns the Content of the Data that answers an Interest. A `!` after the Interest's name means
 /// MustBeFresh.
 fn serve(alloc: Global, repo: &Repo, asked: &str) -> Option<String> {
     let packet = asking(alloc, asked)?;
-    match read_frame(&packet).ok()? {
-        Frame::Interest(interest) => content_shown(alloc, repo.serve(&interest)),
-        _ => None,
-    }
+    serve_packet(alloc, repo, &packet)
 }
 
+/// Returns the Content of the Data that answers an Interest.
+fn serve_packet(alloc: Global, repo: &Repo, packet: &[u8]) -> Option<String> {
+    let interest = interest_in(packet)?;
+    content_shown(alloc, repo.serve(&interest))
+}
+
+/// Returns an Interest, given as its name. A `*` after the name means CanBePrefix, and a `!` at the
+/// end means MustBeFresh.
 fn asking(alloc: Global, asked: &str) -> Option<Vec<u8>> {
-    let (asked, must_be_fresh) = match asked.strip_suffix('!') {
-        Some(asked) => (asked, true),
-        None => (asked, false),
-    };
-    let (uri, can_be_prefix) = match asked.strip_suffix('*') {
-        Some(uri) => (uri, true),
-        None => (asked, false),
-    };
+    let (asked, must_be_fresh) = without_mark(asked, '!');
+    let (uri, can_be_prefix) = without_mark(asked, '*');
     let name = NameBuf::from_uri(alloc, uri).ok()?;
+    interest_of(alloc, name.view(), can_be_prefix, must_be_fresh)
+}
+
+/// Returns an Interest with this name.
+fn interest_of(
+    alloc: Global,
+    name: Name<'_>,
+    can_be_prefix: bool,
+    must_be_fresh: bool,
+) -> Option<Vec<u8>> {
     let writer = InterestWriter {
-        name: name.view(),
+        name,
         can_be_prefix,
         must_be_fresh,
         nonce: [0; 4],
@@ -130,55 +164,81 @@ fn asking(alloc: Global, asked: &str) -> Option<Vec<u8>> {
     Some(packet)
 }
 
-/// Makes a call, and returns its answer if the answer is shown.
-fn answer(alloc: Global, repo: &mut Repo, call: &str) -> Option<Option<String>> {
-    let (verb, words) = call.split_once(' ')?;
+/// Makes a call other than `expire`, and returns its answer.
+fn answer(alloc: Global, repo: &mut Repo, verb: &str, words: &str) -> Option<String> {
     match verb {
-        "offer" => offer(alloc, repo, words).map(Some),
-        "serve" => serve(alloc, repo, words).map(Some),
-        "expire" => {
-            repo.expire(words.parse().ok()?);
-            Some(None)
-        }
-        _ => command(alloc, repo, verb, words).map(Some),
+        "offer" => truth_shown(alloc, offer(alloc, repo, words)?),
+        "serve" => serve(alloc, repo, words),
+        _ => command(alloc, repo, verb, words),
     }
+}
+
+/// Returns an empty repository with this prefix.
+fn repo_at(alloc: Global, prefix: &str) -> Option<Repo> {
+    Repo::new(alloc, NameBuf::from_uri(alloc, prefix).ok()?).ok()
 }
 
 /// Returns an empty repository with the prefix `/repo`.
 fn empty_repo(alloc: Global) -> Option<Repo> {
-    Repo::new(alloc, NameBuf::from_uri(alloc, "/repo").ok()?).ok()
+    repo_at(alloc, "/repo")
 }
 
 /// Returns the answers to consecutive calls.
 fn answers(alloc: Global, calls: &str) -> Option<String> {
-    answers_of(alloc, &mut empty_repo(alloc)?, calls)
+    shown_on_repo(alloc, calls, answers_of)
 }
 
+/// Returns what `show` shows for a row on an empty repository with the prefix `/repo`.
+fn shown_on_repo(
+    alloc: Global,
+    row: &str,
+    show: fn(Global, &mut Repo, &str) -> Option<String>,
+) -> Option<String>
+    requires { IsAlwaysCallable show }
+{
+    let mut repo = empty_repo(alloc)?;
+    show(alloc, &mut repo, row)
+}
+
+/// Returns the repository's answers to calls.
 fn answers_of(alloc: Global, repo: &mut Repo, calls: &str) -> Option<String> {
     let mut shown = String::new(alloc);
-    for call in calls.split_terminator(", ") {
-        put_answer(alloc, &mut shown, repo, call)?;
-    }
+    put_answers(alloc, &mut shown, repo, calls)?;
     Some(shown)
 }
 
-fn put_answer(alloc: Global, shown: &mut String, repo: &mut Repo, call: &str) -> Option<()> {
-    let Some(text) = answer(alloc, repo, call)? else {
-        return Some(());
-    };
-    if !shown.is_empty() {
-        shown.push_str(", ").ok()?;
+/// Appends the repository's answers to calls.
+fn put_answers(alloc: Global, shown: &mut String, repo: &mut Repo, calls: &str) -> Option<()> {
+    for call in calls.split_terminator(", ") {
+        put_answer(alloc, shown, repo, call)?;
     }
-    shown.push_str(&text).ok()
+    Some(())
+}
+
+/// Makes a call, and appends its answer unless the call is `expire`.
+fn put_answer(alloc: Global, shown: &mut String, repo: &mut Repo, call: &str) -> Option<()> {
+    let (verb, words) = call.split_once(' ')?;
+    if verb == "expire" {
+        repo.expire(words.parse().ok()?);
+        return Some(());
+    }
+    let text = answer(alloc, repo, verb, words)?;
+    push_answer(shown, &text)
 }
 
 /// Shows whether two repositories, each given by its calls, have the same objects and wants.
 fn sameness(alloc: Global, row: &str) -> Option<String> {
     let (calls, others) = row.split_once("; ")?;
-    let (mut repo, mut other) = (empty_repo(alloc)?, empty_repo(alloc)?);
+    let repo = repo_after(alloc, calls)?;
+    let other = repo_after(alloc, others)?;
+    truth_shown(alloc, repo.holds_same(&other))
+}
+
+/// Returns a repository with the prefix `/repo` after these calls.
+fn repo_after(alloc: Global, calls: &str) -> Option<Repo> {
+    let mut repo = empty_repo(alloc)?;
     answers_of(alloc, &mut repo, calls)?;
-    answers_of(alloc, &mut other, others)?;
-    format!(in alloc; "{}", repo.holds_same(&other)).ok()
+    Some(repo)
 }
 
 #[test]
@@ -198,9 +258,9 @@ insert /A 0, offer /A 01; check /A 0 -> false
 /// Shows whether repositories with these prefixes have the same prefix.
 fn same_prefix(alloc: Global, row: &str) -> Option<String> {
     let (uri, other) = row.split_once(' ')?;
-    let repo = Repo::new(alloc, NameBuf::from_uri(alloc, uri).ok()?).ok()?;
-    let other = Repo::new(alloc, NameBuf::from_uri(alloc, other).ok()?).ok()?;
-    format!(in alloc; "{}", repo.has_same_prefix(&other)).ok()
+    let repo = repo_at(alloc, uri)?;
+    let other = repo_at(alloc, other)?;
+    truth_shown(alloc, repo.has_same_prefix(&other))
 }
 
 #[test]
@@ -225,7 +285,8 @@ insert /A 5 0, check /A 5, expire 5, check /A 5 -> 100:0 /A 0, 100:0, 404:0
     check_rows(&rt, rt.alloc(), rows, answers);
 }
 
-/// An equal want gets the new deadline, which may be earlier or later.
+/// If an equal want is inserted again, the want gets the new deadline, which may be earlier or
+/// later.
 #[test]
 fn an_equal_want_is_renewed(rt: HostRuntime) {
     let rows = "
@@ -248,8 +309,13 @@ insert /A 0, expire 3999, check /A 0, expire 4000, check /A 0 -> 100:0 /A 4000, 
 /// as a URI and the values of further components in hexadecimal. The word `digest` stands for a
 /// digest of zeros.
 fn first_answer(alloc: Global, text: &str) -> Option<String> {
+    shown_on_repo(alloc, text, answered_to)
+}
+
+/// Shows the reply to a command on this repository, which is given as for `first_answer`.
+fn answered_to(alloc: Global, repo: &mut Repo, text: &str) -> Option<String> {
     let name = name_in(alloc, text)?;
-    answered(alloc, &mut empty_repo(alloc)?, name.view(), 1000000)
+    answered(alloc, repo, name.view(), 1000000)
 }
 
 #[test]
@@ -319,14 +385,10 @@ fn names_of_another_shape(rt: HostRuntime) {
 fn reply_written(alloc: Global, row: &str) -> Option<String> {
     let (status, count) = row.split_once(' ')?;
     let status = status.parse().ok()?;
+    let count = count.parse().ok()?;
+    let text = repo_status_text(status)?;
     let mut out = Vec::new(alloc);
-    put_repo_reply(
-        &mut out,
-        status,
-        repo_status_text(status)?,
-        count.parse().ok()?,
-    )
-    .ok()?;
+    put_repo_reply(&mut out, status, text, count).ok()?;
     hex::encode(alloc, &out).ok()
 }
 
@@ -378,10 +440,22 @@ fn repository_verbs(rt: HostRuntime) {
 fn status_of(alloc: Global, repo: &mut Repo, verb: &str, number: usize) -> Option<u16> {
     let uri = format!(in alloc; "/{number}").ok()?;
     let name = command_on(alloc, verb, &uri, None)?;
-    Some(repo.command(name.view(), 0).ok()?.status)
+    status_at_0(repo, name.view())
 }
 
-/// Returns whether 64 wants fit, a new want is then refused, and an equal want is accepted.
+/// Applies a command at the moment 0, and returns its status.
+fn status_at_0(repo: &mut Repo, name: Name<'_>) -> Option<u16> {
+    Some(status_and_count(repo, name, 0)?.0)
+}
+
+/// Applies a command, and returns its status and its count.
+fn status_and_count(repo: &mut Repo, name: Name<'_>, now: u64) -> Option<(u16, u64)> {
+    let reply = repo.command(name, now).ok()?;
+    Some((reply.status, reply.count))
+}
+
+/// Returns whether 64 wants fit, a new want is then refused, and a want that is equal to one of the
+/// 64 is accepted.
 fn limits_wants(alloc: Global, repo: &mut Repo) -> Option<bool> {
     for number in 0..64 {
         if status_of(alloc, repo, "insert", number)? != 100 {
@@ -405,8 +479,8 @@ fn sixty_four_wants(rt: HostRuntime) {
     assert!(rt; wants_are_limited(rt.alloc()) == Some(true));
 }
 
-/// Makes calls on an empty repository, with the names of an insert and of a check for `/A`, and a
-/// Data with that name.
+/// Runs `play` on an empty repository, with the names of an insert and of a check for `/A`, and
+/// with a Data named `/A`.
 fn played<F: Fn(&mut Repo, Name<'_>, Name<'_>, &Data<'_>) -> Option<bool>>(
     alloc: Global,
     play: &F,
@@ -414,27 +488,28 @@ fn played<F: Fn(&mut Repo, Name<'_>, Name<'_>, &Data<'_>) -> Option<bool>>(
     requires { F.IsAlwaysCallable play.now }
 {
     let mut repo = empty_repo(alloc)?;
-    played_on(alloc, &mut repo, play)
+    let packet = data_of(alloc, "/A", "01", None)?;
+    played_on(alloc, &mut repo, &packet, play)
 }
 
+/// Runs `play` on a repository, with the names of an insert and of a check for `/A`, and with the
+/// Data in the packet.
 fn played_on<F: Fn(&mut Repo, Name<'_>, Name<'_>, &Data<'_>) -> Option<bool>>(
     alloc: Global,
     repo: &mut Repo,
+    packet: &[u8],
     play: &F,
 ) -> Option<bool>
     requires { F.IsAlwaysCallable play.now }
 {
+    let data = data_in(packet)?;
     let insert = command_on(alloc, "insert", "/A", None)?;
     let check = command_on(alloc, "check", "/A", None)?;
-    let packet = data_of(alloc, "/A", "01", None)?;
-    match read_frame(&packet).ok()? {
-        Frame::Data(data) => play(repo, insert.view(), check.view(), &data),
-        _ => None,
-    }
+    play(repo, insert.view(), check.view(), &data)
 }
 
-/// Returns whether a prepared command and a prepared offer do not run out of memory, and running
-/// out of memory changes nothing.
+/// Returns whether a prepared command and a prepared offer do not run out of memory, and an offer
+/// that runs out of memory changes nothing.
 fn keeps_its_promises(
     repo: &mut Repo,
     insert: Name<'_>,
@@ -443,13 +518,13 @@ fn keeps_its_promises(
 ) -> Option<bool> {
     repo.prepare_command(insert).ok()?;
     repo.expire(0);
-    if repo.command(insert, 0).is_err() {
+    if status_at_0(repo, insert).is_none() {
         return Some(false);
     }
     let was_prepared = repo.prepare_offer(data).is_ok();
     repo.expire(0);
     let filled = repo.offer(data);
-    let status = repo.command(check, 0).ok()?.status;
+    let status = status_at_0(repo, check)?;
     match filled {
         Ok(filled) => Some(filled && status == 200),
         Err(_) => Some(!was_prepared && status == 100),
@@ -464,10 +539,10 @@ fn has_effects_or_none(
     check: Name<'_>,
     data: &Data<'_>,
 ) -> Option<bool> {
-    let inserted = repo.command(insert, 0).is_ok();
-    let before = repo.command(check, 0).ok()?.status;
+    let inserted = status_at_0(repo, insert).is_some();
+    let before = status_at_0(repo, check)?;
     let filled = repo.offer(data);
-    let after = repo.command(check, 0).ok()?.status;
+    let after = status_at_0(repo, check)?;
     Some(match (inserted, filled) {
         (true, Ok(true)) => before == 100 && after == 200,
         (true, Err(_)) => before == 100 && after == 100,
@@ -479,8 +554,13 @@ fn has_effects_or_none(
 /// Returns whether a reply for which memory runs out leaves the buffer unchanged.
 fn replies_or_leaves(alloc: Global) -> Option<bool> {
     let mut out = Vec::new(alloc);
+    replies_or_leaves_in(&mut out)
+}
+
+/// Returns whether a reply is appended to the buffer after one octet, or nothing is appended.
+fn replies_or_leaves_in(out: &mut Vec<u8>) -> Option<bool> {
     out.push(7).ok()?;
-    let len = match put_repo_reply(&mut out, 200, "OK", 1) {
+    let len = match put_repo_reply(out, 200, "OK", 1) {
         Ok(()) => 13,
         Err(_) => 1,
     };

@@ -4,7 +4,15 @@ use std::alloc::Global;
 use std::process::Abort;
 use test_support::first_misshown;
 
-/// Fails at the first row whose input is shown differently than the row says. Also fails if there
+/// Appends an answer to a list of answers, which are separated by `, `.
+pub fn push_answer(list: &mut String, answer: &str) -> Option<()> {
+    if !list.is_empty() {
+        list.push_str(", ").ok()?;
+    }
+    list.push_str(answer).ok()
+}
+
+/// Fails at the first row whose input gives a text other than the expected one. Also fails if there
 /// are no rows.
 pub fn check_rows(
     rt: &impl Abort,

@@ -24,7 +24,7 @@ mod udp;
 use hmac_keys::KeyBook;
 use info_rules::{InfoTree, Rules};
 use ndn_names::NameBuf;
-use node_core::{NodeParts, run_script};
+use node_core::{Node, NodeParts, run_script};
 use octets::hexadecimal_of;
 use ports::prints;
 use std::alloc::Global;
@@ -32,12 +32,21 @@ use std::io::Write;
 use std::process::Abort;
 use test_support::{KEYS, SAMPLE};
 
+/// Returns the rules in the text of a rule file.
+fn rules_of(alloc: Global, text: &str) -> Option<Rules> {
+    let tree = InfoTree::read(alloc, text).ok()?;
+    Rules::read(alloc, &tree).ok()
+}
+
 /// Returns the parts of a node whose repository is at `/repo`.
 fn parts_of(alloc: Global, rules: &str, cache: u32) -> Option<NodeParts> {
+    let rules = rules_of(alloc, rules)?;
+    let keys = KeyBook::read(alloc, KEYS).ok()?;
+    let repo = NameBuf::from_uri(alloc, "/repo").ok()?;
     Some(NodeParts {
-        rules: Rules::read(alloc, &InfoTree::read(alloc, rules).ok()?).ok()?,
-        keys: KeyBook::read(alloc, KEYS).ok()?,
-        repo: NameBuf::from_uri(alloc, "/repo").ok()?,
+        rules,
+        keys,
+        repo,
         cache,
     })
 }
@@ -55,6 +64,16 @@ fn outcome(alloc: Global, parts: NodeParts, script: &str) -> Option<String> {
     String::from_utf8(output).ok()
 }
 
+/// Returns the outcome of a script under these rules.
+fn outcome_under(alloc: Global, rules: &str, cache: u32, script: &str) -> Option<String> {
+    outcome(alloc, parts_of(alloc, rules, cache)?, script)
+}
+
+/// Returns the outcome of a script under the sample rules.
+fn sample_outcome(alloc: Global, script: &str) -> Option<String> {
+    outcome_under(alloc, SAMPLE, 1024, script)
+}
+
 // A dialogue is a script in which each event is followed by its answer, and in which words may
 // stand for packets.
 
@@ -63,68 +82,138 @@ fn is_answer(line: &str) -> bool {
     line.starts_with('>') || line.starts_with(|c: char| c.is_ascii_digit())
 }
 
-/// Returns the lines of a dialogue that do not belong to answers.
-fn script_of(alloc: Global, dialogue: &str) -> Option<String> {
-    let mut script = String::new(alloc);
+/// Appends the lines of a dialogue that do not belong to answers. Returns `None` if memory runs
+/// out.
+fn push_script(script: &mut String, dialogue: &str) -> Option<()> {
     for line in dialogue.lines() {
         if !is_answer(line) {
             script.push_str(line).ok()?;
             script.push('\n').ok()?;
         }
     }
+    Some(())
+}
+
+/// Returns the lines of a dialogue that do not belong to answers.
+fn script_of(alloc: Global, dialogue: &str) -> Option<String> {
+    let mut script = String::new(alloc);
+    push_script(&mut script, dialogue)?;
     Some(script)
 }
 
+/// Appends octets in hexadecimal. Returns `None` if memory runs out.
+fn push_hexadecimal(alloc: Global, text: &mut String, octets: &[u8]) -> Option<()> {
+    let hexadecimal = hex::encode(alloc, octets).ok()?;
+    text.push_str(&hexadecimal).ok()
+}
+
 /// Appends the hexadecimal that a word of a dialogue stands for: a packet, or the sample files.
+/// Returns `None` if memory runs out.
 fn push_spelled(alloc: Global, text: &mut String, word: &str) -> Option<()> {
     match word {
-        "SAMPLE" => text
-            .push_str(&hex::encode(alloc, SAMPLE.as_bytes()).ok()?)
-            .ok(),
-        "KEYS" => text
-            .push_str(&hex::encode(alloc, KEYS.as_bytes()).ok()?)
-            .ok(),
+        "SAMPLE" => push_hexadecimal(alloc, text, SAMPLE.as_bytes()),
+        "KEYS" => push_hexadecimal(alloc, text, KEYS.as_bytes()),
         _ => text.push_str(hexadecimal_of(word)).ok(),
     }
+}
+
+/// Appends a line of a dialogue in which each word is replaced by the hexadecimal that it stands
+/// for. Returns `None` if memory runs out.
+fn push_spelled_line(alloc: Global, text: &mut String, line: &str) -> Option<()> {
+    for (before, word) in line.split(' ').enumerate() {
+        if before > 0 {
+            text.push(' ').ok()?;
+        }
+        push_spelled(alloc, text, word)?;
+    }
+    text.push('\n').ok()
+}
+
+/// Appends each line of a dialogue as `push_spelled_line` does. Returns `None` if memory runs out.
+fn push_spelled_lines(alloc: Global, text: &mut String, dialogue: &str) -> Option<()> {
+    for line in dialogue.lines() {
+        push_spelled_line(alloc, text, line)?;
+    }
+    Some(())
 }
 
 /// Returns a dialogue whose words are replaced by the hexadecimal that they stand for.
 fn spelled(alloc: Global, dialogue: &str) -> Option<String> {
     let mut text = String::new(alloc);
-    for line in dialogue.lines() {
-        for (before, word) in line.split(' ').enumerate() {
-            if before > 0 {
-                text.push(' ').ok()?;
-            }
-            push_spelled(alloc, &mut text, word)?;
-        }
-        text.push('\n').ok()?;
-    }
+    push_spelled_lines(alloc, &mut text, dialogue)?;
     Some(text)
 }
 
-/// Plays the script of a dialogue, and checks each answer and that the script then ends without a
-/// fault. The same events at a port must have the same answers.
-fn replies_under(rt: &(impl Abort + AllocGlobal), rules: &str, cache: u32, dialogue: &str) {
-    let alloc = rt.alloc();
-    let parts = parts_of(alloc, rules, cache).expect(rt, "parts");
-    let dialogue = spelled(alloc, dialogue).expect(rt, "memory");
-    let script = script_of(alloc, dialogue.as_str()).expect(rt, "memory");
-    let outcome = outcome(alloc, parts, script.as_str()).expect(rt, "memory");
-    let mut answers = outcome.as_str().lines();
-    for line in dialogue.as_str().lines() {
+/// Returns the outcome of the script of a dialogue without words.
+fn dialogue_outcome(alloc: Global, rules: &str, cache: u32, dialogue: &str) -> Option<String> {
+    let script = script_of(alloc, dialogue)?;
+    outcome_under(alloc, rules, cache, script.as_str())
+}
+
+/// Checks that the outcome of a dialogue consists of each answer in it and an end without a fault.
+fn check_answers(rt: &impl Abort, dialogue: &str, outcome: &str) {
+    let mut answers = outcome.lines();
+    for line in dialogue.lines() {
         assert!(rt;
             !is_answer(line) || answers.next() == Some(line),
             "not `{line}`"
         );
     }
     assert!(rt; answers.next() == Some("Ok(())"), "not the end");
-    let answers = outcome.as_str().strip_suffix("Ok(())").unwrap_or("");
-    let parts = parts_of(alloc, rules, cache).expect(rt, "parts");
+}
+
+/// Returns a node under these rules.
+fn node_under(alloc: Global, rules: &str, cache: u32) -> Option<Node> {
+    Node::new(alloc, parts_of(alloc, rules, cache)?).ok()
+}
+
+/// Returns what `play` returns for a new node under these rules, or `None` if the node cannot be
+/// created.
+fn on_node_under<F: Fn(Global, &mut Node) -> Option<bool>>(
+    alloc: Global,
+    rules: &str,
+    cache: u32,
+    play: &F,
+) -> Option<bool>
+    requires { F.IsAlwaysCallable play.now }
+{
+    let mut node = node_under(alloc, rules, cache)?;
+    play(alloc, &mut node)
+}
+
+/// Returns whether the events of a dialogue at a port have the answers in this outcome.
+fn is_same_at_a_port(
+    alloc: Global,
+    rules: &str,
+    cache: u32,
+    dialogue: &str,
+    outcome: &str,
+) -> Option<bool> {
+    let answers = outcome.strip_suffix("Ok(())").unwrap_or("");
+    on_node_under(
+        alloc,
+        rules,
+        cache,
+        &|alloc, node| prints(alloc, node, dialogue, answers),
+    )
+}
+
+/// Does the same as `replies_under` for a dialogue without words.
+fn check_dialogue(rt: &(impl Abort + AllocGlobal), rules: &str, cache: u32, dialogue: &str) {
+    let alloc = rt.alloc();
+    let outcome = dialogue_outcome(alloc, rules, cache, dialogue).expect(rt, "an outcome");
+    check_answers(rt, dialogue, outcome.as_str());
     assert!(rt;
-        prints(alloc, parts, dialogue.as_str(), answers) == Some(true),
+        is_same_at_a_port(alloc, rules, cache, dialogue, outcome.as_str()) == Some(true),
         "not at a port"
     );
+}
+
+/// Plays the script of a dialogue, and checks each answer and that the script then ends without a
+/// fault. The same events at a port must have the same answers.
+fn replies_under(rt: &(impl Abort + AllocGlobal), rules: &str, cache: u32, dialogue: &str) {
+    let dialogue = spelled(rt.alloc(), dialogue).expect(rt, "memory");
+    check_dialogue(rt, rules, cache, dialogue.as_str());
 }
 
 /// Does the same as `replies_under`, with the sample rules and a cache of 1,024 Data.

@@ -1,5 +1,5 @@
--- If all records of a table are of faces below 64, any face below 64 may get a record: then at most
--- 64 faces have records.
+-- If all records of a table are of faces below 64, there is room for a record of any face below 64,
+-- since at most 64 faces have records.
 use Rattle.std.proofs.Common.{◌≡◌, ◌⊎◌, inl, inr, ℕ, suc, ◌+◌, ◌<◌, ◌≤◌, zero, Bool, true, false, List, [], ◌∷◌, length, refl, sym, ap, subst, ◌∙◌, arith, ltb, Bor}
 use Rattle.std.specs.Prelude.{Option, Some, None, Result, Ok, Err, unwrap_or, IsSome, is_some, OnOk, OnErr}
 use Rattle.std.specs.Option.{option_map}

@@ -1,5 +1,5 @@
--- There is capacity for one more face in a table whose faces are below 63 or the greatest face
--- number.
+-- If each face of a table is below 63 or is the greatest face number, the table has room for one
+-- more such face.
 use Rattle.std.proofs.Common.{◌≡◌, ◌⊎◌, inl, inr, ℕ, suc, ◌+◌, ◌-◌, ◌^◌, ◌<◌, ◌≤◌, Bool, true, false, not, cond, List, [], ◌∷◌, length, refl, sym, ap, subst, ◌∙◌, arith, eqb}
 use Rattle.std.proofs.lemmas.Bool.Decides.{nat_tests}
 use Rattle.std.proofs.lemmas.Cmp.{nat_cmp_total}
@@ -29,7 +29,7 @@ AreOurs routes = (face : ℕ) → LeadsTo routes face → IsOurs face
 
 -- ---- room for one more face
 
--- no face of the list is greater than the greatest face number
+-- if `f` is the greatest face number, a list whose faces are all greater than `f` is empty
 none_above : (f : ℕ) (l : List ℕ) → f ≡ 2 ^ 64 - 1 → AllByRecursion (λ g. f < g) l → AllByRecursion IsOurs l → length l ≤ 0
 none_above f [] last above ours = omega arith
 none_above f (g ∷ l) last above ours =
@@ -88,7 +88,7 @@ same f face e = grind (arith, nat_tests, e)
 same_key : (k key : RouteKey) → eq_by_cmp route_cmp k key ≡ true → k ≡ key
 same_key k key e = route_cmp-antisymmetric k key (equal (route_cmp k key) e)
 
--- a value in a map after a value was inserted or removed
+-- what is found in a map after a value was inserted or removed
 module _ {X A : Type 0} where
   none_there : (o : Option X) → o ≡ None → IsSome o → A
   none_there o e some = absurd cc

@@ -5,19 +5,25 @@ mod random_sequences;
 
 use crate::rows::check_rows;
 use content_store::*;
-use ndn_names::NameBuf;
+use ndn_names::{Name, NameBuf};
 use ndn_packets::*;
 use std::alloc::Global;
 use test_support::{content_shown, data_of};
 
-/// Puts a Data into the store. The words are its name, Content, FreshnessPeriod and arrival.
-fn put(alloc: Global, store: &mut Store, words: &str) -> Option<()> {
+/// Returns a Data. The words are its name, Content and FreshnessPeriod.
+fn data_in(alloc: Global, words: &str) -> Option<Vec<u8>> {
     let (name, rest) = words.split_once(' ')?;
-    let (content, rest) = rest.split_once(' ')?;
-    let (freshness, arrival) = rest.split_once(' ')?;
+    let (content, freshness) = rest.split_once(' ')?;
+    data_of(alloc, name, content, Some(freshness.parse().ok()?))
+}
+
+/// Puts a Data into the store, and returns whether the store keeps it. The words are its name,
+/// Content, FreshnessPeriod and arrival.
+fn put(alloc: Global, store: &mut Store, words: &str) -> Option<bool> {
+    let (data, arrival) = words.rsplit_once(' ')?;
     let arrival = arrival.parse().ok()?;
-    let packet = data_of(alloc, name, content, Some(freshness.parse().ok()?))?;
-    put_packet(store, &packet, arrival)?.then_some(())
+    let packet = data_in(alloc, data)?;
+    put_packet(store, &packet, arrival)
 }
 
 /// Puts a packet into the store, and returns whether the store keeps it.
@@ -28,43 +34,41 @@ fn put_packet(store: &mut Store, packet: &[u8], arrival: u64) -> Option<bool> {
     }
 }
 
+/// Returns the key of an Interest with this name and these flags: `p` for CanBePrefix, `f` for
+/// MustBeFresh.
+fn key_of<'a>(name: Name<'a>, flags: &str) -> Key<'a> {
+    Key {
+        name,
+        can_be_prefix: flags.contains('p'),
+        must_be_fresh: flags.contains('f'),
+    }
+}
+
 /// Returns the Content of the Data that an Interest gets. The words are the Interest's name, its
 /// flags (`p` for CanBePrefix, `f` for MustBeFresh) and the moment.
 fn find(alloc: Global, store: &mut Store, words: &str) -> Option<String> {
-    let (name, rest) = words.split_once(' ')?;
+    let (uri, rest) = words.split_once(' ')?;
     let (flags, now) = rest.split_once(' ')?;
     let now = now.parse().ok()?;
-    let name = NameBuf::from_uri(alloc, name).ok()?;
-    let key = Key {
-        name: name.view(),
-        can_be_prefix: flags.contains('p'),
-        must_be_fresh: flags.contains('f'),
-    };
-    content_shown(alloc, store.find(key, now))
+    let name = NameBuf::from_uri(alloc, uri).ok()?;
+    content_shown(alloc, store.find(key_of(name.view(), flags), now))
+}
+
+/// Reads the greatest number of Data to erase, which is `None` for `all`.
+fn limit_in(text: &str) -> Option<Option<u64>> {
+    if text == "all" {
+        return Some(None);
+    }
+    Some(Some(text.parse().ok()?))
 }
 
 /// Erases Data, and returns how many. The words are a name, and the greatest number of Data to
 /// erase or `all`.
-fn erase(alloc: Global, store: &mut Store, words: &str) -> Option<String> {
-    let (name, count) = words.split_once(' ')?;
-    let count = match count {
-        "all" => None,
-        count => Some(count.parse().ok()?),
-    };
-    let name = NameBuf::from_uri(alloc, name).ok()?;
-    let erased = store.erase(name.view(), count);
-    format!(in alloc; "{erased}").ok()
-}
-
-/// Returns the result of a call, if the result is to be shown.
-fn answer(alloc: Global, store: &mut Store, call: &str) -> Option<Option<String>> {
-    let (verb, words) = call.split_once(' ')?;
-    match verb {
-        "put" => put(alloc, store, words).map(|()| None),
-        "find" => find(alloc, store, words).map(Some),
-        "erase" => erase(alloc, store, words).map(Some),
-        _ => None,
-    }
+fn erase(alloc: Global, store: &mut Store, words: &str) -> Option<u64> {
+    let (uri, limit) = words.split_once(' ')?;
+    let limit = limit_in(limit)?;
+    let name = NameBuf::from_uri(alloc, uri).ok()?;
+    Some(store.erase(name.view(), limit))
 }
 
 /// Runs the calls of a row on a store with the row's capacity, and returns their results and the
@@ -77,22 +81,36 @@ fn answers(alloc: Global, row: &str) -> Option<String> {
     }
 }
 
+/// Returns the results of calls, and the number of Data that are then cached.
 fn answers_of(alloc: Global, store: &mut Store, calls: &str) -> Option<String> {
     let mut shown = String::new(alloc);
-    for call in calls.split_terminator(", ") {
-        put_answer(alloc, &mut shown, store, call)?;
-    }
-    let held = format!(in alloc; "({} of {})", store.len(), store.capacity()).ok()?;
-    shown.push_str(&held).ok()?;
+    put_answers(alloc, &mut shown, store, calls)?;
     Some(shown)
 }
 
-fn put_answer(alloc: Global, shown: &mut String, store: &mut Store, call: &str) -> Option<()> {
-    if let Some(text) = answer(alloc, store, call)? {
-        shown.push_str(&text).ok()?;
-        shown.push(' ').ok()?;
+/// Appends the results of calls, and the number of Data that are then cached.
+fn put_answers(alloc: Global, shown: &mut String, store: &mut Store, calls: &str) -> Option<()> {
+    for call in calls.split_terminator(", ") {
+        put_answer(alloc, shown, store, call)?;
     }
-    Some(())
+    write!(shown, "({} of {})", store.len(), store.capacity()).ok()
+}
+
+/// Runs `put`, `find` or `erase`, and appends the result of `find` or `erase` and a space.
+fn put_answer(alloc: Global, shown: &mut String, store: &mut Store, call: &str) -> Option<()> {
+    let (verb, words) = call.split_once(' ')?;
+    match verb {
+        "put" => put(alloc, store, words)?.then_some(()),
+        "find" => {
+            let found = find(alloc, store, words)?;
+            write!(shown, "{found} ").ok()
+        }
+        "erase" => {
+            let erased = erase(alloc, store, words)?;
+            write!(shown, "{erased} ").ok()
+        }
+        _ => None,
+    }
 }
 
 #[test]
@@ -125,8 +143,8 @@ fn store_capacities(rt: HostRuntime) {
     check_rows(&rt, rt.alloc(), rows, answers);
 }
 
-/// A full store evicts the least recently used Data, but evicts nothing if a Data replaces one with
-/// the same full name.
+/// A full store evicts the least recently used Data, but evicts nothing if a Data replaces a Data
+/// with the same full name.
 #[test]
 fn eviction_order(rt: HostRuntime) {
     let rows = "
@@ -173,8 +191,8 @@ fn the_least_name_that_is_fresh(rt: HostRuntime) {
     check_rows(&rt, rt.alloc(), rows, answers);
 }
 
-/// With ample memory, each Data that is put is cached, and a lookup finds the least full name that
-/// answers.
+/// With ample memory, each Data that is put is cached, and a lookup finds the Data with the least
+/// full name among the Data that answer.
 #[test]
 fn cache_kept(rt: HostRuntime) {
     let rows = "
@@ -185,8 +203,8 @@ fn cache_kept(rt: HostRuntime) {
     check_rows(&rt, rt.alloc(), rows, answers);
 }
 
-/// Among Data with the same name the least digest comes first, and each full name has only one
-/// Data.
+/// Among Data with the same name, a lookup finds the Data with the least digest. For each full
+/// name, only one Data is cached.
 #[test]
 fn cached_data_by_full_name(rt: HostRuntime) {
     let rows = "
@@ -201,31 +219,45 @@ fn cached_data_by_full_name(rt: HostRuntime) {
     check_rows(&rt, rt.alloc(), rows, answers);
 }
 
+/// Puts a Data with another name, and returns whether it is cached.
+fn put_other(alloc: Global, store: &mut Store, number: u32) -> Option<bool> {
+    let uri = format!(in alloc; "/other/{number}").ok()?;
+    let packet = data_of(alloc, &uri, "01", None)?;
+    put_packet(store, &packet, 0)
+}
+
 /// Puts Data with other names, and returns whether each of them is cached.
 fn put_others(alloc: Global, store: &mut Store, count: u32) -> Option<bool> {
     for number in 0..count {
-        let name = format!(in alloc; "/other/{number}").ok()?;
-        let packet = data_of(alloc, &name, "01", None)?;
-        if !put_packet(store, &packet, 0)? {
+        if !put_other(alloc, store, number)? {
             return Some(false);
         }
     }
     Some(true)
 }
 
+/// Returns the Data that an Interest with this name and without flags gets at the moment 0.
+fn found<'a>(store: &'a mut Store, name: Name<'_>) -> Option<&'a [u8]> {
+    store.find(key_of(name, ""), 0)
+}
+
+/// Returns whether the Data `/big` is cached, and is found among 1,000 other Data.
+fn is_kept_among_others(alloc: Global, store: &mut Store, packet: &[u8]) -> Option<bool> {
+    if !put_packet(store, packet, 0)? || !put_others(alloc, store, 1000)? {
+        return Some(false);
+    }
+    let name = NameBuf::from_uri(alloc, "/big").ok()?;
+    Some(found(store, name.view()) == Some(packet))
+}
+
 /// Returns whether a Data of 8,800 octets is cached, and is found among 1,000 other Data.
 fn is_greatest_kept(alloc: Global) -> Option<bool> {
     let packet = data_of(alloc, "/big", "00x8746", None)?;
+    if packet.len() != 8800 {
+        return Some(false);
+    }
     let mut store = Store::new(alloc, 1001).ok()?;
-    let is_kept = put_packet(&mut store, &packet, 0)? && put_others(alloc, &mut store, 1000)?;
-    let name = NameBuf::from_uri(alloc, "/big").ok()?;
-    let key = Key {
-        name: name.view(),
-        can_be_prefix: false,
-        must_be_fresh: false,
-    };
-    let is_found = store.find(key, 0) == Some(packet.as_slice());
-    Some(is_kept && is_found && packet.len() == 8800)
+    is_kept_among_others(alloc, &mut store, &packet)
 }
 
 #[test]
@@ -240,38 +272,63 @@ fn put_number(packet: &mut [u8], number: u32) {
     }
 }
 
-/// Returns whether a Data is cached, and its lookup takes at least one and at most `most`
+/// Returns whether the lookup of a name finds a Data, if it takes at least one and at most `most`
 /// comparisons.
-fn is_held(store: &mut Store, packet: &[u8], most: u64) -> Option<bool> {
-    let Frame::Data(data) = read_frame(packet).ok()? else {
-        return None;
-    };
-    let key = Key {
-        name: data.name,
-        can_be_prefix: false,
-        must_be_fresh: false,
-    };
+fn is_found_within(store: &mut Store, name: Name<'_>, packet: &[u8], most: u64) -> Option<bool> {
     let mut counted = 0;
-    let found = store.find_counted(key, 0, &mut counted);
+    let found = store.find_counted(key_of(name, ""), 0, &mut counted);
     let is_found = found == Some(packet);
     (counted >= 1 && counted <= most).then_some(is_found)
 }
 
-/// Puts one Data more than the capacity into a store. Returns whether the first Data is evicted,
-/// the last Data is cached, and the store is full.
-fn is_first_gone(alloc: Global, capacity: u32, most: u64) -> Option<bool> {
-    let mut packet = data_of(alloc, "/n/0000", "01", Some(0))?;
-    let mut store = Store::new(alloc, capacity as usize).ok()?;
-    for number in 0..=capacity {
-        put_number(&mut packet, number);
-        if !put_packet(&mut store, &packet, 0)? {
+/// Returns whether a Data is cached, if its lookup takes at least one and at most `most`
+/// comparisons.
+fn is_held(store: &mut Store, packet: &[u8], most: u64) -> Option<bool> {
+    match read_frame(packet).ok()? {
+        Frame::Data(data) => is_found_within(store, data.name, packet, most),
+        _ => None,
+    }
+}
+
+/// Puts a Data for each number up to `last` into a store, and returns whether each of them is
+/// cached. The packet is then that of the last number.
+fn put_numbers(store: &mut Store, packet: &mut [u8], last: u32) -> Option<bool> {
+    for number in 0..=last {
+        put_number(packet, number);
+        if !put_packet(store, packet, 0)? {
             return Some(false);
         }
     }
-    let last = is_held(&mut store, &packet, most)?;
-    put_number(&mut packet, 0);
-    let first = is_held(&mut store, &packet, most)?;
-    Some(last && !first && store.len() == capacity as usize)
+    Some(true)
+}
+
+/// Returns whether a store holds the Data with the number of the packet, but not the Data with the
+/// number 0.
+fn holds_the_last(store: &mut Store, packet: &mut [u8], most: u64) -> Option<bool> {
+    let last = is_held(store, packet, most)?;
+    put_number(packet, 0);
+    let first = is_held(store, packet, most)?;
+    Some(last && !first)
+}
+
+/// Puts one Data more than the capacity into a store. Returns whether the first Data is evicted,
+/// the last Data is cached, and the store is full.
+fn evicts_the_first(
+    store: &mut Store,
+    packet: &mut [u8],
+    capacity: u32,
+    most: u64,
+) -> Option<bool> {
+    let holds = put_numbers(store, packet, capacity)? && holds_the_last(store, packet, most)?;
+    Some(holds && store.len() == capacity as usize)
+}
+
+/// Returns whether a store with this capacity evicts the first Data for one Data too many. Each
+/// lookup must take at least one and at most `most` comparisons.
+fn is_first_gone(alloc: Global, capacity: u32, most: u64) -> Option<bool> {
+    let mut packet = data_of(alloc, "/n/0000", "01", Some(0))?;
+    let mut store = Store::new(alloc, capacity as usize).ok()?;
+    evicts_the_first(&mut store, &mut packet, capacity, most)
 }
 
 #[test]
@@ -288,19 +345,19 @@ fn greatest_cache(rt: HostRuntime) {
     assert!(rt; is_first_gone(rt.alloc(), 65_536, 17) == Some(true));
 }
 
+/// Returns whether the Data `/A` is found exactly if it was cached.
+fn is_found_if_kept(alloc: Global, store: &mut Store, packet: &[u8]) -> Option<bool> {
+    let was_kept = put_packet(store, packet, 0)?;
+    let name = NameBuf::from_uri(alloc, "/A").ok()?;
+    Some(found(store, name.view()).is_some() == was_kept)
+}
+
 /// Returns whether a Data is found exactly if it was cached. A Data is not cached if memory runs
 /// out.
 fn is_found_where_kept(alloc: Global) -> Option<bool> {
     let packet = data_of(alloc, "/A", "01", Some(0))?;
     let mut store = Store::new(alloc, 2).ok()?;
-    let was_kept = put_packet(&mut store, &packet, 0)?;
-    let name = NameBuf::from_uri(alloc, "/A").ok()?;
-    let key = Key {
-        name: name.view(),
-        can_be_prefix: false,
-        must_be_fresh: false,
-    };
-    Some(store.find(key, 0).is_some() == was_kept)
+    is_found_if_kept(alloc, &mut store, &packet)
 }
 
 #[test]

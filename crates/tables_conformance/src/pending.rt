@@ -8,6 +8,7 @@ mod tokens;
 
 ghost use Rattle.std.specs.Prelude.{◌≡◌, ◌≤◌, ℕ, IfSome, IsSome, length};
 
+use crate::tables::numbered;
 use ndn_names::{Name, NameBuf};
 use ndn_packets::*;
 use pit_fib::*;
@@ -130,27 +131,78 @@ impl Table {
     }
 }
 
-fn nonce_of(text: &str) -> Option<[u8; 4]> {
-    Some(text.parse::<u32>().ok()?.to_be_bytes())
+/// The numbers after a key. Those that a call does not have are 0.
+#[derive(Clone, Copy)]
+struct Numbers {
+    face: u64,
+    first: u64,
+    second: u64,
+    third: u64,
 }
 
-fn faces_shown(alloc: Global, faces: &Faces) -> Option<String> {
-    let mut text = format!(in alloc; "faces").ok()?;
+/// Reads a number and returns the words after it, which are `0` if there are none.
+fn number_in(text: &str) -> Option<(u64, &str)> {
+    let (number, rest) = text.split_once(' ').unwrap_or((text, "0"));
+    Some((number.parse().ok()?, rest))
+}
+
+/// Reads up to four numbers.
+fn numbers_in(text: &str) -> Option<Numbers> {
+    let (face, rest) = number_in(text)?;
+    let (first, rest) = number_in(rest)?;
+    let (second, rest) = number_in(rest)?;
+    let (third, _) = number_in(rest)?;
+    Some(Numbers {
+        face,
+        first,
+        second,
+        third,
+    })
+}
+
+/// Returns the octets of a Nonce.
+fn nonce_of(number: u64) -> Option<[u8; 4]> {
+    Some(u32::try_from(number).ok()?.to_be_bytes())
+}
+
+/// Appends faces.
+fn put_faces(text: &mut String, faces: &Faces) -> Option<()> {
+    text.push_str("faces").ok()?;
     for i in 0..faces.len() {
         let face = faces.get(i)?;
-        text.push_str(&format!(in alloc; " {face}").ok()?).ok()?;
+        write!(text, " {face}").ok()?;
     }
-    Some(text)
+    Some(())
 }
 
-fn used_shown(alloc: Global, used: &Used) -> Option<String> {
-    let mut text = format!(in alloc; "used").ok()?;
+/// Appends faces, each with the moment at which it was last used.
+fn put_used(text: &mut String, used: &Used) -> Option<()> {
+    text.push_str("used").ok()?;
     for i in 0..used.len() {
         let (face, moment) = used.at(i)?;
-        text.push_str(&format!(in alloc; " {face}@{moment}").ok()?)
-            .ok()?;
+        write!(text, " {face}@{moment}").ok()?;
     }
-    Some(text)
+    Some(())
+}
+
+/// Appends the octets of an Interest or of a token.
+fn put_interest(alloc: Global, text: &mut String, interest: Option<&[u8]>) -> Option<()> {
+    match interest {
+        Some(interest) => {
+            let octets = hex::encode(alloc, interest).ok()?;
+            text.push_str(&octets).ok()
+        }
+        None => text.push_str("none").ok(),
+    }
+}
+
+/// Appends the result of a Nack.
+fn put_nacked(text: &mut String, answer: Nacked) -> Option<()> {
+    match answer {
+        Nacked::NoPending => text.push_str("no pending").ok(),
+        Nacked::Waiting => text.push_str("waiting").ok(),
+        Nacked::All(reason) => write!(text, "all {reason}").ok(),
+    }
 }
 
 /// Returns a Data with this name and an empty Content.
@@ -158,6 +210,12 @@ fn empty_data(alloc: Global, name: Name<'_>) -> Option<Vec<u8>> {
     let mut packet = Vec::new(alloc);
     put_reply(&mut packet, name, &[]).ok()?;
     Some(packet)
+}
+
+/// Returns a Data with this URI and an empty Content.
+fn data_at(alloc: Global, uri: &str) -> Option<Vec<u8>> {
+    let name = NameBuf::from_uri(alloc, uri).ok()?;
+    empty_data(alloc, name.view())
 }
 
 /// Returns the faces that a Data is sent to.
@@ -168,164 +226,197 @@ fn faces_answered(table: &mut Table, packet: &[u8]) -> Option<Faces> {
     }
 }
 
-fn satisfied(alloc: Global, table: &mut Table, uri: &str) -> Option<String> {
-    let name = NameBuf::from_uri(alloc, uri).ok()?;
-    let packet = empty_data(alloc, name.view())?;
-    faces_shown(alloc, &faces_answered(table, &packet)?)
-}
-
-/// Returns the token that a face gets with an empty Data of a name.
-fn token_shown(alloc: Global, table: &Table, text: &str) -> Option<String> {
-    let (uri, face) = text.split_once(' ')?;
-    let name = NameBuf::from_uri(alloc, uri).ok()?;
-    let packet = empty_data(alloc, name.view())?;
-    match read_frame(&packet).ok()? {
-        Frame::Data(data) => {
-            interest_shown(alloc, table.pit.token_for(&data, face.parse().ok()?))
-        }
+/// Appends the answer to `data`, `askers` or `token_for` for a Data.
+fn put_of_data(
+    alloc: Global,
+    text: &mut String,
+    table: &mut Table,
+    call: &str,
+    data: &Data<'_>,
+    face: u64,
+) -> Option<()> {
+    match call {
+        "data" => put_faces(text, &table.satisfy(data)),
+        "askers" => put_faces(text, &table.pit.askers(data)),
+        "token_for" => put_interest(alloc, text, table.pit.token_for(data, face)),
         _ => None,
     }
 }
 
-/// Returns the faces that wait for an empty Data of a name.
-fn askers_shown(alloc: Global, table: &Table, uri: &str) -> Option<String> {
-    let name = NameBuf::from_uri(alloc, uri).ok()?;
-    let packet = empty_data(alloc, name.view())?;
-    match read_frame(&packet).ok()? {
-        Frame::Data(data) => faces_shown(alloc, &table.pit.askers(&data)),
+/// Appends the answer to `data`, `askers` or `token_for` for the packet of a Data.
+fn put_of_packet(
+    alloc: Global,
+    text: &mut String,
+    table: &mut Table,
+    call: &str,
+    packet: &[u8],
+    face: u64,
+) -> Option<()> {
+    match read_frame(packet).ok()? {
+        Frame::Data(data) => put_of_data(alloc, text, table, call, &data, face),
         _ => None,
     }
 }
 
-fn nacked_shown(alloc: Global, answer: Nacked) -> Option<String> {
-    match answer {
-        Nacked::NoPending => String::from_str(alloc, "no pending").ok(),
-        Nacked::Waiting => String::from_str(alloc, "waiting").ok(),
-        Nacked::All(reason) => format!(in alloc; "all {reason}").ok(),
+/// Appends the answer to a call for an empty Data of a name: `data NAME` and `askers NAME` give
+/// faces, and `token_for NAME FACE` gives the token that the face gets with the Data.
+fn put_of_name(
+    alloc: Global,
+    text: &mut String,
+    table: &mut Table,
+    call: &str,
+    words: &str,
+) -> Option<()> {
+    let (uri, face) = words.split_once(' ').unwrap_or((words, "0"));
+    let face = face.parse().ok()?;
+    let packet = data_at(alloc, uri)?;
+    put_of_packet(alloc, text, table, call, &packet, face)
+}
+
+/// Returns whether `ask KEY FACE NONCE DEADLINE` is recorded.
+fn is_asked(table: &mut Table, key: Key<'_>, numbers: Numbers) -> Option<bool> {
+    let nonce = nonce_of(numbers.first)?;
+    Some(
+        table
+            .ask(key, numbers.face, nonce, numbers.second)
+            .is_none(),
+    )
+}
+
+/// Returns whether `token KEY FACE TOKEN DEADLINE` is recorded.
+fn is_asked_with(table: &mut Table, key: Key<'_>, numbers: Numbers) -> Option<bool> {
+    let octet = u8::try_from(numbers.first).ok()?;
+    let refused = table.ask_with(key, numbers.face, [octet; 4], numbers.second, &[octet]);
+    Some(refused.is_none())
+}
+
+/// Returns whether `sent KEY ASKER FACE NONCE NOW` is recorded.
+fn is_sent(table: &mut Table, key: Key<'_>, numbers: Numbers) -> Option<bool> {
+    let nonce = nonce_of(numbers.second)?;
+    Some(table.sent(key, numbers.face, numbers.first, nonce, numbers.third))
+}
+
+/// Returns the answer to a call that names a key: `ask KEY FACE NONCE DEADLINE`, `token KEY FACE
+/// TOKEN DEADLINE` for an Interest with a PIT token of one octet, `sent KEY ASKER FACE NONCE NOW`,
+/// `loops KEY FACE NONCE`, or `prepare KEY OCTETS`.
+fn is_so(table: &mut Table, call: &str, key: Key<'_>, numbers: Numbers) -> Option<bool> {
+    match call {
+        "ask" => is_asked(table, key, numbers),
+        "token" => is_asked_with(table, key, numbers),
+        "sent" => is_sent(table, key, numbers),
+        "loops" => Some(table.pit.loops(key, numbers.face, nonce_of(numbers.first)?)),
+        "prepare" => Some(table.prepare(key, usize::try_from(numbers.face).ok()?)),
+        _ => None,
     }
 }
 
-fn interest_shown(alloc: Global, interest: Option<&[u8]>) -> Option<String> {
-    match interest {
-        Some(interest) => hex::encode(alloc, interest).ok(),
-        None => String::from_str(alloc, "none").ok(),
+/// Runs a call that names a key and has a one-word answer: a call that `is_so` runs, `withdraw KEY
+/// FACE`, or `remove KEY`.
+fn word_of(table: &mut Table, call: &str, key: Key<'_>, numbers: Numbers) -> Option<&'static str> {
+    match call {
+        "withdraw" => table.withdraw(key, numbers.face),
+        "remove" => table.remove(key),
+        _ => return Some(if is_so(table, call, key, numbers)? {
+            "yes"
+        } else {
+            "no"
+        }),
     }
+    Some("-")
 }
 
-/// Runs a call that names a key and has a one-word answer: `ask KEY FACE NONCE DEADLINE`, `token
-/// KEY FACE TOKEN DEADLINE` for an Interest with a PIT token of one octet, `sent KEY ASKER FACE
-/// NONCE NOW`, `loops KEY FACE NONCE`, `prepare KEY OCTETS`, `withdraw KEY FACE`, or `remove KEY`.
-fn word_of(
+/// Appends the answer to `nack KEY FACE NONCE REASON`.
+fn put_nack(text: &mut String, table: &mut Table, key: Key<'_>, numbers: Numbers) -> Option<()> {
+    let nonce = nonce_of(numbers.first)?;
+    put_nacked(text, table.nacked(key, numbers.face, nonce, numbers.second))
+}
+
+/// Appends the answer to a call that names a key: a call that `word_of` runs, `nack KEY FACE NONCE
+/// REASON`, `of KEY FACE`, `token_of KEY FACE`, or `used KEY`.
+fn put_of_key(
+    alloc: Global,
+    text: &mut String,
     table: &mut Table,
     call: &str,
     key: Key<'_>,
-    face: u64,
-    first: &str,
-    last: &str,
-) -> Option<&'static str> {
-    let is_so = match call {
-        "ask" => table
-            .ask(key, face, nonce_of(first)?, last.parse().ok()?)
-            .is_none(),
-        "token" => {
-            let octet = first.parse().ok()?;
-            table
-                .ask_with(key, face, [octet; 4], last.parse().ok()?, &[octet])
-                .is_none()
-        }
-        "sent" => {
-            let (nonce, now) = last.split_once(' ')?;
-            let nonce = nonce_of(nonce)?;
-            table.sent(key, face, first.parse().ok()?, nonce, now.parse().ok()?)
-        }
-        "loops" => table.pit.loops(key, face, nonce_of(first)?),
-        "prepare" => table.prepare(key, usize::try_from(face).ok()?),
-        "withdraw" => {
-            table.withdraw(key, face);
-            return Some("-");
-        }
-        "remove" => {
-            table.remove(key);
-            return Some("-");
-        }
-        _ => return None,
-    };
-    Some(if is_so { "yes" } else { "no" })
-}
-
-/// Runs a call that names a key: a call of `word_of`, `nack KEY FACE NONCE REASON`, `of KEY FACE`,
-/// `token_of KEY FACE`, or `used KEY`.
-fn keyed(alloc: Global, table: &mut Table, call: &str, key: Key<'_>, rest: &str) -> Option<String> {
-    let (face, rest) = rest.split_once(' ').unwrap_or((rest, "0"));
-    let (first, last) = rest.split_once(' ').unwrap_or((rest, "0"));
-    let face = face.parse().ok()?;
+    numbers: Numbers,
+) -> Option<()> {
     match call {
-        "nack" => {
-            let answer = table.nacked(key, face, nonce_of(first)?, last.parse().ok()?);
-            nacked_shown(alloc, answer)
-        }
-        "of" => interest_shown(alloc, table.pit.interest_of(key, face)),
-        "token_of" => interest_shown(alloc, table.pit.token_of(key, face)),
-        "used" => used_shown(alloc, &table.pit.used(key)),
-        _ => String::from_str(alloc, word_of(table, call, key, face, first, last)?).ok(),
+        "nack" => put_nack(text, table, key, numbers),
+        "of" => put_interest(alloc, text, table.pit.interest_of(key, numbers.face)),
+        "token_of" => put_interest(alloc, text, table.pit.token_of(key, numbers.face)),
+        "used" => put_used(text, &table.pit.used(key)),
+        _ => text.push_str(word_of(table, call, key, numbers)?).ok(),
     }
 }
 
-/// Returns the answer to a call: a call of `keyed`, `data NAME`, `askers NAME`, `token_for NAME
-/// FACE`, `has_tokens`, `expire NOW`, `close FACE`, or `len`.
-fn answer(alloc: Global, table: &mut Table, text: &str) -> Option<String> {
-    let (call, rest) = text.split_once(' ').unwrap_or((text, ""));
+/// Appends the answer to a call that names a key, which `put_of_key` runs.
+fn put_keyed(
+    alloc: Global,
+    text: &mut String,
+    table: &mut Table,
+    call: &str,
+    words: &str,
+) -> Option<()> {
+    let (key, rest) = words.split_once(' ').unwrap_or((words, "0"));
+    let numbers = numbers_in(rest)?;
+    let key = OwnedKey::read(alloc, key)?;
+    put_of_key(alloc, text, table, call, key.view(), numbers)
+}
+
+/// Appends the answer to `has_tokens` or `len`.
+fn put_count(text: &mut String, pit: &Pit, call: &str) -> Option<()> {
+    if call == "has_tokens" {
+        return write!(text, "{}", pit.has_tokens()).ok();
+    }
+    write!(text, "{} {}", pit.len(), pit.is_empty()).ok()
+}
+
+/// Runs `expire NOW` or `close FACE`, and appends `-`.
+fn put_end(text: &mut String, table: &mut Table, call: &str, number: &str) -> Option<()> {
+    let number = number.parse().ok()?;
+    if call == "expire" {
+        table.expire(number);
+    } else {
+        table.close_face(number);
+    }
+    text.push_str("-").ok()
+}
+
+/// Appends the answer to a call: a call that `put_of_name` or `put_of_key` runs, `has_tokens`,
+/// `expire NOW`, `close FACE`, or `len`.
+fn put_answer(alloc: Global, text: &mut String, table: &mut Table, words: &str) -> Option<()> {
+    let (call, rest) = words.split_once(' ').unwrap_or((words, ""));
     match call {
-        "data" => satisfied(alloc, table, rest),
-        "askers" => askers_shown(alloc, table, rest),
-        "token_for" => token_shown(alloc, table, rest),
-        "has_tokens" => format!(in alloc; "{}", table.pit.has_tokens()).ok(),
-        "expire" => {
-            table.expire(rest.parse().ok()?);
-            format!(in alloc; "-").ok()
-        }
-        "close" => {
-            table.close_face(rest.parse().ok()?);
-            format!(in alloc; "-").ok()
-        }
-        "len" => {
-            let (len, is_empty) = (table.pit.len(), table.pit.is_empty());
-            format!(in alloc; "{len} {is_empty}").ok()
-        }
-        _ => {
-            let (key, rest) = rest.split_once(' ').unwrap_or((rest, "0"));
-            let key = OwnedKey::read(alloc, key)?;
-            keyed(alloc, table, call, key.view(), rest)
-        }
+        "data" | "askers" | "token_for" => put_of_name(alloc, text, table, call, rest),
+        "has_tokens" | "len" => put_count(text, &table.pit, call),
+        "expire" | "close" => put_end(text, table, call, rest),
+        _ => put_keyed(alloc, text, table, call, rest),
     }
 }
 
-/// Returns the answers to calls that are separated by `, `.
-fn answers(alloc: Global, row: &str) -> Option<String> {
-    let mut table = Table::new(alloc);
-    let mut text = String::new(alloc);
-    for call in row.split(", ") {
+/// Appends the answers to calls that are separated by `, `.
+fn put_answers(alloc: Global, text: &mut String, table: &mut Table, calls: &str) -> Option<()> {
+    for call in calls.split(", ") {
         if !text.is_empty() {
             text.push_str("; ").ok()?;
         }
-        text.push_str(&answer(alloc, &mut table, call)?).ok()?;
+        put_answer(alloc, text, table, call)?;
     }
+    Some(())
+}
+
+/// Returns the answers of a table to calls that are separated by `, `.
+fn answers_of(alloc: Global, table: &mut Table, calls: &str) -> Option<String> {
+    let mut text = String::new(alloc);
+    put_answers(alloc, &mut text, table, calls)?;
     Some(text)
 }
 
-/// Returns the name `/` followed by one component, a number in two octets.
-fn numbered(alloc: Global, number: u16) -> Option<NameBuf> {
-    let mut name = NameBuf::new(alloc);
-    name.append(8, &number.to_be_bytes()).ok()?;
-    Some(name)
-}
-
-fn exact_key(name: &NameBuf) -> Key<'_> {
-    Key {
-        name: name.view(),
-        can_be_prefix: false,
-        must_be_fresh: false,
-    }
+/// Returns the answers of an empty table to calls that are separated by `, `.
+fn answers(alloc: Global, row: &str) -> Option<String> {
+    let mut table = Table::new(alloc);
+    answers_of(alloc, &mut table, row)
 }
 
 /// Records an Interest under the key with this number. Either each key has its own name, or four
@@ -337,8 +428,12 @@ fn ask_numbered(
     face: u64,
     share_names: bool,
 ) -> Option<bool> {
-    let flags = if share_names { number % 4 } else { 0 };
-    let name = numbered(alloc, if share_names { number / 4 } else { number })?;
+    let (at, flags) = if share_names {
+        (number / 4, number % 4)
+    } else {
+        (number, 0)
+    };
+    let name = numbered(alloc, at)?;
     let key = Key {
         name: name.view(),
         can_be_prefix: flags >= 2,
@@ -347,8 +442,8 @@ fn ask_numbered(
     Some(table.ask(key, face, [0; 4], 9).is_none())
 }
 
-/// Records Interests under 4,096 keys, then one under a further key, and one under a key that is
-/// pending.
+/// Returns whether a table accepts Interests under 4,096 keys, then refuses an Interest under a
+/// further key, but accepts a second Interest under one of the 4,096 keys.
 fn fills(alloc: Global, table: &mut Table, share_names: bool) -> Option<bool> {
     for number in 0..4096 {
         if !ask_numbered(alloc, table, number, 1, share_names)? {
@@ -367,20 +462,36 @@ fn is_filled(alloc: Global, share_names: bool) -> Option<bool> {
 
 const ROUNDS: u32 = 100_000;
 
-/// Returns whether a table is empty after many rounds. Each round records an Interest under one of
-/// 4,096 keys, and removes the key of 64 rounds before.
-fn ends_empty(alloc: Global, table: &mut Table, _key: Key<'_>, _other: Key<'_>) -> Option<bool> {
+/// Removes the key with this number.
+fn remove_numbered(alloc: Global, table: &mut Table, number: u16) -> Option<()> {
+    let name = numbered(alloc, number)?;
+    table.remove(Key {
+        name: name.view(),
+        can_be_prefix: false,
+        must_be_fresh: false,
+    });
+    Some(())
+}
+
+/// Runs many rounds, and returns whether each Interest is recorded. Each round records an Interest
+/// under one of 4,096 keys, and removes the key that was used 64 rounds earlier.
+fn runs_rounds(alloc: Global, table: &mut Table) -> Option<bool> {
     for round in 0..ROUNDS {
         let number = u16::try_from(round % 4096).ok()?;
         if !ask_numbered(alloc, table, number, 1, false)? {
             return Some(false);
         }
-        let old = numbered(alloc, (number + 4032) % 4096)?;
-        table.remove(exact_key(&old));
+        remove_numbered(alloc, table, (number + 4032) % 4096)?;
     }
+    Some(true)
+}
+
+/// Returns whether a table has 64 keys after many rounds, and is empty after their deadline.
+fn ends_empty(alloc: Global, table: &mut Table, _key: Key<'_>, _other: Key<'_>) -> Option<bool> {
+    let runs = runs_rounds(alloc, table)?;
     let stood = table.pit.len();
     table.expire(9);
-    Some(stood == 64 && table.pit.is_empty())
+    Some(runs && stood == 64 && table.pit.is_empty())
 }
 
 /// Returns whether an Interest that came from 64 faces can be sent to 64 faces.
@@ -461,7 +572,8 @@ fn keeps_what_is_prepared(
     Some(is_kept && table.sent(key, 1, 2, [2; 4], 6) && table.pit.len() == 1)
 }
 
-/// Returns whether an Interest for which memory runs out leaves the older Interest unchanged.
+/// Returns whether an older Interest of the same face is unchanged if memory runs out for a new
+/// Interest.
 fn leaves_the_older_one(
     _alloc: Global,
     table: &mut Table,

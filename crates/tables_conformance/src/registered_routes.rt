@@ -6,10 +6,24 @@ mod route_limits;
 
 use crate::route_table::{Route, RouteTable};
 use crate::rows::check_rows;
-use crate::tables::hops_shown;
+use crate::tables::put_hops;
 use ndn_names::{Name, NameBuf};
 use pit_fib::*;
 use std::alloc::Global;
+
+/// Sets one field of a route, such as `cost=5`.
+fn set_field(route: &mut Route, setting: &str) -> Option<()> {
+    let (field, value) = setting.split_once('=')?;
+    let value = value.parse().ok()?;
+    match field {
+        "cost" => route.cost = value,
+        "origin" => route.origin = value,
+        "flags" => route.flags = value,
+        "until" => route.deadline = Some(value),
+        _ => return None,
+    }
+    Some(())
+}
 
 /// Reads a face and its settings, such as `2 cost=5 origin=1 flags=2 until=1000`. By default the
 /// cost and the origin are 0, the flags are 1, and the route never expires.
@@ -17,15 +31,7 @@ fn route_in(words: &str) -> Option<Route> {
     let (face, settings) = words.split_once(' ').unwrap_or((words, ""));
     let mut route = Route::new(face.parse().ok()?, 0);
     for setting in settings.split_ascii_whitespace() {
-        let (field, value) = setting.split_once('=')?;
-        let value = value.parse().ok()?;
-        match field {
-            "cost" => route.cost = value,
-            "origin" => route.origin = value,
-            "flags" => route.flags = value,
-            "until" => route.deadline = Some(value),
-            _ => return None,
-        }
+        set_field(&mut route, setting)?;
     }
     Some(route)
 }
@@ -42,93 +48,138 @@ fn change(routes: &mut RouteTable, call: &str, name: Name<'_>, route: Route) -> 
     Some(())
 }
 
-/// Shows next hops as `3@0 2@5`, or as `none` if there are none.
-fn hops_or_none(alloc: Global, hops: &Hops) -> Option<String> {
-    let text = hops_shown(alloc, hops)?;
-    String::from_str(alloc, text.strip_prefix(' ').unwrap_or("none")).ok()
+/// Appends next hops as ` 3@0 2@5`, or as ` none` if there are none.
+fn put_hops_or_none(text: &mut String, hops: &Hops) -> Option<()> {
+    if hops.len() == 0 {
+        return text.push_str(" none").ok();
+    }
+    put_hops(text, hops)
+}
+
+/// Appends each row as its name and its next hops, such as ` | /A 3@0 2@5`.
+fn put_rows(text: &mut String, rows: &[(NameBuf, Hops)]) -> Option<()> {
+    for row in rows {
+        write!(text, " | {}", row.0.view()).ok()?;
+        put_hops_or_none(text, &row.1)?;
+    }
+    Some(())
+}
+
+/// Appends each name with its next hops.
+fn put_list(alloc: Global, text: &mut String, fib: &Fib, now: u64) -> Option<()> {
+    let rows = fib.list(alloc, now).ok()?;
+    put_rows(text, &rows)
 }
 
 /// Shows each name with its next hops, as `/A 3@0 2@5 | /B 2@5`, or `none` if there are no names.
 fn list_or_none(alloc: Global, fib: &Fib, now: u64) -> Option<String> {
     let mut text = String::new(alloc);
-    for row in &fib.list(alloc, now).ok()? {
-        let name = row.0.to_uri(alloc).ok()?;
-        let hops = hops_or_none(alloc, &row.1)?;
-        text.push_str(&format!(in alloc; " | {name} {hops}").ok()?)
-            .ok()?;
-    }
+    put_list(alloc, &mut text, fib, now)?;
     String::from_str(alloc, text.strip_prefix(" | ").unwrap_or("none")).ok()
 }
 
-/// Returns the answer to `due`, `expire` or `list` at a moment, if the call is one of these.
-fn told(alloc: Global, routes: &mut RouteTable, call: &str, now: u64) -> Option<String> {
-    let number = match call {
-        "due" => routes.read().due(now),
-        "expire" => routes.expire(now),
-        "list" => return list_or_none(alloc, routes.read(), now),
-        _ => return None,
-    };
-    format!(in alloc; "{number}").ok()
+/// Appends the answer to `list` at a moment, after `; `.
+fn put_told_list(alloc: Global, text: &mut String, fib: &Fib, now: u64) -> Option<()> {
+    let list = list_or_none(alloc, fib, now)?;
+    write!(text, "; {list}").ok()
 }
 
-/// Returns the next hops of a name, or nothing for a call that changes the table.
-fn named(
+/// Appends the answer to `due`, `expire` or `list` at a moment, after `; `.
+fn put_told(
     alloc: Global,
+    text: &mut String,
     routes: &mut RouteTable,
     call: &str,
-    words: &str,
-) -> Option<Option<String>> {
-    let (name, words) = words.split_once(' ').unwrap_or((words, "0"));
-    let name = NameBuf::from_uri(alloc, name).ok()?;
-    if call == "of" {
-        let hops = routes.read().longest(name.view());
-        return Some(Some(hops_or_none(alloc, &hops)?));
+    now: u64,
+) -> Option<()> {
+    match call {
+        "due" => write!(text, "; {}", routes.read().due(now)).ok(),
+        "expire" => write!(text, "; {}", routes.expire(now)).ok(),
+        _ => put_told_list(alloc, text, routes.read(), now),
     }
-    change(routes, call, name.view(), route_in(words)?)?;
-    Some(None)
 }
 
-/// Returns the answer to a call, if the answer is to be shown.
-fn answer(alloc: Global, routes: &mut RouteTable, call: &str) -> Option<Option<String>> {
+/// Appends the next hops of a name, after `;`.
+fn put_longest(alloc: Global, text: &mut String, fib: &Fib, uri: &str) -> Option<()> {
+    let name = NameBuf::from_uri(alloc, uri).ok()?;
+    text.push(';').ok()?;
+    put_hops_or_none(text, &fib.longest(name.view()))
+}
+
+/// Runs `add`, `register`, `remove` or `unregister`, each with a name, a face and its settings.
+fn change_named(alloc: Global, routes: &mut RouteTable, call: &str, words: &str) -> Option<()> {
+    let (uri, words) = words.split_once(' ').unwrap_or((words, "0"));
+    let route = route_in(words)?;
+    let name = NameBuf::from_uri(alloc, uri).ok()?;
+    change(routes, call, name.view(), route)
+}
+
+/// Runs a call. For `due NOW`, `expire NOW`, `list NOW` and `of NAME`, appends `; ` and the answer.
+/// `close FACE` and the calls that `change_named` runs have no answer.
+fn put_answer(alloc: Global, text: &mut String, routes: &mut RouteTable, call: &str) -> Option<()> {
     let (call, words) = call.split_once(' ')?;
     match call {
         "close" => {
             routes.close_face(words.parse().ok()?);
-            Some(None)
+            Some(())
         }
-        "due" | "expire" | "list" => { Some(Some(told(alloc, routes, call, words.parse().ok()?)?)) }
-        _ => named(alloc, routes, call, words),
+        "due" | "expire" | "list" => put_told(alloc, text, routes, call, words.parse().ok()?),
+        "of" => put_longest(alloc, text, routes.read(), words),
+        _ => change_named(alloc, routes, call, words),
     }
 }
 
-/// Returns the answers to calls that are separated by `, `.
-fn answers(alloc: Global, row: &str) -> Option<String> {
-    let mut routes = RouteTable::new(alloc);
-    let mut text = String::new(alloc);
-    for call in row.split(", ") {
-        if let Some(shown) = answer(alloc, &mut routes, call)? {
-            text.push_str("; ").ok()?;
-            text.push_str(&shown).ok()?;
-        }
+/// Runs calls that are separated by `, `, and appends their answers.
+fn put_answers(
+    alloc: Global,
+    text: &mut String,
+    routes: &mut RouteTable,
+    calls: &str,
+) -> Option<()> {
+    for call in calls.split(", ") {
+        put_answer(alloc, text, routes, call)?;
     }
+    Some(())
+}
+
+/// Returns the answers of a table to calls that are separated by `, `.
+fn answers_of(alloc: Global, routes: &mut RouteTable, calls: &str) -> Option<String> {
+    let mut text = String::new(alloc);
+    put_answers(alloc, &mut text, routes, calls)?;
     String::from_str(alloc, text.strip_prefix("; ")?).ok()
 }
 
-/// Returns the table after calls that are separated by `, `.
-fn table_after(alloc: Global, calls: &str) -> Option<RouteTable> {
+/// Returns the answers of an empty table to calls that are separated by `, `.
+fn answers(alloc: Global, row: &str) -> Option<String> {
     let mut routes = RouteTable::new(alloc);
-    for call in calls.split(", ") {
-        answer(alloc, &mut routes, call)?;
-    }
-    Some(routes)
+    answers_of(alloc, &mut routes, row)
+}
+
+/// Runs calls that are separated by `, `.
+fn run(alloc: Global, routes: &mut RouteTable, calls: &str) -> Option<()> {
+    let mut text = String::new(alloc);
+    put_answers(alloc, &mut text, routes, calls)
+}
+
+/// Returns whether a table has the next hops and routes of another table, which is given by its
+/// calls.
+fn has_routes_after(alloc: Global, fib: &Fib, calls: &str) -> Option<bool> {
+    let mut other = RouteTable::new(alloc);
+    run(alloc, &mut other, calls)?;
+    fib.has_same_routes(alloc, other.read()).ok()
+}
+
+/// Returns whether two tables, each given by its calls, have the same next hops and routes.
+fn are_same(alloc: Global, calls: &str, others: &str) -> Option<bool> {
+    let mut routes = RouteTable::new(alloc);
+    run(alloc, &mut routes, calls)?;
+    has_routes_after(alloc, routes.read(), others)
 }
 
 /// Shows whether two tables, each given by its calls, have the same next hops and routes.
 fn sameness(alloc: Global, row: &str) -> Option<String> {
     let (calls, others) = row.split_once("; ")?;
-    let routes = table_after(alloc, calls)?;
-    let other = table_after(alloc, others)?;
-    let is_same = routes.read().has_same_routes(alloc, other.read()).ok()?;
+    let is_same = are_same(alloc, calls, others)?;
     format!(in alloc; "{is_same}").ok()
 }
 
@@ -188,7 +239,7 @@ register / 2 cost=1, register /A 2 cost=9 until=5, register /A/B 3, of /A/B, lis
 register /A 2 cost=1 until=5, register /A 2 cost=9 origin=1, of /A, list 5, expire 5, of /A -> 2@1; /A 2@9; 1; 2@9
 ";
 
-/// The next hops that remain when a route expires.
+/// The next hops of names before and after a route expires.
 #[test]
 fn what_ends_with_a_route(rt: HostRuntime) {
     check_rows(&rt, rt.alloc(), WHAT_ENDS_WITH_A_ROUTE, answers);

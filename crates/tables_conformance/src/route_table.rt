@@ -9,7 +9,8 @@ use pit_fib::*;
 use std::alloc::Global;
 use std::marker::Model;
 
-/// A table of next hops and registered routes, on faces below 63 and the greatest face.
+/// A table of next hops and registered routes, whose faces are below 63 or the greatest face
+/// number.
 #[derive(Drop)]
 pub struct RouteTable {
     fib: Fib,

@@ -4,7 +4,8 @@ use std::alloc::Global;
 use std::process::Abort;
 use test_support::first_misshown;
 
-/// Fails at the first row whose input is not shown as the row says, and also if there is no row.
+/// Fails at the first row whose input gives a text other than the expected one, and also if there
+/// is no row.
 pub fn check_rows(
     rt: &impl Abort,
     alloc: Global,

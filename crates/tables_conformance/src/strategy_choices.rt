@@ -6,7 +6,7 @@ ghost use Rattle.std.proofs.lemmas.List.Elements.{All-take, All-contains_itself}
 use crate::rows::check_rows;
 use crate::tables::routes_in;
 use ndn_names::NameBuf;
-use pit_fib::{Faces, Hops, Used};
+use pit_fib::{Faces, Fib, Hops, Used};
 use std::alloc::Global;
 use strategies::*;
 
@@ -34,17 +34,22 @@ impl Strategy for First {
     }
 }
 
-/// Reads a face and its number, such as `2@5`.
+/// Reads a face and a number for it, such as `2@5`.
 fn number_at(text: &str) -> Option<(u64, u64)> {
     let (face, number) = text.split_once('@')?;
     Some((face.parse().ok()?, number.parse().ok()?))
 }
 
+/// Returns the next hops of the name `/`.
+fn root_hops(alloc: Global, fib: &Fib) -> Hops {
+    let root = NameBuf::new(alloc);
+    fib.longest(root.view())
+}
+
 /// Returns the next hops of the routes of the name `/`. Face 2 is Local.
 fn hops_in(alloc: Global, routes: &str) -> Option<Hops> {
-    let root = NameBuf::new(alloc);
     let routes = routes_in(alloc, routes)?;
-    let mut hops = routes.read().longest(root.view());
+    let mut hops = root_hops(alloc, routes.read());
     let mut locals = Faces::new();
     locals.insert(2);
     hops.mark(&locals);
@@ -74,16 +79,33 @@ fn ask_in(text: &str) -> Option<Ask> {
     })
 }
 
+/// Appends faces.
+fn put_faces(text: &mut String, faces: &Faces) -> Option<()> {
+    for i in 0..faces.len() {
+        let face = faces.get(i)?;
+        write!(text, " {face}").ok()?;
+    }
+    Some(())
+}
+
+/// Shows a choice as `send 2 3` or `no route`.
 fn shown(alloc: Global, choice: &Choice) -> Option<String> {
     let Choice::Send(faces) = choice else {
         return String::from_str(alloc, "no route").ok();
     };
     let mut text = String::from_str(alloc, "send").ok()?;
-    for i in 0..faces.len() {
-        let face = faces.get(i)?;
-        text.push_str(&format!(in alloc; " {face}").ok()?).ok()?;
-    }
+    put_faces(&mut text, faces)?;
     Some(text)
+}
+
+/// Returns the choice of the strategy with this name.
+fn chosen(strategy: &str, hops: &Hops, used: &Used, ask: Ask) -> Option<Choice> {
+    match strategy {
+        "best" => Some(BestRoute.choose(hops, used, ask)),
+        "all" => Some(Multicast.choose(hops, used, ask)),
+        "first" => Some(First.choose(hops, used, ask)),
+        _ => None,
+    }
 }
 
 /// Returns the choice of a strategy. The row has the strategy's name, the hops, the Interest, and
@@ -92,15 +114,9 @@ fn choice(alloc: Global, row: &str) -> Option<String> {
     let (strategy, rest) = row.split_once(": ")?;
     let (hops, rest) = rest.split_once("; ")?;
     let (ask, used) = rest.split_once(';')?;
-    let hops = hops_in(alloc, hops)?;
     let (used, ask) = (used_in(used)?, ask_in(ask)?);
-    let choice = match strategy {
-        "best" => BestRoute.choose(&hops, &used, ask),
-        "all" => Multicast.choose(&hops, &used, ask),
-        "first" => First.choose(&hops, &used, ask),
-        _ => return None,
-    };
-    shown(alloc, &choice)
+    let hops = hops_in(alloc, hops)?;
+    shown(alloc, &chosen(strategy, &hops, &used, ask)?)
 }
 
 /// Interests that were not sent before, Interests that only Local faces may get, and Interests that
@@ -120,7 +136,7 @@ all: / 2 5, / 3 0; 3 - 1000; -> send 2
     check_rows(&rt, rt.alloc(), rows, choice);
 }
 
-/// There is no hop, or no hop is eligible.
+/// Without an eligible hop the result is `no route`, whether there are other hops or not.
 #[test]
 fn no_route_without_an_eligible_hop(rt: HostRuntime) {
     let rows = "
@@ -162,8 +178,9 @@ all: / 2 5, / 3 0; - - 1009; 7@1000 -> send 2 3
     check_rows(&rt, rt.alloc(), rows, choice);
 }
 
-/// With equal costs the lesser face is chosen; with equal moments the lesser cost, then the lesser
-/// face.
+/// Among hops with equal costs, the hop with the lesser face is chosen. Among hops that were last
+/// used at the same moment, the hop with the lesser cost is chosen, and then the hop with the
+/// lesser face.
 #[test]
 fn best_route_takes_the_least_hop(rt: HostRuntime) {
     let rows = "

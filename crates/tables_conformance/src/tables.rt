@@ -2,72 +2,107 @@
 
 use crate::route_table::RouteTable;
 use crate::rows::check_rows;
-use ndn_names::NameBuf;
+use ndn_names::{Name, NameBuf};
 use pit_fib::*;
 use std::alloc::Global;
+
+/// Adds a next hop, which is given by a name, a face and a cost, such as `/A 3 5`.
+fn add_hop(alloc: Global, routes: &mut RouteTable, hop: &str) -> Option<()> {
+    let (uri, hop) = hop.split_once(' ')?;
+    let (face, cost) = hop.split_once(' ')?;
+    let (face, cost) = (face.parse().ok()?, cost.parse().ok()?);
+    let name = NameBuf::from_uri(alloc, uri).ok()?;
+    routes.add(name.view(), face, cost).ok()
+}
+
+/// Adds next hops, which are separated by `, `.
+fn add_hops(alloc: Global, routes: &mut RouteTable, text: &str) -> Option<()> {
+    for hop in text.split_terminator(", ") {
+        add_hop(alloc, routes, hop)?;
+    }
+    Some(())
+}
 
 /// Reads a table of next hops, each given by a name, a face and a cost, such as `/A 3 5`.
 pub fn routes_in(alloc: Global, text: &str) -> Option<RouteTable> {
     let mut routes = RouteTable::new(alloc);
-    for route in text.split_terminator(", ") {
-        let (name, hop) = route.split_once(' ')?;
-        let (face, cost) = hop.split_once(' ')?;
-        let name = NameBuf::from_uri(alloc, name).ok()?;
-        routes
-            .add(name.view(), face.parse().ok()?, cost.parse().ok()?)
-            .ok()?;
-    }
+    add_hops(alloc, &mut routes, text)?;
     Some(routes)
 }
 
 /// Runs `close` with a face, or `remove` with a name and a face.
 fn remove(alloc: Global, routes: &mut RouteTable, text: &str) -> Option<()> {
-    let (call, rest) = text.split_once(' ')?;
+    let (call, face) = text.rsplit_once(' ')?;
+    let face = face.parse().ok()?;
     if call == "close" {
-        routes.close_face(rest.parse().ok()?);
+        routes.close_face(face);
         return Some(());
     }
-    let (name, face) = rest.split_once(' ')?;
-    let name = NameBuf::from_uri(alloc, name).ok()?;
-    routes.remove(name.view(), face.parse().ok()?);
+    let (_, uri) = call.split_once(' ')?;
+    let name = NameBuf::from_uri(alloc, uri).ok()?;
+    routes.remove(name.view(), face);
     Some(())
 }
 
-/// Shows each next hop as ` 3@5`.
-pub fn hops_shown(alloc: Global, hops: &Hops) -> Option<String> {
-    let mut text = String::new(alloc);
+/// Appends each next hop as ` 3@5`.
+pub fn put_hops(text: &mut String, hops: &Hops) -> Option<()> {
     for i in 0..hops.len() {
         let Hop { face, cost, .. } = hops.get(i)?;
-        text.push_str(&format!(in alloc; " {face}@{cost}").ok()?)
-            .ok()?;
+        write!(text, " {face}@{cost}").ok()?;
     }
+    Some(())
+}
+
+/// Appends each row as its name and its next hops, such as `/A 3@5, `.
+fn put_rows(text: &mut String, rows: &[(NameBuf, Hops)]) -> Option<()> {
+    for row in rows {
+        write!(text, "{}", row.0.view()).ok()?;
+        put_hops(text, &row.1)?;
+        text.push_str(", ").ok()?;
+    }
+    Some(())
+}
+
+/// Appends each name that has next hops, with its next hops.
+fn put_list(alloc: Global, text: &mut String, fib: &Fib) -> Option<()> {
+    let rows = fib.list(alloc, 0).ok()?;
+    put_rows(text, &rows)
+}
+
+/// Appends the next hops of a name.
+fn put_longest(alloc: Global, text: &mut String, fib: &Fib, uri: &str) -> Option<()> {
+    let name = NameBuf::from_uri(alloc, uri).ok()?;
+    put_hops(text, &fib.longest(name.view()))
+}
+
+/// Returns the answer to a question: a name or `list`.
+fn told(alloc: Global, fib: &Fib, question: &str) -> Option<String> {
+    let mut text = String::new(alloc);
+    let put = if question == "list" {
+        put_list(alloc, &mut text, fib)
+    } else {
+        put_longest(alloc, &mut text, fib, question)
+    };
+    put?;
     Some(text)
 }
 
-fn list_shown(alloc: Global, fib: &Fib) -> Option<String> {
-    let mut text = String::new(alloc);
-    for row in &fib.list(alloc, 0).ok()? {
-        let name = row.0.to_uri(alloc).ok()?;
-        let hops = hops_shown(alloc, &row.1)?;
-        text.push_str(&format!(in alloc; "{name}{hops}, ").ok()?)
-            .ok()?;
+/// Adds next hops and runs a removal, unless it is `-`.
+fn prepare(alloc: Global, routes: &mut RouteTable, hops: &str, removal: &str) -> Option<()> {
+    add_hops(alloc, routes, hops)?;
+    if removal == "-" {
+        return Some(());
     }
-    Some(text)
+    remove(alloc, routes, removal)
 }
 
 /// Returns the answer to a row: routes, `; `, a removal, `; `, and a name or `list`.
 fn next_hops(alloc: Global, row: &str) -> Option<String> {
-    let (routes, rest) = row.split_once("; ")?;
+    let (hops, rest) = row.split_once("; ")?;
     let (removal, question) = rest.split_once("; ")?;
-    let mut routes = routes_in(alloc, routes)?;
-    if removal != "-" {
-        remove(alloc, &mut routes, removal)?;
-    }
-    if question == "list" {
-        return list_shown(alloc, routes.read());
-    }
-    let name = NameBuf::from_uri(alloc, question).ok()?;
-    hops_shown(alloc, &routes.read().longest(name.view()))
+    let mut routes = RouteTable::new(alloc);
+    prepare(alloc, &mut routes, hops, removal)?;
+    told(alloc, routes.read(), question)
 }
 
 /// An Interest follows the longest prefix that has next hops.
@@ -147,29 +182,65 @@ fn strategy_shown(strategy: StrategyId) -> &'static str {
     }
 }
 
+/// Sets the strategy of a name, such as `/A multicast`, or removes it, such as `/A -`.
+fn set_strategy(alloc: Global, table: &mut StrategyTable, call: &str) -> Option<()> {
+    let (uri, strategy) = call.split_once(' ')?;
+    let name = NameBuf::from_uri(alloc, uri).ok()?;
+    match strategy_in(strategy) {
+        Some(strategy) => table.set(name.view(), strategy).ok(),
+        None => {
+            table.unset(name.view());
+            Some(())
+        }
+    }
+}
+
+/// Runs calls, which are separated by `, `.
+fn set_strategies(alloc: Global, table: &mut StrategyTable, calls: &str) -> Option<()> {
+    for call in calls.split_terminator(", ") {
+        set_strategy(alloc, table, call)?;
+    }
+    Some(())
+}
+
 /// Reads a table of strategies. Each call sets the strategy of a name, such as `/A multicast`, or
 /// removes it, such as `/A -`.
 fn strategies_in(alloc: Global, text: &str) -> Option<StrategyTable> {
     let mut table = StrategyTable::new(alloc);
-    for call in text.split_terminator(", ") {
-        let (name, strategy) = call.split_once(' ')?;
-        let name = NameBuf::from_uri(alloc, name).ok()?;
-        match strategy_in(strategy) {
-            Some(strategy) => table.set(name.view(), strategy).ok()?,
-            None => table.unset(name.view()),
-        }
-    }
+    set_strategies(alloc, &mut table, text)?;
     Some(table)
 }
 
-fn strategy_list_shown(alloc: Global, table: &StrategyTable) -> Option<String> {
-    let mut text = String::new(alloc);
-    for row in &table.list(alloc).ok()? {
-        let name = row.0.to_uri(alloc).ok()?;
-        let strategy = strategy_shown(row.1);
-        text.push_str(&format!(in alloc; "{name} {strategy}, ").ok()?)
-            .ok()?;
+/// Appends each row as its name and its strategy, such as `/A multicast, `.
+fn put_choices(text: &mut String, rows: &[(NameBuf, StrategyId)]) -> Option<()> {
+    for row in rows {
+        write!(text, "{} {}, ", row.0.view(), strategy_shown(row.1)).ok()?;
     }
+    Some(())
+}
+
+/// Appends each name that has a strategy, with its strategy.
+fn put_strategies(alloc: Global, text: &mut String, table: &StrategyTable) -> Option<()> {
+    let rows = table.list(alloc).ok()?;
+    put_choices(text, &rows)
+}
+
+/// Appends the strategy of a name.
+fn put_strategy(alloc: Global, text: &mut String, table: &StrategyTable, uri: &str) -> Option<()> {
+    let name = NameBuf::from_uri(alloc, uri).ok()?;
+    text.push_str(strategy_shown(table.longest(name.view())))
+        .ok()
+}
+
+/// Returns the answer to a question: a name or `list`.
+fn strategy_told(alloc: Global, table: &StrategyTable, question: &str) -> Option<String> {
+    let mut text = String::new(alloc);
+    let put = if question == "list" {
+        put_strategies(alloc, &mut text, table)
+    } else {
+        put_strategy(alloc, &mut text, table, question)
+    };
+    put?;
     Some(text)
 }
 
@@ -177,14 +248,10 @@ fn strategy_list_shown(alloc: Global, table: &StrategyTable) -> Option<String> {
 fn strategy(alloc: Global, row: &str) -> Option<String> {
     let (calls, question) = row.split_once("; ")?;
     let table = strategies_in(alloc, calls)?;
-    if question == "list" {
-        return strategy_list_shown(alloc, &table);
-    }
-    let name = NameBuf::from_uri(alloc, question).ok()?;
-    String::from_str(alloc, strategy_shown(table.longest(name.view()))).ok()
+    strategy_told(alloc, &table, question)
 }
 
-/// The strategy of `/` is best-route until another one is set there.
+/// The strategy of `/` is best-route until another strategy is set for `/`.
 #[test]
 fn best_route_at_the_empty_name(rt: HostRuntime) {
     let rows = "
@@ -198,7 +265,7 @@ fn best_route_at_the_empty_name(rt: HostRuntime) {
     check_rows(&rt, rt.alloc(), rows, strategy);
 }
 
-/// A name has the strategy of its longest prefix that has one.
+/// A name has the strategy of its longest prefix that has a strategy.
 #[test]
 fn longest_prefix_with_a_strategy(rt: HostRuntime) {
     let rows = "
@@ -244,12 +311,23 @@ fn strategies_in_canonical_order(rt: HostRuntime) {
     check_rows(&rt, rt.alloc(), rows, strategy);
 }
 
+/// Returns whether a table has the same strategies as another table, which is given by its calls.
+fn has_choices(alloc: Global, table: &StrategyTable, calls: &str) -> Option<bool> {
+    let other = strategies_in(alloc, calls)?;
+    table.has_same_choices(alloc, &other).ok()
+}
+
+/// Returns whether two tables of strategies, each given by its calls, are the same.
+fn are_same(alloc: Global, calls: &str, others: &str) -> Option<bool> {
+    let table = strategies_in(alloc, calls)?;
+    has_choices(alloc, &table, others)
+}
+
 /// Shows whether two tables of strategies are the same.
 fn same_choices(alloc: Global, row: &str) -> Option<String> {
     let (calls, others) = row.split_once("; ")?;
-    let table = strategies_in(alloc, calls)?;
-    let other = strategies_in(alloc, others)?;
-    format!(in alloc; "{}", table.has_same_choices(alloc, &other).ok()?).ok()
+    let is_same = are_same(alloc, calls, others)?;
+    format!(in alloc; "{is_same}").ok()
 }
 
 #[test]
@@ -273,14 +351,23 @@ pub fn deep_name(alloc: Global, depth: usize) -> Option<NameBuf> {
     Some(name)
 }
 
+/// Returns whether a table of routes gives this answer to a name.
+fn routes_answer(alloc: Global, name: Name<'_>, answer: Result<(), TableFault>) -> bool {
+    let mut routes = RouteTable::new(alloc);
+    routes.add(name, 1, 0) == answer
+}
+
+/// Returns whether a table of strategies gives this answer to a name.
+fn strategies_answer(alloc: Global, name: Name<'_>, answer: Result<(), TableFault>) -> bool {
+    let mut strategies = StrategyTable::new(alloc);
+    strategies.set(name, StrategyId::Multicast) == answer
+}
+
 /// Returns whether both tables give this answer to a name of `depth` components.
 fn both_answer(alloc: Global, depth: usize, answer: Result<(), TableFault>) -> Option<bool> {
     let name = deep_name(alloc, depth)?;
-    let mut routes = RouteTable::new(alloc);
-    let mut strategies = StrategyTable::new(alloc);
-    let added = routes.add(name.view(), 1, 0);
-    let set = strategies.set(name.view(), StrategyId::Multicast);
-    Some(added == answer && set == answer)
+    let is_added = routes_answer(alloc, name.view(), answer);
+    Some(is_added && strategies_answer(alloc, name.view(), answer))
 }
 
 #[test]
@@ -292,25 +379,36 @@ fn deep_names(rt: HostRuntime) {
     assert!(rt; both_answer(alloc, 64, Err(TableFault::TooDeep)) == Some(true));
 }
 
-/// Returns the first next hop of a name of 64 components `B`, and the number of searches that the
-/// lookup takes. `/` has a next hop on face 2, and `/A` has one on face 3.
-fn deep_hop(alloc: Global) -> Option<(u64, u64, u64)> {
-    let routes = routes_in(alloc, "/ 2 0, /A 3 0")?;
+/// Returns a name of 64 components `B`.
+fn long_name(alloc: Global) -> Option<NameBuf> {
     let mut name = NameBuf::new(alloc);
     for _ in 0..64 {
         name.append(8, b"B").ok()?;
     }
+    Some(name)
+}
+
+/// Returns whether the first next hop of a name is face 2 with the cost 0, and the lookup takes at
+/// most 64 searches.
+fn leads_to_2(fib: &Fib, name: Name<'_>) -> Option<bool> {
     let mut steps = 0;
-    let hops = routes.read().longest_counted(name.view(), &mut steps);
+    let hops = fib.longest_counted(name, &mut steps);
     let hop = hops.get(0)?;
-    Some((hop.face, hop.cost, steps))
+    Some(hop.face == 2 && hop.cost == 0 && steps <= 64)
+}
+
+/// Returns whether a name of 64 components `B` leads to the next hop of `/`, which is on face 2,
+/// with at most 64 searches. `/A` has a next hop on face 3.
+fn is_deep_found(alloc: Global) -> Option<bool> {
+    let name = long_name(alloc)?;
+    let routes = routes_in(alloc, "/ 2 0, /A 3 0")?;
+    leads_to_2(routes.read(), name.view())
 }
 
 /// A lookup ends when no longer entry can match, and makes at most one search for each component.
 #[test]
 fn deep_lookup(rt: HostRuntime) {
-    let found = deep_hop(rt.alloc());
-    assert!(rt; found.is_some_and(|(face, cost, steps)| face == 2 && cost == 0 && steps <= 64));
+    assert!(rt; is_deep_found(rt.alloc()) == Some(true));
 }
 
 /// Returns a name of one component, a number in two octets.
@@ -320,41 +418,110 @@ pub fn numbered(alloc: Global, number: u16) -> Option<NameBuf> {
     Some(name)
 }
 
-/// Returns whether 4,096 names with next hops fit, inserted with the greatest name first. A further
-/// name must then be refused, but a further next hop of a known name must be accepted.
-fn holds_4096_routes(alloc: Global) -> Option<bool> {
-    let mut routes = RouteTable::new(alloc);
-    for number in (0..4096).rev() {
-        routes.add(numbered(alloc, number)?.view(), 1, 0).ok()?;
+/// Returns the names with these URIs.
+pub fn names_of(alloc: Global, uris: &[&str]) -> Option<Vec<NameBuf>> {
+    let mut names = Vec::new(alloc);
+    for uri in uris {
+        names.push(NameBuf::from_uri(alloc, uri).ok()?).ok()?;
     }
-    let further = routes.add(numbered(alloc, 4096)?.view(), 1, 0);
-    let deep = routes.add(deep_name(alloc, 33)?.view(), 1, 0);
-    let known = routes.add(numbered(alloc, 7)?.view(), 1, 9);
+    Some(names)
+}
+
+/// Adds a next hop to the name with this number.
+pub fn add_numbered(
+    alloc: Global,
+    routes: &mut RouteTable,
+    number: u16,
+    cost: u64,
+) -> Option<Result<(), TableFault>> {
+    let name = numbered(alloc, number)?;
+    Some(routes.add(name.view(), 1, cost))
+}
+
+/// Adds a next hop to a name of 33 components.
+pub fn add_deep(alloc: Global, routes: &mut RouteTable) -> Option<Result<(), TableFault>> {
+    let name = deep_name(alloc, 33)?;
+    Some(routes.add(name.view(), 1, 0))
+}
+
+/// Returns whether 4,096 names with next hops fit into a table, inserted with the greatest name
+/// first. A further name must then be refused, but a further next hop of a known name must be
+/// accepted.
+fn takes_4096_routes(alloc: Global, routes: &mut RouteTable) -> Option<bool> {
+    for number in (0..4096).rev() {
+        add_numbered(alloc, routes, number, 0)?.ok()?;
+    }
+    let further = add_numbered(alloc, routes, 4096, 0)?;
+    let deep = add_deep(alloc, routes)?;
+    let known = add_numbered(alloc, routes, 7, 9)?;
     Some(further == Err(TableFault::TableFull) && deep == Err(TableFault::TooDeep) && known.is_ok())
 }
 
-/// Returns whether 4,096 names with strategies fit, one of which is `/`, and then no further name
-/// fits.
+/// Returns whether an empty table takes 4,096 names with next hops, and no more.
+fn holds_4096_routes(alloc: Global) -> Option<bool> {
+    let mut routes = RouteTable::new(alloc);
+    takes_4096_routes(alloc, &mut routes)
+}
+
+/// Sets the strategy multicast for the name with this number.
+fn set_numbered(
+    alloc: Global,
+    table: &mut StrategyTable,
+    number: u16,
+) -> Option<Result<(), TableFault>> {
+    let name = numbered(alloc, number)?;
+    Some(table.set(name.view(), StrategyId::Multicast))
+}
+
+/// Sets a strategy for a name of `depth` components.
+fn set_deep(
+    alloc: Global,
+    table: &mut StrategyTable,
+    depth: usize,
+) -> Option<Result<(), TableFault>> {
+    let name = deep_name(alloc, depth)?;
+    Some(table.set(name.view(), StrategyId::Multicast))
+}
+
+/// Sets another strategy for the name with the number 7, and returns whether it is accepted.
+fn takes_known(alloc: Global, table: &mut StrategyTable) -> Option<bool> {
+    let name = numbered(alloc, 7)?;
+    Some(table.set(name.view(), StrategyId::BestRoute).is_ok())
+}
+
+/// Removes the strategy of the name with the number 8.
+fn unset_one(alloc: Global, table: &mut StrategyTable) -> Option<()> {
+    let name = numbered(alloc, 8)?;
+    table.unset(name.view());
+    Some(())
+}
+
+/// Returns whether a full table refuses a further name and a deep name, but accepts a strategy for
+/// a known name and for `/`.
+fn is_full_of_strategies(alloc: Global, table: &mut StrategyTable) -> Option<bool> {
+    let further = set_numbered(alloc, table, 4096)?;
+    let deep = set_deep(alloc, table, 33)?;
+    let is_known = takes_known(alloc, table)?;
+    let root = set_deep(alloc, table, 0)?;
+    let are_refused = further == Err(TableFault::TableFull) && deep == Err(TableFault::TooDeep);
+    Some(are_refused && is_known && root.is_ok())
+}
+
+/// Returns whether 4,096 names with strategies fit into a table, one of which is `/`, and then no
+/// further name fits until one is removed.
+fn takes_4096_strategies(alloc: Global, table: &mut StrategyTable) -> Option<bool> {
+    for number in (1..4096).rev() {
+        set_numbered(alloc, table, number)?.ok()?;
+    }
+    let is_full = is_full_of_strategies(alloc, table)?;
+    unset_one(alloc, table)?;
+    Some(is_full && set_numbered(alloc, table, 4096)?.is_ok())
+}
+
+/// Returns whether an empty table takes 4,096 names with strategies, and no more.
 fn holds_4096_strategies(alloc: Global) -> Option<bool> {
     let mut table = StrategyTable::new(alloc);
-    for number in (1..4096).rev() {
-        let name = numbered(alloc, number)?;
-        table.set(name.view(), StrategyId::Multicast).ok()?;
-    }
-    let further = numbered(alloc, 4096)?;
-    let is_full = table.set(further.view(), StrategyId::Multicast) == Err(TableFault::TableFull);
-    let deep = table.set(deep_name(alloc, 33)?.view(), StrategyId::Multicast);
-    let known = table.set(numbered(alloc, 7)?.view(), StrategyId::BestRoute);
-    let root = table.set(deep_name(alloc, 0)?.view(), StrategyId::Multicast);
-    table.unset(numbered(alloc, 8)?.view());
-    let after_removal = table.set(further.view(), StrategyId::Multicast);
-    Some(
-        is_full
-            && deep == Err(TableFault::TooDeep)
-            && known.is_ok()
-            && root.is_ok()
-            && after_removal.is_ok(),
-    )
+    takes_4096_strategies(alloc, &mut table)
 }
 
 #[test]
@@ -390,36 +557,75 @@ fn sixty_four_faces(rt: HostRuntime) {
     assert!(rt; take_64_faces());
 }
 
+/// Returns whether the next hops of a table are shown as `expected`.
+fn is_listed(alloc: Global, fib: &Fib, expected: &str) -> Option<bool> {
+    let mut text = String::new(alloc);
+    put_list(alloc, &mut text, fib)?;
+    Some(text.as_str() == expected)
+}
+
+/// Returns whether a prepared `add` of this name, which is the name with the number 1, does not run
+/// out of memory in a table with the next hop `/A 3 5`. A preparation that fails must leave the
+/// routes unchanged.
+fn takes_what_is_prepared(alloc: Global, routes: &mut RouteTable, name: Name<'_>) -> Option<bool> {
+    if routes.prepare(name).is_err() {
+        return is_listed(alloc, routes.read(), "/A 3@5, ");
+    }
+    let is_added = routes.add(name, 1, 0).is_ok();
+    Some(is_added && is_listed(alloc, routes.read(), "/A 3@5, /%00%01 1@0, ")?)
+}
+
 /// Returns whether a prepared `add` does not run out of memory. A preparation that fails must leave
 /// the routes unchanged.
 fn adds_what_is_prepared(alloc: Global) -> Option<bool> {
     let name = numbered(alloc, 1)?;
     let mut routes = routes_in(alloc, "/A 3 5")?;
-    if routes.prepare(name.view()).is_err() {
-        return Some(list_shown(alloc, routes.read())?.as_str() == "/A 3@5, ");
+    takes_what_is_prepared(alloc, &mut routes, name.view())
+}
+
+/// Returns whether a prepared `set` of a name does not run out of memory, after the strategy of
+/// another name was removed. A preparation that fails must leave the strategies unchanged.
+fn keeps_what_is_prepared(table: &mut StrategyTable, name: Name<'_>, other: Name<'_>) -> bool {
+    if table.prepare(name).is_err() {
+        return table.longest(name) == StrategyId::BestRoute;
     }
-    let added = routes.add(name.view(), 1, 0).is_ok();
-    Some(added && list_shown(alloc, routes.read())?.as_str() == "/A 3@5, /%00%01 1@0, ")
+    table.unset(other);
+    let is_set = table.set(name, StrategyId::Multicast).is_ok();
+    is_set && table.longest(name) == StrategyId::Multicast
+}
+
+/// Returns whether a prepared `set` does not run out of memory in a table with a strategy for
+/// `/A`.
+fn takes_strategy(alloc: Global, name: Name<'_>, other: Name<'_>) -> Option<bool> {
+    let mut table = strategies_in(alloc, "/A multicast")?;
+    Some(keeps_what_is_prepared(&mut table, name, other))
 }
 
 /// Returns whether a prepared `set` does not run out of memory. A preparation that fails must leave
 /// the strategies unchanged.
 fn sets_what_is_prepared(alloc: Global) -> Option<bool> {
-    let (name, other) = (numbered(alloc, 1)?, numbered(alloc, 2)?);
-    let mut table = strategies_in(alloc, "/A multicast")?;
-    if table.prepare(name.view()).is_err() {
-        return Some(table.longest(name.view()) == StrategyId::BestRoute);
-    }
-    table.unset(other.view());
-    let is_set = table.set(name.view(), StrategyId::Multicast).is_ok();
-    Some(is_set && table.longest(name.view()) == StrategyId::Multicast)
+    let name = numbered(alloc, 1)?;
+    let other = numbered(alloc, 2)?;
+    takes_strategy(alloc, name.view(), other.view())
+}
+
+/// Returns whether an `add` can be prepared in a table of next hops.
+fn is_hop_prepared(alloc: Global, name: Name<'_>) -> bool {
+    let mut fib = Fib::new(alloc);
+    fib.prepare(name).is_ok()
+}
+
+/// Returns whether a `set` can be prepared in a table of strategies.
+fn is_strategy_prepared(alloc: Global, name: Name<'_>) -> bool {
+    let mut strategies = StrategyTable::new(alloc);
+    strategies.prepare(name).is_ok()
 }
 
 /// Returns whether a call can be prepared in each table.
 fn are_prepared(alloc: Global) -> Option<bool> {
     let name = numbered(alloc, 1)?;
-    let (mut fib, mut strategies) = (Fib::new(alloc), StrategyTable::new(alloc));
-    Some(fib.prepare(name.view()).is_ok() && strategies.prepare(name.view()).is_ok())
+    let is_hop = is_hop_prepared(alloc, name.view());
+    Some(is_hop && is_strategy_prepared(alloc, name.view()))
 }
 
 #[test]

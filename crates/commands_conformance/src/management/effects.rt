@@ -2,8 +2,8 @@
 
 ghost use Rattle.std.specs.Prelude.{◌≡◌};
 
-use super::name_in;
-use crate::rows::check_rows;
+use super::{data_in, interest_in, name_in};
+use crate::rows::{check_rows, push_answer};
 use content_store::Store;
 use mgmt_core::*;
 use ndn_names::{Name, NameBuf};
@@ -72,14 +72,16 @@ impl Station {
         self.tables.prepare(command).is_ok()
     }
 
-    pub fn apply_prepared(&mut self, command: &Command<'_>) -> Option<Applied> {
-        if !self.prepare(command) {
+    /// Prepares and applies the command with this name, and returns its outcome.
+    pub fn apply_named(&mut self, name: Name<'_>) -> Option<Applied> {
+        let command = Command::read(name).ok()?;
+        if !self.prepare(&command) {
             return None;
         }
-        self.apply(command)
+        self.apply(&command)
     }
 
-    /// Sets the time. No route is removed.
+    /// Sets the time, but does not remove the routes that expire by then.
     fn go_to(&mut self, now: u64) {
         self.now = now;
     }
@@ -96,18 +98,35 @@ impl Station {
 
     /// Returns all segments of the dataset of strategies or of routes.
     pub fn list(&self, alloc: Global, of_strategies: bool) -> Option<Vec<u8>> {
-        let (mut text, last) = self.segment(alloc, of_strategies, 0)?;
-        for number in 0..last {
-            let (segment, _) = self.segment(alloc, of_strategies, number + 1)?;
-            text.extend_from_slice(&segment).ok()?;
-        }
+        let mut text = Vec::new(alloc);
+        self.put_segments(alloc, of_strategies, &mut text)?;
         Some(text)
     }
 
+    /// Appends all segments of a dataset.
+    fn put_segments(&self, alloc: Global, of_strategies: bool, text: &mut Vec<u8>) -> Option<()> {
+        let last = self.put_segment(alloc, of_strategies, 0, text)?;
+        for number in 0..last {
+            self.put_segment(alloc, of_strategies, number + 1, text)?;
+        }
+        Some(())
+    }
+
+    /// Appends a segment of a dataset, and returns the number of the last segment.
+    fn put_segment(
+        &self,
+        alloc: Global,
+        of_strategies: bool,
+        number: u64,
+        text: &mut Vec<u8>,
+    ) -> Option<u64> {
+        let (segment, last) = self.segment(alloc, of_strategies, number)?;
+        text.extend_from_slice(&segment).ok()?;
+        Some(last)
+    }
+
     fn put(&mut self, packet: &[u8]) -> Option<bool> {
-        let Frame::Data(data) = read_frame(packet).ok()? else {
-            return None;
-        };
+        let data = data_in(packet)?;
         Some(self.tables.store.put(&data, 0))
     }
 
@@ -152,22 +171,50 @@ fn hex_shown(alloc: Global, octets: &[u8]) -> Option<String> {
 /// reply.
 fn command_shown(alloc: Global, station: &mut Station, call: &str, rest: &str) -> Option<String> {
     let verb = verb_of(call)?;
-    let name = name_in(alloc, &format!(in alloc; "{verb}{rest}").ok()?)?;
-    status_and_body(alloc, &station.apply(&Command::read(name.view()).ok()?)?)
+    let text = format!(in alloc; "{verb}{rest}").ok()?;
+    let name = name_in(alloc, &text)?;
+    outcome_shown(alloc, station, name.view())
 }
 
-fn status_and_body(alloc: Global, applied: &Applied) -> Option<String> {
-    let (status, body) = (applied.status, hex_shown(alloc, applied.body.as_slice())?);
+/// Applies the command with this name. Shows its status and the body of its reply.
+fn outcome_shown(alloc: Global, station: &mut Station, name: Name<'_>) -> Option<String> {
+    let command = Command::read(name).ok()?;
+    let applied = station.apply(&command)?;
+    status_and_body(alloc, applied.status, applied.body.as_slice())
+}
+
+/// Shows a status and a body.
+fn status_and_body(alloc: Global, status: u16, body: &[u8]) -> Option<String> {
+    let body = hex_shown(alloc, body)?;
     format!(in alloc; "{status} {body}").ok()
+}
+
+/// Returns a Data with this name and without Content.
+fn empty_data(alloc: Global, uri: &str) -> Option<Vec<u8>> {
+    let name = NameBuf::from_uri(alloc, uri).ok()?;
+    let mut packet = Vec::new(alloc);
+    put_reply(&mut packet, name.view(), &[]).ok()?;
+    Some(packet)
 }
 
 /// Inserts a Data with this name into the cache, and shows whether it is cached.
 fn put_data(alloc: Global, station: &mut Station, uri: &str) -> Option<&'static str> {
-    let name = NameBuf::from_uri(alloc, uri).ok()?;
-    let mut packet = Vec::new(alloc);
-    put_reply(&mut packet, name.view(), &[]).ok()?;
+    let packet = empty_data(alloc, uri)?;
     let is_kept = station.put(&packet)?;
     Some(if is_kept { "kept" } else { "lost" })
+}
+
+/// Shows whether the cache has Data with exactly this name.
+fn find_data(alloc: Global, station: &mut Station, uri: &str) -> Option<&'static str> {
+    let name = NameBuf::from_uri(alloc, uri).ok()?;
+    let is_there = station.has(name.view());
+    Some(if is_there { "there" } else { "gone" })
+}
+
+/// Shows the dataset of strategies or of routes.
+fn list_shown(alloc: Global, station: &Station, of_strategies: bool) -> Option<String> {
+    let list = station.list(alloc, of_strategies)?;
+    hex_shown(alloc, &list)
 }
 
 /// Answers one call: `data` or `find` with a URI, `at` with a time, `routes`, `strategies`, or a
@@ -175,45 +222,62 @@ fn put_data(alloc: Global, station: &mut Station, uri: &str) -> Option<&'static 
 fn answer(alloc: Global, station: &mut Station, call: &str) -> Option<String> {
     let (call, rest) = call.split_once(' ').unwrap_or((call, "/"));
     match call {
-        "routes" => hex_shown(alloc, &station.list(alloc, false)?),
-        "strategies" => hex_shown(alloc, &station.list(alloc, true)?),
+        "routes" => list_shown(alloc, station, false),
+        "strategies" => list_shown(alloc, station, true),
         "at" => {
             station.go_to(rest.parse().ok()?);
             String::from_str(alloc, rest).ok()
         }
         "data" => String::from_str(alloc, put_data(alloc, station, rest)?).ok(),
-        "find" => {
-            let name = NameBuf::from_uri(alloc, rest).ok()?;
-            let found = if station.has(name.view()) {
-                "there"
-            } else {
-                "gone"
-            };
-            String::from_str(alloc, found).ok()
-        }
+        "find" => String::from_str(alloc, find_data(alloc, station, rest)?).ok(),
         _ => command_shown(alloc, station, call, rest),
     }
 }
 
 /// Returns the answers to calls that are separated by `, `.
 pub fn answers(alloc: Global, row: &str) -> Option<String> {
-    let mut station = Station::new(alloc)?;
-    answers_of(alloc, &mut station, row)
+    shown_on_station(alloc, row, answers_of)
 }
 
+/// Returns what `show` shows for a row on a new station.
+pub fn shown_on_station(
+    alloc: Global,
+    row: &str,
+    show: fn(Global, &mut Station, &str) -> Option<String>,
+) -> Option<String>
+    requires { IsAlwaysCallable show }
+{
+    let mut station = Station::new(alloc)?;
+    show(alloc, &mut station, row)
+}
+
+/// Returns what `play` returns for a new station.
+fn played(alloc: Global, play: fn(Global, &mut Station) -> Option<bool>) -> Option<bool>
+    requires { IsAlwaysCallable play }
+{
+    let mut station = Station::new(alloc)?;
+    play(alloc, &mut station)
+}
+
+/// Returns the station's answers to calls.
 fn answers_of(alloc: Global, station: &mut Station, row: &str) -> Option<String> {
     let mut text = String::new(alloc);
-    for call in row.split(", ") {
-        put_answer(alloc, &mut text, station, call)?;
-    }
+    put_answers(alloc, &mut text, station, row)?;
     Some(text)
 }
 
-fn put_answer(alloc: Global, text: &mut String, station: &mut Station, call: &str) -> Option<()> {
-    if !text.is_empty() {
-        text.push_str(", ").ok()?;
+/// Appends the station's answers to calls.
+fn put_answers(alloc: Global, text: &mut String, station: &mut Station, row: &str) -> Option<()> {
+    for call in row.split(", ") {
+        put_answer(alloc, text, station, call)?;
     }
-    text.push_str(&answer(alloc, station, call)?).ok()
+    Some(())
+}
+
+/// Appends the station's answer to a call.
+fn put_answer(alloc: Global, text: &mut String, station: &mut Station, call: &str) -> Option<()> {
+    let shown = answer(alloc, station, call)?;
+    push_answer(text, &shown)
 }
 
 /// An entry is removed together with its last next hop.
@@ -244,7 +308,7 @@ add 68080703080142690109, add 68080703080142690102, add 68080703080141690102, ro
     check_rows(&rt, rt.alloc(), rows, answers);
 }
 
-/// A second cost replaces the first.
+/// A second add-nexthop for the same next hop replaces the cost.
 #[test]
 fn a_second_cost_replaces_the_first(rt: HostRuntime) {
     let rows = "
@@ -263,7 +327,7 @@ add 68080703080141690102, add 68080703080141690107, remove 68080703080141690107,
     check_rows(&rt, rt.alloc(), rows, answers);
 }
 
-/// Unsetting the strategy of one name keeps the strategy of another.
+/// Unsetting the strategy of one name keeps the strategy of another name.
 #[test]
 fn a_strategy_goes_and_another_stays(rt: HostRuntime) {
     let rows = "
@@ -299,20 +363,24 @@ fn adds(name: Name<'_>, face: u64) -> Command<'_> {
     }
 }
 
-/// Returns a name with one component of two octets.
+/// Returns the name with one component, which is `number` in two octets.
 fn numbered(alloc: Global, number: u16) -> Option<NameBuf> {
+    one_component(alloc, &number.to_be_bytes())
+}
+
+/// Returns the name with one component, which has this value.
+fn one_component(alloc: Global, value: &[u8]) -> Option<NameBuf> {
     let mut name = NameBuf::new(alloc);
-    name.append(8, &number.to_be_bytes()).ok()?;
+    name.append(8, value).ok()?;
     Some(name)
 }
 
-/// Returns a name of `depth` components `A`.
-fn deep(alloc: Global, depth: usize) -> Option<NameBuf> {
-    let mut name = NameBuf::new(alloc);
-    for _ in 0..depth {
+/// Appends 33 components `A` to a name.
+fn deepen(name: &mut NameBuf) -> Option<()> {
+    for _ in 0..33 {
         name.append(8, b"A").ok()?;
     }
-    Some(name)
+    Some(())
 }
 
 /// Adds a next hop and returns the status.
@@ -320,48 +388,65 @@ fn added(station: &mut Station, name: &NameBuf, face: u64) -> u16 {
     station.status_of(&adds(name.view(), face))
 }
 
-/// Returns a station with 4,096 routes to face 2.
-fn filled(alloc: Global) -> Option<Station> {
-    let mut station = Station::new(alloc)?;
-    add_4096(alloc, &mut station)?;
-    Some(station)
-}
-
+/// Adds 4,096 routes to face 2.
 fn add_4096(alloc: Global, station: &mut Station) -> Option<()> {
     for number in (0..4096).rev() {
-        if added(station, &numbered(alloc, number)?, 2) != 200 {
+        if added_at(alloc, station, number, 2)? != 200 {
             return None;
         }
     }
     Some(())
 }
 
+/// Adds a next hop for the name with this number, and returns the status.
+fn added_at(alloc: Global, station: &mut Station, number: u16, face: u64) -> Option<u16> {
+    let name = numbered(alloc, number)?;
+    Some(added(station, &name, face))
+}
+
+/// Adds a next hop on face 7 for a name of 33 components, and returns the status.
+fn added_deep(alloc: Global, station: &mut Station) -> Option<u16> {
+    let mut name = NameBuf::new(alloc);
+    deepen(&mut name)?;
+    Some(added(station, &name, 7))
+}
+
+/// Returns the number of next hops for Interests with the name with this number.
+fn hops_at(alloc: Global, station: &Station, number: u16) -> Option<usize> {
+    let name = numbered(alloc, number)?;
+    Some(station.hops(name.view()))
+}
+
 /// Returns whether a full table refuses a new name but accepts another next hop for a known name. A
 /// name that is too long and a face that is not up are reported before the full table.
 fn refuses_one_name_more(alloc: Global, station: &mut Station) -> Option<bool> {
-    let (more, known) = (numbered(alloc, 4096)?, numbered(alloc, 4095)?);
-    Some(is_full(station, &deep(alloc, 33)?, &more, &known))
+    Some(
+        added_deep(alloc, station)? == 414
+            && added_at(alloc, station, 4096, 7)? == 410
+            && added_at(alloc, station, 4096, 2)? == 503
+            && added_at(alloc, station, 4095, 9)? == 200
+            && hops_at(alloc, station, 4096)? == 0
+            && hops_at(alloc, station, 4095)? == 2,
+    )
 }
 
-fn names_are_limited(alloc: Global) -> Option<bool> {
-    refuses_one_name_more(alloc, &mut filled(alloc)?)
-}
-
-fn is_full(station: &mut Station, too_deep: &NameBuf, more: &NameBuf, known: &NameBuf) -> bool {
-    added(station, too_deep, 7) == 414
-        && added(station, more, 7) == 410
-        && added(station, more, 2) == 503
-        && added(station, known, 9) == 200
-        && station.hops(more.view()) == 0
-        && station.hops(known.view()) == 2
+/// Returns whether the names with routes are limited to 4,096.
+fn names_are_limited(alloc: Global, station: &mut Station) -> Option<bool> {
+    add_4096(alloc, station)?;
+    refuses_one_name_more(alloc, station)
 }
 
 /// Returns whether the dataset of 4,096 routes has 16 octets for each route, the expected first and
 /// last routes, and 16 segments.
-fn lists_4096_routes(alloc: Global) -> Option<bool> {
-    let station = filled(alloc)?;
+fn lists_4096_routes(alloc: Global, station: &mut Station) -> Option<bool> {
+    add_4096(alloc, station)?;
+    Some(lists_all(alloc, station)? && has_16_segments(alloc, station)?)
+}
+
+/// Returns whether the dataset of routes is that of 4,096 routes.
+fn lists_all(alloc: Global, station: &Station) -> Option<bool> {
     let text = station.list(alloc, false)?;
-    Some(are_4096_routes(&text) && has_16_segments(alloc, &station))
+    Some(are_4096_routes(&text))
 }
 
 fn are_4096_routes(text: &[u8]) -> bool {
@@ -371,47 +456,59 @@ fn are_4096_routes(text: &[u8]) -> bool {
 }
 
 /// Returns whether the dataset of routes has 16 segments of 4,096 octets.
-fn has_16_segments(alloc: Global, station: &Station) -> bool {
-    let Some((segment, 15)) = station.segment(alloc, false, 15) else {
-        return false;
-    };
-    segment.len() == 4096 && station.segment(alloc, false, 16).is_none()
+fn has_16_segments(alloc: Global, station: &Station) -> Option<bool> {
+    let is_last = has_last_segment(alloc, station, 4096, 15)?;
+    Some(is_last && station.segment(alloc, false, 16).is_none())
+}
+
+/// Returns whether segment `last` of the dataset of routes is the last segment and has `len`
+/// octets.
+fn has_last_segment(alloc: Global, station: &Station, len: usize, last: u64) -> Option<bool> {
+    let (segment, number) = station.segment(alloc, false, last)?;
+    Some(segment.len() == len && number == last)
 }
 
 /// Returns whether 4,095 names can have a strategy in addition to `/`, and a further name is
 /// refused. An unknown strategy is reported before the full table.
-fn refuses_one_strategy_more(alloc: Global, station: &mut Station) -> Option<bool> {
+fn refuses_one_strategy_more(
+    alloc: Global,
+    station: &mut Station,
+    multicast: &NameBuf,
+) -> Option<bool> {
+    Some(
+        sets_4095(alloc, station, multicast)?
+            && set_unknown(alloc, station)? == 404
+            && set_at(alloc, station, 4096, multicast)? == 503
+            && set_at(alloc, station, 1, multicast)? == 200,
+    )
+}
+
+/// Returns whether the names with strategies are limited to 4,096.
+fn strategies_are_limited(alloc: Global, station: &mut Station) -> Option<bool> {
     let multicast = NameBuf::from_uri(alloc, "/localhost/nfd/strategy/multicast").ok()?;
-    let (more, known) = (numbered(alloc, 4096)?, numbered(alloc, 1)?);
-    let is_set = sets_4095(alloc, station, &multicast);
-    Some(is_set && refuses_strategy(station, &more, &known, &multicast))
+    refuses_one_strategy_more(alloc, station, &multicast)
 }
 
-fn strategies_are_limited(alloc: Global) -> Option<bool> {
-    refuses_one_strategy_more(alloc, &mut Station::new(alloc)?)
-}
-
-fn sets_4095(alloc: Global, station: &mut Station, strategy: &NameBuf) -> bool {
+/// Returns whether the strategies of 4,095 names can be set.
+fn sets_4095(alloc: Global, station: &mut Station, strategy: &NameBuf) -> Option<bool> {
     for number in (1..4096).rev() {
-        let Some(name) = numbered(alloc, number) else {
-            return false;
-        };
-        if set(station, &name, strategy) != 200 {
-            return false;
+        if set_at(alloc, station, number, strategy)? != 200 {
+            return Some(false);
         }
     }
-    true
+    Some(true)
 }
 
-fn refuses_strategy(
-    station: &mut Station,
-    more: &NameBuf,
-    known: &NameBuf,
-    multicast: &NameBuf,
-) -> bool {
-    set(station, more, known) == 404
-        && set(station, more, multicast) == 503
-        && set(station, known, multicast) == 200
+/// Sets the strategy of the name with this number, and returns the status.
+fn set_at(alloc: Global, station: &mut Station, number: u16, strategy: &NameBuf) -> Option<u16> {
+    let name = numbered(alloc, number)?;
+    Some(set(station, &name, strategy))
+}
+
+/// Sets a strategy that does not exist for the name with the number 4096, and returns the status.
+fn set_unknown(alloc: Global, station: &mut Station) -> Option<u16> {
+    let unknown = numbered(alloc, 1)?;
+    set_at(alloc, station, 4096, &unknown)
 }
 
 /// Sets the strategy of a name and returns the status.
@@ -432,55 +529,80 @@ fn set(station: &mut Station, name: &NameBuf, strategy: &NameBuf) -> u16 {
 
 #[test]
 fn names_with_routes_are_limited(rt: HostRuntime) {
-    assert!(rt; names_are_limited(rt.alloc()) == Some(true));
+    assert!(rt; played(rt.alloc(), names_are_limited) == Some(true));
 }
 
 #[test]
 fn strategies_are_limited_to_4096(rt: HostRuntime) {
-    assert!(rt; strategies_are_limited(rt.alloc()) == Some(true));
+    assert!(rt; played(rt.alloc(), strategies_are_limited) == Some(true));
 }
 
 #[test]
 fn list_of_4096_routes(rt: HostRuntime) {
-    assert!(rt; lists_4096_routes(rt.alloc()) == Some(true));
+    assert!(rt; played(rt.alloc(), lists_4096_routes) == Some(true));
 }
 
 /// Returns whether the last segment of a dataset of `len` octets, with one route, has the number
 /// `last` and has `last_len` octets.
-fn is_cut(alloc: Global, len: usize, last_len: usize, last: u64) -> Option<bool> {
-    let station = station_of_route(alloc, &long_name(alloc, len)?)?;
+fn is_cut(
+    alloc: Global,
+    station: &mut Station,
+    len: usize,
+    last_len: usize,
+    last: u64,
+) -> Option<bool> {
+    add_long(alloc, station, len)?;
+    Some(list_len(alloc, station)? == len && has_last_segment(alloc, station, last_len, last)?)
+}
+
+/// Returns whether a dataset of 4,096 octets has one segment.
+fn has_one_segment(alloc: Global, station: &mut Station) -> Option<bool> {
+    is_cut(alloc, station, 4096, 4096, 0)
+}
+
+/// Returns whether a dataset of 4,097 octets has two segments.
+fn has_two_segments(alloc: Global, station: &mut Station) -> Option<bool> {
+    is_cut(alloc, station, 4097, 1, 1)
+}
+
+/// Adds a route to face 2. The dataset then has `len` octets.
+fn add_long(alloc: Global, station: &mut Station, len: usize) -> Option<()> {
+    let name = long_name(alloc, len)?;
+    add_hop(station, &name, 2)
+}
+
+/// Returns the length of the dataset of routes.
+fn list_len(alloc: Global, station: &Station) -> Option<usize> {
     let text = station.list(alloc, false)?;
-    let (segment, number) = station.segment(alloc, false, last)?;
-    Some(text.len() == len && segment.len() == last_len && number == last)
+    Some(text.len())
 }
 
 /// Returns a name for a route. A dataset with only this route has `len` octets.
 fn long_name(alloc: Global, len: usize) -> Option<NameBuf> {
-    let mut value = Vec::new(alloc);
     // Three headers of four octets each precede the value, and a hop of 8 octets follows it.
-    value.resize(len.saturating_sub(20), 7).ok()?;
-    let mut name = NameBuf::new(alloc);
-    name.append(8, &value).ok()?;
-    Some(name)
+    let value = sevens(alloc, len.saturating_sub(20))?;
+    one_component(alloc, &value)
 }
 
-/// Returns a station with one route for this name to face 2.
-fn station_of_route(alloc: Global, name: &NameBuf) -> Option<Station> {
-    with_hop(Station::new(alloc)?, name, 2)
+/// Returns `len` octets, each of which is 7.
+pub fn sevens(alloc: Global, len: usize) -> Option<Vec<u8>> {
+    let mut octets = Vec::new(alloc);
+    octets.resize(len, 7).ok()?;
+    Some(octets)
 }
 
-/// Returns the station after a next hop was added.
-fn with_hop(mut station: Station, name: &NameBuf, face: u64) -> Option<Station> {
-    if added(&mut station, name, face) != 200 {
+/// Adds a next hop.
+fn add_hop(station: &mut Station, name: &NameBuf, face: u64) -> Option<()> {
+    if added(station, name, face) != 200 {
         return None;
     }
-    Some(station)
+    Some(())
 }
 
 #[test]
 fn lists_in_segments(rt: HostRuntime) {
-    assert!(rt; is_cut(rt.alloc(), 4096, 4096, 0) == Some(true));
-    assert!(rt; is_cut(rt.alloc(), 4097, 1, 1) == Some(true));
+    assert!(rt; played(rt.alloc(), has_one_segment) == Some(true));
+    assert!(rt; played(rt.alloc(), has_two_segments) == Some(true));
 }
 
 /// A signed add-nexthop command for `/A` to face 2, with the time 1000000. The key is `6b6579` with
@@ -495,11 +617,15 @@ const LIST_OF_ONE_ROUTE: &str =
 /// Returns whether the name of the signed packet is read as the expected command.
 fn reads_the_packet(alloc: Global) -> Option<bool> {
     let packet = octets(alloc, ADD_NEXTHOP)?;
-    let Frame::Interest(interest) = read_frame(&packet).ok()? else {
-        return None;
-    };
+    let name = NameBuf::from_uri(alloc, "/A").ok()?;
+    adds_to_2(&packet, name.view())
+}
+
+/// Returns whether the packet's name is an add-nexthop command for this name to face 2 with cost 0.
+fn adds_to_2(packet: &[u8], name: Name<'_>) -> Option<bool> {
+    let interest = interest_in(packet)?;
     let command = Command::read(interest.name).ok()?;
-    let is_about = command.name == NameBuf::from_uri(alloc, "/A").ok()?.view();
+    let is_about = command.name == name;
     Some(is_about && command.action == Action::AddNexthop && command.face == 2 && command.cost == 0)
 }
 
@@ -529,16 +655,29 @@ fn first_segment(alloc: Global, station: &Station) -> Option<Vec<u8>> {
     segment_packet(alloc, name.view(), &segment, last)
 }
 
-/// Returns a station with a route for `/A` to face 7.
-fn one_route_to_7(alloc: Global) -> Option<Station> {
+/// Adds a route for `/A` to face 7.
+fn add_route_to_7(alloc: Global, station: &mut Station) -> Option<()> {
     let name = NameBuf::from_uri(alloc, "/A").ok()?;
-    with_hop(Station::of_faces(alloc, 7, 9)?, &name, 7)
+    add_hop(station, &name, 7)
 }
 
 /// Returns whether the Data of the segment has exactly the expected octets.
 fn writes_the_segment(alloc: Global) -> Option<bool> {
-    let packet = first_segment(alloc, &one_route_to_7(alloc)?)?;
-    Some(packet.as_slice() == octets(alloc, LIST_OF_ONE_ROUTE)?.as_slice())
+    let packet = packet_of_one_route(alloc)?;
+    let expected = octets(alloc, LIST_OF_ONE_ROUTE)?;
+    Some(packet.as_slice() == expected.as_slice())
+}
+
+/// Returns the Data for the dataset of one route for `/A` to face 7.
+fn packet_of_one_route(alloc: Global) -> Option<Vec<u8>> {
+    let mut station = Station::of_faces(alloc, 7, 9)?;
+    first_packet(alloc, &mut station)
+}
+
+/// Adds a route for `/A` to face 7, and returns the Data for the first segment of the dataset.
+fn first_packet(alloc: Global, station: &mut Station) -> Option<Vec<u8>> {
+    add_route_to_7(alloc, station)?;
+    first_segment(alloc, station)
 }
 
 #[test]
@@ -553,10 +692,9 @@ fn a_segment_in_a_packet(rt: HostRuntime) {
 
 /// Returns whether a prepared command does not run out of memory, and a failed preparation keeps
 /// the routes.
-fn applies_what_is_prepared(alloc: Global) -> Option<bool> {
+fn applies_what_is_prepared(alloc: Global, station: &mut Station) -> Option<bool> {
     let name = numbered(alloc, 1)?;
-    let mut station = Station::new(alloc)?;
-    Some(keeps_its_promise(&mut station, &name))
+    Some(keeps_its_promise(station, &name))
 }
 
 fn keeps_its_promise(station: &mut Station, name: &NameBuf) -> bool {
@@ -568,10 +706,9 @@ fn keeps_its_promise(station: &mut Station, name: &NameBuf) -> bool {
 
 /// Returns whether a command that was not prepared has its effect, or has no effect if memory runs
 /// out.
-fn applies_or_leaves(alloc: Global) -> Option<bool> {
+fn applies_or_leaves(alloc: Global, station: &mut Station) -> Option<bool> {
     let name = numbered(alloc, 1)?;
-    let mut station = Station::new(alloc)?;
-    Some(adds_or_leaves(&mut station, &name))
+    Some(adds_or_leaves(station, &name))
 }
 
 fn adds_or_leaves(station: &mut Station, name: &NameBuf) -> bool {
@@ -585,8 +722,13 @@ fn adds_or_leaves(station: &mut Station, name: &NameBuf) -> bool {
 /// Returns whether a reply for which memory runs out leaves the buffer unchanged.
 fn replies_or_leaves(alloc: Global) -> Option<bool> {
     let mut out = Vec::new(alloc);
+    replies_or_leaves_in(&mut out)
+}
+
+/// Returns whether a reply is appended to the buffer after one octet, or nothing is appended.
+fn replies_or_leaves_in(out: &mut Vec<u8>) -> Option<bool> {
     out.push(7).ok()?;
-    let len = match put_response(&mut out, 200, "OK", &[]) {
+    let len = match put_response(out, 200, "OK", &[]) {
         Ok(()) => 10,
         Err(_) => 1,
     };
@@ -595,16 +737,15 @@ fn replies_or_leaves(alloc: Global) -> Option<bool> {
 
 /// Returns whether the datasets of one route and of the strategies are complete. Running out of
 /// memory is also accepted.
-fn lists_or_refuses(alloc: Global) -> Option<bool> {
+fn lists_or_refuses(alloc: Global, station: &mut Station) -> Option<bool> {
     let name = numbered(alloc, 1)?;
-    let mut station = Station::new(alloc)?;
-    if added(&mut station, &name, 2) != 200 {
-        return None;
-    }
-    Some(
-        is_long_or_refused(&station, alloc, false, 16)
-            && is_long_or_refused(&station, alloc, true, 46),
-    )
+    add_hop(station, &name, 2)?;
+    Some(both_are_long_or_refused(station, alloc))
+}
+
+/// Returns whether both datasets are complete. Running out of memory is also accepted.
+fn both_are_long_or_refused(station: &Station, alloc: Global) -> bool {
+    is_long_or_refused(station, alloc, false, 16) && is_long_or_refused(station, alloc, true, 46)
 }
 
 /// Returns whether a dataset has `len` octets. Running out of memory is also accepted.
@@ -617,16 +758,16 @@ fn is_long_or_refused(station: &Station, alloc: Global, of_strategies: bool, len
 
 #[test]
 fn prepared_commands(rt: HostRuntime) {
-    assert!(rt; applies_what_is_prepared(rt.alloc()) == Some(true));
-    assert!(rt; applies_or_leaves(rt.alloc()) == Some(true));
+    assert!(rt; played(rt.alloc(), applies_what_is_prepared) == Some(true));
+    assert!(rt; played(rt.alloc(), applies_or_leaves) == Some(true));
     assert!(rt; replies_or_leaves(rt.alloc()) == Some(true));
-    assert!(rt; lists_or_refuses(rt.alloc()) == Some(true));
+    assert!(rt; played(rt.alloc(), lists_or_refuses) == Some(true));
 }
 
 #[test]
 fn refused_memory_for_commands(rt: HostRuntime) {
-    assert!(rt; applies_what_is_prepared(rt.alloc()) != Some(false));
-    assert!(rt; applies_or_leaves(rt.alloc()) != Some(false));
+    assert!(rt; played(rt.alloc(), applies_what_is_prepared) != Some(false));
+    assert!(rt; played(rt.alloc(), applies_or_leaves) != Some(false));
     assert!(rt; replies_or_leaves(rt.alloc()) != Some(false));
-    assert!(rt; lists_or_refuses(rt.alloc()) != Some(false));
+    assert!(rt; played(rt.alloc(), lists_or_refuses) != Some(false));
 }

@@ -1,7 +1,7 @@
 //! Tests of routes that are registered and that expire.
 
-use super::effects::{Station, answers};
-use super::{action_shown, name_in};
+use super::effects::{Station, answers, shown_on_station};
+use super::{action_shown, encoded_reply, name_in, put_count, status_shown};
 use crate::rows::check_rows;
 use mgmt_core::*;
 use std::alloc::Global;
@@ -12,24 +12,22 @@ fn route_shown(alloc: Global, row: &str) -> Option<String> {
     let name = name_in(alloc, row)?;
     match Command::read(name.view()) {
         Ok(command) => fields_shown(alloc, &command),
-        Err(status) => format!(in alloc; "{status}").ok(),
+        Err(status) => status_shown(alloc, status),
     }
 }
 
+/// Shows the action, name, face, origin, cost, flags and expiration period of a command.
 fn fields_shown(alloc: Global, command: &Command<'_>) -> Option<String> {
     let (action, name) = (action_shown(command.action), command.name);
     let (face, origin, cost) = (command.face, command.origin, command.cost);
     let flags = command.flags;
     let mut text = format!(in alloc; "{action} {name} {face} {origin} {cost} {flags}").ok()?;
-    match command.expires {
-        None => text.push_str(" -").ok()?,
-        Some(period) => write!(text, " {period}").ok()?,
-    }
+    put_count(&mut text, command.expires)?;
     Some(text)
 }
 
-/// All fields of a route. If they are absent, the face, the origin and the cost are 0, the flags
-/// are 1, and the route does not expire.
+/// All fields of a route. If these fields are absent, the face, the origin and the cost are 0, the
+/// flags are 1, and the route does not expire.
 #[test]
 fn fields_of_routes(rt: HostRuntime) {
     let rows = "
@@ -47,8 +45,8 @@ fn fields_of_routes(rt: HostRuntime) {
     check_rows(&rt, rt.alloc(), rows, route_shown);
 }
 
-/// A field with a wrong form, a missing field that is required, and a field that the command does
-/// not take.
+/// Commands with a field of a wrong form, commands without a required field, and commands with a
+/// field that they do not take.
 #[test]
 fn fields_that_routes_need_and_take(rt: HostRuntime) {
     let rows = "
@@ -72,17 +70,15 @@ fn fields_that_routes_need_and_take(rt: HostRuntime) {
 
 /// Returns the whole reply to a command from face 9, while the faces 2 and 9 are up.
 fn reply_shown(alloc: Global, row: &str) -> Option<String> {
-    let name = name_in(alloc, row)?;
-    let mut station = Station::new(alloc)?;
-    let applied = station.apply_prepared(&Command::read(name.view()).ok()?)?;
-    response_shown(alloc, &applied)
+    shown_on_station(alloc, row, reply_on)
 }
 
-fn response_shown(alloc: Global, applied: &Applied) -> Option<String> {
-    let text = status_text(applied.status)?;
-    let mut out = Vec::new(alloc);
-    put_response(&mut out, applied.status, text, applied.body.as_slice()).ok()?;
-    hex::encode(alloc, &out).ok()
+/// Returns the whole reply to a command on this station.
+fn reply_on(alloc: Global, station: &mut Station, row: &str) -> Option<String> {
+    let name = name_in(alloc, row)?;
+    let applied = station.apply_named(name.view())?;
+    let status = applied.status;
+    encoded_reply(alloc, status, status_text(status)?, applied.body.as_slice())
 }
 
 /// The fields of a reply have the order Name, FaceId, Origin, Cost, Flags, ExpirationPeriod.

@@ -1,6 +1,7 @@
 //! Tests of names that are not commands, and of segments of datasets.
 
 use super::command_shown;
+use super::effects::sevens;
 use crate::rows::check_rows;
 use mgmt_core::segment_of;
 use std::alloc::Global;
@@ -58,11 +59,16 @@ fn names_of_another_shape(rt: HostRuntime) {
 /// Returns whether the segment with this number, in a dataset of `len` octets, has the expected
 /// length and the expected number of the last segment.
 fn segment_is(alloc: Global, len: usize, number: u64, expected: Option<(usize, u64)>) -> bool {
-    let mut text: Vec<u8> = Vec::new(alloc);
-    if text.resize(len, 7).is_err() {
-        return false;
+    match sevens(alloc, len) {
+        Some(text) => is_segment(&text, number, expected),
+        None => false,
     }
-    match segment_of(&text, number) {
+}
+
+/// Returns whether the segment with this number has the expected length and the expected number of
+/// the last segment.
+fn is_segment(text: &[u8], number: u64, expected: Option<(usize, u64)>) -> bool {
+    match segment_of(text, number) {
         None => expected.is_none(),
         Some((segment, last)) => expected == Some((segment.len(), last)),
     }

@@ -1,8 +1,7 @@
 //! Tests of a full repository.
 
-use super::empty_repo;
+use super::{empty_repo, offer_packet, status_at_0};
 use ndn_names::Name;
-use ndn_packets::{Frame, read_frame};
 use repo_core::Repo;
 use std::alloc::Global;
 
@@ -21,24 +20,18 @@ fn inserts(repo: &mut Repo, number: u32, status: u16) -> bool {
     let Ok(name) = Name::read(&octets) else {
         return false;
     };
-    match repo.command(name, 0) {
-        Ok(reply) => reply.status == status,
-        Err(_) => false,
-    }
+    status_at_0(repo, name) == Some(status)
 }
 
 /// Returns whether the Data `/N` answers a want.
 fn fills(repo: &mut Repo, number: u32) -> bool {
     let mut octets = DATA;
     octets[6..10].copy_from_slice(&number.to_be_bytes());
-    match read_frame(&octets) {
-        Ok(Frame::Data(data)) => repo.offer(&data) == Ok(true),
-        _ => false,
-    }
+    offer_packet(repo, &octets) == Some(true)
 }
 
-/// Returns whether 65,536 objects and wants fit, a new want is then refused, and an equal want is
-/// accepted.
+/// Returns whether 65,536 objects and wants fit, a new want is then refused, and a want that is
+/// equal to a present want is accepted.
 fn holds_so_many(repo: &mut Repo) -> bool {
     for number in 0..65_535 {
         if !inserts(repo, number, 100) || !fills(repo, number) {

@@ -1,8 +1,8 @@
 //! Tests of random calls on a repository, compared with plain lists that are searched from end to
 //! end.
 
-use super::{asking, command_on, empty_repo};
-use ndn_packets::*;
+use super::{asking, command_on, empty_repo, status_and_count};
+use crate::management::{data_in, interest_in};
 use repo_core::*;
 use std::alloc::Global;
 use test_support::{data_of, digest_of, random};
@@ -47,13 +47,32 @@ fn written(alloc: Global, name: usize, uri: &str, content: &str) -> Option<Made>
     })
 }
 
+/// Returns two Data for each name.
 fn all_made(alloc: Global) -> Option<Vec<Made>> {
     let mut all = Vec::new(alloc);
-    for (name, uri) in NAMES.iter().enumerate() {
-        all.push(written(alloc, name, uri, "01")?).ok()?;
-        all.push(written(alloc, name, uri, "02")?).ok()?;
-    }
+    put_all(alloc, &mut all)?;
     Some(all)
+}
+
+/// Appends two Data for each name.
+fn put_all(alloc: Global, all: &mut Vec<Made>) -> Option<()> {
+    for (name, uri) in NAMES.iter().enumerate() {
+        put_made(alloc, all, name, uri, "01")?;
+        put_made(alloc, all, name, uri, "02")?;
+    }
+    Some(())
+}
+
+/// Appends a Data.
+fn put_made(
+    alloc: Global,
+    all: &mut Vec<Made>,
+    name: usize,
+    uri: &str,
+    content: &str,
+) -> Option<()> {
+    let made = written(alloc, name, uri, content)?;
+    all.push(made).ok()
 }
 
 /// Returns whether a Data answers an Interest with this name and CanBePrefix.
@@ -98,15 +117,18 @@ fn has_want(plain: &Plain, name: usize, can_be_prefix: bool) -> bool {
     plain.wants.iter().any(|want| want.name == name && want.can_be_prefix == can_be_prefix)
 }
 
+/// Removes the want with this name and CanBePrefix.
+fn forget_want(plain: &mut Plain, name: usize, can_be_prefix: bool) {
+    plain.wants.retain(|want| want.name != name || want.can_be_prefix != can_be_prefix);
+}
+
 /// Applies a command to the plain lists, and returns its expected status and count.
 fn expected(all: &[Made], plain: &mut Plain, verb: &str, asked: Wanted) -> Option<(u16, u64)> {
     let (name, flag) = (asked.name, asked.can_be_prefix);
     let count = number(all, plain, name, flag)?;
     let wanted = has_want(plain, name, flag);
     if verb == "delete" {
-        plain
-            .wants
-            .retain(|want| want.name != name || want.can_be_prefix != flag);
+        forget_want(plain, name, flag);
         plain.objects.retain(|place| all.get(*place).is_none_or(|one| !answers(one, name, flag)));
         let status = if count > 0 || wanted { 200 } else { 404 };
         return Some((status, count));
@@ -117,11 +139,30 @@ fn expected(all: &[Made], plain: &mut Plain, verb: &str, asked: Wanted) -> Optio
     if verb == "check" {
         return Some((if wanted { 100 } else { 404 }, 0));
     }
-    plain
-        .wants
-        .retain(|want| want.name != name || want.can_be_prefix != flag);
+    forget_want(plain, name, flag);
     plain.wants.push(asked).ok()?;
     Some((100, 0))
+}
+
+/// Returns the text of an Interest: the name, `*` for CanBePrefix, and a further mark.
+fn asked_text(alloc: Global, name: usize, can_be_prefix: bool, mark: &str) -> Option<String> {
+    let uri = NAMES.get(name)?;
+    let star = if can_be_prefix { "*" } else { "" };
+    format!(in alloc; "{uri}{star}{mark}").ok()
+}
+
+/// Applies a command to the repository, and returns its status and its count.
+fn command_reply(
+    alloc: Global,
+    repo: &mut Repo,
+    verb: &str,
+    wanted: Wanted,
+    now: u64,
+    lifetime: u64,
+) -> Option<(u16, u64)> {
+    let asked = asked_text(alloc, wanted.name, wanted.can_be_prefix, "")?;
+    let command = command_on(alloc, verb, &asked, Some(lifetime))?;
+    status_and_count(repo, command.view(), now)
 }
 
 /// Returns whether the repository answers a command as expected.
@@ -139,26 +180,20 @@ fn command_agrees(
     };
     let (name, flag) = (random(state, 5) as usize, random(state, 2) == 1);
     let (now, lifetime) = (random(state, 20), random(state, 20));
-    let suffix = if flag { "*" } else { "" };
-    let uri = NAMES.get(name)?;
-    let asked = format!(in alloc; "{uri}{suffix}").ok()?;
-    let command = command_on(alloc, verb, &asked, Some(lifetime))?;
-    let reply = repo.command(command.view(), now).ok()?;
     let wanted = Wanted {
         name,
         can_be_prefix: flag,
         deadline: now.saturating_add(lifetime),
     };
-    Some((reply.status, reply.count) == expected(all, plain, verb, wanted)?)
+    let reply = command_reply(alloc, repo, verb, wanted, now, lifetime)?;
+    Some(reply == expected(all, plain, verb, wanted)?)
 }
 
 /// Returns whether the repository answers an offer as expected.
 fn offer_agrees(all: &[Made], repo: &mut Repo, plain: &mut Plain, state: &mut u64) -> Option<bool> {
     let place = random(state, 10) as usize;
     let one = all.get(place)?;
-    let Frame::Data(data) = read_frame(&one.packet).ok()? else {
-        return None;
-    };
+    let data = data_in(&one.packet)?;
     let before = plain.wants.len();
     plain
         .wants
@@ -173,10 +208,8 @@ fn offer_agrees(all: &[Made], repo: &mut Repo, plain: &mut Plain, state: &mut u6
 
 /// Returns whether the repository serves these octets for an Interest.
 fn is_served(repo: &Repo, packet: &[u8], expected: Option<&[u8]>) -> Option<bool> {
-    match read_frame(packet).ok()? {
-        Frame::Interest(interest) => Some(repo.serve(&interest) == expected),
-        _ => None,
-    }
+    let interest = interest_in(packet)?;
+    Some(repo.serve(&interest) == expected)
 }
 
 /// Returns whether the repository serves an Interest as expected.
@@ -188,15 +221,13 @@ fn serve_agrees(
     state: &mut u64,
 ) -> Option<bool> {
     let (name, flag) = (random(state, 5) as usize, random(state, 2) == 1);
-    let prefix_mark = if flag { "*" } else { "" };
     let fresh_mark = if random(state, 2) == 1 { "!" } else { "" };
-    let uri = NAMES.get(name)?;
-    let asked = format!(in alloc; "{uri}{prefix_mark}{fresh_mark}").ok()?;
-    let packet = asking(alloc, &asked)?;
     let expected = match least(all, plain, name, flag)? {
         Some(one) => Some(one.packet.as_slice()),
         None => None,
     };
+    let asked = asked_text(alloc, name, flag, fresh_mark)?;
+    let packet = asking(alloc, &asked)?;
     is_served(repo, &packet, expected)
 }
 
@@ -239,19 +270,26 @@ fn calls_agree(
 
 /// Returns whether an empty repository and empty lists agree on ten random calls.
 fn sequence_agrees(alloc: Global, all: &[Made], state: &mut u64) -> Option<bool> {
+    let mut repo = empty_repo(alloc)?;
     let mut plain = Plain {
         objects: Vec::new(alloc),
         wants: Vec::new(alloc),
     };
-    calls_agree(alloc, all, &mut empty_repo(alloc)?, &mut plain, state)
+    calls_agree(alloc, all, &mut repo, &mut plain, state)
 }
 
 /// Returns whether the repository and the plain lists agree on ten thousand sequences of calls.
 fn all_agree(alloc: Global) -> Option<bool> {
     let all = all_made(alloc)?;
+    sequences_agree(alloc, &all)
+}
+
+/// Returns whether the repository and the plain lists agree on ten thousand sequences of calls to
+/// these Data.
+fn sequences_agree(alloc: Global, all: &[Made]) -> Option<bool> {
     let mut state = 0x2545_f491_4f6c_dd1d;
     for _ in 0..10_000 {
-        if !sequence_agrees(alloc, &all, &mut state)? {
+        if !sequence_agrees(alloc, all, &mut state)? {
             return Some(false);
         }
     }

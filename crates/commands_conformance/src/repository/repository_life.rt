@@ -39,7 +39,7 @@ insert /A/1* 0, offer /A/1/x 01, insert /A/2* 0, offer /A/2/y 02, check /A* 0, c
     check_rows(&rt, rt.alloc(), rows, answers);
 }
 
-/// A delete removes only the want with the same CanBePrefix.
+/// A delete removes a want only if the want has the same CanBePrefix.
 #[test]
 fn a_delete_takes_the_want_of_its_own_flag(rt: HostRuntime) {
     let rows = "

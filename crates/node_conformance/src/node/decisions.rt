@@ -46,7 +46,7 @@ in 2 1000000 B_X
 3 data any-data
 ";
 
-/// The first rule that applies to the packet decides.
+/// The first rule that applies to a packet decides whether the packet is allowed.
 #[test]
 fn first_rule_denies(rt: HostRuntime) {
     replies_under(&rt, STRICT, 1, FIRST_RULE_DENIES);

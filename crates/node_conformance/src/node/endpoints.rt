@@ -1,6 +1,9 @@
 //! Endpoints, each an address and a port, and which of them the node listens to.
 
-use super::udp::{Moving, brings_face, brings_packet, free_port, heard_port, hears_octets, opens};
+use super::udp::{
+    Moving, bound_socket, brings_face, brings_packet, free_port, hears_octets, moving_ports, opens,
+    port_of,
+};
 use node_ports::{Ports, UdpPorts};
 use std::net::{Ipv4Addr, Ipv6Addr, Net, SocketAddr, UdpSocket};
 
@@ -9,20 +12,40 @@ fn loopback(port: u16) -> SocketAddr {
     SocketAddr::from((Ipv4Addr::LOCALHOST, port))
 }
 
-/// Returns whether the same port at two addresses counts as two endpoints, each with its own face.
-fn parts_addresses(rt: &impl Net) -> Option<bool> {
-    let listen = free_port(rt)?;
-    let mut ports = UdpPorts::bind(rt, listen, &[], 0, Moving { last: 0 }).ok()?;
-    let (port, first) = heard_port(rt)?;
-    let second = UdpSocket::bind(rt, (Ipv4Addr::new(127, 0, 0, 2), port)).ok()?;
+/// Returns a socket that is bound to a port of 127.0.0.2.
+fn bound_elsewhere(rt: &impl Net, port: u16) -> Option<UdpSocket> {
+    UdpSocket::bind(rt, (Ipv4Addr::new(127, 0, 0, 2), port)).ok()
+}
+
+/// Returns whether two sockets with the same port at two addresses count as two endpoints, each
+/// with its own face.
+fn parts_sockets(
+    ports: &mut UdpPorts<Moving>,
+    listen: u16,
+    first: &UdpSocket,
+    second: &UdpSocket,
+) -> Option<bool> {
     first.send_to(b"1", loopback(listen)).ok()?;
     second.send_to(b"22", loopback(listen)).ok()?;
-    let opened = opens(&mut ports, 1, 1, 2, 1) && opens(&mut ports, 2, 3, 4, 2);
+    let opened = opens(ports, 1, 1, 2, 1) && opens(ports, 2, 3, 4, 2);
     let sent = ports.send(2, b"to two").is_ok() && ports.send(1, b"to one").is_ok();
-    let heard = hears_octets(&first, b"to one") && hears_octets(&second, b"to two");
-    let named = ports.endpoint_of(1) == Some(loopback(port))
+    let heard = hears_octets(first, b"to one") && hears_octets(second, b"to two");
+    let named = ports.endpoint_of(1) == Some(loopback(port_of(first)?))
         && ports.endpoint_of(2) == Some(second.local_addr().ok()?);
     Some(opened && sent && heard && named && ports.endpoint_of(3).is_none())
+}
+
+/// Returns whether `parts_sockets` is true of two new sockets.
+fn parts_two(rt: &impl Net, ports: &mut UdpPorts<Moving>, listen: u16) -> Option<bool> {
+    let first = bound_socket(rt)?;
+    let second = bound_elsewhere(rt, port_of(&first)?)?;
+    parts_sockets(ports, listen, &first, &second)
+}
+
+/// Returns whether `parts_two` is true of new ports.
+fn parts_addresses(rt: &impl Net) -> Option<bool> {
+    let listen = free_port(rt)?;
+    parts_two(rt, &mut moving_ports(rt, listen)?, listen)
 }
 
 #[test]
@@ -30,15 +53,24 @@ fn endpoint_is_address_and_port(rt: HostRuntime) {
     assert!(rt; parts_addresses(&rt) == Some(true));
 }
 
-/// Returns whether a peer at another loopback address has a face from the start.
-fn knows_peer(rt: &impl Net) -> Option<bool> {
-    let peer = UdpSocket::bind(rt, (Ipv4Addr::new(127, 0, 0, 2), 0)).ok()?;
+/// Returns whether a peer has a face from the start, and hears what is sent to it.
+fn serves_peer(ports: &mut UdpPorts<Moving>, listen: SocketAddr, peer: &UdpSocket) -> Option<bool> {
+    peer.send_to(b"333", listen).ok()?;
+    let came = brings_face(ports, 1, 1) && brings_packet(ports, 1, 2, 3);
+    Some(came && ports.send(1, b"back").is_ok() && hears_octets(peer, b"back"))
+}
+
+/// Returns whether `serves_peer` is true of new ports with this peer.
+fn knows(rt: &impl Net, peer: &UdpSocket) -> Option<bool> {
     let endpoint = peer.local_addr().ok()?;
     let listen = loopback(free_port(rt)?);
     let mut ports = UdpPorts::bind_at(rt, listen, &[endpoint], 0, Moving { last: 0 }).ok()?;
-    peer.send_to(b"333", listen).ok()?;
-    let came = brings_face(&mut ports, 1, 1) && brings_packet(&mut ports, 1, 2, 3);
-    Some(came && ports.send(1, b"back").is_ok() && hears_octets(&peer, b"back"))
+    serves_peer(&mut ports, listen, peer)
+}
+
+/// Returns whether a peer at another loopback address has a face from the start.
+fn knows_peer(rt: &impl Net) -> Option<bool> {
+    knows(rt, &bound_elsewhere(rt, 0)?)
 }
 
 #[test]
@@ -46,15 +78,28 @@ fn endpoint_of_a_peer(rt: HostRuntime) {
     assert!(rt; knows_peer(&rt) == Some(true));
 }
 
+/// Returns an endpoint of ::1 that no socket is bound to.
+fn free_endpoint(rt: &impl Net) -> Option<SocketAddr> {
+    let free = UdpSocket::bind(rt, (Ipv6Addr::LOCALHOST, 0)).ok()?;
+    free.local_addr().ok()
+}
+
+/// Returns whether ports serve a client.
+fn serves_client(
+    ports: &mut UdpPorts<Moving>,
+    listen: SocketAddr,
+    client: &UdpSocket,
+) -> Option<bool> {
+    client.send_to(b"4444", listen).ok()?;
+    let opened = opens(ports, 1, 1, 2, 4);
+    Some(opened && ports.send(1, b"six").is_ok() && hears_octets(client, b"six"))
+}
+
 /// Returns whether the ports of ::1 serve a client at ::1.
 fn serves_version_six(rt: &impl Net, client: &UdpSocket) -> Option<bool> {
-    let free = UdpSocket::bind(rt, (Ipv6Addr::LOCALHOST, 0)).ok()?;
-    let listen = free.local_addr().ok()?;
-    drop(free);
+    let listen = free_endpoint(rt)?;
     let mut ports = UdpPorts::bind_at(rt, listen, &[], 0, Moving { last: 0 }).ok()?;
-    client.send_to(b"4444", listen).ok()?;
-    let opened = opens(&mut ports, 1, 1, 2, 4);
-    Some(opened && ports.send(1, b"six").is_ok() && hears_octets(client, b"six"))
+    serves_client(&mut ports, listen, client)
 }
 
 /// Does the same as `serves_version_six` if the machine has the address ::1. On a machine without
@@ -71,23 +116,44 @@ fn endpoint_of_version_six(rt: HostRuntime) {
     assert!(rt; serves_where_there_is_one(&rt) == Some(true));
 }
 
-/// Returns whether datagrams from strangers are dropped and counted, while datagrams from a peer
+/// Returns ports with one peer.
+fn ports_of_peer(rt: &impl Net, listen: u16, peer: u16) -> Option<UdpPorts<Moving>> {
+    UdpPorts::bind(rt, listen, &[peer], 0, Moving { last: 0 }).ok()
+}
+
+/// Returns whether datagrams from a stranger are dropped and counted, while datagrams from a peer
 /// are handled.
-fn ignores_strangers(rt: &impl Net) -> Option<bool> {
-    let (peer, known) = heard_port(rt)?;
-    let (_, stranger) = heard_port(rt)?;
-    let listen = free_port(rt)?;
-    let mut ports = UdpPorts::bind(rt, listen, &[peer], 0, Moving { last: 0 }).ok()?;
-    ports.ignore_strangers();
-    let opened = brings_face(&mut ports, 1, 1);
-    stranger.send_to(b"1", loopback(listen)).ok()?;
-    stranger.send_to(b"22", loopback(listen)).ok()?;
-    known.send_to(b"333", loopback(listen)).ok()?;
-    let heard = brings_packet(&mut ports, 1, 2, 3) && ports.strangers() == 2;
-    stranger.send_to(b"4444", loopback(listen)).ok()?;
+fn ignores_stranger(
+    ports: &mut UdpPorts<Moving>,
+    listen: SocketAddr,
+    known: &UdpSocket,
+    stranger: &UdpSocket,
+) -> Option<bool> {
+    let opened = brings_face(ports, 1, 1);
+    stranger.send_to(b"1", listen).ok()?;
+    stranger.send_to(b"22", listen).ok()?;
+    known.send_to(b"333", listen).ok()?;
+    let heard = brings_packet(ports, 1, 2, 3) && ports.strangers() == 2;
+    stranger.send_to(b"4444", listen).ok()?;
     let nothing = ports.next_soon(&mut [0; 100]).is_none() && ports.strangers() == 3;
-    known.send_to(b"55555", loopback(listen)).ok()?;
-    Some(opened && heard && nothing && brings_packet(&mut ports, 1, 3, 5))
+    known.send_to(b"55555", listen).ok()?;
+    Some(opened && heard && nothing && brings_packet(ports, 1, 3, 5))
+}
+
+/// Returns whether `ignores_stranger` is true of new ports with this peer.
+fn ignores_all_but(rt: &impl Net, known: &UdpSocket, stranger: &UdpSocket) -> Option<bool> {
+    let peer = port_of(known)?;
+    let listen = free_port(rt)?;
+    let mut ports = ports_of_peer(rt, listen, peer)?;
+    ports.ignore_strangers();
+    ignores_stranger(&mut ports, loopback(listen), known, stranger)
+}
+
+/// Returns whether `ignores_all_but` is true of two new sockets.
+fn ignores_strangers(rt: &impl Net) -> Option<bool> {
+    let known = bound_socket(rt)?;
+    let stranger = bound_socket(rt)?;
+    ignores_all_but(rt, &known, &stranger)
 }
 
 #[test]
@@ -95,16 +161,30 @@ fn endpoint_of_a_stranger(rt: HostRuntime) {
     assert!(rt; ignores_strangers(&rt) == Some(true));
 }
 
-/// Returns whether a stranger's datagrams are handled, besides a peer's, if strangers are not
+/// Returns whether a datagram from a stranger opens a face and is handled, if strangers are not
 /// ignored.
-fn accepts_strangers(rt: &impl Net) -> Option<bool> {
-    let (peer, _known) = heard_port(rt)?;
-    let (_, stranger) = heard_port(rt)?;
-    let listen = free_port(rt)?;
-    let mut ports = UdpPorts::bind(rt, listen, &[peer], 0, Moving { last: 0 }).ok()?;
-    let opened = brings_face(&mut ports, 1, 1);
+fn accepts_stranger(
+    ports: &mut UdpPorts<Moving>,
+    listen: u16,
+    stranger: &UdpSocket,
+) -> Option<bool> {
+    let opened = brings_face(ports, 1, 1);
     stranger.send_to(b"1", loopback(listen)).ok()?;
-    Some(opened && opens(&mut ports, 2, 2, 3, 1) && ports.strangers() == 0)
+    Some(opened && opens(ports, 2, 2, 3, 1) && ports.strangers() == 0)
+}
+
+/// Returns whether `accepts_stranger` is true of new ports with this peer.
+fn accepts_beside(rt: &impl Net, known: &UdpSocket, stranger: &UdpSocket) -> Option<bool> {
+    let peer = port_of(known)?;
+    let listen = free_port(rt)?;
+    accepts_stranger(&mut ports_of_peer(rt, listen, peer)?, listen, stranger)
+}
+
+/// Returns whether `accepts_beside` is true of two new sockets.
+fn accepts_strangers(rt: &impl Net) -> Option<bool> {
+    let known = bound_socket(rt)?;
+    let stranger = bound_socket(rt)?;
+    accepts_beside(rt, &known, &stranger)
 }
 
 #[test]

@@ -1,4 +1,4 @@
-use super::{outcome, parts, replies};
+use super::{replies, sample_outcome};
 use std::alloc::Global;
 use std::fmt::Write;
 
@@ -51,10 +51,10 @@ fn face_events(rt: HostRuntime) {
     replies(&rt, FACE_EVENTS);
 }
 
-/// Returns whether 64 faces open, and a 65th opens only after one of them has closed.
-fn opens_64_faces(alloc: Global) -> Option<bool> {
-    let mut script = String::new(alloc);
-    let mut wanted = String::new(alloc);
+/// Appends a script that opens 64 faces, tries to open a 65th, and does so again after the first
+/// has closed. Appends the outcome that it must have to another text. Returns `None` if
+/// memory runs out.
+fn put_65_faces(script: &mut String, wanted: &mut String) -> Option<()> {
     for face in 1..65 {
         writeln!(script, "up {face} far 0").ok()?;
         writeln!(wanted, "{face} passed").ok()?;
@@ -64,8 +64,21 @@ fn opens_64_faces(alloc: Global) -> Option<bool> {
         .ok()?;
     wanted
         .push_str("65 dropped FacesFull\n66 passed\n67 passed\nOk(())")
-        .ok()?;
-    Some(outcome(alloc, parts(alloc)?, script.as_str())?.as_str() == wanted.as_str())
+        .ok()
+}
+
+/// Returns whether a script has this outcome.
+fn comes_to(alloc: Global, script: &str, wanted: &str) -> Option<bool> {
+    let came = sample_outcome(alloc, script)?;
+    Some(came.as_str() == wanted)
+}
+
+/// Returns whether 64 faces open, and a 65th opens only after one of them has closed.
+fn opens_64_faces(alloc: Global) -> Option<bool> {
+    let mut script = String::new(alloc);
+    let mut wanted = String::new(alloc);
+    put_65_faces(&mut script, &mut wanted)?;
+    comes_to(alloc, script.as_str(), wanted.as_str())
 }
 
 #[test]

@@ -1,14 +1,13 @@
 //! A node with as many pending Interests as it can have.
 
 use super::octets::hexadecimal_of;
-use super::{outcome, parts};
+use super::sample_outcome;
 use std::alloc::Global;
 use std::fmt::Write;
 
-/// Returns a script with 4,096 Interests of different names, then one Interest of a new name, and
-/// one of a known name from another face.
-fn script(alloc: Global) -> Option<String> {
-    let mut script = String::new(alloc);
+/// Appends a script with 4,096 Interests of different names, then one Interest of a new name, and
+/// one of a known name from another face. Returns `None` if memory runs out.
+fn put_script(script: &mut String) -> Option<()> {
     script
         .push_str("up 1 local 1000000\nup 2 far 1000000\nup 3 far 1000000\nin 1 1000000 ")
         .ok()?;
@@ -20,20 +19,31 @@ fn script(alloc: Global) -> Option<String> {
         )
         .ok()?;
     }
-    writeln!(script, "in 3 1000000 050c0704080200000a0400010000").ok()?;
-    Some(script)
+    writeln!(script, "in 3 1000000 050c0704080200000a0400010000").ok()
 }
 
-/// Returns whether the Interest of the new name is refused, but the Interest of the known name is
-/// not: it waits for the answer to the earlier Interest of that name.
-fn is_refused_alone(alloc: Global) -> Option<bool> {
-    let came = outcome(alloc, parts(alloc)?, script(alloc)?.as_str())?;
-    let last = came.as_str().rsplit_once("\n4100 passed\n")?.1;
+/// Returns the outcome of this script.
+fn script_outcome(alloc: Global) -> Option<String> {
+    let mut script = String::new(alloc);
+    put_script(&mut script)?;
+    sample_outcome(alloc, script.as_str())
+}
+
+/// Returns whether an outcome ends with the answers to the last three Interests.
+fn is_outcome(came: &str) -> Option<bool> {
+    let last = came.rsplit_once("\n4100 passed\n")?.1;
     let (send, rest) = last.split_once('\n')?;
     Some(
         send == "> 2 050c070408020fff0a0400000fff"
             && rest == "4101 dropped PitFull\n4102 passed\nOk(())",
     )
+}
+
+/// Returns whether the Interest of the new name is refused, but the Interest of the known name is
+/// not: it waits for the answer to the earlier Interest of that name.
+fn is_refused_alone(alloc: Global) -> Option<bool> {
+    let came = script_outcome(alloc)?;
+    is_outcome(came.as_str())
 }
 
 #[test]

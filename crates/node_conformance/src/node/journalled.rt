@@ -1,12 +1,12 @@
 //! A node that keeps a journal, and a node that continues from a journal.
 ghost use Rattle.std.specs.Prelude.{None};
 
-use super::ports::{node_of, ports_of};
+use super::ports::{on_node, ports_of};
 use super::repository_life::FROM_INSERT_TO_DELETE;
-use super::{parts, spelled};
+use super::spelled;
 use journal::{FileFault, JournalFile, Replayed, replay};
 use node_core::{Node, Outbox};
-use node_ports::{JournalledPorts, MemoryPorts, Ports, ServeFault, Served, serve};
+use node_ports::{JournalledPorts, MemoryPorts, Ports, ServeFault, serve};
 use std::alloc::Global;
 
 /// A file in memory, which accepts a given number of lines and then half of a line.
@@ -33,36 +33,46 @@ impl JournalFile for MemoryFile {
     }
 }
 
-/// Returns the ports of a dialogue, with a file that accepts `lines` lines, and how serving a node
-/// there ended.
+/// Serves a node with the events of a dialogue and a journal file that accepts `lines` lines.
+/// Returns the ports if serving ends with this fault, or without a fault if none is given.
 fn served(
     alloc: Global,
+    node: &mut Node,
     dialogue: &str,
     lines: u64,
-) -> Option<
-    (
-        JournalledPorts<MemoryPorts, MemoryFile>,
-        Result<Served, ServeFault>,
-    ),
-> {
+    fault: Option<ServeFault>,
+) -> Option<JournalledPorts<MemoryPorts, MemoryFile>> {
     let file = MemoryFile {
         octets: Vec::new(alloc),
         left: lines,
     };
     let mut ports = JournalledPorts::new(alloc, ports_of(alloc, dialogue)?, file);
-    let end = serve(alloc, &mut node_of(alloc)?, &mut ports, 1000);
-    Some((ports, end))
+    let end = serve(alloc, node, &mut ports, 1000);
+    if end.err() == fault {
+        Some(ports)
+    } else {
+        None
+    }
 }
 
-/// Returns whether the journal of a dialogue has these lines, in which words stand for packets.
+/// Returns whether a node's journal of a dialogue has these lines, in which words stand for
+/// packets.
+fn keeps_journal(alloc: Global, node: &mut Node, dialogue: &str, lines: &str) -> Option<bool> {
+    let wanted = spelled(alloc, lines)?;
+    let ports = served(alloc, node, dialogue, 1000, None)?;
+    Some(ports.file().octets.as_slice() == wanted.as_bytes())
+}
+
+/// Returns whether `keeps_journal` is true of a new node.
 fn has_journal(alloc: Global, dialogue: &str, lines: &str) -> Option<bool> {
-    let (ports, end) = served(alloc, dialogue, 1000)?;
-    end.ok()?;
-    Some(ports.file().octets.as_slice() == spelled(alloc, lines)?.as_bytes())
+    on_node(
+        alloc,
+        &|alloc, node| keeps_journal(alloc, node, dialogue, lines),
+    )
 }
 
-/// An Interest that is not a command is not journalled, and an Interest that waits for a Data is
-/// not journalled either.
+/// The journal of `FROM_INSERT_TO_DELETE`. It has a line for each event except the Interest that is
+/// not a command.
 const JOURNAL_OF_A_LIFE: &str = "up 1 local 1000000
 up 2 far 1000000
 in 1 1000000 ADD_FIRST
@@ -78,8 +88,8 @@ fn journal_of_a_life(rt: HostRuntime) {
     assert!(rt; same == Some(true));
 }
 
-/// A command that is denied, a Data that the repository does not want, a face that is already open,
-/// a face that is closed, and a clock that goes back.
+/// A face that is already open, the closing of a face that is not open, a denied command, a Data
+/// that the repository does not want, a tick, and then a new face while the clock goes back.
 const MOSTLY_DENIED: &str = "
 up 1 local 1000000
 1 passed
@@ -103,27 +113,28 @@ fn journal_of_what_is_denied(rt: HostRuntime) {
     assert!(rt; has_journal(rt.alloc(), MOSTLY_DENIED, lines) == Some(true));
 }
 
+/// Returns whether a journal has three lines, and one packet was sent.
+fn has_three_lines(ports: &JournalledPorts<MemoryPorts, MemoryFile>) -> bool {
+    let lines = ports.file().octets.iter().filter(|o| **o == b'\n').count();
+    ports.ports().sent().len() == 1 && lines == 3
+}
+
 /// Returns whether a node stops when the journal's file fails after three lines, so that nothing of
 /// the fourth line's event is sent.
-fn fails_at_the_insert(alloc: Global) -> Option<bool> {
-    let (ports, end) = served(alloc, FROM_INSERT_TO_DELETE, 3)?;
-    let lines = ports.file().octets.iter().filter(|o| **o == b'\n').count();
-    let ends = end == Err(ServeFault::Journal { after: 3 });
-    Some(ends && ports.ports().sent().len() == 1 && lines == 3)
+fn fails_at_the_insert(alloc: Global, node: &mut Node) -> Option<bool> {
+    let fault = Some(ServeFault::Journal { after: 3 });
+    Some(has_three_lines(&served(alloc, node, FROM_INSERT_TO_DELETE, 3, fault)?))
 }
 
 #[test]
 fn a_journal_that_fails(rt: HostRuntime) {
-    assert!(rt; fails_at_the_insert(rt.alloc()) == Some(true));
+    assert!(rt; on_node(rt.alloc(), &fails_at_the_insert) == Some(true));
 }
 
-/// Returns a node that continues from a journal.
-fn replayed(alloc: Global, journal: &str) -> Option<(Node, Replayed)> {
+/// Lets a node continue from a journal, and returns what was replayed.
+fn replayed(alloc: Global, node: &mut Node, journal: &str) -> Option<Replayed> {
     let journal = spelled(alloc, journal)?;
-    let mut node = Node::new(alloc, parts(alloc)?).ok()?;
-    let mut reader = journal.as_bytes();
-    let done = replay(alloc, &mut node, &mut reader).ok()?;
-    Some((node, done))
+    replay(alloc, node, &mut journal.as_bytes()).ok()
 }
 
 /// The journal of a node in which a Data was stored.
@@ -133,8 +144,8 @@ in 1 1000000 ADD_FIRST
 in 1 1000000 INSERT
 in 2 1000000 D_A";
 
-/// What a node receives after a restart: an Interest for the stored Data, a command that was
-/// carried out before, and an Interest that the route leads on.
+/// What a node receives after a restart: an Interest for the stored Data, and two commands that
+/// were carried out before the restart.
 const AFTER_A_RESTART: &str = "
 in 1 1000000 INTEREST
 > 1 D_A
@@ -142,20 +153,42 @@ in 1 1000000 INSERT
 in 1 1000000 ADD_FIRST
 ";
 
-/// Returns what a node sends after a restart.
-fn sent_after_a_restart(alloc: Global) -> Option<(u64, usize, bool)> {
-    let (mut node, done) = replayed(alloc, JOURNAL_OF_A_STORE)?;
-    let mut ports = ports_of(alloc, AFTER_A_RESTART)?;
-    serve(alloc, &mut node, &mut ports, 1000).ok()?;
+/// Returns whether the first packet of an outbox is the stored Data.
+fn starts_with_data(alloc: Global, sent: &Outbox) -> Option<bool> {
     let data = spelled(alloc, "> 1 D_A")?;
     let mut text = Vec::new(alloc);
-    node_core::put_sends(&mut text, ports.sent()).ok()?;
-    let is_first = text.as_slice().starts_with(data.as_bytes());
-    Some((done.events, ports.sent().len(), is_first))
+    let is_put = node_core::put_sends(&mut text, sent).is_ok();
+    Some(is_put && text.as_slice().starts_with(data.as_bytes()))
+}
+
+/// Returns the number of packets that a node sends after a restart, and whether the first of these
+/// packets is the stored Data.
+fn sent_after(alloc: Global, node: &mut Node) -> Option<(usize, bool)> {
+    let mut ports = ports_of(alloc, AFTER_A_RESTART)?;
+    serve(alloc, node, &mut ports, 1000).ok()?;
+    Some((ports.sent().len(), starts_with_data(alloc, ports.sent())?))
+}
+
+/// Returns the number of replayed events, the number of packets that the node sends after the
+/// restart, and whether the first of these packets is the stored Data.
+fn replayed_and_sent(alloc: Global, node: &mut Node) -> Option<(u64, usize, bool)> {
+    let done = replayed(alloc, node, JOURNAL_OF_A_STORE)?;
+    let (sent, is_first) = sent_after(alloc, node)?;
+    Some((done.events, sent, is_first))
+}
+
+/// Returns whether `replayed_and_sent` returns these values for a node.
+fn replays_and_sends(alloc: Global, node: &mut Node, wanted: &(u64, usize, bool)) -> Option<bool> {
+    Some(replayed_and_sent(alloc, node)? == *wanted)
+}
+
+/// Returns whether `replays_and_sends` is true of a new node.
+fn sends_after_a_restart(alloc: Global, wanted: &(u64, usize, bool)) -> Option<bool> {
+    on_node(alloc, &|alloc, node| replays_and_sends(alloc, node, wanted))
 }
 
 /// After a restart the stored Data is served, and each old command is denied as a replay.
 #[test]
 fn after_a_restart(rt: HostRuntime) {
-    assert!(rt; sent_after_a_restart(rt.alloc()) == Some((5, 3, true)));
+    assert!(rt; sends_after_a_restart(rt.alloc(), &(5, 3, true)) == Some(true));
 }

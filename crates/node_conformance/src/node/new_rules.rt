@@ -32,7 +32,7 @@ in 1 1000000 ADD_NEXT
 > 1 ADDED_NEXT
 ";
 
-/// New rules decide from the next event on. The cache and the recorded times of commands are kept.
+/// New rules apply from the next event on. The cache and the recorded times of commands are kept.
 #[test]
 fn rules_replaced(rt: HostRuntime) {
     replies(&rt, RULES_REPLACED);

@@ -1,11 +1,12 @@
 use super::octets::octets_of;
-use super::parts;
-use super::ports::node_of;
+use super::ports::on_node;
+use super::rules_of;
 use hmac_keys::KeyBook;
+use info_rules::Rules;
 use ndn_names::NameBuf;
 use node_core::{Event, Node, NodeFault, NodeParts, Outbox, Scope, Verdict};
 use std::alloc::Global;
-use test_support::first_wrong;
+use test_support::{SAMPLE, first_wrong};
 
 /// Each row is a repository's prefix and a cache's capacity, followed by the result of making a
 /// node with this prefix and this capacity.
@@ -19,16 +20,27 @@ const PARTS: &str = "
 /repo 65537 -> Err(BadCapacity)
 ";
 
+/// Returns the parts of a node with this repository's prefix and this cache's capacity.
+fn parts_at(alloc: Global, prefix: &str, cache: u32) -> Option<NodeParts> {
+    let repo = NameBuf::from_uri(alloc, prefix).ok()?;
+    let rules = rules_of(alloc, SAMPLE)?;
+    Some(NodeParts {
+        rules,
+        keys: KeyBook::new(alloc),
+        repo,
+        cache,
+    })
+}
+
+/// Returns the result of making a node of these parts, without the node.
+fn made_at(alloc: Global, prefix: &str, cache: u32) -> Option<Result<(), NodeFault>> {
+    Some(Node::new(alloc, parts_at(alloc, prefix, cache)?).map(drop))
+}
+
 /// Returns the result of making a node of the parts in a row.
 fn made(alloc: Global, row: &str) -> Option<String> {
     let (prefix, cache) = row.split_once(' ')?;
-    let parts = NodeParts {
-        rules: parts(alloc)?.rules,
-        keys: KeyBook::new(alloc),
-        repo: NameBuf::from_uri(alloc, prefix).ok()?,
-        cache: cache.parse::<u32>().ok()?,
-    };
-    let made = Node::new(alloc, parts).map(drop);
+    let made = made_at(alloc, prefix, cache.parse::<u32>().ok()?)?;
     format!(in alloc; "{made:?}").ok()
 }
 
@@ -43,7 +55,7 @@ fn parts_of_a_node(rt: HostRuntime) {
     assert!(rt; first_wrong(rt.alloc(), PARTS, is_made) == 0);
 }
 
-/// Opens face 1.
+/// Returns whether face 1 opens.
 fn opens(node: &mut Node, outbox: &mut Outbox) -> bool {
     let up = Event::FaceUp {
         face: 1,
@@ -68,7 +80,8 @@ fn ends_with(outbox: &Outbox, nack: &[u8]) -> bool {
     outbox.sent(1) == Some((1, nack)) && outbox.len() == 2 && outbox.sent(2).is_none()
 }
 
-/// Returns whether a Nack follows an earlier Nack in the outbox, until the outbox is cleared.
+/// Returns whether the outbox keeps the packets of two steps in order, until the outbox is cleared.
+/// The second packet must be this Nack.
 fn sends_in_order(node: &mut Node, outbox: &mut Outbox, interest: &[u8], nack: &[u8]) -> bool {
     let was_empty = outbox.is_empty();
     let passed = opens(node, outbox)
@@ -79,11 +92,16 @@ fn sends_in_order(node: &mut Node, outbox: &mut Outbox, interest: &[u8], nack: &
     was_empty && passed && ended && outbox.is_empty()
 }
 
-/// Returns whether `sends_in_order` is true of a new node, in which the Interest has no route.
+/// Returns whether `sends_in_order` is true of a node in which the Interest has no route.
+fn sends_nack_in_order(alloc: Global, node: &mut Node) -> bool {
+    let interest = octets_of(alloc, "INTEREST");
+    let nack = octets_of(alloc, "NO_ROUTE");
+    sends_in_order(node, &mut Outbox::new(alloc), &interest, &nack)
+}
+
+/// Returns whether `sends_nack_in_order` is true of a new node.
 fn new_node_sends_in_order(alloc: Global) -> Option<bool> {
-    let (interest, nack) = (octets_of(alloc, "INTEREST"), octets_of(alloc, "NO_ROUTE"));
-    let mut node = node_of(alloc)?;
-    Some(sends_in_order(&mut node, &mut Outbox::new(alloc), &interest, &nack))
+    on_node(alloc, &|alloc, node| Some(sends_nack_in_order(alloc, node)))
 }
 
 #[test]
@@ -91,11 +109,14 @@ fn sends(rt: HostRuntime) {
     assert!(rt; new_node_sends_in_order(rt.alloc()) == Some(true));
 }
 
+/// Returns whether these are the sample rules.
+fn are_sample_rules(rules: &Rules) -> bool {
+    rules.len() == 3 && rules.id(info_rules::RuleNo(1)) == "repo-ops"
+}
+
 /// Returns whether the ids of a node's rules can be read from the node.
 fn tells_rules(alloc: Global) -> Option<bool> {
-    let node = node_of(alloc)?;
-    let rules = node.rules();
-    Some(rules.len() == 3 && rules.id(info_rules::RuleNo(1)) == "repo-ops")
+    on_node(alloc, &|_, node| Some(are_sample_rules(node.rules())))
 }
 
 #[test]
@@ -112,30 +133,34 @@ fn packet(now: u64, octets: &[u8]) -> Event<'_> {
     }
 }
 
-/// Returns a node with the Local face 1, which has received a command to insert a Data until
-/// 1,001,100.
-fn node_that_wants(alloc: Global) -> Option<Node> {
-    let mut node = node_of(alloc)?;
-    let mut outbox = Outbox::new(alloc);
+/// Returns whether the Local face 1 opens and a node then takes the packet of a command.
+fn takes_command(node: &mut Node, outbox: &mut Outbox, command: &[u8]) -> bool {
     let up = Event::FaceUp {
         face: 1,
         scope: Scope::Local,
         now: 0,
     };
-    node.step(up, &mut outbox).ok()?;
+    node.step(up, outbox).is_ok() && node.step(packet(1_001_000, command), outbox).is_ok()
+}
+
+/// Returns whether the Local face 1 opens and a node then takes a command to insert a Data. The
+/// deadline of the command is at 1,001,100 milliseconds.
+fn takes_insert(alloc: Global, node: &mut Node) -> bool {
     let insert = octets_of(alloc, "SHORT_INSERT");
-    node.step(packet(1_001_000, &insert), &mut outbox).ok()?;
-    Some(node)
+    takes_command(node, &mut Outbox::new(alloc), &insert)
+}
+
+/// Returns whether a node takes the insert, and returns its time and its open faces afterwards.
+fn tells_after_insert(alloc: Global, node: &mut Node) -> bool {
+    takes_insert(alloc, node)
+        && node.now() == 1_001_000
+        && node.open_face(0) == Some((1, Scope::Local))
+        && node.open_face(1).is_none()
 }
 
 /// Returns whether a node returns its time and its open faces.
 fn tells_time_and_faces(alloc: Global) -> Option<bool> {
-    let node = node_that_wants(alloc)?;
-    Some(
-        node.now() == 1_001_000
-            && node.open_face(0) == Some((1, Scope::Local))
-            && node.open_face(1).is_none(),
-    )
+    on_node(alloc, &|alloc, node| Some(tells_after_insert(alloc, node)))
 }
 
 #[test]
@@ -143,15 +168,33 @@ fn time_and_faces_of_a_node(rt: HostRuntime) {
     assert!(rt; tells_time_and_faces(rt.alloc()) == Some(true));
 }
 
+/// Returns whether a node wants a Data at this moment.
+fn wants_at(node: &Node, now: u64, data: &[u8]) -> bool {
+    node.wants(&packet(now, data))
+}
+
+/// Returns whether a node wants the first Data until the deadline, and does not want the other.
+fn wants_first(node: &Node, wanted: &[u8], other: &[u8]) -> bool {
+    wants_at(node, 1_001_099, wanted)
+        && !wants_at(node, 1_001_099, other)
+        && !wants_at(node, 1_001_100, wanted)
+}
+
+/// Returns whether a node wants the Data of the insert until the deadline, and no other Data.
+fn wants_inserted(alloc: Global, node: &Node) -> bool {
+    let wanted = octets_of(alloc, "D_A");
+    let other = octets_of(alloc, "D_B");
+    wants_first(node, &wanted, &other)
+}
+
+/// Returns whether a node takes the insert, and `wants_inserted` is true of it afterwards.
+fn wants_after_insert(alloc: Global, node: &mut Node) -> bool {
+    takes_insert(alloc, node) && wants_inserted(alloc, node)
+}
+
 /// Returns whether a node wants the requested Data until the deadline, and no other Data.
 fn wants_in_time(alloc: Global) -> Option<bool> {
-    let node = node_that_wants(alloc)?;
-    let (wanted, other) = (octets_of(alloc, "D_A"), octets_of(alloc, "D_B"));
-    Some(
-        node.wants(&packet(1_001_099, &wanted))
-            && !node.wants(&packet(1_001_099, &other))
-            && !node.wants(&packet(1_001_100, &wanted)),
-    )
+    on_node(alloc, &|alloc, node| Some(wants_after_insert(alloc, node)))
 }
 
 #[test]

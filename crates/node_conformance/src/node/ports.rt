@@ -1,13 +1,13 @@
-use super::{parts, replies, script_of, spelled};
+use super::{on_node_under, replies, script_of, spelled};
 use hmac_keys::KeyBook;
-use node_core::{
-    Node, NodeParts, Outbox, OwnedEvent, Scope, put_refused, put_sends, put_verdict, read_rules,
-};
+use info_rules::Rules;
+use node_core::{Node, Outbox, OwnedEvent, Scope, put_refused, put_sends, put_verdict, read_rules};
 use node_ports::{
     FileOctets, MemoryPorts, OwnedArrival, Ports, Renewal, ServeFault, Served, Turn, serve,
     serve_turn,
 };
 use std::alloc::Global;
+use test_support::SAMPLE;
 
 /// Events with two faces, an Interest without a route, and a Data that nobody asked for.
 pub const FIRST_PATH: &str = "
@@ -34,32 +34,57 @@ fn packet_of(alloc: Global, word: &str) -> Option<Vec<u8>> {
     hex::decode(alloc, if word == "-" { "" } else { word }).ok()
 }
 
+/// Returns the number at index `i` of a line.
+fn number(line: &str, i: usize) -> Option<u64> {
+    word(line, i).parse::<u64>().ok()
+}
+
+/// Returns the scope that a word of a script stands for.
+fn scope_of(word: &str) -> Scope {
+    if word == "local" {
+        Scope::Local
+    } else {
+        Scope::Far
+    }
+}
+
+/// Returns the rules that a word gives in hexadecimal.
+fn rules_in(alloc: Global, word: &str) -> Option<Rules> {
+    let octets = packet_of(alloc, word)?;
+    read_rules(alloc, &octets).ok()
+}
+
+/// Returns the keys that a word gives in hexadecimal.
+fn keys_in(alloc: Global, word: &str) -> Option<KeyBook> {
+    let octets = packet_of(alloc, word)?;
+    KeyBook::read_octets(alloc, &octets).ok()
+}
+
+/// Returns the event of new rules in a line of a script.
+fn new_rules_of(alloc: Global, line: &str, now: u64) -> Option<OwnedEvent> {
+    let rules = rules_in(alloc, word(line, 2))?;
+    let keys = keys_in(alloc, word(line, 3))?;
+    Some(OwnedEvent::NewRules { rules, keys, now })
+}
+
 /// Returns the event in a line of a script.
 pub fn event_of(alloc: Global, line: &str) -> Option<OwnedEvent> {
-    let face = word(line, 1).parse::<u64>().ok()?;
+    let face = number(line, 1)?;
     match word(line, 0) {
         "up" => Some(OwnedEvent::FaceUp {
             face,
-            scope: if word(line, 2) == "local" {
-                Scope::Local
-            } else {
-                Scope::Far
-            },
-            now: word(line, 3).parse::<u64>().ok()?,
+            scope: scope_of(word(line, 2)),
+            now: number(line, 3)?,
         }),
         "down" => Some(OwnedEvent::FaceDown {
             face,
-            now: word(line, 2).parse::<u64>().ok()?,
+            now: number(line, 2)?,
         }),
         "tick" => Some(OwnedEvent::Tick { now: face }),
-        "rules" => Some(OwnedEvent::NewRules {
-            rules: read_rules(alloc, &packet_of(alloc, word(line, 2))?).ok()?,
-            keys: KeyBook::read_octets(alloc, &packet_of(alloc, word(line, 3))?).ok()?,
-            now: face,
-        }),
+        "rules" => new_rules_of(alloc, line, face),
         _ => Some(OwnedEvent::Packet {
             face,
-            now: word(line, 2).parse::<u64>().ok()?,
+            now: number(line, 2)?,
             octets: packet_of(alloc, word(line, 3))?,
         }),
     }
@@ -72,150 +97,207 @@ fn renewal_of(alloc: Global, rules: Vec<u8>, keys: Vec<u8>) -> Option<Renewal> {
     Some(Renewal::new(read, book, FileOctets { rules, keys }))
 }
 
+/// Returns the arrival of new rules in a line of a script.
+fn new_rules_arrival(alloc: Global, line: &str, now: u64) -> Option<OwnedArrival> {
+    let rules = packet_of(alloc, word(line, 2))?;
+    let keys = packet_of(alloc, word(line, 3))?;
+    let renewal = renewal_of(alloc, rules, keys)?;
+    Some(OwnedArrival::NewRules { renewal, now })
+}
+
 /// Returns the arrival in a line of a script.
 fn arrival_of(alloc: Global, line: &str) -> Option<OwnedArrival> {
-    match event_of(alloc, line)? {
-        OwnedEvent::Packet { face, now, octets } => Some(OwnedArrival::Packet {
+    let face = number(line, 1)?;
+    match word(line, 0) {
+        "up" => Some(OwnedArrival::FaceUp {
             face,
-            now,
-            octets,
+            scope: scope_of(word(line, 2)),
+            now: number(line, 3)?,
         }),
-        OwnedEvent::FaceUp { face, scope, now } => Some(OwnedArrival::FaceUp { face, scope, now }),
-        OwnedEvent::FaceDown { face, now } => Some(OwnedArrival::FaceDown { face, now }),
-        OwnedEvent::Tick { now } => Some(OwnedArrival::Tick { now }),
-        OwnedEvent::NewRules { now, .. } => {
-            let rules = packet_of(alloc, word(line, 2))?;
-            let keys = packet_of(alloc, word(line, 3))?;
-            Some(OwnedArrival::NewRules {
-                renewal: renewal_of(alloc, rules, keys)?,
-                now,
-            })
-        }
+        "down" => Some(OwnedArrival::FaceDown {
+            face,
+            now: number(line, 2)?,
+        }),
+        "tick" => Some(OwnedArrival::Tick { now: face }),
+        "rules" => new_rules_arrival(alloc, line, face),
+        _ => Some(OwnedArrival::Packet {
+            face,
+            now: number(line, 2)?,
+            octets: packet_of(alloc, word(line, 3))?,
+        }),
     }
+}
+
+/// Appends the arrival in a line of a script, unless the line is empty. Returns `None` if the line
+/// has no arrival, or memory runs out.
+fn push_arrival(alloc: Global, arrivals: &mut Vec<OwnedArrival>, line: &str) -> Option<()> {
+    if line.is_empty() {
+        return Some(());
+    }
+    arrivals.push(arrival_of(alloc, line)?).ok()
+}
+
+/// Returns the arrivals in the lines of a script.
+fn arrivals_of(alloc: Global, script: &str) -> Option<Vec<OwnedArrival>> {
+    let mut arrivals = Vec::new(alloc);
+    for line in script.lines() {
+        push_arrival(alloc, &mut arrivals, line)?;
+    }
+    Some(arrivals)
+}
+
+/// Returns the script of a dialogue in which words stand for packets.
+fn spelled_script(alloc: Global, dialogue: &str) -> Option<String> {
+    let dialogue = spelled(alloc, dialogue)?;
+    script_of(alloc, dialogue.as_str())
 }
 
 /// Returns a port that delivers the events of a dialogue.
 pub fn ports_of(alloc: Global, dialogue: &str) -> Option<MemoryPorts> {
-    let dialogue = spelled(alloc, dialogue)?;
-    let script = script_of(alloc, dialogue.as_str())?;
-    let mut arrivals = Vec::new(alloc);
-    for line in script.as_str().lines() {
-        if !line.is_empty() {
-            arrivals.push(arrival_of(alloc, line)?).ok()?;
-        }
-    }
+    let script = spelled_script(alloc, dialogue)?;
+    let arrivals = arrivals_of(alloc, script.as_str())?;
     Some(MemoryPorts::new(alloc, arrivals))
 }
 
-/// Returns a node under the sample rules.
-pub fn node_of(alloc: Global) -> Option<Node> {
-    Node::new(alloc, parts(alloc)?).ok()
+/// Returns what `play` returns for a new node under the sample rules, or `None` if the node cannot
+/// be created.
+pub fn on_node<F: Fn(Global, &mut Node) -> Option<bool>>(alloc: Global, play: &F) -> Option<bool>
+    requires { F.IsAlwaysCallable play.now }
+{
+    on_node_under(alloc, SAMPLE, 1024, play)
 }
 
-/// Appends the text that is printed for one turn. Returns false if no event was answered.
+/// Appends the text that is printed for one turn, with an outbox for the turn's sends. Returns
+/// false if no event was answered.
 fn put_turn<P: Ports>(
-    alloc: Global,
     node: &mut Node,
     ports: &mut P,
+    outbox: &mut Outbox,
     number: u64,
     text: &mut Vec<u8>,
 ) -> bool {
-    let mut outbox = Outbox::new(alloc);
-    let Ok(Turn::Done { verdict, .. }) = serve_turn(node, ports, &mut outbox) else {
+    let Ok(Turn::Done { verdict, .. }) = serve_turn(node, ports, outbox) else {
         return false;
     };
-    put_verdict(text, number, &verdict, node.rules()).is_ok() && put_sends(text, &outbox).is_ok()
+    put_verdict(text, number, &verdict, node.rules()).is_ok() && put_sends(text, outbox).is_ok()
 }
 
-/// Returns the text that is printed for a node's turns at a port, until the port has nothing more.
-fn put_turns<P: Ports>(alloc: Global, node: &mut Node, ports: &mut P) -> Vec<u8> {
-    let mut text = Vec::new(alloc);
+/// Appends the text that is printed for a node's turns at a port, until the port has nothing more.
+fn put_turns<P: Ports>(alloc: Global, node: &mut Node, ports: &mut P, text: &mut Vec<u8>) {
     for number in 1..1000 {
-        if !put_turn(alloc, node, ports, number, &mut text) {
+        if !put_turn(node, ports, &mut Outbox::new(alloc), number, text) {
             break;
         }
     }
-    text
-}
-
-/// Returns whether a node at a port prints this text.
-pub fn prints_at<P: Ports>(
-    alloc: Global,
-    parts: NodeParts,
-    ports: &mut P,
-    wanted: &str,
-) -> Option<bool> {
-    let mut node = Node::new(alloc, parts).ok()?;
-    let text = put_turns(alloc, &mut node, ports);
-    Some(text.as_slice() == wanted.as_bytes())
 }
 
 /// Returns whether a node that gets the events of a dialogue at a port prints this text.
-pub fn prints(alloc: Global, parts: NodeParts, dialogue: &str, wanted: &str) -> Option<bool> {
-    prints_at(alloc, parts, &mut ports_of(alloc, dialogue)?, wanted)
+pub fn prints(alloc: Global, node: &mut Node, dialogue: &str, wanted: &str) -> Option<bool> {
+    let mut ports = ports_of(alloc, dialogue)?;
+    let mut text = Vec::new(alloc);
+    put_turns(alloc, node, &mut ports, &mut text);
+    Some(text.as_slice() == wanted.as_bytes())
 }
 
-/// Serves `FIRST_PATH` for `turns` turns and returns the result. The call of the port's `next` with
-/// the number `next`, and the call of its `send` with the number `send`, fail.
-fn served(alloc: Global, turns: u64, next: u64, send: u64) -> Option<Result<Served, ServeFault>> {
-    let mut node = node_of(alloc)?;
+/// Returns whether serving a node with `FIRST_PATH` for `turns` turns has the result `wanted`. The
+/// call of the port's `next` with the number `next`, and the call of its `send` with the number
+/// `send`, fail. No call has the number 0.
+fn node_serves(
+    alloc: Global,
+    node: &mut Node,
+    turns: u64,
+    next: u64,
+    send: u64,
+    wanted: &Result<Served, ServeFault>,
+) -> Option<bool> {
     let mut ports = ports_of(alloc, FIRST_PATH)?;
     ports.fail_next(next);
     ports.fail_send(send);
-    Some(serve(alloc, &mut node, &mut ports, turns))
+    Some(serve(alloc, node, &mut ports, turns) == *wanted)
 }
 
-/// Returns whether this many events came and this many sends failed, and the port then had nothing
-/// more.
-fn comes_to(
-    served: Option<Result<Served, ServeFault>>,
-    events: u64,
-    failed_sends: u64,
-    ended: bool,
+/// Returns whether `node_serves` is true of a new node.
+fn serves(
+    alloc: Global,
+    turns: u64,
+    next: u64,
+    send: u64,
+    wanted: &Result<Served, ServeFault>,
 ) -> bool {
-    served
-        == Some(Ok(Served {
-            events,
-            refused: 0,
-            failed_sends,
-            ended,
-        }))
+    let served = on_node(
+        alloc,
+        &|alloc, node| node_serves(alloc, node, turns, next, send, wanted),
+    );
+    served == Some(true)
 }
 
-/// Returns whether the port failed to deliver the next arrival after `after` events.
-fn stops_after(served: Option<Result<Served, ServeFault>>, after: u64) -> bool {
-    served == Some(Err(ServeFault::Next { after }))
+/// Returns the result of serving in which this many events come and this many sends fail. `ended`
+/// tells whether the port ends before the last turn.
+fn came(events: u64, failed_sends: u64, ended: bool) -> Result<Served, ServeFault> {
+    Ok(Served {
+        events,
+        refused: 0,
+        failed_sends,
+        ended,
+    })
+}
+
+/// Returns the result of serving in which the port fails to deliver the next arrival after `after`
+/// events.
+fn stopped(after: u64) -> Result<Served, ServeFault> {
+    Err(ServeFault::Next { after })
 }
 
 #[test]
 fn served_turns(rt: HostRuntime) {
-    assert!(rt; comes_to(served(rt.alloc(), 10, 0, 0), 5, 0, true));
-    assert!(rt; comes_to(served(rt.alloc(), 5, 0, 0), 5, 0, false));
-    assert!(rt; comes_to(served(rt.alloc(), 3, 0, 0), 3, 0, false));
-    assert!(rt; comes_to(served(rt.alloc(), 0, 0, 0), 0, 0, false));
+    assert!(rt; serves(rt.alloc(), 10, 0, 0, &came(5, 0, true)));
+    assert!(rt; serves(rt.alloc(), 5, 0, 0, &came(5, 0, false)));
+    assert!(rt; serves(rt.alloc(), 3, 0, 0, &came(3, 0, false)));
+    assert!(rt; serves(rt.alloc(), 0, 0, 0, &came(0, 0, false)));
 }
 
 #[test]
 fn served_turns_with_failed_calls(rt: HostRuntime) {
-    assert!(rt; comes_to(served(rt.alloc(), 10, 0, 1), 5, 1, true));
-    assert!(rt; comes_to(served(rt.alloc(), 10, 0, 2), 5, 0, true));
-    assert!(rt; stops_after(served(rt.alloc(), 10, 1, 0), 0));
-    assert!(rt; stops_after(served(rt.alloc(), 10, 2, 0), 1));
-    assert!(rt; stops_after(served(rt.alloc(), 10, 3, 0), 2));
-    assert!(rt; stops_after(served(rt.alloc(), 10, 4, 0), 3));
-    assert!(rt; stops_after(served(rt.alloc(), 10, 5, 0), 4));
-    assert!(rt; stops_after(served(rt.alloc(), 10, 6, 0), 5));
-    assert!(rt; comes_to(served(rt.alloc(), 10, 7, 0), 5, 0, true));
+    assert!(rt; serves(rt.alloc(), 10, 0, 1, &came(5, 1, true)));
+    assert!(rt; serves(rt.alloc(), 10, 0, 2, &came(5, 0, true)));
+    assert!(rt; serves(rt.alloc(), 10, 1, 0, &stopped(0)));
+    assert!(rt; serves(rt.alloc(), 10, 2, 0, &stopped(1)));
+    assert!(rt; serves(rt.alloc(), 10, 3, 0, &stopped(2)));
+    assert!(rt; serves(rt.alloc(), 10, 4, 0, &stopped(3)));
+    assert!(rt; serves(rt.alloc(), 10, 5, 0, &stopped(4)));
+    assert!(rt; serves(rt.alloc(), 10, 6, 0, &stopped(5)));
+    assert!(rt; serves(rt.alloc(), 10, 7, 0, &came(5, 0, true)));
 }
 
-/// Returns whether `next` fails after `before` events, and `left` events then remain.
+/// Returns whether the port's `next` fails after `before` events, and a second call of `serve` then
+/// serves the remaining events, which are `left` in number.
 fn goes_on(alloc: Global, next: u64, before: u64, left: u64) -> Option<bool> {
-    let mut node = node_of(alloc)?;
+    on_node(
+        alloc,
+        &|alloc, node| node_goes_on(alloc, node, next, before, left),
+    )
+}
+
+/// Returns whether `stops_and_ends` is true of a node at a port with the events of `FIRST_PATH`.
+/// The call of the port's `next` with the number `next` fails.
+fn node_goes_on(alloc: Global, node: &mut Node, next: u64, before: u64, left: u64) -> Option<bool> {
     let mut ports = ports_of(alloc, FIRST_PATH)?;
     ports.fail_next(next);
-    let stopped = stops_after(Some(serve(alloc, &mut node, &mut ports, 10)), before);
-    let ended = comes_to(Some(serve(alloc, &mut node, &mut ports, 10)), left, 0, true);
-    Some(stopped && ended && ports.sent().len() == 1)
+    Some(stops_and_ends(alloc, node, &mut ports, before, left))
+}
+
+/// Returns whether serving a node stops after `before` events, and a second call of `serve` then
+/// serves the remaining events, which are `left` in number. One packet must be sent.
+fn stops_and_ends(
+    alloc: Global,
+    node: &mut Node,
+    ports: &mut MemoryPorts,
+    before: u64,
+    left: u64,
+) -> bool {
+    let stops = serve(alloc, node, ports, 10) == stopped(before);
+    let ends = serve(alloc, node, ports, 10) == came(left, 0, true);
+    stops && ends && ports.sent().len() == 1
 }
 
 #[test]

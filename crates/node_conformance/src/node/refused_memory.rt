@@ -1,26 +1,35 @@
 //! Tests that also pass if any one allocation fails, as under `rt try --test --fail-alloc N`.
 
 use super::pending::{LOOPS_AND_RETRIES, NACKS};
-use super::ports::{FIRST_PATH, event_of, node_of, ports_of, word};
+use super::ports::{FIRST_PATH, event_of, on_node, ports_of, word};
 use super::repository_life::{
     AN_EXPIRED_WANT_STORES_NOTHING, FROM_INSERT_TO_DELETE, THE_CACHE_FILLS_NO_WANT,
 };
 use super::routes::{ROUTE_COMMAND_AND_LIST, STRATEGY_AND_CACHE};
-use super::streams::Room;
-use super::{is_answer, parts, spelled};
-use node_core::{Node, NodeFault, Outbox, RunFault, Verdict, run_script};
+use super::streams::{Room, end_in};
+use super::{is_answer, spelled};
+use node_core::{Node, NodeFault, Outbox, OwnedEvent, RunFault, Verdict};
 use node_ports::serve;
 use std::alloc::Global;
 
-/// Returns the verdict on the event of a line, or `None` if memory ran out.
-fn said_of(alloc: Global, node: &mut Node, outbox: &mut Outbox, line: &str) -> Option<Verdict> {
+/// Returns the verdict on an event, or `None` if memory ran out.
+fn step_of(
+    alloc: Global,
+    node: &mut Node,
+    outbox: &mut Outbox,
+    event: OwnedEvent,
+) -> Option<Verdict> {
     let mut octets = Vec::new(alloc);
-    let event = event_of(alloc, line)?.into_event(&mut octets);
-    node.step(event, outbox).ok()
+    node.step(event.into_event(&mut octets), outbox).ok()
 }
 
-/// Returns the verdict on the event of a line. An event for which memory ran out is handled a
-/// second time, as if for the first time.
+/// Returns the verdict on the event of a line, or `None` if memory ran out.
+fn said_of(alloc: Global, node: &mut Node, outbox: &mut Outbox, line: &str) -> Option<Verdict> {
+    step_of(alloc, node, outbox, event_of(alloc, line)?)
+}
+
+/// Returns the verdict on the event of a line. If memory ran out and the node sent nothing, the
+/// event is given to the node a second time, and the node must handle it as a new event.
 fn verdict_on(alloc: Global, node: &mut Node, outbox: &mut Outbox, line: &str) -> Option<Verdict> {
     let before = outbox.len();
     let said = said_of(alloc, node, outbox, line);
@@ -46,15 +55,14 @@ fn is_line_of(line: &str, verdict: Option<Verdict>) -> bool {
 
 /// Returns whether a line of a dialogue describes this send.
 fn is_line_of_send(alloc: Global, line: &str, sent: Option<(u64, &[u8])>) -> Option<bool> {
-    let octets = hex::decode(alloc, word(line, 2)).ok()?;
     let face = word(line, 1).parse::<u64>().ok()?;
+    let octets = hex::decode(alloc, word(line, 2)).ok()?;
     Some(sent == Some((face, octets.as_slice())))
 }
 
-/// Returns whether a node gives the answers of a dialogue, unless one of the test's own allocations
-/// fails.
-fn plays(alloc: Global, node: &mut Node, dialogue: &str) -> Option<bool> {
-    let mut outbox = Outbox::new(alloc);
+/// Returns whether a node gives the answers of a dialogue, or `None` if one of the test's own
+/// allocations fails. The outbox is for the sends of each event.
+fn plays(alloc: Global, node: &mut Node, outbox: &mut Outbox, dialogue: &str) -> Option<bool> {
     let mut verdict = None;
     let mut sends = 0;
     for line in dialogue.lines() {
@@ -73,17 +81,27 @@ fn plays(alloc: Global, node: &mut Node, dialogue: &str) -> Option<bool> {
             }
             sends = 0;
             outbox.clear();
-            verdict = verdict_on(alloc, node, &mut outbox, line);
+            verdict = verdict_on(alloc, node, outbox, line);
         }
     }
     Some(outbox.len() == sends)
 }
 
-/// Returns whether a new node gives the answers of a dialogue, unless one of the test's own
-/// allocations fails.
+/// Does the same with a new outbox.
+fn node_plays(alloc: Global, node: &mut Node, dialogue: &str) -> Option<bool> {
+    plays(alloc, node, &mut Outbox::new(alloc), dialogue)
+}
+
+/// Returns whether a new node gives the answers of a dialogue without words, or `None` if the node
+/// cannot be created or one of the test's own allocations fails.
+fn new_node_plays(alloc: Global, dialogue: &str) -> Option<bool> {
+    on_node(alloc, &|alloc, node| node_plays(alloc, node, dialogue))
+}
+
+/// Does the same for a dialogue in which words stand for packets.
 fn steps(alloc: Global, dialogue: &str) -> Option<bool> {
     let dialogue = spelled(alloc, dialogue)?;
-    plays(alloc, &mut node_of(alloc)?, dialogue.as_str())
+    new_node_plays(alloc, dialogue.as_str())
 }
 
 #[test]
@@ -126,6 +144,7 @@ const ANSWERS_TO_INTEREST: &str = "1 passed
 4 passed
 ";
 
+/// Returns whether a text is the beginning of another text, or all of it.
 fn is_front(text: &[u8], whole: &str) -> bool {
     whole.as_bytes().starts_with(text)
 }
@@ -137,17 +156,8 @@ fn are_answers(text: &[u8]) -> bool {
         || is_front(text, ANSWERS_TO_INTEREST)
 }
 
-fn script(alloc: Global) -> bool {
-    let (Ok(held), Some(parts)) = (Vec::with_capacity(alloc, 1000), parts(alloc)) else {
-        return true;
-    };
-    let mut output = Room {
-        held,
-        size: 1000,
-        left: 1000,
-    };
-    let end = run_script(alloc, &mut SCRIPT.as_bytes(), &mut output, parts);
-    let text = output.held.as_slice();
+/// Returns whether the script may end like this with this text.
+fn is_end(end: Result<(), RunFault>, text: &[u8]) -> bool {
     match end {
         Ok(()) => are_answers(text) && text.ends_with(b"4 passed\n"),
         Err(RunFault::Memory) => are_answers(text),
@@ -155,21 +165,34 @@ fn script(alloc: Global) -> bool {
     }
 }
 
-#[test]
-fn script_with_refused_memory(rt: HostRuntime) {
-    assert!(rt; script(rt.alloc()));
+/// Returns whether the script may end as it does, or `None` if one of the test's own allocations
+/// fails.
+fn script(alloc: Global) -> Option<bool> {
+    let held = Vec::with_capacity(alloc, 1000).ok()?;
+    let mut output = Room {
+        held,
+        size: 1000,
+        left: 1000,
+    };
+    let end = end_in(alloc, SCRIPT, &mut output)?;
+    Some(is_end(end, output.held.as_slice()))
 }
 
-/// Returns whether all events of `FIRST_PATH` come, and those for which memory ran out are counted.
-fn serves(alloc: Global) -> Option<bool> {
-    let mut node = node_of(alloc)?;
+#[test]
+fn script_with_refused_memory(rt: HostRuntime) {
+    assert!(rt; script(rt.alloc()) != Some(false));
+}
+
+/// Returns whether all five events of `FIRST_PATH` come, and at most one event or send is counted
+/// as failed.
+fn serves(alloc: Global, node: &mut Node) -> Option<bool> {
     let mut ports = ports_of(alloc, FIRST_PATH)?;
-    let served = serve(alloc, &mut node, &mut ports, 10).ok()?;
+    let served = serve(alloc, node, &mut ports, 10).ok()?;
     let lost = served.refused.saturating_add(served.failed_sends);
     Some(served.events == 5 && served.ended && lost < 2)
 }
 
 #[test]
 fn served_turns_with_refused_memory(rt: HostRuntime) {
-    assert!(rt; serves(rt.alloc()) != Some(false));
+    assert!(rt; on_node(rt.alloc(), &serves) != Some(false));
 }

@@ -133,8 +133,9 @@ in 1 1001000 LIST
 > 1 ROUTES_3
 ";
 
-/// A replay, or a register with a wrong tag, does not extend any route, and is not counted in the
-/// version of the list. `rib/list` is an unknown command, but it is allowed, so it is counted.
+/// A replayed command, or a register command with a wrong tag, does not extend any route, and is
+/// not counted in the version of the list. The command `rib/list` is unknown, but it is allowed, so
+/// it is counted.
 #[test]
 fn denied_registers_change_nothing(rt: HostRuntime) {
     replies(&rt, REFUSED_COMMANDS);

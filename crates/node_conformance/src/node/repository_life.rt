@@ -64,7 +64,8 @@ in 1 1001101 CHECK_LATER
 > 1 STILL_NOT_FOUND
 ";
 
-/// A want expires at its deadline, and a Data that comes then is not stored.
+/// The repository stops wanting a Data at the deadline of the insert command. A Data that comes at
+/// the deadline is not stored.
 #[test]
 fn an_expired_want_stores_nothing(rt: HostRuntime) {
     replies_with_each_cache(&rt, AN_EXPIRED_WANT_STORES_NOTHING);

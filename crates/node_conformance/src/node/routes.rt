@@ -63,8 +63,8 @@ in 1 1000000 LIST_2
 12 dropped NoSegment
 ";
 
-/// A route needs an open face. The list of routes changes with each allowed command, and when the
-/// face closes.
+/// A route needs an open face. The version of the list of routes increases with each allowed
+/// command, and when the face closes.
 #[test]
 fn route_command_and_list(rt: HostRuntime) {
     replies(&rt, ROUTE_COMMAND_AND_LIST);
@@ -185,7 +185,8 @@ in 1 1000000 THIRD
 > 3 THIRD
 ";
 
-/// Multicast sends to each next hop. Erased Data no longer answer Interests.
+/// The multicast strategy sends an Interest to each next hop. Data that are erased from the cache
+/// no longer answer Interests.
 #[test]
 fn strategy_and_cache(rt: HostRuntime) {
     replies(&rt, STRATEGY_AND_CACHE);

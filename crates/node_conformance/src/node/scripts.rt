@@ -1,4 +1,4 @@
-use super::{outcome, parts, replies};
+use super::{replies, sample_outcome};
 use std::alloc::Global;
 use test_support::first_wrong;
 
@@ -50,11 +50,16 @@ tick 1|# 2|in 1|tick 2 -> 1 passed|Err(BadLine(3))
 up 1 local 0|up 2 far 0|in 1|tick 7| -> 1 passed|2 passed|Err(BadLine(3))
 ";
 
-/// Returns the output of a script and how the script ends, with `|` for each LF in both.
+/// Returns the output of a script and how the script ends, with `|` for each LF.
+fn shown_outcome(alloc: Global, script: &str) -> Option<String> {
+    let came = sample_outcome(alloc, script)?;
+    came.as_str().replace(alloc, '\n', "|").ok()
+}
+
+/// Does the same for a script with `|` for each LF.
 fn played(alloc: Global, script: &str) -> Option<String> {
     let script = script.replace(alloc, '|', "\n").ok()?;
-    let came = outcome(alloc, parts(alloc)?, script.as_str())?;
-    came.as_str().replace(alloc, '\n', "|").ok()
+    shown_outcome(alloc, script.as_str())
 }
 
 /// Returns whether a row's script has the result after the row's arrow.
@@ -63,11 +68,17 @@ fn is_played(alloc: Global, row: &str) -> bool {
     played(alloc, script).as_deref() == Some(wanted)
 }
 
-/// Returns the result of a line of `len` octets followed by `rest`.
-fn played_line(alloc: Global, len: usize, rest: &str) -> Option<String> {
+/// Returns a line of `len` octets followed by `rest`.
+fn line_of(alloc: Global, len: usize, rest: &str) -> Option<String> {
     let line = vec![in alloc; b'#'; len].ok()?;
     let mut script = String::from_utf8(line).ok()?;
     script.push_str(rest).ok()?;
+    Some(script)
+}
+
+/// Returns the result of a line of `len` octets followed by `rest`.
+fn played_line(alloc: Global, len: usize, rest: &str) -> Option<String> {
+    let script = line_of(alloc, len, rest)?;
     played(alloc, script.as_str())
 }
 

@@ -50,6 +50,15 @@ impl Write for Room {
     }
 }
 
+/// Writes the answers to a script that is read in pieces, and returns how the script ends.
+fn end_of(
+    alloc: Global,
+    input: &mut Pieces<'_>,
+    output: &mut Vec<u8>,
+) -> Option<Result<(), RunFault>> {
+    Some(run_script(alloc, input, output, parts(alloc)?))
+}
+
 /// Returns whether a script that is read in pieces has these answers, and then fails or ends.
 fn reads(alloc: Global, script: &str, size: usize, fails: bool, answers: &str) -> bool {
     let mut input = Pieces {
@@ -58,12 +67,9 @@ fn reads(alloc: Global, script: &str, size: usize, fails: bool, answers: &str) -
         fails,
     };
     let mut output = Vec::new(alloc);
-    let Some(parts) = parts(alloc) else {
-        return false;
-    };
-    let end = run_script(alloc, &mut input, &mut output, parts);
+    let end = end_of(alloc, &mut input, &mut output);
     let wanted = if fails { Err(RunFault::Read) } else { Ok(()) };
-    end == wanted && output.as_slice() == answers.as_bytes()
+    end == Some(wanted) && output.as_slice() == answers.as_bytes()
 }
 
 /// Checks a script that is read in pieces of 1 to 100 octets.
@@ -92,23 +98,30 @@ fn a_reader_that_fails(rt: HostRuntime) {
     check_pieces(&rt, script, true, answers);
 }
 
-/// Returns whether the answers to a script are written to an output with capacity for `left`
-/// octets. If the answers are longer, only their first `left` octets are written, and writing
-/// fails.
-fn writes(alloc: Global, script: &str, size: usize, left: usize, answers: &[u8]) -> bool {
-    let mut input = script.as_bytes();
-    let held = Vec::new(alloc);
-    let mut output = Room { held, size, left };
-    let Some(parts) = parts(alloc) else {
-        return false;
-    };
-    let end = run_script(alloc, &mut input, &mut output, parts);
+/// Writes the answers to a script, and returns how the script ends.
+pub fn end_in(alloc: Global, script: &str, output: &mut Room) -> Option<Result<(), RunFault>> {
+    Some(run_script(alloc, &mut script.as_bytes(), output, parts(alloc)?))
+}
+
+/// Returns whether a script ends like this and has written this, if its output has capacity for
+/// `left` octets of these answers.
+fn is_end(end: Option<Result<(), RunFault>>, written: &[u8], left: usize, answers: &[u8]) -> bool {
     let (wanted, len) = if left < answers.len() {
         (Err(RunFault::Write), left)
     } else {
         (Ok(()), answers.len())
     };
-    end == wanted && output.held.as_slice() == &answers[..len]
+    end == Some(wanted) && written == &answers[..len]
+}
+
+/// Returns whether the answers to a script are written to an output with capacity for `left`
+/// octets. If the answers are longer, only their first `left` octets are written, and writing
+/// fails.
+fn writes(alloc: Global, script: &str, size: usize, left: usize, answers: &[u8]) -> bool {
+    let held = Vec::new(alloc);
+    let mut output = Room { held, size, left };
+    let end = end_in(alloc, script, &mut output);
+    is_end(end, output.held.as_slice(), left, answers)
 }
 
 /// Checks a script whose output has a capacity of 0 to 40 octets.

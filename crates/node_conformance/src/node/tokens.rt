@@ -159,8 +159,8 @@ in 1 1000000 TOKEN_INTEREST
 > 1 TOKEN_D_A
 ";
 
-/// Replies to commands, even to denied ones, and segments of lists, and objects of the repository
-/// go back with the token. The repository's own Interest has no token.
+/// Replies to commands (also to denied commands), segments of lists, and objects of the repository
+/// are sent back with the token. The repository's own Interest has no token.
 #[test]
 fn tokens_on_replies(rt: HostRuntime) {
     replies(&rt, REPLIES_FOR_A_TOKEN);

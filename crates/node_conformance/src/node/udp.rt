@@ -1,7 +1,7 @@
 //! A node at a UDP port of this machine, and the sockets that exchange packets with it.
 
 use super::octets::octets_of;
-use super::ports::node_of;
+use super::ports::on_node;
 use ndn_packets::PacketFault;
 use node_core::{DropReason, Node, Outbox, Scope, Verdict};
 use node_ports::{
@@ -55,15 +55,55 @@ impl<'a> Moments for Handed<'a> {
     }
 }
 
-/// Returns a port, and a socket that is bound to it.
-pub fn heard_port(rt: &impl Net) -> Option<(u16, UdpSocket)> {
-    let socket = UdpSocket::bind(rt, (Ipv4Addr::LOCALHOST, 0)).ok()?;
-    Some((socket.local_addr().ok()?.port(), socket))
+/// Returns a socket that is bound to a port of 127.0.0.1.
+pub fn bound_socket(rt: &impl Net) -> Option<UdpSocket> {
+    UdpSocket::bind(rt, (Ipv4Addr::LOCALHOST, 0)).ok()
+}
+
+/// Returns the port that a socket is bound to.
+pub fn port_of(socket: &UdpSocket) -> Option<u16> {
+    Some(socket.local_addr().ok()?.port())
 }
 
 /// Returns a port of this machine that no socket is bound to.
 pub fn free_port(rt: &impl Net) -> Option<u16> {
-    Some(heard_port(rt)?.0)
+    port_of(&bound_socket(rt)?)
+}
+
+/// Returns ports without peers, with a clock that stands still.
+fn still_ports(rt: &impl Net, listen: u16) -> Option<UdpPorts<Still>> {
+    UdpPorts::bind(rt, listen, &[], 0, Still).ok()
+}
+
+/// Returns ports without peers, with a clock that moves.
+pub fn moving_ports(rt: &impl Net, listen: u16) -> Option<UdpPorts<Moving>> {
+    UdpPorts::bind(rt, listen, &[], 0, Moving { last: 0 }).ok()
+}
+
+/// Returns ports without peers, with a clock that shows this moment.
+fn handed_ports<'a>(
+    rt: &impl Net,
+    listen: u16,
+    moment: &'a Cell<u64>,
+) -> Option<UdpPorts<Handed<'a>>> {
+    UdpPorts::bind(rt, listen, &[], 0, Handed { moment, last: 0 }).ok()
+}
+
+/// Returns ports with one peer, whose face is Local if `local` is 1. Their clock shows this moment.
+fn handed_ports_of<'a>(
+    rt: &impl Net,
+    listen: u16,
+    peer: u16,
+    local: u64,
+    moment: &'a Cell<u64>,
+) -> Option<UdpPorts<Handed<'a>>> {
+    UdpPorts::bind(rt, listen, &[peer], local, Handed { moment, last: 0 }).ok()
+}
+
+/// Returns a new socket that has sent the packet that a word stands for to a port.
+fn client_of(rt: &(impl AllocGlobal + Net), to: u16, word: &str) -> Option<UdpSocket> {
+    let octets = octets_of(rt.alloc(), word);
+    send_one(rt, to, octets.as_slice()).ok()
 }
 
 /// Returns whether the packet that a word stands for is sent from a socket to a port.
@@ -76,13 +116,8 @@ fn sends(alloc: Global, socket: &UdpSocket, port: u16, word: &str) -> bool {
 
 /// Returns whether the next packet that a socket receives is the one that a word stands for.
 fn hears(alloc: Global, socket: &UdpSocket, word: &str) -> bool {
-    let Ok(mut buffer) = vec![in alloc; 0; 1000] else {
-        return false;
-    };
-    let Ok(len) = receive_one(socket, &mut buffer) else {
-        return false;
-    };
-    buffer.get(..len) == Some(octets_of(alloc, word).as_slice())
+    let octets = octets_of(alloc, word);
+    hears_octets(socket, octets.as_slice())
 }
 
 /// Returns whether this many turns are served, and each send in them succeeds.
@@ -101,14 +136,28 @@ fn says(alloc: Global, node: &mut Node, ports: &mut UdpPorts<Still>, verdict: Ve
     serve_turn(node, ports, &mut Outbox::new(alloc)) == Ok(Turn::Done { verdict, failed: 0 })
 }
 
-/// Returns whether an Interest without a route comes back as a Nack.
-fn comes_back(rt: &(impl AllocGlobal + Net)) -> Option<bool> {
-    let alloc = rt.alloc();
+/// Returns whether a new client is answered within this many turns: its Interest without a route
+/// comes back as a Nack.
+fn answers_client<M: Moments>(
+    rt: &(impl AllocGlobal + Net),
+    node: &mut Node,
+    ports: &mut UdpPorts<M>,
+    listen: u16,
+    turns: u64,
+) -> Option<bool> {
+    let client = client_of(rt, listen, "INTEREST")?;
+    Some(passes(rt.alloc(), node, ports, turns) && hears(rt.alloc(), &client, "NO_ROUTE"))
+}
+
+/// Returns whether a node answers a client within two turns.
+fn comes_back_from(rt: &(impl AllocGlobal + Net), node: &mut Node) -> Option<bool> {
     let listen = free_port(rt)?;
-    let mut ports = UdpPorts::bind(rt, listen, &[], 0, Still).ok()?;
-    let client = send_one(rt, listen, octets_of(alloc, "INTEREST").as_slice()).ok()?;
-    let mut node = node_of(alloc)?;
-    Some(passes(alloc, &mut node, &mut ports, 2) && hears(alloc, &client, "NO_ROUTE"))
+    answers_client(rt, node, &mut still_ports(rt, listen)?, listen, 2)
+}
+
+/// Returns whether an Interest without a route comes back as a Nack from a new node.
+fn comes_back(rt: &(impl AllocGlobal + Net)) -> Option<bool> {
+    on_node(rt.alloc(), &|_, node| comes_back_from(rt, node))
 }
 
 #[test]
@@ -138,21 +187,31 @@ fn go_through(
         && hears(alloc, operator, "D_A")
 }
 
-/// Returns whether `go_through` is true of a node that knows both ports, the operator's as Local.
-fn is_relay(rt: &(impl AllocGlobal + Net)) -> Option<bool> {
-    let (first, operator) = heard_port(rt)?;
-    let (second, producer) = heard_port(rt)?;
+/// Returns whether `go_through` is true of a node with two peers: the operator, which is Local, and
+/// the producer.
+fn relays_between(
+    rt: &(impl AllocGlobal + Net),
+    node: &mut Node,
+    operator: &UdpSocket,
+    producer: &UdpSocket,
+) -> Option<bool> {
+    let first = port_of(operator)?;
+    let second = port_of(producer)?;
     let listen = free_port(rt)?;
     let mut ports = UdpPorts::bind(rt, listen, &[first, second], 1, Still).ok()?;
-    let mut node = node_of(rt.alloc())?;
-    Some(go_through(
-        rt.alloc(),
-        &mut node,
-        &mut ports,
-        listen,
-        &operator,
-        &producer,
-    ))
+    Some(go_through(rt.alloc(), node, &mut ports, listen, operator, producer))
+}
+
+/// Returns whether `relays_between` is true of a node and two new sockets.
+fn relays(rt: &(impl AllocGlobal + Net), node: &mut Node) -> Option<bool> {
+    let operator = bound_socket(rt)?;
+    let producer = bound_socket(rt)?;
+    relays_between(rt, node, &operator, &producer)
+}
+
+/// Returns whether `relays` is true of a new node.
+fn is_relay(rt: &(impl AllocGlobal + Net)) -> Option<bool> {
+    on_node(rt.alloc(), &|_, node| relays(rt, node))
 }
 
 #[test]
@@ -174,18 +233,46 @@ fn are_taken_soon(alloc: Global, node: &mut Node, ports: &mut UdpPorts<Still>) -
     opened && answered && !takes_soon(alloc, node, ports)
 }
 
-/// Returns whether `serve_turn_soon` takes turns only while a datagram waits. The port must then
-/// still wait for datagrams as before.
-fn waits_for_a_short_time(rt: &(impl AllocGlobal + Net)) -> Option<bool> {
+/// Returns whether `serve_turn_soon` takes the turns of a datagram that a client has sent, the
+/// client is answered, and `serve` can take the turns of a second client afterwards.
+fn serves_soon(
+    rt: &(impl AllocGlobal + Net),
+    node: &mut Node,
+    ports: &mut UdpPorts<Still>,
+    listen: u16,
+    client: &UdpSocket,
+) -> Option<bool> {
     let alloc = rt.alloc();
+    let soon = are_taken_soon(alloc, node, ports);
+    let _second = client_of(rt, listen, "AGAIN")?;
+    Some(soon && hears(alloc, client, "NO_ROUTE") && passes(alloc, node, ports, 2))
+}
+
+/// Returns whether `serve_turn_soon` takes no turn before a client sends, and `serves_soon` is true
+/// afterwards.
+fn waits_for_client(
+    rt: &(impl AllocGlobal + Net),
+    node: &mut Node,
+    ports: &mut UdpPorts<Still>,
+    listen: u16,
+) -> Option<bool> {
+    if takes_soon(rt.alloc(), node, ports) {
+        return Some(false);
+    }
+    let client = client_of(rt, listen, "INTEREST")?;
+    serves_soon(rt, node, ports, listen, &client)
+}
+
+/// Returns whether `waits_for_client` is true of a node at new ports.
+fn waits_at_new_ports(rt: &(impl AllocGlobal + Net), node: &mut Node) -> Option<bool> {
     let listen = free_port(rt)?;
-    let mut ports = UdpPorts::bind(rt, listen, &[], 0, Still).ok()?;
-    let mut node = node_of(alloc)?;
-    let too_early = takes_soon(alloc, &mut node, &mut ports);
-    let client = send_one(rt, listen, octets_of(alloc, "INTEREST").as_slice()).ok()?;
-    let soon = !too_early && are_taken_soon(alloc, &mut node, &mut ports);
-    let _second = send_one(rt, listen, octets_of(alloc, "AGAIN").as_slice()).ok()?;
-    Some(soon && hears(alloc, &client, "NO_ROUTE") && passes(alloc, &mut node, &mut ports, 2))
+    waits_for_client(rt, node, &mut still_ports(rt, listen)?, listen)
+}
+
+/// Returns whether `serve_turn_soon` takes turns only while a datagram waits, and `serve` can take
+/// further turns afterwards.
+fn waits_for_a_short_time(rt: &(impl AllocGlobal + Net)) -> Option<bool> {
+    on_node(rt.alloc(), &|_, node| waits_at_new_ports(rt, node))
 }
 
 #[test]
@@ -202,33 +289,34 @@ fn sixty_four_ports(alloc: Global) -> Option<Vec<u16>> {
     Some(ports)
 }
 
-/// Returns whether no face opens for a further port while 64 ports are known, and its packet is
-/// dropped.
-fn has_no_face_left(rt: &(impl AllocGlobal + Net)) -> Option<bool> {
-    let alloc = rt.alloc();
-    let peers = sixty_four_ports(alloc)?;
+/// Returns ports whose peers are the ports 1 to 64.
+fn full_ports(rt: &(impl AllocGlobal + Net), listen: u16) -> Option<UdpPorts<Still>> {
+    let peers = sixty_four_ports(rt.alloc())?;
     if peers.len() > 64 {
-        return Some(false);
+        return None;
     }
+    UdpPorts::bind(rt, listen, peers.as_slice(), 0, Still).ok()
+}
+
+/// Returns whether 64 faces open, no further face opens, and the packet that came is dropped.
+fn drops_for_want_of_a_face(alloc: Global, node: &mut Node, ports: &mut UdpPorts<Still>) -> bool {
+    passes(alloc, node, ports, 64)
+        && says(alloc, node, ports, Verdict::Dropped(DropReason::FacesFull))
+        && says(alloc, node, ports, Verdict::Dropped(DropReason::NoFace))
+}
+
+/// Returns whether, if 64 peers have faces, no face opens for another client, and the packet of
+/// this client is dropped.
+fn drops_the_next(rt: &(impl AllocGlobal + Net), node: &mut Node) -> Option<bool> {
     let listen = free_port(rt)?;
-    let mut ports = UdpPorts::bind(rt, listen, peers.as_slice(), 0, Still).ok()?;
-    let _client = send_one(rt, listen, octets_of(alloc, "INTEREST").as_slice()).ok()?;
-    let mut node = node_of(alloc)?;
-    Some(
-        passes(alloc, &mut node, &mut ports, 64)
-            && says(
-                alloc,
-                &mut node,
-                &mut ports,
-                Verdict::Dropped(DropReason::FacesFull),
-            )
-            && says(
-                alloc,
-                &mut node,
-                &mut ports,
-                Verdict::Dropped(DropReason::NoFace),
-            ),
-    )
+    let mut ports = full_ports(rt, listen)?;
+    let _client = client_of(rt, listen, "INTEREST")?;
+    Some(drops_for_want_of_a_face(rt.alloc(), node, &mut ports))
+}
+
+/// Returns whether `drops_the_next` is true of a new node.
+fn has_no_face_left(rt: &(impl AllocGlobal + Net)) -> Option<bool> {
+    on_node(rt.alloc(), &|_, node| drops_the_next(rt, node))
 }
 
 #[test]
@@ -236,16 +324,29 @@ fn udp_faces_full(rt: HostRuntime) {
     assert!(rt; has_no_face_left(&rt) == Some(true));
 }
 
-/// Returns whether a datagram of 9,001 octets is too long to be a packet.
-fn is_too_long(rt: &(impl AllocGlobal + Net)) -> Option<bool> {
-    let alloc = rt.alloc();
-    let octets = vec![in alloc; 5; 9_001].ok()?;
-    let listen = free_port(rt)?;
-    let mut ports = UdpPorts::bind(rt, listen, &[], 0, Still).ok()?;
-    let _client = send_one(rt, listen, octets.as_slice()).ok()?;
-    let mut node = node_of(alloc)?;
+/// Returns a new socket that has sent a datagram of 9,001 octets to a port.
+fn client_of_9001(rt: &(impl AllocGlobal + Net), to: u16) -> Option<UdpSocket> {
+    let octets = vec![in rt.alloc(); 5; 9_001].ok()?;
+    send_one(rt, to, octets.as_slice()).ok()
+}
+
+/// Returns whether a face opens, and the packet that came is dropped as too long.
+fn drops_as_too_long(alloc: Global, node: &mut Node, ports: &mut UdpPorts<Still>) -> bool {
     let too_long = Verdict::Dropped(DropReason::Malformed(PacketFault::TooLong));
-    Some(passes(alloc, &mut node, &mut ports, 1) && says(alloc, &mut node, &mut ports, too_long))
+    passes(alloc, node, ports, 1) && says(alloc, node, ports, too_long)
+}
+
+/// Returns whether a datagram of 9,001 octets is too long to be a packet for a node.
+fn drops_9001(rt: &(impl AllocGlobal + Net), node: &mut Node) -> Option<bool> {
+    let listen = free_port(rt)?;
+    let mut ports = still_ports(rt, listen)?;
+    let _client = client_of_9001(rt, listen)?;
+    Some(drops_as_too_long(rt.alloc(), node, &mut ports))
+}
+
+/// Returns whether `drops_9001` is true of a new node.
+fn is_too_long(rt: &(impl AllocGlobal + Net)) -> Option<bool> {
+    on_node(rt.alloc(), &|_, node| drops_9001(rt, node))
 }
 
 #[test]
@@ -256,7 +357,7 @@ fn udp_too_long(rt: HostRuntime) {
 /// Returns whether a send to a face that belongs to no port fails, and is counted.
 fn counts_failures(rt: &impl Net) -> Option<bool> {
     let listen = free_port(rt)?;
-    let mut ports = UdpPorts::bind(rt, listen, &[], 0, Still).ok()?;
+    let mut ports = still_ports(rt, listen)?;
     Some(ports.send(1, b"").is_err() && ports.failures() == 1)
 }
 
@@ -267,8 +368,9 @@ fn udp_failures(rt: HostRuntime) {
 
 /// Returns whether a port that another socket is bound to cannot be bound.
 fn is_taken(rt: &impl Net) -> Option<bool> {
-    let (port, _socket) = heard_port(rt)?;
-    Some(UdpPorts::bind(rt, port, &[], 0, Still).is_err())
+    let socket = bound_socket(rt)?;
+    let port = port_of(&socket)?;
+    Some(still_ports(rt, port).is_none())
 }
 
 #[test]
@@ -309,28 +411,34 @@ pub fn opens<M: Moments>(
     brings_face(ports, face, opened) && brings_packet(ports, face, came, len)
 }
 
-/// Returns whether two ports each open a face, keep it, and receive what is sent to it.
-fn open_themselves(rt: &impl Net) -> Option<bool> {
-    let listen = free_port(rt)?;
-    let mut ports = UdpPorts::bind(rt, listen, &[], 0, Moving { last: 0 }).ok()?;
-    let first = send_one(rt, listen, b"1").ok()?;
-    let second = send_one(rt, listen, b"22").ok()?;
-    let opened = opens(&mut ports, 1, 1, 2, 1) && opens(&mut ports, 2, 3, 4, 2);
+/// Returns whether the first packets of two clients open a face each, whether the first client
+/// keeps its face, and whether both clients receive what is sent to their faces.
+fn open_for(ports: &mut UdpPorts<Moving>, first: &UdpSocket, second: &UdpSocket) -> Option<bool> {
+    let opened = opens(ports, 1, 1, 2, 1) && opens(ports, 2, 3, 4, 2);
     first.send(b"333").ok()?;
-    let kept = brings_packet(&mut ports, 1, 5, 3);
+    let kept = brings_packet(ports, 1, 5, 3);
     let sent = ports.send(2, b"to two").is_ok() && ports.send(1, b"to one").is_ok();
     Some(
-        opened
-            && kept
-            && sent
-            && hears_octets(&first, b"to one")
-            && hears_octets(&second, b"to two"),
+        opened && kept && sent && hears_octets(first, b"to one") && hears_octets(second, b"to two"),
     )
+}
+
+/// Returns whether `open_for` is true of ports and two new clients.
+fn open_for_two(rt: &impl Net, ports: &mut UdpPorts<Moving>, listen: u16) -> Option<bool> {
+    let first = send_one(rt, listen, b"1").ok()?;
+    let second = send_one(rt, listen, b"22").ok()?;
+    open_for(ports, &first, &second)
+}
+
+/// Returns whether `open_for_two` is true of new ports.
+fn open_themselves(rt: &impl Net) -> Option<bool> {
+    let listen = free_port(rt)?;
+    open_for_two(rt, &mut moving_ports(rt, listen)?, listen)
 }
 
 /// Returns whether these octets are the next datagram that a socket receives.
 pub fn hears_octets(socket: &UdpSocket, octets: &[u8]) -> bool {
-    let mut buffer = [0; 100];
+    let mut buffer = [0; 1000];
     match receive_one(socket, &mut buffer) {
         Ok(len) => buffer.get(..len) == Some(octets),
         Err(_) => false,
@@ -342,15 +450,22 @@ fn udp_ports_open_themselves(rt: HostRuntime) {
     assert!(rt; open_themselves(&rt) == Some(true));
 }
 
+/// Returns a new socket that has sent a datagram to a port of another address of this machine, and
+/// then one to this port of 127.0.0.1.
+fn client_of_two_addresses(rt: &impl Net, to: u16) -> Option<UdpSocket> {
+    let client = bound_socket(rt)?;
+    let elsewhere = Ipv4Addr::new(127, 0, 0, 2);
+    let _sent = client.send_to(b"to another address", (elsewhere, to));
+    client.send_to(b"here", (Ipv4Addr::LOCALHOST, to)).ok()?;
+    Some(client)
+}
+
 /// Returns whether a datagram to another address of this machine is not received, while a datagram
 /// to 127.0.0.1 is.
 fn hears_loopback_alone(rt: &impl Net) -> Option<bool> {
     let listen = free_port(rt)?;
-    let mut ports = UdpPorts::bind(rt, listen, &[], 0, Moving { last: 0 }).ok()?;
-    let (_, client) = heard_port(rt)?;
-    let elsewhere = Ipv4Addr::new(127, 0, 0, 2);
-    let _sent = client.send_to(b"to another address", (elsewhere, listen));
-    client.send_to(b"here", (Ipv4Addr::LOCALHOST, listen)).ok()?;
+    let mut ports = moving_ports(rt, listen)?;
+    let _client = client_of_two_addresses(rt, listen)?;
     Some(opens(&mut ports, 1, 1, 2, 4))
 }
 
@@ -367,58 +482,91 @@ fn brings_end<M: Moments>(ports: &mut UdpPorts<M>, closed: u64, at: u64) -> bool
     )
 }
 
-/// Returns whether a new client is answered within this many turns.
-fn answers_client<M: Moments>(
-    rt: &(impl AllocGlobal + Net),
-    node: &mut Node,
-    ports: &mut UdpPorts<M>,
-    listen: u16,
-    turns: u64,
-) -> bool {
-    let alloc = rt.alloc();
-    match send_one(rt, listen, octets_of(alloc, "INTEREST").as_slice()) {
-        Ok(client) => passes(alloc, node, ports, turns) && hears(alloc, &client, "NO_ROUTE"),
-        Err(_) => false,
-    }
-}
-
 /// Returns how many clients are answered, one after the other, if each client is silent until its
 /// face closes before the next client sends a packet.
-fn answered_clients(rt: &(impl AllocGlobal + Net), moment: &Cell<u64>) -> Option<u64> {
-    let listen = free_port(rt)?;
-    let mut ports = UdpPorts::bind(rt, listen, &[], 0, Handed { moment, last: 0 }).ok()?;
-    ports.close_after(600_000);
-    let mut node = node_of(rt.alloc())?;
+fn answered_at(
+    rt: &(impl AllocGlobal + Net),
+    node: &mut Node,
+    ports: &mut UdpPorts<Handed<'_>>,
+    listen: u16,
+    moment: &Cell<u64>,
+) -> u64 {
     let mut answered = 0u64;
     for client in 0..200u64 {
         moment.set(client.saturating_mul(600_000));
         let turns = if client == 0 { 2 } else { 3 };
-        if answers_client(rt, &mut node, &mut ports, listen, turns) {
+        if answers_client(rt, node, ports, listen, turns) == Some(true) {
             answered = answered.saturating_add(1);
         }
     }
-    Some(answered)
+    answered
+}
+
+/// Returns how many clients a node answers at new ports.
+fn answered_by(rt: &(impl AllocGlobal + Net), node: &mut Node, moment: &Cell<u64>) -> Option<u64> {
+    let listen = free_port(rt)?;
+    let mut ports = handed_ports(rt, listen, moment)?;
+    ports.close_after(600_000);
+    Some(answered_at(rt, node, &mut ports, listen, moment))
+}
+
+/// Returns whether a node answers this many clients at new ports.
+fn node_answers(
+    rt: &(impl AllocGlobal + Net),
+    node: &mut Node,
+    moment: &Cell<u64>,
+    clients: u64,
+) -> Option<bool> {
+    Some(answered_by(rt, node, moment)? == clients)
+}
+
+/// Returns whether `node_answers` is true of a new node.
+fn answers_clients(
+    rt: &(impl AllocGlobal + Net),
+    moment: &Cell<u64>,
+    clients: u64,
+) -> Option<bool> {
+    on_node(
+        rt.alloc(),
+        &|_, node| node_answers(rt, node, moment, clients),
+    )
 }
 
 /// Each of 200 clients gets a face, which closes before the face of the next client opens.
 #[test]
 fn udp_many_clients(rt: HostRuntime) {
-    assert!(rt; answered_clients(&rt, &Cell::new(0)) == Some(200));
+    assert!(rt; answers_clients(&rt, &Cell::new(0), 200) == Some(true));
 }
 
 /// Returns whether a silent peer keeps its face, while the face of a silent client closes.
-fn keeps_peer(rt: &impl Net, moment: &Cell<u64>) -> Option<bool> {
-    let (peer, producer) = heard_port(rt)?;
-    let listen = free_port(rt)?;
-    let mut ports = UdpPorts::bind(rt, listen, &[peer], 0, Handed { moment, last: 0 }).ok()?;
-    ports.close_after(1_000);
-    let client = send_one(rt, listen, b"1").ok()?;
-    let opened = brings_face(&mut ports, 1, 0) && opens(&mut ports, 2, 0, 0, 1);
+fn keeps_peer_alone(
+    ports: &mut UdpPorts<Handed<'_>>,
+    moment: &Cell<u64>,
+    listen: u16,
+    producer: &UdpSocket,
+    client: &UdpSocket,
+) -> Option<bool> {
+    let opened = brings_face(ports, 1, 0) && opens(ports, 2, 0, 0, 1);
     moment.set(86_400_000);
     producer.send_to(b"22", (Ipv4Addr::LOCALHOST, listen)).ok()?;
-    let kept = brings_end(&mut ports, 2, 86_400_000) && brings_packet(&mut ports, 1, 86_400_000, 2);
+    let kept = brings_end(ports, 2, 86_400_000) && brings_packet(ports, 1, 86_400_000, 2);
     client.send(b"333").ok()?;
-    Some(opened && kept && opens(&mut ports, 3, 86_400_000, 86_400_000, 3))
+    Some(opened && kept && opens(ports, 3, 86_400_000, 86_400_000, 3))
+}
+
+/// Returns whether `keeps_peer_alone` is true of new ports, this peer and a new client.
+fn keeps_producer(rt: &impl Net, moment: &Cell<u64>, producer: &UdpSocket) -> Option<bool> {
+    let peer = port_of(producer)?;
+    let listen = free_port(rt)?;
+    let mut ports = handed_ports_of(rt, listen, peer, 0, moment)?;
+    ports.close_after(1_000);
+    let client = send_one(rt, listen, b"1").ok()?;
+    keeps_peer_alone(&mut ports, moment, listen, producer, &client)
+}
+
+/// Returns whether `keeps_producer` is true of a new peer.
+fn keeps_peer(rt: &impl Net, moment: &Cell<u64>) -> Option<bool> {
+    keeps_producer(rt, moment, &bound_socket(rt)?)
 }
 
 /// A peer that is silent for a day keeps its face. The face of a silent client closes, and the next
@@ -428,22 +576,45 @@ fn udp_silent_peer(rt: HostRuntime) {
     assert!(rt; keeps_peer(&rt, &Cell::new(0)) == Some(true));
 }
 
+/// Returns whether a datagram of face 2 that came in time is received, although face 1 closes first
+/// and the idle time of face 2 is over by then.
+fn hears_in_time(
+    ports: &mut UdpPorts<Handed<'_>>,
+    moment: &Cell<u64>,
+    client: &UdpSocket,
+) -> Option<bool> {
+    let opened = opens(ports, 2, 1, 1, 2);
+    moment.set(1_000);
+    client.send(b"333").ok()?;
+    let closed = brings_end(ports, 1, 1_000);
+    moment.set(1_001);
+    Some(opened && closed && brings_packet(ports, 2, 1_001, 3))
+}
+
+/// Returns whether face 1 opens for a silent client, and `hears_in_time` is true of a second one.
+fn hears_beside(
+    rt: &impl Net,
+    ports: &mut UdpPorts<Handed<'_>>,
+    moment: &Cell<u64>,
+    listen: u16,
+    silent: &UdpSocket,
+) -> Option<bool> {
+    if !opens(ports, 1, 0, 0, 1) || silent.local_addr().is_err() {
+        return Some(false);
+    }
+    moment.set(1);
+    let client = send_one(rt, listen, b"22").ok()?;
+    hears_in_time(ports, moment, &client)
+}
+
 /// Returns whether a datagram that came in time is received, although another face closes first and
 /// the idle time of the datagram's face is over by then.
 fn hears_what_waits(rt: &impl Net, moment: &Cell<u64>) -> Option<bool> {
     let listen = free_port(rt)?;
-    let mut ports = UdpPorts::bind(rt, listen, &[], 0, Handed { moment, last: 0 }).ok()?;
+    let mut ports = handed_ports(rt, listen, moment)?;
     ports.close_after(1_000);
     let silent = send_one(rt, listen, b"1").ok()?;
-    let opened = opens(&mut ports, 1, 0, 0, 1) && silent.local_addr().is_ok();
-    moment.set(1);
-    let client = send_one(rt, listen, b"22").ok()?;
-    let both = opened && opens(&mut ports, 2, 1, 1, 2);
-    moment.set(1_000);
-    client.send(b"333").ok()?;
-    let closed = brings_end(&mut ports, 1, 1_000);
-    moment.set(1_001);
-    Some(both && closed && brings_packet(&mut ports, 2, 1_001, 3))
+    hears_beside(rt, &mut ports, moment, listen, &silent)
 }
 
 /// A datagram that comes in time keeps its face open while another face closes.
@@ -481,27 +652,45 @@ fn gives_way(
     Some(full && refused && closed && ports.send(66, b"").is_ok() && ports.send(64, b"").is_err())
 }
 
-/// Returns whether `gives_way` is true if 63 peers are known.
-fn is_room_made(rt: &(impl AllocGlobal + Net), moment: &Cell<u64>) -> Option<bool> {
+/// Returns a socket that sends to another port and receives from that port only.
+fn connected(rt: &impl Net, to: u16) -> Option<UdpSocket> {
+    let socket = bound_socket(rt)?;
+    socket.connect((Ipv4Addr::LOCALHOST, to)).ok()?;
+    Some(socket)
+}
+
+/// Returns ports whose peers are the ports 1 to 63, with a clock that shows this moment.
+fn almost_full_ports<'a>(
+    rt: &(impl AllocGlobal + Net),
+    listen: u16,
+    moment: &'a Cell<u64>,
+) -> Option<UdpPorts<Handed<'a>>> {
     let mut peers = sixty_four_ports(rt.alloc())?;
     let _last = peers.pop();
     if peers.len() > 64 {
         return None;
     }
-    let listen = free_port(rt)?;
-    let moments = Handed { moment, last: 0 };
-    let mut ports = UdpPorts::bind(rt, listen, peers.as_slice(), 0, moments).ok()?;
-    ports.close_after(600_000);
-    let (_, client) = connected(rt, listen)?;
-    let (_, newcomer) = connected(rt, listen)?;
-    gives_way(&mut ports, moment, &client, &newcomer)
+    UdpPorts::bind(rt, listen, peers.as_slice(), 0, Handed { moment, last: 0 }).ok()
 }
 
-/// Returns a port, and a socket that sends to another port and receives from that port only.
-fn connected(rt: &impl Net, to: u16) -> Option<(u16, UdpSocket)> {
-    let (port, socket) = heard_port(rt)?;
-    socket.connect((Ipv4Addr::LOCALHOST, to)).ok()?;
-    Some((port, socket))
+/// Returns whether `gives_way` is true of two new sockets.
+fn makes_room(
+    rt: &impl Net,
+    ports: &mut UdpPorts<Handed<'_>>,
+    moment: &Cell<u64>,
+    listen: u16,
+) -> Option<bool> {
+    let client = connected(rt, listen)?;
+    let newcomer = connected(rt, listen)?;
+    gives_way(ports, moment, &client, &newcomer)
+}
+
+/// Returns whether `makes_room` is true if 63 peers are known.
+fn is_room_made(rt: &(impl AllocGlobal + Net), moment: &Cell<u64>) -> Option<bool> {
+    let listen = free_port(rt)?;
+    let mut ports = almost_full_ports(rt, listen, moment)?;
+    ports.close_after(600_000);
+    makes_room(rt, &mut ports, moment, listen)
 }
 
 /// A face that was silent for 10 seconds closes to make room for a 65th port, but a face that was
@@ -535,24 +724,36 @@ fn goes_until_closed(
         && hears(alloc, operator, "NO_ROUTE")
 }
 
+/// Returns whether `goes_until_closed` is true of new ports with one peer, the operator.
+fn loses_route_to(
+    rt: &(impl AllocGlobal + Net),
+    node: &mut Node,
+    moment: &Cell<u64>,
+    operator: &UdpSocket,
+    producer: &UdpSocket,
+) -> Option<bool> {
+    let peer = port_of(operator)?;
+    let listen = free_port(rt)?;
+    let mut ports = handed_ports_of(rt, listen, peer, 1, moment)?;
+    ports.close_after(600_000);
+    let alloc = rt.alloc();
+    Some(goes_until_closed(alloc, node, &mut ports, moment, listen, operator, producer))
+}
+
+/// Returns whether `loses_route_to` is true of a node and two new sockets.
+fn node_loses_route(
+    rt: &(impl AllocGlobal + Net),
+    node: &mut Node,
+    moment: &Cell<u64>,
+) -> Option<bool> {
+    let operator = bound_socket(rt)?;
+    let producer = bound_socket(rt)?;
+    loses_route_to(rt, node, moment, &operator, &producer)
+}
+
 /// Returns whether a route is removed when the face of its client closes.
 fn loses_route(rt: &(impl AllocGlobal + Net), moment: &Cell<u64>) -> Option<bool> {
-    let (peer, operator) = heard_port(rt)?;
-    let (_, producer) = heard_port(rt)?;
-    let listen = free_port(rt)?;
-    let moments = Handed { moment, last: 0 };
-    let mut ports = UdpPorts::bind(rt, listen, &[peer], 1, moments).ok()?;
-    ports.close_after(600_000);
-    let mut node = node_of(rt.alloc())?;
-    Some(goes_until_closed(
-        rt.alloc(),
-        &mut node,
-        &mut ports,
-        moment,
-        listen,
-        &operator,
-        &producer,
-    ))
+    on_node(rt.alloc(), &|_, node| node_loses_route(rt, node, moment))
 }
 
 #[test]

@@ -1,8 +1,8 @@
-//! One fresh Data under a name, among many stale ones.
+//! One fresh Data under a name, among many stale Data.
 
-use super::{put_number, put_packet};
+use super::{key_of, put_number, put_packet};
 use content_store::*;
-use ndn_names::NameBuf;
+use ndn_names::{Name, NameBuf};
 use ndn_packets::*;
 use std::alloc::Global;
 use test_support::data_of;
@@ -27,27 +27,43 @@ fn put_all(alloc: Global, store: &mut Store, fresh: &[u8], at: u32) -> Option<bo
 }
 
 /// Returns the Data that a lookup with MustBeFresh finds under a name at this moment.
-fn fresh_under<'a>(store: &'a mut Store, name: &NameBuf, now: u64) -> Option<&'a [u8]> {
-    let key = Key {
-        name: name.view(),
-        can_be_prefix: true,
-        must_be_fresh: true,
-    };
-    store.find(key, now)
+fn fresh_under<'a>(store: &'a mut Store, name: Name<'_>, now: u64) -> Option<&'a [u8]> {
+    store.find(key_of(name, "pf"), now)
+}
+
+/// Returns whether the fresh Data is found until its FreshnessPeriod is over.
+fn is_given_in_time(store: &mut Store, name: Name<'_>, fresh: &[u8]) -> bool {
+    let is_given = fresh_under(store, name, 9) == Some(fresh);
+    is_given && fresh_under(store, name, 10).is_none()
+}
+
+/// Returns whether the fresh Data is found after 600 Data were removed.
+fn is_left(store: &mut Store, name: Name<'_>, fresh: &[u8]) -> bool {
+    store.erase(name, Some(600)) == 600 && fresh_under(store, name, 9) == Some(fresh)
+}
+
+/// Returns whether no fresh Data is found after the Data with the name `own` was removed.
+fn is_gone(store: &mut Store, name: Name<'_>, own: Name<'_>) -> bool {
+    store.erase(own, None) == 1 && fresh_under(store, name, 9).is_none()
 }
 
 /// Returns whether the fresh Data is found until its FreshnessPeriod is over, even while other Data
 /// are removed, and is not found after it was removed itself.
-fn is_given_while_fresh(store: &mut Store, name: &NameBuf, fresh: &[u8]) -> Option<bool> {
-    let Frame::Data(data) = read_frame(fresh).ok()? else {
-        return None;
-    };
-    let is_given = fresh_under(store, name, 9) == Some(fresh);
-    let is_over = fresh_under(store, name, 10).is_none();
-    let is_left = store.erase(name.view(), Some(600)) == 600
-        && fresh_under(store, name, 9) == Some(fresh);
-    let is_gone = store.erase(data.name, None) == 1 && fresh_under(store, name, 9).is_none();
-    Some(is_given && is_over && is_left && is_gone)
+fn is_given_while_fresh(store: &mut Store, name: Name<'_>, fresh: &[u8]) -> Option<bool> {
+    let is_given = is_given_in_time(store, name, fresh) && is_left(store, name, fresh);
+    match read_frame(fresh).ok()? {
+        Frame::Data(data) => Some(is_given && is_gone(store, name, data.name)),
+        _ => None,
+    }
+}
+
+/// Returns whether the fresh Data of this number is found among Data that are never fresh.
+fn is_found_among_stale(alloc: Global, store: &mut Store, fresh: &[u8], at: u32) -> Option<bool> {
+    if !put_all(alloc, store, fresh, at)? {
+        return Some(false);
+    }
+    let name = NameBuf::from_uri(alloc, "/n").ok()?;
+    is_given_while_fresh(store, name.view(), fresh)
 }
 
 /// Returns whether the only fresh Data, whose FreshnessPeriod is 10 ms, is found among Data that
@@ -56,11 +72,7 @@ fn is_fresh_found(alloc: Global, at: u32) -> Option<bool> {
     let mut fresh = data_of(alloc, "/n/0000", "02", Some(10))?;
     put_number(&mut fresh, at);
     let mut store = Store::new(alloc, COUNT as usize).ok()?;
-    let name = NameBuf::from_uri(alloc, "/n").ok()?;
-    if !put_all(alloc, &mut store, &fresh, at)? {
-        return Some(false);
-    }
-    is_given_while_fresh(&mut store, &name, &fresh)
+    is_found_among_stale(alloc, &mut store, &fresh, at)
 }
 
 #[test]

@@ -1,5 +1,7 @@
 //! Random calls of a store, compared with a plain list that is searched from end to end.
 
+use super::put_packet;
+use crate::tables::names_of;
 use content_store::*;
 use ndn_names::NameBuf;
 use ndn_packets::*;
@@ -7,7 +9,8 @@ use std::alloc::Global;
 use std::cmp::Ordering;
 use test_support::{data_of, digest_of, random};
 
-/// Names in canonical order. The third name comes after all full names of the second.
+/// Names in canonical order. The third name comes after the full name of every Data that has the
+/// second name.
 const NAMES: [&str; 7] = [
     "/",
     "/A",
@@ -55,21 +58,19 @@ fn written_data(alloc: Global, name: usize, uri: &str, content: &str) -> Option<
     })
 }
 
+/// Appends both Data of a name.
+fn put_both(alloc: Global, all: &mut Vec<Made>, name: usize, uri: &str) -> Option<()> {
+    all.push(written_data(alloc, name, uri, "01")?).ok()?;
+    all.push(written_data(alloc, name, uri, "02")?).ok()
+}
+
+/// Returns both Data of each name.
 fn all_made(alloc: Global) -> Option<Vec<Made>> {
     let mut all = Vec::new(alloc);
     for (name, uri) in NAMES.iter().enumerate() {
-        all.push(written_data(alloc, name, uri, "01")?).ok()?;
-        all.push(written_data(alloc, name, uri, "02")?).ok()?;
+        put_both(alloc, &mut all, name, uri)?;
     }
     Some(all)
-}
-
-fn all_names(alloc: Global) -> Option<Vec<NameBuf>> {
-    let mut names = Vec::new(alloc);
-    for uri in NAMES {
-        names.push(NameBuf::from_uri(alloc, uri).ok()?).ok()?;
-    }
-    Some(names)
 }
 
 /// Returns whether a name begins with another name.
@@ -126,16 +127,14 @@ fn put_agrees(
         made: random(state, 14) as usize,
         arrival: random(state, 20),
     };
-    let Frame::Data(data) = read_frame(&all.get(one.made)?.packet).ok()? else {
-        return None;
-    };
     forget(held, one.made);
     held.insert(0, one).ok()?;
     held.truncate(store.capacity());
-    Some(store.put(&data, one.arrival))
+    put_packet(store, &all.get(one.made)?.packet, one.arrival)
 }
 
-/// Returns the result of one of the four lookups, if it agrees with `place_for`.
+/// Returns the result of `find`, `find_counted` or `serve_at`, chosen at random, if it agrees with
+/// `place_for`.
 fn look_up<'a>(
     store: &'a mut Store,
     key: Key<'_>,
@@ -210,8 +209,39 @@ fn erase_agrees(
     Some(before.checked_sub(held.len())? as u64 == erased)
 }
 
-/// Returns whether eight random calls give the same answers as the list, and leave as many Data as
-/// the list has.
+/// Returns whether a random call gives the same answer as the list.
+fn call_agrees(
+    all: &[Made],
+    names: &[NameBuf],
+    store: &mut Store,
+    held: &mut Vec<Held>,
+    state: &mut u64,
+) -> Option<bool> {
+    match random(state, 4) {
+        0 => erase_agrees(all, names, store, held, state),
+        1 => find_agrees(all, names, store, held, state),
+        _ => put_agrees(all, store, held, state),
+    }
+}
+
+/// Returns whether eight random calls give the same answers as the list, and the store has as many
+/// Data as the list after each call.
+fn calls_agree(
+    all: &[Made],
+    names: &[NameBuf],
+    store: &mut Store,
+    held: &mut Vec<Held>,
+    state: &mut u64,
+) -> Option<bool> {
+    for _ in 0..8 {
+        if !call_agrees(all, names, store, held, state)? || store.len() != held.len() {
+            return Some(false);
+        }
+    }
+    Some(true)
+}
+
+/// Returns whether eight random calls of a store with a random capacity agree with the list.
 fn sequence_agrees(
     alloc: Global,
     all: &[Made],
@@ -221,29 +251,25 @@ fn sequence_agrees(
     let capacity = random(state, 4).saturating_add(1) as usize;
     let mut store = Store::new(alloc, capacity).ok()?;
     let mut held = Vec::new(alloc);
-    for _ in 0..8 {
-        let agrees = match random(state, 4) {
-            0 => erase_agrees(all, names, &mut store, &mut held, state)?,
-            1 => find_agrees(all, names, &mut store, &mut held, state)?,
-            _ => put_agrees(all, &mut store, &mut held, state)?,
-        };
-        if !agrees || store.len() != held.len() {
+    calls_agree(all, names, &mut store, &mut held, state)
+}
+
+/// Returns whether ten thousand sequences of random calls agree with the list.
+fn sequences_agree(alloc: Global, all: &[Made], names: &[NameBuf]) -> Option<bool> {
+    let mut state = 0x2545_f491_4f6c_dd1d;
+    for _ in 0..10_000 {
+        if !sequence_agrees(alloc, all, names, &mut state)? {
             return Some(false);
         }
     }
     Some(true)
 }
 
-/// Returns whether ten thousand sequences of random calls agree with the list.
+/// Returns whether random calls with all Data and all names agree with the list.
 fn all_agree(alloc: Global) -> Option<bool> {
-    let (all, names) = (all_made(alloc)?, all_names(alloc)?);
-    let mut state = 0x2545_f491_4f6c_dd1d;
-    for _ in 0..10_000 {
-        if !sequence_agrees(alloc, &all, &names, &mut state)? {
-            return Some(false);
-        }
-    }
-    Some(true)
+    let all = all_made(alloc)?;
+    let names = names_of(alloc, &NAMES)?;
+    sequences_agree(alloc, &all, &names)
 }
 
 #[test]

@@ -93,7 +93,8 @@ ask /A 1 7 5, sent /A 1 2 7 1, withdraw /A 1, ask /A 3 9 5, used /A, loops /A 4 
 ask /A 1 7 5, ask /A 3 9 6, sent /A 1 2 7 1, expire 5, used /A, expire 6, ask /A 1 7 9, used /A -> yes; yes; yes; -; used 2@1; -; yes; used
 ";
 
-/// When no face asks any more, the faces that the Interest was sent to are forgotten.
+/// When no face has a pending Interest under a key any more, the faces that the Interest was sent
+/// to are forgotten.
 #[test]
 fn without_an_asker_no_face_asked(rt: HostRuntime) {
     check_rows(&rt, rt.alloc(), WITHOUT_AN_ASKER_NO_FACE_ASKED, answers);

@@ -1,7 +1,6 @@
 //! Random calls of a table, compared with plain lists of records that are filtered for each answer.
 
-use super::{OwnedKey, Table, faces_answered};
-use ndn_names::NameBuf;
+use super::{OwnedKey, Table, data_at, faces_answered};
 use ndn_packets::*;
 use pit_fib::*;
 use std::alloc::Global;
@@ -53,35 +52,96 @@ fn octets_of(nonce: u64) -> [u8; 4] {
     u32::try_from(nonce).unwrap_or(0).to_be_bytes()
 }
 
-impl Records {
-    fn is_asked_for(&self, key: usize) -> bool {
-        self.asks.iter().any(|ask| ask.key == key)
+/// Returns whether an Interest under a key is among these.
+fn has_key(asks: &[Asks], key: usize) -> bool {
+    for ask in asks {
+        if ask.key == key {
+            return true;
+        }
     }
+    false
+}
 
+impl Records {
     /// Removes the out-records of keys under which no face asks.
     fn settle(&mut self) {
         let asks = &self.asks;
-        self.asked
-            .retain(|sent| asks.iter().any(|ask| ask.key == sent.key));
+        self.asked.retain(|sent| has_key(asks, sent.key));
     }
 
+    /// Returns the Interest of a face under a key.
+    fn ask_of(&self, key: usize, face: u64) -> Option<Asks> {
+        for ask in &self.asks {
+            if ask.key == key && ask.face == face {
+                return Some(*ask);
+            }
+        }
+        None
+    }
+
+    /// Returns the moment at which the Interest under a key was sent to a face.
+    fn moment_of(&self, key: usize, face: u64) -> Option<u64> {
+        for sent in &self.asked {
+            if sent.key == key && sent.face == face {
+                return Some(sent.moment);
+            }
+        }
+        None
+    }
+
+    /// Returns whether an Interest under a key was sent with this Nonce.
+    fn was_sent(&self, key: usize, nonce: u64) -> bool {
+        for sent in &self.asked {
+            if sent.key == key && sent.nonce == nonce {
+                return true;
+            }
+        }
+        false
+    }
+
+    /// Returns whether the Nonce was sent, or another face asked with it. Returns false if the face
+    /// itself asked with it.
     fn loops(&self, key: usize, face: u64, nonce: u64) -> bool {
-        let own = self.asks.iter().any(|ask| ask.key == key
-            && ask.face == face
-            && ask.nonce == nonce);
-        let other = self.asks.iter().any(|ask| ask.key == key
-            && ask.face != face
-            && ask.nonce == nonce);
-        let asked = self
-            .asked
-            .iter()
-            .any(|sent| sent.key == key && sent.nonce == nonce);
-        !own && (other || asked)
+        let mut is_known = self.was_sent(key, nonce);
+        for ask in &self.asks {
+            if ask.key == key && ask.nonce == nonce {
+                if ask.face == face {
+                    return false;
+                }
+                is_known = true;
+            }
+        }
+        is_known
+    }
+
+    /// Removes the Interest of a face under a key.
+    fn withdraw(&mut self, key: usize, face: u64) {
+        self.asks.retain(|ask| ask.key != key || ask.face != face);
+    }
+
+    /// Removes the Interests under a key.
+    fn remove(&mut self, key: usize) {
+        self.asks.retain(|ask| ask.key != key);
+    }
+
+    /// Removes the Interests whose deadline has come.
+    fn expire(&mut self, now: u64) {
+        self.asks.retain(|ask| now < ask.deadline);
+    }
+
+    /// Removes all records of a face.
+    fn close_face(&mut self, face: u64) {
+        self.asks.retain(|ask| ask.face != face);
+        self.asked.retain(|sent| sent.face != face);
+    }
+
+    /// Removes the Interests whose key is set in `answered`.
+    fn satisfy(&mut self, answered: &[bool]) {
+        self.asks.retain(|ask| answered.get(ask.key) != Some(&true));
     }
 
     fn arrive(&mut self, one: Asks) -> Option<()> {
-        self.asks
-            .retain(|ask| ask.key != one.key || ask.face != one.face);
+        self.withdraw(one.key, one.face);
         self.asks.push(one).ok()
     }
 
@@ -91,7 +151,8 @@ impl Records {
         self.asked.push(one).ok()
     }
 
-    fn nacked(&mut self, key: usize, face: u64, nonce: u64, reason: u64) -> Nacked {
+    /// Notes the reason of a Nack, and returns whether an Interest was sent for which it can come.
+    fn note(&mut self, key: usize, face: u64, nonce: u64, reason: u64) -> bool {
         let mut is_pending = false;
         for sent in &mut self.asked[..] {
             if sent.key == key && sent.face == face && sent.nonce == nonce {
@@ -99,9 +160,11 @@ impl Records {
                 is_pending = true;
             }
         }
-        if !is_pending {
-            return Nacked::NoPending;
-        }
+        is_pending
+    }
+
+    /// Returns `All` with the least reason of a key, or `Waiting` if a face has not sent a reason.
+    fn least_reason(&self, key: usize) -> Nacked {
         let mut least = u64::MAX;
         for sent in &self.asked {
             if sent.key == key {
@@ -114,11 +177,18 @@ impl Records {
         Nacked::All(least)
     }
 
+    fn nacked(&mut self, key: usize, face: u64, nonce: u64, reason: u64) -> Nacked {
+        if !self.note(key, face, nonce, reason) {
+            return Nacked::NoPending;
+        }
+        self.least_reason(key)
+    }
+
     /// Returns the number of keys under which a face asks.
     fn len(&self) -> usize {
         let mut len: usize = 0;
         for key in 0..6 {
-            if self.is_asked_for(key) {
+            if has_key(&self.asks, key) {
                 len = len.saturating_add(1);
             }
         }
@@ -126,23 +196,19 @@ impl Records {
     }
 }
 
-/// Returns whether the table has the same records as `records` for a key and a face.
-fn shows(table: &Table, records: &Records, at: usize, key: Key<'_>, face: u64) -> bool {
-    let ask = records
-        .asks
-        .iter()
-        .find(|ask| ask.key == at && ask.face == face);
-    let sent = records
-        .asked
-        .iter()
-        .find(|sent| sent.key == at && sent.face == face);
-    let interest = match (table.pit.interest_of(key, face), ask) {
+/// Returns whether the octets of an Interest are the Nonce of this Interest, or there is none.
+fn is_same(octets: Option<&[u8]>, ask: Option<Asks>) -> bool {
+    match (octets, ask) {
         (Some(octets), Some(ask)) => octets == octets_of(ask.nonce).as_slice(),
         (None, None) => true,
         _ => false,
-    };
-    let moment = sent.map(|sent| sent.moment);
-    interest && table.pit.used(key).get(face) == moment
+    }
+}
+
+/// Returns whether the table has the same records as `records` for a key and a face.
+fn shows(table: &Table, records: &Records, at: usize, key: Key<'_>, face: u64) -> bool {
+    is_same(table.pit.interest_of(key, face), records.ask_of(at, face))
+        && table.pit.used(key).get(face) == records.moment_of(at, face)
 }
 
 /// Returns whether the table has the same records as `records` for all keys and faces.
@@ -159,7 +225,12 @@ fn shows_all(table: &Table, records: &Records, keys: &[OwnedKey]) -> bool {
 
 /// Returns whether a face has a pending Interest whose key is set in `answered`.
 fn is_asking(records: &Records, answered: &[bool], face: u64) -> bool {
-    records.asks.iter().any(|ask| ask.face == face && answered.get(ask.key) == Some(&true))
+    for ask in &records.asks {
+        if ask.face == face && answered.get(ask.key) == Some(&true) {
+            return true;
+        }
+    }
+    false
 }
 
 /// Returns whether `faces` are exactly those of the three faces that have a pending Interest whose
@@ -186,9 +257,7 @@ fn satisfy_agrees(
     let (_, answered) = ANSWERED.get(at)?;
     let faces = faces_answered(table, packets.get(at)?)?;
     let agrees = are_asking(records, answered, &faces);
-    records
-        .asks
-        .retain(|ask| answered.get(ask.key) != Some(&true));
+    records.satisfy(answered);
     Some(agrees)
 }
 
@@ -201,42 +270,60 @@ struct Seen {
     loops: u64,
 }
 
-/// Returns whether a Nack has the result that the records give.
-fn nack_agrees(
-    table: &mut Table,
-    records: &mut Records,
-    keys: &[OwnedKey],
-    seen: &mut Seen,
-    one: Asked,
-) -> Option<bool> {
-    let key = keys.get(one.key)?.view();
-    let reason = one.moment;
-    let answer = records.nacked(one.key, one.face, one.nonce, reason);
+/// Counts a result of a Nack.
+fn count_answer(seen: &mut Seen, answer: Nacked) {
     match answer {
         Nacked::NoPending => {}
         Nacked::Waiting => seen.waiting = seen.waiting.saturating_add(1),
         Nacked::All(_) => seen.all = seen.all.saturating_add(1),
     }
-    Some(table.nacked(key, one.face, octets_of(one.nonce), reason) == answer)
 }
 
-/// Returns whether the table and the records agree on whether an Interest loops, and the Interest
-/// is then recorded.
-fn ask_agrees(
+/// Returns whether a Nack has the result that the records give. The moment is the reason.
+fn nack_agrees(
     table: &mut Table,
     records: &mut Records,
-    keys: &[OwnedKey],
     seen: &mut Seen,
-    one: Asks,
-) -> Option<bool> {
-    let key = keys.get(one.key)?.view();
+    key: Key<'_>,
+    one: Asked,
+) -> bool {
+    let answer = records.nacked(one.key, one.face, one.nonce, one.moment);
+    count_answer(seen, answer);
+    table.nacked(key, one.face, octets_of(one.nonce), one.moment) == answer
+}
+
+/// Returns whether the table and the records agree on whether an Interest loops.
+fn loop_agrees(
+    table: &Table,
+    records: &Records,
+    seen: &mut Seen,
+    key: Key<'_>,
+    one: Asked,
+) -> bool {
     let loops = records.loops(one.key, one.face, one.nonce);
     if loops {
         seen.loops = seen.loops.saturating_add(1);
     }
-    let agrees = table.pit.loops(key, one.face, octets_of(one.nonce)) == loops;
-    let refused = table.ask(key, one.face, octets_of(one.nonce), one.deadline);
-    records.arrive(one)?;
+    table.pit.loops(key, one.face, octets_of(one.nonce)) == loops
+}
+
+/// Returns whether the table and the records agree on whether an Interest loops, and the Interest
+/// is then recorded. The moment is its deadline.
+fn ask_agrees(
+    table: &mut Table,
+    records: &mut Records,
+    seen: &mut Seen,
+    key: Key<'_>,
+    one: Asked,
+) -> Option<bool> {
+    let agrees = loop_agrees(table, records, seen, key, one);
+    let refused = table.ask(key, one.face, octets_of(one.nonce), one.moment);
+    records.arrive(Asks {
+        key: one.key,
+        face: one.face,
+        nonce: one.nonce,
+        deadline: one.moment,
+    })?;
     Some(agrees && refused.is_none())
 }
 
@@ -245,15 +332,11 @@ fn ask_agrees(
 fn sent_agrees(
     table: &mut Table,
     records: &mut Records,
-    keys: &[OwnedKey],
+    key: Key<'_>,
     asker: u64,
     one: Asked,
 ) -> Option<bool> {
-    let key = keys.get(one.key)?.view();
-    let asks = records
-        .asks
-        .iter()
-        .any(|ask| ask.key == one.key && ask.face == asker);
+    let asks = records.ask_of(one.key, asker).is_some();
     if asks {
         records.sent(one)?;
     }
@@ -261,36 +344,38 @@ fn sent_agrees(
 }
 
 /// Makes the same random removal in the table and in the records.
-fn remove(
-    table: &mut Table,
-    records: &mut Records,
-    keys: &[OwnedKey],
-    removal: u64,
-    one: Asks,
-) -> Option<()> {
-    let key = keys.get(one.key)?.view();
+fn remove(table: &mut Table, records: &mut Records, key: Key<'_>, removal: u64, one: Asked) {
     match removal {
         0 => {
             table.withdraw(key, one.face);
-            records
-                .asks
-                .retain(|ask| ask.key != one.key || ask.face != one.face);
+            records.withdraw(one.key, one.face);
         }
         1 => {
             table.remove(key);
-            records.asks.retain(|ask| ask.key != one.key);
+            records.remove(one.key);
         }
         2 => {
-            table.expire(one.deadline);
-            records.asks.retain(|ask| one.deadline < ask.deadline);
+            table.expire(one.moment);
+            records.expire(one.moment);
         }
         _ => {
             table.close_face(one.face);
-            records.asks.retain(|ask| ask.face != one.face);
-            records.asked.retain(|sent| sent.face != one.face);
+            records.close_face(one.face);
         }
     }
-    Some(())
+}
+
+/// Returns a random face, Nonce and moment, for the key `first` or the next one.
+fn random_call(first: u64, state: &mut u64) -> Asked {
+    let key = first.saturating_add(random(state, 2)) as usize;
+    let (face, nonce, moment) = (random(state, 3), random(state, 2), random(state, 20));
+    Asked {
+        key,
+        face,
+        nonce,
+        moment,
+        reason: None,
+    }
 }
 
 /// Returns whether a random call gives the same answer as the records. Most calls are for one of
@@ -304,38 +389,42 @@ fn call_agrees(
     first: u64,
     state: &mut u64,
 ) -> Option<bool> {
-    let key = first.saturating_add(random(state, 2)) as usize;
-    let (face, nonce, moment) = (random(state, 3), random(state, 2), random(state, 20));
-    let sent = Asked {
-        key,
-        face,
-        nonce,
-        moment,
-        reason: None,
-    };
-    let ask = Asks {
-        key,
-        face,
-        nonce,
-        deadline: moment,
-    };
+    let one = random_call(first, state);
+    let key = keys.get(one.key)?.view();
     let agrees = match random(state, 21) {
-        0..=4 => nack_agrees(table, records, keys, seen, sent)?,
-        5..=9 => ask_agrees(table, records, keys, seen, ask)?,
-        10..=15 => sent_agrees(table, records, keys, random(state, 3), sent)?,
-        16 => satisfy_agrees(table, records, packets, random(state, 3) as usize)?,
+        0..=4 => Some(nack_agrees(table, records, seen, key, one)),
+        5..=9 => ask_agrees(table, records, seen, key, one),
+        10..=15 => sent_agrees(table, records, key, random(state, 3), one),
+        16 => satisfy_agrees(table, records, packets, random(state, 3) as usize),
         removal => {
-            remove(table, records, keys, removal.saturating_sub(17), ask)?;
-            true
+            remove(table, records, key, removal.saturating_sub(17), one);
+            Some(true)
         }
     };
     records.settle();
-    let asked = keys.get(key)?.view();
-    Some(agrees && shows(table, records, key, asked, face))
+    Some(agrees? && shows(table, records, one.key, key, one.face))
 }
 
 /// Returns whether 24 random calls agree with the records, and the table then shows the same
 /// records.
+fn calls_agree(
+    table: &mut Table,
+    records: &mut Records,
+    keys: &[OwnedKey],
+    packets: &[Vec<u8>],
+    seen: &mut Seen,
+    state: &mut u64,
+) -> Option<bool> {
+    let first = random(state, 5);
+    for _ in 0..24 {
+        if !call_agrees(table, records, keys, packets, seen, first, state)? {
+            return Some(false);
+        }
+    }
+    Some(shows_all(table, records, keys))
+}
+
+/// Returns whether random calls of an empty table agree with empty records.
 fn sequence_agrees(
     alloc: Global,
     keys: &[OwnedKey],
@@ -348,28 +437,30 @@ fn sequence_agrees(
         asks: Vec::new(alloc),
         asked: Vec::new(alloc),
     };
-    let first = random(state, 5);
-    for _ in 0..24 {
-        if !call_agrees(&mut table, &mut records, keys, packets, seen, first, state)? {
-            return Some(false);
-        }
-    }
-    Some(shows_all(&table, &records, keys))
+    calls_agree(&mut table, &mut records, keys, packets, seen, state)
 }
 
-/// Returns whether ten thousand sequences agree with the records, where some Nacks waited, some
-/// were sent back, and some Interests looped.
-fn all_agree(alloc: Global) -> Option<bool> {
-    let (mut keys, mut packets) = (Vec::new(alloc), Vec::new(alloc));
-    for key in KEYS {
+/// Returns the keys that `KEYS` lists.
+fn all_keys(alloc: Global) -> Option<Vec<OwnedKey>> {
+    let mut keys = Vec::new(alloc);
+    for key in &KEYS {
         keys.push(OwnedKey::read(alloc, key)?).ok()?;
     }
-    for (uri, _) in ANSWERED {
-        let name = NameBuf::from_uri(alloc, uri).ok()?;
-        let mut packet = Vec::new(alloc);
-        put_reply(&mut packet, name.view(), &[]).ok()?;
-        packets.push(packet).ok()?;
+    Some(keys)
+}
+
+/// Returns a Data for each name in `ANSWERED`.
+fn all_packets(alloc: Global) -> Option<Vec<Vec<u8>>> {
+    let mut packets = Vec::new(alloc);
+    for (uri, _) in &ANSWERED {
+        packets.push(data_at(alloc, uri)?).ok()?;
     }
+    Some(packets)
+}
+
+/// Returns whether ten thousand sequences agree with the records. Over all sequences, some Nacks
+/// must have had the result `Waiting`, some the result `All`, and some Interests must have looped.
+fn sequences_agree(alloc: Global, keys: &[OwnedKey], packets: &[Vec<u8>]) -> Option<bool> {
     let mut state = 0x2545_f491_4f6c_dd1d;
     let mut seen = Seen {
         waiting: 0,
@@ -377,11 +468,18 @@ fn all_agree(alloc: Global) -> Option<bool> {
         loops: 0,
     };
     for _ in 0..10_000 {
-        if !sequence_agrees(alloc, &keys, &packets, &mut seen, &mut state)? {
+        if !sequence_agrees(alloc, keys, packets, &mut seen, &mut state)? {
             return Some(false);
         }
     }
     Some(seen.waiting > 100 && seen.all > 100 && seen.loops > 100)
+}
+
+/// Returns whether the sequences agree with the records, for all keys and packets.
+fn all_agree(alloc: Global) -> Option<bool> {
+    let keys = all_keys(alloc)?;
+    let packets = all_packets(alloc)?;
+    sequences_agree(alloc, &keys, &packets)
 }
 
 #[test]

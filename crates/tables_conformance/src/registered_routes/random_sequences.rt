@@ -2,7 +2,8 @@
 //! effective next hops of a name are searched for face by face.
 
 use crate::route_table::{Route, RouteTable};
-use ndn_names::NameBuf;
+use crate::tables::names_of;
+use ndn_names::{Name, NameBuf};
 use pit_fib::*;
 use std::alloc::Global;
 use test_support::random;
@@ -53,12 +54,18 @@ fn captures(route: Route) -> bool {
 }
 
 fn ends_by(route: Route, now: u64) -> bool {
-    route.deadline.is_some_and(|deadline| deadline <= now)
+    match route.deadline {
+        Some(deadline) => deadline <= now,
+        None => false,
+    }
 }
 
-/// Returns the lesser of a cost and another cost, if there is another.
+/// Returns the lesser of `cost` and `other`, or `cost` if there is no other cost.
 fn lesser(cost: u64, other: Option<u64>) -> Option<u64> {
-    Some(other.map_or(cost, |other| cost.min(other)))
+    match other {
+        Some(other) => Some(cost.min(other)),
+        None => Some(cost),
+    }
 }
 
 impl Plain {
@@ -69,10 +76,25 @@ impl Plain {
         }
     }
 
+    /// Removes the next hop of a name on a face.
+    fn remove(&mut self, name: usize, face: u64) {
+        self.hops.retain(|hop| hop.name != name || hop.face != face);
+    }
+
     fn add(&mut self, one: NextHop) -> Option<()> {
-        self.hops
-            .retain(|hop| hop.name != one.name || hop.face != one.face);
+        self.remove(one.name, one.face);
         self.hops.push(one).ok()
+    }
+
+    /// Removes all next hops and routes of a face.
+    fn close_face(&mut self, face: u64) {
+        self.hops.retain(|hop| hop.face != face);
+        self.routes.retain(|one| one.route.face != face);
+    }
+
+    /// Removes the routes that expire by a moment.
+    fn expire(&mut self, now: u64) {
+        self.routes.retain(|one| !ends_by(one.route, now));
     }
 
     fn unregister(&mut self, one: Registered) {
@@ -86,46 +108,76 @@ impl Plain {
         self.routes.push(one).ok()
     }
 
+    /// Appends the next hops of other lists.
+    fn copy_hops(&mut self, hops: &[NextHop]) -> Option<()> {
+        for hop in hops {
+            self.hops.push(*hop).ok()?;
+        }
+        Some(())
+    }
+
+    /// Appends the routes of other lists that do not expire by a moment.
+    fn copy_routes(&mut self, routes: &[Registered], now: u64) -> Option<()> {
+        for one in routes {
+            if !ends_by(one.route, now) {
+                self.routes.push(*one).ok()?;
+            }
+        }
+        Some(())
+    }
+
     /// Returns the lists without the routes that expire by a moment.
     fn left_at(&self, alloc: Global, now: u64) -> Option<Plain> {
         let mut left = Plain::new(alloc);
-        for hop in &self.hops {
-            left.hops.push(*hop).ok()?;
-        }
-        for one in &self.routes {
-            if !ends_by(one.route, now) {
-                left.routes.push(*one).ok()?;
-            }
-        }
+        left.copy_hops(&self.hops)?;
+        left.copy_routes(&self.routes, now)?;
         Some(left)
     }
 
     fn has_routes(&self, name: usize) -> bool {
-        self.routes.iter().any(|one| one.name == name)
+        for one in &self.routes {
+            if one.name == name {
+                return true;
+            }
+        }
+        false
+    }
+
+    fn has_hops(&self, name: usize) -> bool {
+        for hop in &self.hops {
+            if hop.name == name {
+                return true;
+            }
+        }
+        false
     }
 
     /// Returns whether a name has a next hop or a route.
     fn has_entry(&self, name: usize) -> bool {
-        self.has_routes(name) || self.hops.iter().any(|hop| hop.name == name)
+        self.has_routes(name) || self.has_hops(name)
     }
 
     fn has_capture(&self, name: usize) -> bool {
-        self.routes
-            .iter()
-            .any(|one| one.name == name && captures(one.route))
+        for one in &self.routes {
+            if one.name == name && captures(one.route) {
+                return true;
+            }
+        }
+        false
     }
 
     /// Returns the cost of the next hop of a name on a face.
     fn hop_cost(&self, name: usize, face: u64) -> Option<u64> {
-        let hop = self
-            .hops
-            .iter()
-            .find(|hop| hop.name == name && hop.face == face)?;
-        Some(hop.cost)
+        for hop in &self.hops {
+            if hop.name == name && hop.face == face {
+                return Some(hop.cost);
+            }
+        }
+        None
     }
 
-    /// Returns the least cost of a name's routes on a face: of all its routes, or only of those
-    /// that are inherited.
+    /// Returns the least cost of a name's routes on a face: of all its routes or, if
+    /// `inherited_alone` is set, only of its child-inherit routes.
     fn least_cost(&self, name: usize, face: u64, inherited_alone: bool) -> Option<u64> {
         let mut least = None;
         for one in &self.routes {
@@ -287,6 +339,20 @@ fn rows_agree(
     Some(rows.len() == at)
 }
 
+/// Returns whether the table's list at a moment agrees with the plain lists, which are without the
+/// routes that expire by then.
+fn lists_agree(
+    alloc: Global,
+    fib: &Fib,
+    left: &Plain,
+    names: &[NameBuf],
+    seen: &mut Seen,
+    now: u64,
+) -> Option<bool> {
+    let rows = fib.list(alloc, now).ok()?;
+    rows_agree(&rows, left, names, seen)
+}
+
 /// Returns whether the table's list at a moment, and the number of routes that expire by then,
 /// agree with the plain lists.
 fn list_agrees(
@@ -298,9 +364,11 @@ fn list_agrees(
     now: u64,
 ) -> Option<bool> {
     let left = plain.left_at(alloc, now)?;
-    let rows = routes.read().list(alloc, now).ok()?;
-    let due = plain.routes.len().checked_sub(left.routes.len())?;
-    Some(rows_agree(&rows, &left, names, seen)? && routes.read().due(now) == due as u64)
+    let due = plain.routes.len().checked_sub(left.routes.len())? as u64;
+    Some(
+        routes.read().due(now) == due
+            && lists_agree(alloc, routes.read(), &left, names, seen, now)?,
+    )
 }
 
 /// Returns whether the number of routes that expire by a moment is the same in the table and in the
@@ -312,61 +380,86 @@ fn expire_agrees(
     now: u64,
 ) -> Option<bool> {
     let before = plain.routes.len();
-    plain.routes.retain(|one| !ends_by(one.route, now));
+    plain.expire(now);
     let gone = before.checked_sub(plain.routes.len())? as u64;
     seen.ended = seen.ended.saturating_add(gone);
     Some(routes.expire(now) == gone)
 }
 
-/// Sets a next hop or a route in the table and in the lists; with ample memory it is not refused.
-fn set(
+/// Sets a next hop in the table and in the lists, and returns true. With ample memory it is not
+/// refused.
+fn set_hop(
     routes: &mut RouteTable,
     plain: &mut Plain,
-    names: &[NameBuf],
-    is_hop: bool,
+    name: Name<'_>,
     one: Registered,
-) -> Option<()> {
-    let (name, route) = (names.get(one.name)?.view(), one.route);
-    if is_hop {
-        routes.add(name, route.face, route.cost).ok()?;
-        plain.add(NextHop {
-            name: one.name,
-            face: route.face,
-            cost: route.cost,
-        })
-    } else {
-        routes.register(name, route).ok()?;
-        plain.register(one)
-    }
+) -> Option<bool> {
+    let (face, cost) = (one.route.face, one.route.cost);
+    routes.add(name, face, cost).ok()?;
+    plain.add(NextHop {
+        name: one.name,
+        face,
+        cost,
+    })?;
+    Some(true)
+}
+
+/// Sets a route in the table and in the lists, and returns true. With ample memory it is not
+/// refused.
+fn set_route(
+    routes: &mut RouteTable,
+    plain: &mut Plain,
+    name: Name<'_>,
+    one: Registered,
+) -> Option<bool> {
+    routes.register(name, one.route).ok()?;
+    plain.register(one)?;
+    Some(true)
 }
 
 /// Makes the same random removal in the table and in the lists.
 fn remove(
     routes: &mut RouteTable,
     plain: &mut Plain,
-    names: &[NameBuf],
+    name: Name<'_>,
     removal: u64,
     one: Registered,
-) -> Option<()> {
-    let (name, face) = (names.get(one.name)?.view(), one.route.face);
+) {
+    let face = one.route.face;
     match removal {
         0 => {
             routes.remove(name, face);
-            plain
-                .hops
-                .retain(|hop| hop.name != one.name || hop.face != face);
+            plain.remove(one.name, face);
         }
         1 => {
             routes.close_face(face);
-            plain.hops.retain(|hop| hop.face != face);
-            plain.routes.retain(|other| other.route.face != face);
+            plain.close_face(face);
         }
         _ => {
             routes.unregister(name, face, one.route.origin);
             plain.unregister(one);
         }
     }
-    Some(())
+}
+
+/// Makes the same random change in the table and in the lists, and returns true: a removal if
+/// `change` is below 8, a new next hop if it is 8 or 9, and otherwise a new route.
+fn change(
+    routes: &mut RouteTable,
+    plain: &mut Plain,
+    name: Name<'_>,
+    change: u64,
+    one: Registered,
+    state: &mut u64,
+) -> Option<bool> {
+    match change {
+        0..=7 => {
+            remove(routes, plain, name, random(state, 8), one);
+            Some(true)
+        }
+        8..=9 => set_hop(routes, plain, name, one),
+        _ => set_route(routes, plain, name, one),
+    }
 }
 
 /// Returns a random route of a random name. One route in three expires, at a moment below 24.
@@ -399,53 +492,51 @@ fn call_agrees(
     state: &mut u64,
 ) -> Option<bool> {
     let one = random_route(state);
+    let name = names.get(one.name)?.view();
     let now = random(state, 24);
     let agrees = match random(state, 16) {
-        0 => expire_agrees(routes, plain, seen, now)?,
-        1..=3 => list_agrees(alloc, routes, plain, names, seen, now)?,
-        4..=7 => {
-            remove(routes, plain, names, random(state, 8), one)?;
-            true
-        }
-        call => {
-            set(routes, plain, names, call <= 9, one)?;
-            true
-        }
+        0 => expire_agrees(routes, plain, seen, now),
+        1..=3 => list_agrees(alloc, routes, plain, names, seen, now),
+        call => change(routes, plain, name, call, one, state),
     };
     let asked = random(state, 8) as usize;
-    Some(agrees && longest_agrees(routes, plain, names, seen, asked)?)
+    Some(agrees? && longest_agrees(routes, plain, names, seen, asked)?)
 }
 
 /// Returns whether 40 random calls agree with the lists, and the table then has what the lists
 /// have.
+fn calls_agree(
+    alloc: Global,
+    routes: &mut RouteTable,
+    plain: &mut Plain,
+    names: &[NameBuf],
+    seen: &mut Seen,
+    state: &mut u64,
+) -> Option<bool> {
+    for _ in 0..40 {
+        if !call_agrees(alloc, routes, plain, names, seen, state)? {
+            return Some(false);
+        }
+    }
+    let agrees = list_agrees(alloc, routes, plain, names, seen, 0)?;
+    Some(agrees && routes.read().len() == plain.len())
+}
+
+/// Returns whether random calls of an empty table agree with empty lists.
 fn sequence_agrees(
     alloc: Global,
     names: &[NameBuf],
     seen: &mut Seen,
     state: &mut u64,
 ) -> Option<bool> {
-    let (mut routes, mut plain) = (RouteTable::new(alloc), Plain::new(alloc));
-    for _ in 0..40 {
-        if !call_agrees(alloc, &mut routes, &mut plain, names, seen, state)? {
-            return Some(false);
-        }
-    }
-    let agrees = list_agrees(alloc, &routes, &plain, names, seen, 0)?;
-    Some(agrees && routes.read().len() == plain.len())
+    let mut routes = RouteTable::new(alloc);
+    let mut plain = Plain::new(alloc);
+    calls_agree(alloc, &mut routes, &mut plain, names, seen, state)
 }
 
-fn all_names(alloc: Global) -> Option<Vec<NameBuf>> {
-    let mut names = Vec::new(alloc);
-    for uri in NAMES {
-        names.push(NameBuf::from_uri(alloc, uri).ok()?).ok()?;
-    }
-    Some(names)
-}
-
-/// Returns whether 400 sequences agree with the lists. In some of them costs must be inherited,
-/// capture routes must prevent this, and routes must expire.
-fn all_agree(alloc: Global) -> Option<bool> {
-    let names = all_names(alloc)?;
+/// Returns whether 400 sequences agree with the lists. In some of them a name must inherit a cost,
+/// a capture route must prevent inheritance, and routes must expire.
+fn sequences_agree(alloc: Global, names: &[NameBuf]) -> Option<bool> {
     let mut state = 0x2545_f491_4f6c_dd1d;
     let mut seen = Seen {
         inherited: 0,
@@ -453,11 +544,17 @@ fn all_agree(alloc: Global) -> Option<bool> {
         ended: 0,
     };
     for _ in 0..400 {
-        if !sequence_agrees(alloc, &names, &mut seen, &mut state)? {
+        if !sequence_agrees(alloc, names, &mut seen, &mut state)? {
             return Some(false);
         }
     }
     Some(seen.inherited > 100 && seen.captured > 100 && seen.ended > 100)
+}
+
+/// Returns whether the sequences agree with the lists, for all names.
+fn all_agree(alloc: Global) -> Option<bool> {
+    let names = names_of(alloc, &NAMES)?;
+    sequences_agree(alloc, &names)
 }
 
 #[test]

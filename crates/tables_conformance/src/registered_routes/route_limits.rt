@@ -2,7 +2,8 @@
 
 use super::list_or_none;
 use crate::route_table::{Route, RouteTable};
-use crate::tables::{deep_name, numbered};
+use crate::tables::{add_deep, add_numbered, deep_name, numbered};
+use ndn_names::Name;
 use pit_fib::*;
 use std::alloc::Global;
 
@@ -11,9 +12,39 @@ const FULL: Result<(), TableFault> = Err(TableFault::TableFull);
 const DEEP: Result<(), TableFault> = Err(TableFault::TooDeep);
 
 /// Registers a route for the name with this number.
-fn register(alloc: Global, routes: &mut RouteTable, number: u16, route: Route) -> Option<bool> {
+fn register(
+    alloc: Global,
+    routes: &mut RouteTable,
+    number: u16,
+    route: Route,
+) -> Option<Result<(), TableFault>> {
     let name = numbered(alloc, number)?;
-    Some(routes.register(name.view(), route).is_ok())
+    Some(routes.register(name.view(), route))
+}
+
+/// Registers a route for a name of `depth` components.
+fn register_deep(
+    alloc: Global,
+    routes: &mut RouteTable,
+    depth: usize,
+    route: Route,
+) -> Option<Result<(), TableFault>> {
+    let name = deep_name(alloc, depth)?;
+    Some(routes.register(name.view(), route))
+}
+
+/// Unregisters the route with the origin 0 of the name with this number.
+fn unregister(alloc: Global, routes: &mut RouteTable, number: u16, face: u64) -> Option<()> {
+    let name = numbered(alloc, number)?;
+    routes.unregister(name.view(), face, 0);
+    Some(())
+}
+
+/// Removes the next hop on face 1 of the name with this number.
+fn remove(alloc: Global, routes: &mut RouteTable, number: u16) -> Option<()> {
+    let name = numbered(alloc, number)?;
+    routes.remove(name.view(), 1);
+    Some(())
 }
 
 /// Returns whether a table accepts routes of 256 names, 64 for each name: on two faces, with 32
@@ -21,7 +52,7 @@ fn register(alloc: Global, routes: &mut RouteTable, number: u16, route: Route) -
 fn takes_16384(alloc: Global, routes: &mut RouteTable) -> Option<bool> {
     for number in 0..256 {
         for one in 0..64 {
-            if !register(alloc, routes, number, Route::new(one % 2, one / 2))? {
+            if register(alloc, routes, number, Route::new(one % 2, one / 2))?.is_err() {
                 return Some(false);
             }
         }
@@ -32,27 +63,21 @@ fn takes_16384(alloc: Global, routes: &mut RouteTable) -> Option<bool> {
 /// Returns whether a table with 16,384 routes refuses a new route, both for a known name and for a
 /// new one, but accepts a next hop and a route that it already has.
 fn refuses_new_routes(alloc: Global, routes: &mut RouteTable) -> Option<bool> {
-    let (known, new, deep) = (
-        numbered(alloc, 7)?,
-        numbered(alloc, 256)?,
-        deep_name(alloc, 33)?,
-    );
     let route = Route::new(0, 32);
-    let further = routes.register(known.view(), route) == FULL;
-    let named = routes.register(new.view(), route) == FULL;
-    let too_deep = routes.register(deep.view(), route) == DEEP;
-    let again = routes.register(known.view(), Route::new(1, 31)).is_ok();
-    let hop = routes.add(new.view(), 1, 0).is_ok();
+    let further = register(alloc, routes, 7, route)? == FULL;
+    let named = register(alloc, routes, 256, route)? == FULL;
+    let too_deep = register_deep(alloc, routes, 33, route)? == DEEP;
+    let again = register(alloc, routes, 7, Route::new(1, 31))?.is_ok();
+    let hop = add_numbered(alloc, routes, 256, 0)?.is_ok();
     Some(further && named && too_deep && again && hop)
 }
 
-/// Returns whether a full table accepts one route after one was unregistered, and then no second
-/// one.
+/// Returns whether a full table, after one route was unregistered, accepts one new route but no
+/// second new route.
 fn takes_one_for_one(alloc: Global, routes: &mut RouteTable) -> Option<bool> {
-    let known = numbered(alloc, 7)?;
-    routes.unregister(known.view(), 0, 0);
-    let is_taken = register(alloc, routes, 256, Route::new(0, 32))?;
-    let is_full = !register(alloc, routes, 257, Route::new(0, 32))?;
+    unregister(alloc, routes, 7, 0)?;
+    let is_taken = register(alloc, routes, 256, Route::new(0, 32))?.is_ok();
+    let is_full = register(alloc, routes, 257, Route::new(0, 32))?.is_err();
     Some(is_taken && is_full)
 }
 
@@ -62,7 +87,7 @@ fn takes_many_for_many(alloc: Global, routes: &mut RouteTable) -> Option<bool> {
     routes.close_face(0);
     let mut route = Route::new(2, 0);
     route.deadline = Some(9);
-    let is_taken = register(alloc, routes, 0, route)?;
+    let is_taken = register(alloc, routes, 0, route)?.is_ok();
     let gone = routes.expire(9);
     Some(is_taken && gone == 1 && routes.read().due(u64::MAX) == 0)
 }
@@ -76,11 +101,10 @@ fn holds_16384_routes(alloc: Global, routes: &mut RouteTable) -> Option<bool> {
 /// Returns whether a table accepts 4,096 names, half of them with a next hop and half with a route.
 fn takes_4096_names(alloc: Global, routes: &mut RouteTable) -> Option<bool> {
     for number in (0..4096).rev() {
-        let name = numbered(alloc, number)?;
         let taken = if number % 2 == 0 {
-            routes.add(name.view(), 1, 0)
+            add_numbered(alloc, routes, number, 0)?
         } else {
-            routes.register(name.view(), Route::new(1, 0))
+            register(alloc, routes, number, Route::new(1, 0))?
         };
         if taken.is_err() {
             return Some(false);
@@ -91,39 +115,33 @@ fn takes_4096_names(alloc: Global, routes: &mut RouteTable) -> Option<bool> {
 
 /// Returns whether a table with 4,096 names refuses a further name, but not a name that it has.
 fn refuses_new_names(alloc: Global, routes: &mut RouteTable) -> Option<bool> {
-    let (new, deep) = (numbered(alloc, 4096)?, deep_name(alloc, 33)?);
     let route = Route::new(1, 0);
-    let is_full = routes.add(new.view(), 1, 0) == FULL
-        && routes.register(new.view(), route) == FULL;
-    let is_deep = routes.add(deep.view(), 1, 0) == DEEP
-        && routes.register(deep.view(), route) == DEEP;
+    let is_full = add_numbered(alloc, routes, 4096, 0)? == FULL
+        && register(alloc, routes, 4096, route)? == FULL;
+    let is_deep = add_deep(alloc, routes)? == DEEP
+        && register_deep(alloc, routes, 33, route)? == DEEP;
     Some(is_full && is_deep && takes_known_names(alloc, routes)?)
 }
 
 /// Returns whether the table accepts a route for a name with a next hop, and a next hop for a name
 /// with a route.
 fn takes_known_names(alloc: Global, routes: &mut RouteTable) -> Option<bool> {
-    let (hop, route) = (numbered(alloc, 6)?, numbered(alloc, 7)?);
-    let is_routed = routes.register(hop.view(), Route::new(1, 0)).is_ok();
-    let is_added = routes.add(route.view(), 1, 0).is_ok();
+    let is_routed = register(alloc, routes, 6, Route::new(1, 0))?.is_ok();
+    let is_added = add_numbered(alloc, routes, 7, 0)?.is_ok();
     Some(is_routed && is_added)
 }
 
 /// Returns whether a full table refuses a new name until another name loses its last next hop or
 /// route.
 fn frees_names(alloc: Global, routes: &mut RouteTable) -> Option<bool> {
-    let (new, both, routed) = (
-        numbered(alloc, 4096)?,
-        numbered(alloc, 7)?,
-        numbered(alloc, 9)?,
-    );
-    routes.unregister(both.view(), 1, 0);
-    let is_full = routes.register(new.view(), Route::new(1, 0)) == FULL;
-    routes.unregister(routed.view(), 1, 0);
-    let is_taken = routes.register(new.view(), Route::new(1, 0)).is_ok();
-    let is_full_again = routes.add(routed.view(), 1, 0) == FULL;
-    routes.remove(both.view(), 1);
-    Some(is_full && is_taken && is_full_again && routes.add(routed.view(), 1, 0).is_ok())
+    unregister(alloc, routes, 7, 1)?;
+    let is_full = register(alloc, routes, 4096, Route::new(1, 0))? == FULL;
+    unregister(alloc, routes, 9, 1)?;
+    let is_taken = register(alloc, routes, 4096, Route::new(1, 0))?.is_ok();
+    let is_full_again = add_numbered(alloc, routes, 9, 0)? == FULL;
+    remove(alloc, routes, 7)?;
+    let is_freed = add_numbered(alloc, routes, 9, 0)?.is_ok();
+    Some(is_full && is_taken && is_full_again && is_freed)
 }
 
 /// Returns whether a table holds 4,096 names, and no more.
@@ -132,90 +150,135 @@ fn holds_4096_names(alloc: Global, routes: &mut RouteTable) -> Option<bool> {
     Some(holds && frees_names(alloc, routes)?)
 }
 
+/// Returns what `route_refusal_of` tells of a name of `depth` components.
+fn refusal(alloc: Global, fib: &Fib, depth: usize) -> Option<Option<TableFault>> {
+    let name = deep_name(alloc, depth)?;
+    Some(fib.route_refusal_of(name.view(), 1, 0))
+}
+
 /// Returns whether `route_refusal_of` tells in advance that a route for a name of 33 components is
 /// refused, and that a route for the name `/` is not.
 fn tells_refusals(alloc: Global, routes: &mut RouteTable) -> Option<bool> {
-    let (deep, root) = (deep_name(alloc, 33)?, deep_name(alloc, 0)?);
     let route = Route::new(1, 0);
-    let is_told = routes.read().route_refusal_of(deep.view(), 1, 0) == Some(TableFault::TooDeep)
-        && routes.read().route_refusal_of(root.view(), 1, 0).is_none();
-    let refused = routes.register(deep.view(), route) == DEEP;
-    Some(is_told && refused && routes.register(root.view(), route).is_ok())
+    let is_told = refusal(alloc, routes.read(), 33)? == Some(TableFault::TooDeep)
+        && refusal(alloc, routes.read(), 0)?.is_none();
+    let refused = register_deep(alloc, routes, 33, route)? == DEEP;
+    Some(is_told && refused && register_deep(alloc, routes, 0, route)?.is_ok())
+}
+
+/// Registers routes of the names of up to 32 components, each on its own face.
+fn register_33(alloc: Global, routes: &mut RouteTable) -> Option<()> {
+    for depth in 0..33 {
+        let mut route = Route::new(depth as u64, 0);
+        route.cost = 32_u64.saturating_sub(route.face);
+        register_deep(alloc, routes, depth, route)?.ok()?;
+    }
+    Some(())
+}
+
+/// Returns whether a lookup makes at most 64 searches, and finds 33 next hops from face 32 to face
+/// 0.
+fn finds_33(fib: &Fib, name: Name<'_>) -> Option<bool> {
+    let mut steps = 0;
+    let hops = fib.longest_counted(name, &mut steps);
+    let (first, last) = (hops.get(0)?, hops.get(32)?);
+    Some(steps <= 64 && hops.len() == 33 && first.face == 32 && last.face == 0)
 }
 
 /// Returns whether the lookup of a name of 64 components passes the routes of 33 names along the
 /// way, with at most one search for each component. Each of these names has a route on its own
 /// face, with a lesser cost than the name before it.
 fn looks_up_64_components(alloc: Global, routes: &mut RouteTable) -> Option<bool> {
-    for depth in 0..33 {
-        let name = deep_name(alloc, depth)?;
-        let mut route = Route::new(depth as u64, 0);
-        route.cost = 32_u64.saturating_sub(route.face);
-        routes.register(name.view(), route).ok()?;
-    }
-    let mut steps = 0;
+    register_33(alloc, routes)?;
     let deep = deep_name(alloc, 64)?;
-    let hops = routes.read().longest_counted(deep.view(), &mut steps);
-    let (first, last) = (hops.get(0)?, hops.get(32)?);
-    Some(steps <= 64 && hops.len() == 33 && first.face == 32 && last.face == 0)
+    finds_33(routes.read(), deep.view())
+}
+
+/// Returns whether the list of a table is shown as `expected`.
+fn is_listed(alloc: Global, fib: &Fib, expected: &str) -> Option<bool> {
+    let listed = list_or_none(alloc, fib, 0)?;
+    Some(listed.as_str() == expected)
+}
+
+/// Returns whether a route of this name can be prepared, and is registered after the route of
+/// another name has expired. If the preparation fails, the table must still have the other route.
+fn takes_prepared_route(alloc: Global, routes: &mut RouteTable, name: Name<'_>) -> Option<bool> {
+    if routes.prepare(name).is_err() {
+        return is_listed(alloc, routes.read(), "/%00%02 2@0");
+    }
+    let gone = routes.expire(9);
+    let is_taken = routes.register(name, Route::new(3, 0)).is_ok();
+    Some(gone == 1 && is_taken && is_listed(alloc, routes.read(), "/%00%01 3@0")?)
 }
 
 /// Returns whether a prepared call does not run out of memory. The call registers a route for a new
 /// name, after other routes have expired. A preparation that fails must leave the routes unchanged.
 fn registers_what_is_prepared(alloc: Global, routes: &mut RouteTable) -> Option<bool> {
-    let (name, other) = (numbered(alloc, 1)?, numbered(alloc, 2)?);
     let mut route = Route::new(2, 0);
     route.deadline = Some(9);
-    routes.register(other.view(), route).ok()?;
-    if routes.prepare(name.view()).is_err() {
-        return Some(list_or_none(alloc, routes.read(), 0)?.as_str() == "/%00%02 2@0");
+    register(alloc, routes, 2, route)?.ok()?;
+    let name = numbered(alloc, 1)?;
+    takes_prepared_route(alloc, routes, name.view())
+}
+
+/// Returns whether a ninth route of this name can be prepared and is registered. If the preparation
+/// fails, the name must still have eight routes.
+fn takes_ninth_route(routes: &mut RouteTable, name: Name<'_>) -> Option<bool> {
+    for face in 1..9 {
+        routes.register(name, Route::new(face, 0)).ok()?;
     }
-    let gone = routes.expire(9);
-    let is_taken = routes.register(name.view(), Route::new(3, 0)).is_ok();
-    let listed = list_or_none(alloc, routes.read(), 0)?;
-    Some(gone == 1 && is_taken && listed.as_str() == "/%00%01 3@0")
+    if routes.prepare(name).is_err() {
+        return Some(routes.read().longest(name).len() == 8);
+    }
+    let is_taken = routes.register(name, Route::new(9, 0)).is_ok();
+    Some(is_taken && routes.read().longest(name).len() == 9)
 }
 
 /// Returns whether a prepared call that adds a ninth route to a name with eight routes does not run
 /// out of memory.
 fn registers_a_ninth_route(alloc: Global, routes: &mut RouteTable) -> Option<bool> {
     let name = numbered(alloc, 1)?;
-    for face in 1..9 {
-        routes.register(name.view(), Route::new(face, 0)).ok()?;
+    takes_ninth_route(routes, name.view())
+}
+
+/// Returns whether a next hop of this name can be prepared, and is added after the only route of
+/// the name is unregistered. If the preparation fails, the table must still have the name.
+fn takes_prepared_hop(routes: &mut RouteTable, name: Name<'_>) -> Option<bool> {
+    routes.register(name, Route::new(2, 0)).ok()?;
+    if routes.prepare(name).is_err() {
+        return Some(routes.read().len() == 1);
     }
-    if routes.prepare(name.view()).is_err() {
-        return Some(routes.read().longest(name.view()).len() == 8);
-    }
-    let is_taken = routes.register(name.view(), Route::new(9, 0)).is_ok();
-    Some(is_taken && routes.read().longest(name.view()).len() == 9)
+    routes.unregister(name, 2, 0);
+    let is_gone = routes.read().len() == 0;
+    Some(is_gone && routes.add(name, 3, 0).is_ok() && routes.read().len() == 1)
 }
 
 /// Returns whether a prepared call that adds a next hop to a name does not run out of memory,
-/// although the name had a route only when the call was prepared.
+/// although the route that the name had at the preparation is unregistered before the call.
 fn adds_what_is_prepared(alloc: Global, routes: &mut RouteTable) -> Option<bool> {
     let name = numbered(alloc, 1)?;
-    routes.register(name.view(), Route::new(2, 0)).ok()?;
-    if routes.prepare(name.view()).is_err() {
-        return Some(routes.read().len() == 1);
-    }
-    routes.unregister(name.view(), 2, 0);
-    let is_gone = routes.read().len() == 0;
-    Some(is_gone && routes.add(name.view(), 3, 0).is_ok() && routes.read().len() == 1)
+    takes_prepared_hop(routes, name.view())
+}
+
+/// Returns whether a route of this name replaces the older one, or leaves it unchanged if memory
+/// runs out.
+fn keeps_one_route(routes: &mut RouteTable, name: Name<'_>) -> Option<bool> {
+    let mut route = Route::new(2, 0);
+    route.cost = 5;
+    routes.register(name, route).ok()?;
+    let cost = match routes.register(name, Route::new(2, 0)) {
+        Ok(()) => 0,
+        Err(_) => 5,
+    };
+    let hop = routes.read().longest(name).get(0)?;
+    Some(hop.cost == cost && routes.read().len() == 1)
 }
 
 /// Returns whether a route for which memory runs out leaves the older route with its name, face and
 /// origin unchanged.
 fn leaves_the_older_route(alloc: Global, routes: &mut RouteTable) -> Option<bool> {
     let name = numbered(alloc, 1)?;
-    let mut route = Route::new(2, 0);
-    route.cost = 5;
-    routes.register(name.view(), route).ok()?;
-    let cost = match routes.register(name.view(), Route::new(2, 0)) {
-        Ok(()) => 0,
-        Err(_) => 5,
-    };
-    let hop = routes.read().longest(name.view()).get(0)?;
-    Some(hop.cost == cost && routes.read().len() == 1)
+    keeps_one_route(routes, name.view())
 }
 
 /// Runs `play` on an empty table.
