@@ -5,14 +5,14 @@ use Rattle.std.proofs.lemmas.List.{append-nil}
 use Rattle.node_core.specs.Script.Line.{Lacks}
 use Rattle.journal_shortening.specs.Needed.{KeepsLines, kept_line}
 
--- Whatever the remaining flags keep of the remaining text, all flags keep of the whole text what
--- was appended and then that.
+-- The loop invariant: if the remaining flags keep some lines of the remaining text `rest`, then all
+-- flags keep of the whole journal the lines that were appended so far, followed by those lines.
 abbrev pub SoFar : List Bool → List ℕ → List ℕ → ℕ → List ℕ → List ℕ → Type 0
 SoFar flags journal old i rest text =
     (more : List ℕ) → KeepsLines (drop i flags) rest more
     → (lines : List ℕ) × KeepsLines flags journal lines × (text ++ more ≡ old ++ lines)
 
--- all that the flags keep was appended
+-- all lines that the flags keep were appended to `old`, which gave `text`
 abbrev pub Done : List Bool → List ℕ → List ℕ → List ℕ → Type 0
 Done flags journal old text =
     (lines : List ℕ) × KeepsLines flags journal lines × (text ≡ old ++ lines)
@@ -20,7 +20,7 @@ Done flags journal old text =
 pub so_far_none : (flags : List Bool) (journal old : List ℕ) → SoFar flags journal old 0 journal old
 so_far_none flags journal old more h = (more, h, refl)
 
--- a line is handled
+-- if the next line is appended or left out as its flag says, the loop invariant still holds
 pub so_far_line : (flags : List Bool) (journal old : List ℕ) (i : ℕ) (rest text line after new : List ℕ) (flag : Bool)
     → SoFar flags journal old i rest text → i < length flags → get_or flags i false ≡ flag
     → rest ≡ line ++ (10 ∷ after) → Lacks 10 line → new ≡ text ++ kept_line flag line
@@ -33,7 +33,7 @@ so_far_line flags journal old i rest text line after new flag s lt f r lacks n m
     let all = s (kept_line flag line ++ more) (subst (λ (fs : List Bool). KeepsLines fs rest (kept_line flag line ++ more)) (sym cons) here) in
     (all.0, all.1, ap (λ (t : List ℕ). t ++ more) n ∙ append_assoc text (kept_line flag line) more ∙ all.2)
 
--- the text has no further line
+-- if no whole line remains, all lines that the flags keep were appended
 pub done_early : (flags : List Bool) (journal old : List ℕ) (i : ℕ) (rest text : List ℕ)
     → SoFar flags journal old i rest text → i < length flags → Lacks 10 rest
     → Done flags journal old text
@@ -43,7 +43,7 @@ done_early flags journal old i rest text s lt lacks =
     let all = s [] (subst (λ (fs : List Bool). KeepsLines fs rest []) (sym cons) here) in
     (all.0, all.1, sym (append-nil text) ∙ all.2)
 
--- there is no further flag
+-- if no flag remains, all lines that the flags keep were appended
 pub done : (flags : List Bool) (journal old : List ℕ) (i : ℕ) (rest text : List ℕ)
     → SoFar flags journal old i rest text → i ≡ length flags → Done flags journal old text
 done flags journal old i rest text s e =

@@ -1,12 +1,14 @@
 ghost use Rattle.std.specs.Prelude.{IfOk, IsTrue, OnOk};
 ghost use Rattle.journal_shortening.specs.Comparing.{HaveSameLastRules, HaveSameTables, IsReplayed};
 
+use crate::fault::ShortenFault;
 use forwarder::Node;
-use journal::{ReplayFault, last_rules, replay};
+use journal::{last_rules, replay};
 use std::alloc::Global;
 
 /// Replays the whole lines of one journal on node `a` and those of another on node `b`, and returns
-/// whether the nodes then have the same tables. If it fails, a part of the journals was replayed.
+/// whether the nodes then have the same tables. If the function fails, it may have replayed a part
+/// of the journals.
 ///
 /// The tables are all that a node's policy has except its rules and keys, and the version of its
 /// lists.
@@ -16,7 +18,7 @@ pub fn restores_same_tables(
     b: &mut Node,
     old: &[u8],
     new: &[u8],
-) -> Result<bool, ReplayFault>
+) -> Result<bool, ShortenFault>
     ensures { IfOk result (λ same. IsTrue same
         → HaveSameTables old.now a.old a.new new.now b.old b.new) }
 {
@@ -24,25 +26,25 @@ pub fn restores_same_tables(
     play_all(alloc, b, new)?;
     match a.has_same_tables(b) {
         Ok(same) => Ok(same),
-        Err(_) => Err(ReplayFault::Memory),
+        Err(_) => Err(ShortenFault::Memory),
     }
 }
 
 /// Replays the whole lines of a journal on a node.
-fn play_all(alloc: Global, node: &mut Node, journal: &[u8]) -> Result<(), ReplayFault>
+fn play_all(alloc: Global, node: &mut Node, journal: &[u8]) -> Result<(), ShortenFault>
     ensures { OnOk result (IsReplayed journal.now node.old node.new) }
 {
     let mut reader = journal;
     match replay(alloc, node, &mut reader) {
         Ok(_) => Ok(()),
-        Err(fault) => Err(fault),
+        Err(fault) => Err(ShortenFault::from(fault)),
     }
 }
 
 /// Returns whether the last whole lines of new rules in two journals have the same rules and keys,
-/// octet by octet. Also returns `true` if neither journal has such a line. The fault is `Read` (too
-/// many lines) or `Memory`.
-pub fn have_same_last_rules(alloc: Global, old: &[u8], new: &[u8]) -> Result<bool, ReplayFault>
+/// octet by octet. Also returns `true` if neither journal has such a line. The fault is `TooLong` or
+/// `Memory`.
+pub fn have_same_last_rules(alloc: Global, old: &[u8], new: &[u8]) -> Result<bool, ShortenFault>
     ensures { IfOk result (λ same. IsTrue same → HaveSameLastRules old.now new.now) }
 {
     let (mut old, mut new) = (old, new);

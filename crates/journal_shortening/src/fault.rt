@@ -1,3 +1,4 @@
+use journal::ReplayFault;
 use ndn_tlv::Memory;
 use thiserror::Error;
 
@@ -15,8 +16,22 @@ pub enum ShortenFault {
     /// The journal has 4,294,967,295 lines.
     #[error("the journal has too many lines")]
     TooLong,
+    /// The repository's prefix is not allowed.
+    #[error("the repository's prefix is empty, or begins with /localhost")]
+    BadRepoPrefix,
     #[error("out of memory")]
     Memory,
+}
+
+impl From<ReplayFault> for ShortenFault {
+    // A reader of octets in memory fails only if there are too many lines.
+    fn from(fault: ReplayFault) -> ShortenFault {
+        match fault {
+            ReplayFault::BadLine(line) => ShortenFault::BadLine(line),
+            ReplayFault::Read => ShortenFault::TooLong,
+            ReplayFault::Memory => ShortenFault::Memory,
+        }
+    }
 }
 
 impl From<Memory> for ShortenFault {

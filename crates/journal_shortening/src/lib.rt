@@ -8,11 +8,11 @@ mod needed;
 mod playing;
 mod reach;
 mod repository;
+mod shortening;
 mod subject;
 mod survey;
 mod table_commands;
 mod writer;
 
-pub use comparing::{have_same_last_rules, restores_same_tables};
 pub use fault::ShortenFault;
-pub use needed::{Needed, needed_lines, put_needed};
+pub use shortening::{ShorterJournal, shortened};

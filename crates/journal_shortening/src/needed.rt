@@ -23,7 +23,8 @@ pub struct Needed {
 /// Replays the whole lines of a journal on a new node, which has handled no event, and returns the
 /// lines that the survey finds to be needed to restore the same tables.
 ///
-/// No contract says that they restore the same tables: `restores_same_tables` compares.
+/// No contract states that these lines restore the same tables. `restores_same_tables` compares the
+/// tables that two journals restore.
 pub fn needed_lines(
     alloc: Global,
     node: &mut Node,
@@ -37,7 +38,8 @@ pub fn needed_lines(
     }
 }
 
-/// Returns the lines that are needed for what the survey found at the time `now`.
+/// Returns the lines that are needed to restore the tables at the time `now`, by what the survey
+/// found.
 fn needed_by(survey: &mut Survey, now: u64) -> Result<Needed, ShortenFault> {
     survey.links.sort_unstable();
     let mut reach = Reach::new(survey.alloc, survey.count)?;
@@ -74,7 +76,7 @@ fn put_tick(text: &mut Vec<u8>, moment: u64) -> Result<(), Memory>
     Ok(())
 }
 
-/// Appends the lines of a journal that are needed, each with its LF, up to the last flag.
+/// Appends the needed lines of a journal, each with its LF. Lines after the last flag are left out.
 fn put_lines(text: &mut Vec<u8>, journal: &[u8], needed: &[bool]) -> Result<(), Memory>
     ensures { OnOk result ((lines : List ℕ) × KeepsLines needed.now journal.now lines
         × (text.new.items ≡ text.old.items ++ lines)) }

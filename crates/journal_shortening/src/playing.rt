@@ -19,7 +19,7 @@ pub enum Change {
     Command(u64, u16),
     /// A Data on this face was stored in the repository.
     Stored(u64),
-    /// A packet did nothing for which a node journals it.
+    /// A packet had no effect for which a node would journal it.
     NotJournalled,
 }
 
@@ -30,7 +30,7 @@ pub struct Seen {
     pub now: u64,
 }
 
-/// Memory for the events of lines.
+/// Buffers for handling the events of lines.
 #[derive(Drop)]
 pub struct Desk {
     alloc: Global,
@@ -48,8 +48,8 @@ impl Desk {
     }
 }
 
-/// Returns what an event does if it has its effect. For a packet, the status of a command is left
-/// open.
+/// Returns what an event changes if it takes effect. For every packet this is `Stored`, because
+/// only the verdict tells whether the packet is a command, and its status.
 fn change_of(event: &OwnedEvent) -> Change {
     match event {
         OwnedEvent::Packet { face, .. } => Change::Stored(*face),
@@ -60,7 +60,8 @@ fn change_of(event: &OwnedEvent) -> Change {
     }
 }
 
-/// Returns what an event with this verdict changed, given what it does if it has its effect.
+/// Returns what an event with this verdict changed. `change` is what the event changes if it takes
+/// effect.
 fn change_by(change: Change, verdict: Verdict, is_wanted: bool) -> Change {
     match (change, verdict) {
         (Change::Stored(face), Verdict::Allowed(_, status)) => Change::Command(face, status),
@@ -90,7 +91,7 @@ pub fn survey_lines(
     Err(ShortenFault::TooLong)
 }
 
-/// Replays one line on a node, and surveys it.
+/// Replays one line on a node, and adds to the survey what the line did.
 fn survey_line(
     node: &mut Node,
     text: &[u8],
@@ -104,8 +105,8 @@ fn survey_line(
     }
 }
 
-/// Handles the event of a line on a node, and returns what it did, or `None` if the line has no
-/// event.
+/// Handles the event of a line on a node, and returns what the event did, or `None` if the line has
+/// no event.
 fn play(
     node: &mut Node,
     text: &[u8],

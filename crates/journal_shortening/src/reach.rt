@@ -8,12 +8,12 @@ pub struct Reach {
     needed: Vec<bool>,
     /// The needed lines whose links have not been followed.
     open: Vec<u32>,
-    /// All lines before this one are needed.
+    /// All lines before the line with this number are needed.
     floor: u32,
 }
 
 impl Reach {
-    /// Returns that no line of this number of lines is needed.
+    /// Returns a `Reach` for `count` lines, none of which is needed yet.
     pub fn new(alloc: Global, count: u32) -> Result<Reach, Memory> {
         Ok(Reach {
             needed: vec![in alloc; false; count as usize]?,
@@ -38,7 +38,7 @@ impl Reach {
         Ok(())
     }
 
-    /// Notes that all lines before this one are needed.
+    /// Notes that all lines before `line` are needed.
     fn mark_before(&mut self, line: u32) -> Result<(), Memory> {
         for before in self.floor..line {
             self.mark(before)?;
@@ -48,7 +48,7 @@ impl Reach {
     }
 
     /// Marks the lines that this line needs. The links are pairs of a line and a line that it
-    /// needs, in rising order.
+    /// needs, in ascending order.
     fn follow(&mut self, links: &[(u32, u32)], line: u32) -> Result<(), Memory> {
         let start = links.partition_point(|link| link.0 < line);
         for link in links.iter().skip(start) {
@@ -60,8 +60,8 @@ impl Reach {
         Ok(())
     }
 
-    /// Marks the lines that marked lines need, and so on. The lines in `floors` need all lines
-    /// before them. The links and the floors are in rising order.
+    /// Marks all lines that a marked line needs, directly or through other lines. The lines in
+    /// `floors` need all lines before them. The links and the floors are in ascending order.
     pub fn close(&mut self, links: &[(u32, u32)], floors: &[u32]) -> Result<(), Memory> {
         for _ in 0..self.needed.len() {
             let Some(line) = self.open.pop() else {

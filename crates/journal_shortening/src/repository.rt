@@ -37,7 +37,7 @@ impl Survey {
         }
     }
 
-    /// Notes that an insert is waiting for its Data. It ends an equal want.
+    /// Notes that an insert is waiting for its Data. The insert ends an equal want.
     fn note_want(&mut self, at: Place, asked: &Asked<'_>) -> Result<(), Memory> {
         self.end_want(at.line, asked)?;
         let name = NameBuf::from_name(self.alloc, asked.name)?;
@@ -62,8 +62,8 @@ impl Survey {
         Ok(())
     }
 
-    /// Notes that stored objects answered an insert. The line needs the first of them, since
-    /// without any the insert would wait for a Data.
+    /// Notes that stored objects answered an insert. The line of the insert needs the line of the
+    /// first of these objects, since without any object the insert would wait for a Data.
     fn note_answered(&mut self, line: u32, asked: &Asked<'_>) -> Result<(), Memory> {
         let start = key_of(self.alloc, Kind::Object, &[], asked.name.as_octets())?;
         match self.first_object(start, asked) {
@@ -72,7 +72,8 @@ impl Survey {
         }
     }
 
-    /// Returns the line of the first stored object that answers, among the keys from `start` on.
+    /// Returns the line of the first stored object that answers the command, among the keys from
+    /// `start` on.
     fn first_object(&self, start: Vec<u8>, asked: &Asked<'_>) -> Option<u32> {
         for (key, writer) in self.writers.range(start..) {
             let name = full_name_in(key)?;
@@ -86,14 +87,15 @@ impl Survey {
         None
     }
 
-    /// Notes that a delete removed the objects that answer and an equal want.
+    /// Notes that a delete removed the objects that answer it, and the equal want if there was one.
     fn note_delete(&mut self, line: u32, asked: &Asked<'_>) -> Result<(), Memory> {
         self.end_want(line, asked)?;
         let start = key_of(self.alloc, Kind::Object, &[], asked.name.as_octets())?;
         self.end_objects(line, start, asked)
     }
 
-    /// Notes that a line removed the objects that answer, among the keys from `start` on.
+    /// Notes that a line removed the objects that answer its command, among the keys from `start`
+    /// on.
     fn end_objects(&mut self, line: u32, start: Vec<u8>, asked: &Asked<'_>) -> Result<(), Memory> {
         for (key, writer) in self.writers.range_mut(start..) {
             let Some(name) = full_name_in(key) else {
@@ -127,8 +129,8 @@ impl Survey {
     }
 }
 
-/// Returns the well-formed command to the repository in a name. The name is the prefix of the
-/// repository, the verb, the parameters and the digest of the parameters.
+/// Returns the command to the repository that a name encodes, or `None` if it encodes none. The
+/// name is the prefix of the repository, the verb, the parameters and the digest of the parameters.
 fn asked_by(name: Name<'_>) -> Option<Asked<'_>> {
     let start = name.len().checked_sub(3)?;
     command_in(name.prefix(start), name)
@@ -140,7 +142,8 @@ fn is_equal(want: &Want, asked: &Asked<'_>) -> bool {
         && want.name.view().as_octets() == asked.name.as_octets()
 }
 
-/// Returns whether the object with this full name, which begins with the name asked for, answers.
+/// Returns whether the object with this full name answers the command. The full name must begin
+/// with the name in the command.
 fn is_answer(full_name: &[u8], asked: &Asked<'_>) -> bool {
     let len = asked.name.as_octets().len();
     asked.can_be_prefix

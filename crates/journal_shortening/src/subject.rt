@@ -22,8 +22,8 @@ pub enum Kind {
     Object = 6,
 }
 
-/// Returns the key of the subject of this kind with these numbers and these octets. Each kind
-/// always has equally many numbers, so different subjects have different keys.
+/// Returns the key of the subject of this kind with these numbers and these octets. All subjects of
+/// one kind have equally many numbers, so different subjects have different keys.
 pub fn key_of(
     alloc: Global,
     kind: Kind,
@@ -50,8 +50,9 @@ pub fn route_key(alloc: Global, command: &Command<'_>, face: u64) -> Result<Vec<
     }
 }
 
-/// Returns the key of the greatest time or of the greatest number of a signer. All that is signed
-/// with DigestSha256, or names no key, has one signer, as in the node's guard against replays.
+/// Returns the key of the greatest time or of the greatest number of a signer. All commands that
+/// are signed with DigestSha256, or whose KeyLocator names no key, have one signer, as in the
+/// node's guard against replays.
 pub fn signer_key(alloc: Global, kind: Kind, signature: &Signature<'_>) -> Result<Vec<u8>, Memory> {
     match signature.locator {
         Locator::Name(name) if signature.kind != DIGEST_SHA256 => {

@@ -27,10 +27,10 @@ pub struct Want {
     pub line: u32,
 }
 
-/// What is known of the lines so far. Lines are counted from 0.
+/// What is known of the lines that were replayed. Lines are counted from 0.
 ///
-/// A line needs another line if a journal with the first and without the second might not restore
-/// what the first restored in the whole journal.
+/// A first line needs a second line if a journal that has the first line but not the second might
+/// not restore what the first line restores in the whole journal.
 #[derive(Drop)]
 pub struct Survey {
     pub alloc: Global,
@@ -40,13 +40,13 @@ pub struct Survey {
     pub rules: Option<u32>,
     /// The line that opened each open face.
     pub ups: BTreeMap<u64, u32>,
-    /// The last line on each subject, by the subject's key.
+    /// The last line that set or removed each subject, by the subject's key.
     pub writers: BTreeMap<Vec<u8>, Writer>,
     /// The wants that no line has ended. Some may have expired.
     pub wants: Vec<Want>,
     /// Pairs of a line and a line that it needs.
     pub links: Vec<(u32, u32)>,
-    /// The lines that need all lines before them, in rising order.
+    /// The lines that need all lines before them, in ascending order.
     pub floors: Vec<u32>,
 }
 
@@ -113,7 +113,7 @@ impl Survey {
         Ok(())
     }
 
-    /// Notes that a line closed a face. The line that opened the face needs this one.
+    /// Notes that a line closed a face. The line that opened the face needs this line.
     fn note_down(&mut self, face: u64, line: u32) -> Result<(), Memory> {
         match self.ups.remove(&face) {
             Some(up) => self.link(up, line),
@@ -134,7 +134,8 @@ impl Survey {
         self.ups.get(&face).copied()
     }
 
-    /// Notes that the line of a packet needs the rules in force and the face of the packet.
+    /// Notes that the line of a packet needs the line of the rules in force, and the line that
+    /// opened the packet's face.
     fn link_packet(&mut self, at: Place) -> Result<(), Memory> {
         if let Some(rules) = self.rules {
             self.link(at.line, rules)?;
@@ -171,8 +172,9 @@ impl Survey {
         }
     }
 
-    /// Notes that a line has the last command of a signer, so far. The node only allows a command
-    /// whose time and number are greater than all that it has allowed of the signer.
+    /// Notes that, of the lines that were replayed, this line has the last command of its signer.
+    /// The node allows only commands whose time and number are greater than those of all earlier
+    /// allowed commands of the signer.
     fn note_signer(&mut self, line: u32, signature: &Signature<'_>) -> Result<(), Memory> {
         if signature.time.is_none() {
             return Ok(());
@@ -204,8 +206,9 @@ impl Survey {
         }
     }
 
-    /// Marks the lines that are needed whatever other lines are: those of the last rules, of open
-    /// faces, of wants, and those that set what the subjects are at the time `now`.
+    /// Marks the lines that are needed even if no other line needs them: the line of the last
+    /// rules, the lines of open faces and of wants, and the lines that set what the subjects are at
+    /// the time `now`.
     pub fn mark_roots(&self, now: u64, reach: &mut Reach) -> Result<(), Memory> {
         if let Some(rules) = self.rules {
             reach.mark(rules)?;

@@ -27,7 +27,8 @@ impl Survey {
         self.write(key, line, effect)
     }
 
-    /// Notes that a command set or removed a next hop or a route. The line needs the face.
+    /// Notes that a command set or removed a next hop or a route. The line needs the line that
+    /// opened the face.
     fn note_route(&mut self, at: Place, command: &Command<'_>) -> Result<(), Memory> {
         let face = if command.face == 0 {
             at.face

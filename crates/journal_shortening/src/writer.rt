@@ -1,17 +1,17 @@
 /// What a line did to its subject, such as a route or a signer.
 #[derive(Clone, Copy, Debug, PartialEq, Eq)]
 pub enum Effect {
-    /// It removed the subject, as the deletion of an object.
+    /// It removed the subject, as the deletion of an object does.
     Removed,
-    /// It set the subject, whatever earlier lines had done to it, as the time of a signer's last
-    /// command.
+    /// It set the subject, whatever earlier lines had done to it. For example, a signer's last
+    /// command sets the greatest time of the signer.
     Renewed,
     /// It set the subject. If the line is needed, the next line on the subject is needed too, since
-    /// that line may remove or change what this one set.
+    /// the next line may remove or change what this line set.
     Set,
-    /// It set a next hop or a route through `face`, which the line `up` had opened. This is like
-    /// `Set`, but the route ends when the face closes or the deadline, in milliseconds since 1970,
-    /// comes.
+    /// It set a next hop or a route through `face`, which the line with the number `up` opened.
+    /// This is like `Set`, but the route ends when the face closes or the deadline, in milliseconds
+    /// since 1970, comes.
     Routed {
         face: u64,
         up: u32,
@@ -19,7 +19,7 @@ pub enum Effect {
     },
 }
 
-/// The last line that wrote a subject.
+/// The last line that set or removed a subject.
 #[derive(Clone, Copy, Debug, PartialEq, Eq)]
 pub struct Writer {
     pub line: u32,

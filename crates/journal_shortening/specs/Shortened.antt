@@ -1,0 +1,55 @@
+-- The text of a shorter journal, and what it means that two journals restore the same tables.
+use Rattle.std.specs.Prelude.{◌≡◌, ◌<◌, ℕ, Bool, List, [], length}
+use Rattle.ndn_tlv.specs.Element.{Field}
+use Rattle.node_core.specs.Files.{AreRules}
+use Rattle.forwarder.specs.Node.{NodeState}
+use Rattle.forwarder.specs.Parts.{first_node}
+use Rattle.forwarder.specs.declared.node.NodeParts.{NodeParts}
+use Rattle.journal_shortening.specs.Comparing.{HaveSameLastRules, HaveSameTables}
+use Rattle.journal_shortening.specs.Needed.{PutsNeeded}
+
+-- the parts of a node whose repository has this prefix, with the rules of an empty file, and no keys
+pub record AreEmptyParts (repo : List Field) (parts : NodeParts) : Type 0 where
+  pub are_rules : AreRules [] parts.rules
+  pub no_keys : parts.keys ≡ []
+  pub has_prefix : parts.repo ≡ repo
+
+-- an empty node: it has such parts, and has not handled any event
+abbrev pub IsEmptyNode : List Field → NodeState → Type 0
+IsEmptyNode repo node =
+    (parts : NodeParts) × AreEmptyParts repo parts
+    × (node ≡ first_node parts.rules parts.keys parts.repo parts.cache)
+
+-- On some empty node whose repository has the prefix `repo`, the journal `other` restores the same
+-- tables as the journal `text` restores on a node that is `first` before the replay and `last`
+-- after it.
+pub record AgreesWithEmptyNode (repo : List Field) (text : List ℕ) (first last : NodeState)
+    (other : List ℕ) : Type 0 where
+  pub other_first : NodeState
+  pub other_last : NodeState
+  pub is_empty : IsEmptyNode repo other_first
+  pub tables : HaveSameTables text first last other other_first other_last
+
+-- The journals `text` and `other` restore the same tables on two empty nodes whose repositories have
+-- the prefix `repo`.
+pub record AgreeOnEmptyNodes (repo : List Field) (text other : List ℕ) : Type 0 where
+  pub first : NodeState
+  pub last : NodeState
+  pub other_first : NodeState
+  pub other_last : NodeState
+  pub is_empty : IsEmptyNode repo first
+  pub other_is_empty : IsEmptyNode repo other_first
+  pub tables : HaveSameTables text first last other other_first other_last
+
+-- `text` has some lines of `journal`, in the same order, and then a line `tick`
+abbrev pub KeepsSomeLines : List ℕ → List ℕ → Type 0
+KeepsSomeLines journal text =
+    (flags : List Bool) × (moment : ℕ) × PutsNeeded journal flags moment [] text
+
+-- `text` has some lines of `journal` and then a line `tick`. It is shorter than `journal`, restores
+-- the same tables, and has the same last rules and keys.
+pub record Shortens (repo : List Field) (journal text : List ℕ) : Type 0 where
+  pub lines : KeepsSomeLines journal text
+  pub shorter : length text < length journal
+  pub tables : AgreeOnEmptyNodes repo journal text
+  pub rules : HaveSameLastRules journal text
