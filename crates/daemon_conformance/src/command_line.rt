@@ -18,7 +18,7 @@ fn asked(alloc: Global, command: &str) -> Result<Request, Fault> {
 /// Returns the exit status and the text that a command ends with, unless it runs a node.
 fn ending(alloc: Global, command: &str) -> Option<(u8, String)> {
     match asked(alloc, command) {
-        Ok(Request::Script(_) | Request::Udp(_, _)) => None,
+        Ok(Request::Script(_) | Request::Udp(_, _) | Request::Shorten(_)) => None,
         Ok(Request::Help(help)) => Some((0, help.to_string(alloc).ok()?)),
         Err(fault) => Some((fault.exit_status(), fault.to_string(alloc).ok()?)),
     }
@@ -67,7 +67,7 @@ ndn_node script --cache 4294967296 => error: invalid value for --cache: give a d
 ";
 
 const UDP_HELP: &str = "
-ndn_node --help => udp     Runs the node on a UDP port
+ndn_node --help => udp      Runs the node on a UDP port
 ndn_node udp --help => Usage: ndn_node udp [OPTIONS] --listen <ENDPOINT> --turns <N> [PEERS]...
 ndn_node udp --help => --local <K>
 ndn_node udp --help => --idle <SECONDS>
@@ -119,6 +119,43 @@ ndn_node udp --listen 1 --turns 1 --cache x => error: invalid value for --cache:
 ndn_node udp --listen 1 --turns 1 -- 7 => error: unexpected argument '--' found
 ndn_node script 7 => error: unexpected argument '7' found
 ";
+
+const JOURNAL_HELP: &str = "
+ndn_node --help => journal  Leaves out the lines of a journal
+ndn_node journal --help => Usage: ndn_node journal [OPTIONS] --shorten <FILE>
+ndn_node journal --help => --repo <URI>
+";
+
+const JOURNAL_COMMAND_LINES: &str = "
+ndn_node journal => --shorten <FILE>
+ndn_node journal --repo /a => --shorten <FILE>
+ndn_node journal --shorten => error: a value is required for '--shorten <FILE>'
+ndn_node journal --shorten a --shorten b => error: the argument '--shorten <FILE>' cannot be used multiple times
+ndn_node journal --shorten j --repo /%4 => error: invalid value for --repo: give the URI of a name, such as /repo
+ndn_node journal --shorten j --keys k => error: unexpected argument '--keys' found
+ndn_node journal j => error: unexpected argument 'j' found
+ndn_node journal --shorten j -- => error: unexpected argument '--' found
+ndn_node journals => error: unrecognized subcommand 'journals'
+";
+
+/// Shows the options of the shortening of a journal.
+fn shortening_options_of(alloc: Global, command: &str) -> Option<String> {
+    let Ok(Request::Shorten(options)) = asked(alloc, command) else {
+        return None;
+    };
+    let (journal, repo) = (options.journal.as_str(), options.repo.view());
+    format!(in alloc; "{journal} {repo}").ok()
+}
+
+#[test]
+fn journal_command_lines(rt: HostRuntime) {
+    check_parts(&rt, 0, JOURNAL_HELP);
+    check_parts(&rt, 2, JOURNAL_COMMAND_LINES);
+    let absent = shortening_options_of(rt.alloc(), "ndn_node journal --shorten j");
+    assert!(rt; absent.as_deref() == Some("j /repo"));
+    let given = shortening_options_of(rt.alloc(), "ndn_node journal --repo /a/b --shorten=d/j");
+    assert!(rt; given.as_deref() == Some("d/j /a/b"));
+}
 
 /// Returns a command with this many peers. The peers' ports are numbered from 1 on.
 fn command_of_peers(alloc: Global, peers: u16) -> Option<String> {
@@ -249,7 +286,8 @@ fn options(rt: HostRuntime) {
     assert!(rt; given.as_deref() == Some("r k /a/b 65536"));
 }
 
-/// Returns the exit status and the text for a file that is refused.
+/// Returns the exit status and the text of the fault with which a file is refused, or `None` if the
+/// file is accepted.
 fn refused<T: Drop>(alloc: Global, read: Result<T, Fault>) -> Option<String> {
     let fault = read.err()?;
     format!(in alloc; "{} {fault}", fault.exit_status()).ok()

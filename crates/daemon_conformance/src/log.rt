@@ -13,7 +13,7 @@ use std::net::{Ipv4Addr, Net, UdpSocket};
 
 /// A clock that always shows the same time.
 #[derive(Drop)]
-struct Still;
+pub struct Still;
 
 impl Moments for Still {
     ghost last = { λ _. 1000000 };
@@ -24,13 +24,13 @@ impl Moments for Still {
 }
 
 /// Returns a port that no socket uses.
-fn free_port(rt: &impl Net) -> Option<u16> {
+pub fn free_port(rt: &impl Net) -> Option<u16> {
     let socket = UdpSocket::bind(rt, (Ipv4Addr::LOCALHOST, 0)).ok()?;
     Some(socket.local_addr().ok()?.port())
 }
 
 /// Returns a node without rules.
-fn node_of(alloc: Global) -> Option<Node> {
+pub fn node_of(alloc: Global) -> Option<Node> {
     let parts = NodeParts {
         rules: read_rules(alloc, b"").ok()?,
         keys: KeyBook::new(alloc),
@@ -61,23 +61,33 @@ impl<'a> LogSink for Expected<'a> {
     }
 }
 
-/// Sends octets to a node with this log, and lets the node take two turns. `expected` counts the
-/// lines that the log writes.
+/// Sends octets to a node whose log writes to the sink `expected`, and lets the node take two
+/// turns. Returns whether both turns were taken.
+fn writes(
+    rt: &(impl AllocGlobal + Net),
+    node: &mut Node,
+    octets: &[u8],
+    shows_all: bool,
+    expected: Expected<'_>,
+) -> Option<bool> {
+    let listen = free_port(rt)?;
+    let ports = UdpPorts::bind(rt, listen, &[], 0, Still).ok()?;
+    let mut ports = LoggedPorts::new(ports, EventLog::new(rt.alloc(), expected, shows_all));
+    let _client = send_one(rt, listen, octets).ok()?;
+    let served = serve(rt.alloc(), node, &mut ports, 2);
+    ports.finish();
+    Some(served.is_ok())
+}
+
+/// Returns whether `writes` is true of a new node.
 fn written(
     rt: &(impl AllocGlobal + Net),
     octets: &[u8],
     shows_all: bool,
     expected: Expected<'_>,
 ) -> Option<bool> {
-    let alloc = rt.alloc();
-    let listen = free_port(rt)?;
-    let ports = UdpPorts::bind(rt, listen, &[], 0, Still).ok()?;
-    let mut ports = LoggedPorts::new(ports, EventLog::new(alloc, expected, shows_all));
-    let _client = send_one(rt, listen, octets).ok()?;
-    let mut node = node_of(alloc)?;
-    let served = serve(alloc, &mut node, &mut ports, 2);
-    ports.finish();
-    Some(served.is_ok())
+    let mut node = node_of(rt.alloc())?;
+    writes(rt, &mut node, octets, shows_all, expected)
 }
 
 /// A dropped packet has a line. The face that opens for the packet has no line.

@@ -8,8 +8,8 @@ use std::alloc::Global;
 
 /// A source that gives new rules once.
 #[derive(Drop)]
-struct Once {
-    renewal: Option<Renewal>,
+pub struct Once {
+    pub renewal: Option<Renewal>,
 }
 
 impl RuleSource for Once {
@@ -23,7 +23,7 @@ impl RuleSource for Once {
 }
 
 /// Returns the rules and keys in the octets of a rule file and of a key file.
-fn renewal_of(alloc: Global, rules: Vec<u8>, keys: Vec<u8>) -> Option<Renewal> {
+pub fn renewal_of(alloc: Global, rules: Vec<u8>, keys: Vec<u8>) -> Option<Renewal> {
     let read = read_rules(alloc, &rules).ok()?;
     let book = KeyBook::read_octets(alloc, &keys).ok()?;
     Some(Renewal::new(read, book, FileOctets { rules, keys }))
@@ -67,8 +67,8 @@ fn closes<P: Ports>(ports: &mut P, closed: u64, at: u64) -> bool {
     matches!(ports.next(&mut [0; 16]), Ok(Arrival::FaceDown { face, now }) if face == closed && now == at)
 }
 
-/// Returns whether the source is checked one second after the start. Its rules must come before the
-/// packet that arrived, and the packet must then come unchanged.
+/// Returns whether the source is first checked when one second has passed since the start. Its
+/// rules must come before the packet that arrives then, and the packet must follow unchanged.
 fn rules_come_first(alloc: Global) -> Option<bool> {
     let renewal = no_rules(alloc)?;
     let source = Once {

@@ -37,11 +37,12 @@ Writes-done a b c text gathered h k = subst (Appends a c) (sym h.1) (Appends-the
 pub Writes-cut : (a b c : Option (List ℕ)) (text gathered : List ℕ) → Writes a b text gathered → AppendsFront b c gathered → AppendsFront a c text
 Writes-cut a b c text gathered h k = subst (AppendsFront a c) (sym h.1) (AppendsFront-after a b c h.0 gathered h.2 k)
 
--- a prefix of a text is a prefix of a longer text
+-- if a prefix of `text` was written, then a prefix of the longer text `text ++ more` was written
 pub AppendsFront-longer : (a b : Option (List ℕ)) (text more : List ℕ) → AppendsFront a b text → AppendsFront a b (text ++ more)
 AppendsFront-longer a b text more h = (h.0, h.1 ++ more, ap (λ (l : List ℕ). l ++ more) h.2 ∙ append_assoc h.0 h.1 more, h.3)
 
--- if the next turn cannot be taken, the turns stop
+-- if `number` turns were taken, and the next turn stops with the fault `why`, then the turns stop
+-- with this fault
 pub stops_turns : (old mid new : NodeState) (before between after : Shown) (turns number : ℕ) (a b c : Option (List ℕ)) (text gathered : List ℕ) (why : Fault)
     → Tells old mid before between number text → Writes a b text gathered → number < turns → StopsTurn mid new between after b c gathered why → StopsTurns old new before after turns a c why
 stops_turns old mid new before between after turns number a b c text gathered Unreceived told writes less h = (
@@ -64,7 +65,7 @@ stops_turns old mid new before between after turns number a b c text gathered (J
     (mid, between, number, text, told, h.0, less, Writes-cut a b c text gathered writes h.1)
 stops_turns old mid new before between after turns number a b c text gathered why told writes less h = absurd h
 
--- if A holds after a successful write, and A implies B, then B holds after a successful write
+-- if `A` holds after a success, and `A` implies `B`, then `B` holds after a success
 pub done_then : {A B : Type 0} (r : Result (Unit {0}) Fault) → OnOk r A → (A → B) → OnOk r B
 done_then (Ok done) h then = then h
 done_then (Err why) h then = tt

@@ -17,13 +17,14 @@ some_item : (endpoints : List SocketAddr) → 0 < length endpoints → SocketAdd
 some_item [] some = absurd (omega (arith, some))
 some_item (endpoint ∷ endpoints) some = endpoint
 
--- the endpoints that the first `i` texts spell
+-- the first `i` texts spell `endpoints`, which all differ
 pub record SoFar (texts : List (List ℕ)) (i : ℕ) (endpoints : List SocketAddr) : Type 0 where
   pub many : length endpoints ≡ i
   pub spelled : (k : ℕ) (d : SocketAddr) → k < i → IsEndpoint (slice_index_or texts k []) (slice_index_or endpoints k d)
   pub different : AllPairs (λ a b. a ≢ b) endpoints
 
--- the endpoints that all texts spell
+-- if all texts together spell `endpoints`, which all differ, and there are at most `MAX_FACES`
+-- texts, then `endpoints` is the valid list of endpoints for the texts
 pub all_spelled : (texts : List (List ℕ)) (endpoints : List SocketAddr) → SoFar texts (length texts) endpoints → length texts ≤ MAX_FACES → AreEndpoints texts endpoints
 all_spelled texts endpoints so few = record {
   many = so.many;
@@ -35,13 +36,13 @@ all_spelled texts endpoints so few = record {
   different = so.different;
 }
 
--- the text at index `k` spells the endpoint at index `k`
+-- if the texts spell `endpoints`, then the text at index `k` spells the endpoint at index `k`
 spelled_at : (texts : List (List ℕ)) (endpoints : List SocketAddr) → AreEndpoints texts endpoints → (k : ℕ) (d : SocketAddr) → k < length texts
     → IsEndpoint (slice_index_or texts k []) (slice_index_or endpoints k d)
 spelled_at texts endpoints are k d inside =
     are.spelled k (slice_index_or texts k []) (slice_index_or endpoints k d) (slice_get-get_or texts k [] inside) (slice_get-get_or endpoints k d (omega (arith, inside, are.many)))
 
--- the same texts spell the same endpoints
+-- if the texts spell the list `a` and the list `b`, then `a` and `b` are equal
 pub same_endpoints : (d : SocketAddr) (texts : List (List ℕ)) (a b : List SocketAddr) → AreEndpoints texts a → AreEndpoints texts b → a ≡ b
 same_endpoints d texts a b first second =
     ext_get_or d a b (first.many ∙ sym second.many)
@@ -68,7 +69,8 @@ module _ (texts : List (List ℕ)) (i : ℕ) (text : List ℕ) (is : (d : List �
   pub endpoint_at : (endpoints : List SocketAddr) → AreEndpoints texts endpoints → (e : SocketAddr) × IsEndpoint text e
   endpoint_at endpoints are = let d = some_item endpoints (omega (arith, are.many, inside)) in (slice_index_or endpoints i d, subst (λ t. IsEndpoint t (slice_index_or endpoints i d)) (is []) (spelled_at texts endpoints are i d inside))
 
-  -- if an earlier text spells the same endpoint, then the texts do not spell a valid list of peers
+  -- if an earlier text spells the same endpoint as this text, then the texts do not spell a valid
+  -- list of endpoints
   pub twice : (e : SocketAddr) (so_far : List SocketAddr) → SoFar texts i so_far → IsEndpoint text e
       → (k : ℕ) × (k < length so_far) × ((d : SocketAddr) → (socket.ghosts).eq (slice_index_or so_far k d) e ≡ true)
       → (endpoints : List SocketAddr) → AreEndpoints texts endpoints → ⊥
@@ -81,7 +83,8 @@ module _ (texts : List (List ℕ)) (i : ℕ) (text : List ℕ) (is : (d : List �
       one_endpoint text _ _ (subst (λ t. IsEndpoint t (slice_index_or endpoints i e)) (is []) (spelled_at texts endpoints are i e inside)) spells in
       are.different k i e below (omega (arith, are.many, inside)) (first ∙ sym second)
 
-  -- a new endpoint is appended to the endpoints that the first `i` texts spell
+  -- if the first `i` texts spell `so_far`, and the next text spells an endpoint `e` that is not in
+  -- `so_far`, then the first `i + 1` texts spell `so_far` followed by `e`
   pub pushed : (e : SocketAddr) (so_far : List SocketAddr) → SoFar texts i so_far → IsEndpoint text e
       → ((k : ℕ) (d : SocketAddr) → k < length so_far → (socket.ghosts).eq (slice_index_or so_far k d) e ≡ false)
       → SoFar texts (i + 1) (so_far ++ e ∷ [])

@@ -1,12 +1,18 @@
 -- The properties of a request that was read.
-use Rattle.std.proofs.Common.{ℕ, List, Result, Ok, Err, IfOk, IfErr}
+use Rattle.std.proofs.Common.{◌≡◌, ℕ, List, Bool, true, Result, Ok, Err, IfOk, IfErr, codes, eqb}
+use Rattle.std.specs.Cmp.Lexicographic.{pointwise}
+use Rattle.std.proofs.lemmas.Slice.Eq.{slice_eq-Decides}
+use Rattle.std.proofs.lemmas.Bool.Decides.{Decides-eqb}
 use Rattle.clap.specs.Walk.{Row}
 use Rattle.ndn_daemon.specs.declared.command.Request.{Request}
-use Rattle.ndn_daemon.specs.declared.command.Request.TheVariants.{Help, Script, Udp}
+use Rattle.ndn_daemon.specs.declared.command.Request.TheVariants.{Help, Script, Shorten, Udp}
 use Rattle.ndn_daemon.specs.declared.fault.Fault.{Fault}
 use Rattle.ndn_daemon.specs.declared.fault.Fault.TheVariants as fault
 use Rattle.node_core.specs.declared.script.RunFault.TheVariants as run
-use Rattle.ndn_daemon.specs.Options.{IsRefused, ReadsInMemory}
+use Rattle.ndn_daemon.specs.declared.options.ShorteningOptions.{ShorteningOptions}
+use Rattle.ndn_daemon.specs.declared.udp_options.UdpOptions.{UdpOptions}
+use Rattle.ndn_daemon.specs.Options.{IsRefused, IsShorteningOptions, ReadsInMemory}
+use Rattle.ndn_daemon.specs.UdpOptions.{IsUdpOptions}
 use Rattle.ndn_daemon.specs.Command.{IsAsked, IsFaultOfWords, IsRequest, HasFewPeers}
 use Rattle.ndn_daemon.proofs.Peers.{few_endpoints}
 
@@ -14,12 +20,14 @@ pub few_peers : (name : List ℕ) (rows : List Row) (r : Result Request Fault) �
 few_peers name rows (Ok (Help error)) h = absurd h
 few_peers name rows (Ok (Script node)) h = tt
 few_peers name rows (Ok (Udp node options)) h = few_endpoints _ options.peers.items h.2.peers
+few_peers name rows (Ok (Shorten options)) h = tt
 few_peers name rows (Err fault) h = tt
 
 pub asked : (name : List ℕ) (rows : List Row) (r : Result Request Fault) → ReadsInMemory (IsRequest name rows) r → IfOk r IsAsked
 asked name rows (Ok (Help error)) h = absurd h
 asked name rows (Ok (Script node)) h = (name, rows, h)
 asked name rows (Ok (Udp node options)) h = (name, rows, h)
+asked name rows (Ok (Shorten options)) h = (name, rows, h)
 asked name rows (Err fault) h = tt
 
 refused_words : (name : List ℕ) (rows : List Row) (why : Fault) → IsRefused (IsRequest name rows) why → IsFaultOfWords why
@@ -42,3 +50,27 @@ refused_words name rows (fault.Journal why) h = absurd h
 pub fault_of_words : (name : List ℕ) (rows : List Row) (r : Result Request Fault) → ReadsInMemory (IsRequest name rows) r → IfErr r IsFaultOfWords
 fault_of_words name rows (Ok request) h = tt
 fault_of_words name rows (Err why) h = refused_words name rows why h
+
+-- if the comparison octet by octet finds `word` and `other` equal, then they are the same word
+pub is_word : (word other : List ℕ) (same : Bool) → same ≡ pointwise eqb word other → same ≡ true → word ≡ other
+is_word word other same h found = (slice_eq-Decides Decides-eqb word other same h).0 found
+
+-- no name is both `udp` and `journal`
+differ_udp : (name : List ℕ) → name ≡ codes "udp" → name ≡ codes "journal" → ⊥
+differ_udp name udp journal = cc (udp, journal)
+
+-- a request of the subcommand `udp` or `journal` has the options of this subcommand
+
+pub udp_part : (name : List ℕ) (rows : List Row) → name ≡ codes "udp"
+    → (r : Request) → IsRequest name rows r → (options : UdpOptions) × IsUdpOptions rows options
+udp_part name rows is (Help error) h = absurd h
+udp_part name rows is (Script node) h = absurd (h.0 is)
+udp_part name rows is (Udp node options) h = (options, h.2)
+udp_part name rows is (Shorten options) h = absurd (differ_udp name is h.0)
+
+pub shorten_part : (name : List ℕ) (rows : List Row) → name ≡ codes "journal"
+    → (r : Request) → IsRequest name rows r → (options : ShorteningOptions) × IsShorteningOptions rows options
+shorten_part name rows is (Help error) h = absurd h
+shorten_part name rows is (Script node) h = absurd (h.1 is)
+shorten_part name rows is (Udp node options) h = absurd (differ_udp name h.0 is)
+shorten_part name rows is (Shorten options) h = (options, h.1)

@@ -5,7 +5,8 @@ use Rattle.ndn_daemon.specs.declared.fault.Fault.TheVariants as fault
 use Rattle.ndn_daemon.specs.Options.{IsWrong, IsRefused}
 use Rattle.ndn_daemon.specs.UdpOptions.{IsBadValue}
 
--- every value of `Whole` has a value of `Part`
+-- If `Whole` holds for a value, then `Part` holds for some value. So a fault that is correct for a
+-- text of the part is also correct for a text of the whole.
 
 module _ {A B : Type 0} (Part : A → Type 0) (Whole : B → Type 0) (part : (y : B) → Whole y → (x : A) × Part x) where
   none_whole : ((x : A) → Part x → ⊥) → (y : B) → Whole y → ⊥
@@ -58,7 +59,7 @@ module _ {A B : Type 0} (Part : A → Type 0) (Whole : B → Type 0) (part : (y 
   wrong_in_memory fault.Unreceived h = h
   wrong_in_memory (fault.Journal why) h = h
 
--- the fault of a text that spells no value
+-- if a text spells no value, then a fault `BadValue` is a correct fault for it
 
 pub bad_value_wrong : {A : Type 0} (Spell : A → Type 0) → ((x : A) → Spell x → ⊥) → (why : Fault) → IsBadValue why → IsWrong Spell why
 bad_value_wrong Spell none (fault.CommandLine error) h = h

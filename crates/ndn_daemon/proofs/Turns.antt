@@ -1,9 +1,10 @@
 -- Consecutive turns of a node at a port, and the text that is printed.
 use Rattle.std.proofs.Common.{◌≡◌, ℕ, ◌+◌, List, [], ◌∷◌, ◌++◌, length, refl, sym, ap, subst, ◌∙◌, arith, append-nil}
-use Rattle.std.specs.Prelude.{Result, Ok, Err, IsOk, IfErr}
+use Rattle.std.specs.Prelude.{Option, Result, Ok, Err, IsOk, IfErr, OnOk, String}
 use Rattle.info_rules.specs.Rule.{PlainRule}
 use Rattle.forwarder.specs.Event.{PlainEvent, Send}
 use Rattle.forwarder.specs.Node.{NodeState}
+use Rattle.journal.specs.declared.replaying.Replayed.{Replayed}
 use Rattle.node_ports.specs.declared.ports.TheConstants.{FRAME_ROOM}
 use Rattle.node_ports.specs.declared.serving.Turn.{Turn}
 use Rattle.node_ports.specs.declared.serving.Turn.TheVariants.{Done, Refused, Unwritten, End}
@@ -14,7 +15,8 @@ use Rattle.node_core.specs.Script.Writing.{outcome_text, script_text}
 use Rattle.node_core.proofs.Playing.{outcomes_text-append, same_text}
 use Rattle.node_ports.proofs.Turns.{Gives-none_left, Gives-none_same, Serves-start, Serves-more}
 use Rattle.ndn_daemon.specs.declared.fault.Fault.{Fault}
-use Rattle.ndn_daemon.specs.Turn.{Tells, turn_text}
+use Rattle.ndn_daemon.specs.Journal.{ReplaysJournal, TakesAllTurns, TakesLaterTurns}
+use Rattle.ndn_daemon.specs.Turn.{ServesTurns, TakesTurns, Tells, turn_text}
 
 -- there are as many outcomes as events
 as_many : (old new : NodeState) (events : List PlainEvent) (outcomes : List Outcome) → AreOutcomes old events outcomes new → length events ≡ length outcomes
@@ -49,7 +51,8 @@ Tells-more old mid new before between after number more text done_as h k =
           ∙ sym (ap (λ (es : List PlainEvent). script_text rules es s.0.outcomes) s.1 ∙ ap (script_text rules (h.serves.arrivals ++ (k.event ∷ []))) s.2);
     }
 
--- the text of one more turn follows the text of the turns before it
+-- if `text` is the text of the first `number` events, then with the event of one more turn the text
+-- is `text` followed by the text of this turn
 pub Tells-turn : (old mid new : NodeState) (before between after : Shown) (number : ℕ) (text : List ℕ) (sends : List Send) (rules : List PlainRule) (turn : Turn) → (turn ≡ End → ⊥) → (turn ≡ Unwritten → ⊥)
     → Tells old mid before between number text → IsTurn mid new between after sends turn → rules ≡ new.policy.rules
     → Tells old new before after (number + 1) (text ++ turn_text (number + 1) rules turn sends)
@@ -76,7 +79,46 @@ Tells-ended old mid new before between after number text sends turn is h k =
       Gives-none_left between.coming after.coming FRAME_ROOM e.0.coming,
     )
 
--- a successful result has no fault
+-- if `r` is a success, then every statement about its fault holds
 pub no_fault : (r : Result (Unit {0}) Fault) (P : Fault → Type 0) → IsOk r → IfErr r P
 no_fault (Ok done) P h = tt
 no_fault (Err why) P h = let no : ⊥ = cc in absurd no
+
+-- if turns were taken and their text was written, then these turns were served
+pub turns_served : (old new : NodeState) (before after : Shown) (turns : ℕ) (held holds : Option (List ℕ)) → TakesTurns old new before after turns held holds → ServesTurns old new before after turns
+turns_served old new before after turns held holds t = (t.0, t.3.refused, t.3.failed, t.1, t.3.serves, t.4)
+
+-- If a success means that turns were taken and left the ports in the state `after`, then a success
+-- means that turns were taken and left the ports in some state. `served_until` states the same for
+-- turns that were served.
+pub taken_until : (old new : NodeState) (before after : Shown) (turns : ℕ) (held holds : Option (List ℕ)) (r : Result (Unit {0}) Fault)
+    → OnOk r (TakesTurns old new before after turns held holds) → OnOk r ((last : Shown) × TakesTurns old new before last turns held holds)
+taken_until old new before after turns held holds (Ok done) h = (after, h)
+taken_until old new before after turns held holds (Err why) h = tt
+
+pub served_until : (old new : NodeState) (before after : Shown) (turns : ℕ) (r : Result (Unit {0}) Fault) → OnOk r (ServesTurns old new before after turns)
+    → OnOk r ((last : Shown) × ServesTurns old new before last turns)
+served_until old new before after turns (Ok done) h = (after, h)
+served_until old new before after turns (Err why) h = tt
+
+-- if a journal was replayed, and turns were then served at ports whose journal has the octets that
+-- the replay kept, then later turns were taken
+pub later_turns : (unread kept : Option (List ℕ)) (turns : ℕ) (old begun new : NodeState) (before : Shown) (r : Result (Unit {0}) Fault) → (done : Replayed) × ReplaysJournal unread kept old begun done
+    → before.journal ≡ kept → OnOk r ((after : Shown) × ServesTurns begun new before after turns) → OnOk r (TakesLaterTurns unread turns old new)
+later_turns unread kept turns old begun new before (Ok done) replayed same h = record {
+  begun = begun;
+  done = replayed.0;
+  kept = kept;
+  replays = replayed.1;
+  before = before;
+  after = h.0;
+  goes_on = same;
+  serves = h.1;
+}
+later_turns unread kept turns old begun new before (Err why) replayed same h = tt
+
+-- if the node `old` took all turns, and `old` is `first`, then `first` took all turns
+pub from_first : {Z : Type 0} (journal : Option (String Z)) (turns : ℕ) (first old new : NodeState) (r : Result (Unit {0}) Fault) → old ≡ first
+    → OnOk r (TakesAllTurns journal turns old new) → OnOk r ((last : NodeState) × TakesAllTurns journal turns first last)
+from_first journal turns first old new (Ok done) same h = (new, subst (λ (n : NodeState). TakesAllTurns journal turns n new) same h)
+from_first journal turns first old new (Err why) same h = tt

@@ -7,10 +7,10 @@ use Rattle.clap.specs.declared.error.kind.ErrorKind.TheVariants.{DisplayHelp, Di
 use Rattle.node_core.specs.declared.script.RunFault.TheVariants.{Memory}
 use Rattle.pit_fib.specs.declared.face_set.TheConstants.{MAX_FACES}
 use Rattle.ndn_daemon.specs.declared.command.Request.{Request}
-use Rattle.ndn_daemon.specs.declared.command.Request.TheVariants.{Help, Udp, Script as RunScript}
+use Rattle.ndn_daemon.specs.declared.command.Request.TheVariants.{Help, Shorten, Udp, Script as RunScript}
 use Rattle.ndn_daemon.specs.declared.fault.Fault.{Fault}
 use Rattle.ndn_daemon.specs.declared.fault.Fault.TheVariants.{BadValue, CommandLine, Script}
-use Rattle.ndn_daemon.specs.Options.{IsOptions}
+use Rattle.ndn_daemon.specs.Options.{IsOptions, IsShorteningOptions}
 use Rattle.ndn_daemon.specs.UdpOptions.{IsUdpOptions}
 
 -- the result for an error of the parser: help or the version was asked for, memory ran out, or the
@@ -24,9 +24,12 @@ reading_of kind error = Err (CommandLine error)
 -- the request of the subcommand `name` with these options
 abbrev pub IsRequest : List ℕ → List Row → Request → Type 0
 IsRequest name rows (Help error) = ⊥
-IsRequest name rows (RunScript node) = (name ≢ codes "udp") × IsOptions rows node
+IsRequest name rows (RunScript node) =
+    (name ≢ codes "udp") × (name ≢ codes "journal") × IsOptions rows node
 IsRequest name rows (Udp node options) =
     (name ≡ codes "udp") × IsOptions rows node × IsUdpOptions rows options
+IsRequest name rows (Shorten options) =
+    (name ≡ codes "journal") × IsShorteningOptions rows options
 
 -- the request asks for help, or it runs a subcommand with its options
 abbrev pub IsAsked : Request → Type 0
@@ -35,8 +38,11 @@ IsAsked (RunScript node) =
     (name : List ℕ) × (rows : List Row) × IsRequest name rows (RunScript node)
 IsAsked (Udp node options) =
     (name : List ℕ) × (rows : List Row) × IsRequest name rows (Udp node options)
+IsAsked (Shorten options) =
+    (name : List ℕ) × (rows : List Row) × IsRequest name rows (Shorten options)
 
--- the fault of a command line: it is wrong, a value is not allowed, or memory ran out
+-- the fault of reading a command line: the command line is wrong, the value of an option is not
+-- allowed, or memory ran out
 abbrev pub IsFaultOfWords : Fault → Type 0
 IsFaultOfWords (CommandLine error) = ⊤
 IsFaultOfWords (BadValue place wanted) = ⊤
@@ -47,4 +53,5 @@ IsFaultOfWords why = ⊥
 abbrev pub HasFewPeers : Request → Type 0
 HasFewPeers (Help error) = ⊤
 HasFewPeers (RunScript node) = ⊤
+HasFewPeers (Shorten options) = ⊤
 HasFewPeers (Udp node options) = length options.peers.items ≤ MAX_FACES

@@ -33,8 +33,9 @@ IsLoopback endpoint = MatchIp (socket_ip endpoint) IsLoopbackV4 IsLoopbackV6
 abbrev pub IsUnspecified : SocketAddr → Type 0
 IsUnspecified endpoint = MatchIp (socket_ip endpoint) IsUnspecifiedV4 IsUnspecifiedV6
 
--- The peer is the node itself: it has the node's port and the node's address, in any scope. If the
--- node listens on the unspecified address, a loopback address also counts as the node's address.
+-- The peer is the node itself: it has the node's port and the node's address. An IPv6 scope
+-- identifier is not compared. If the node listens on the unspecified address, a loopback address
+-- also counts as the node's address.
 abbrev pub IsItself : SocketAddr → SocketAddr → Type 0
 IsItself listen peer =
     (socket_port peer ≡ socket_port listen)

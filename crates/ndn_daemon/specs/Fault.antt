@@ -46,8 +46,12 @@ status_of (Journal journal.Locked) = 3
 status_of (Journal (journal.BadLine line)) = 1
 status_of (Journal journal.Unwritten) = 3
 status_of (Journal journal.LongRules) = 1
+status_of (Journal (journal.NotJournalled line)) = 1
+status_of (Journal journal.ManyLines) = 1
+status_of (Journal journal.Unshortened) = 3
 
--- the text for a fault: its line and kind, followed by the text that explains it
+-- the message for a fault of a rule file: the line and the kind of the fault, and then the text
+-- that explains it; if memory ran out, the message only says so
 abbrev pub rules_fault_text : ℕ → RulesFaultKind → List ℕ
 rules_fault_text line kind =
     if is_memory kind then codes "error: out of memory\n"
@@ -77,8 +81,16 @@ journal_fault_text journal.Unwritten =
     codes "error: the journal cannot be written; nothing was sent of the event it was for\n"
 journal_fault_text journal.LongRules =
     codes "journal:0: TooLong\n  the rule file and the key file have more than 9985 octets together\n"
+journal_fault_text (journal.NotJournalled line) = codes "journal:" ++ (decimal line
+    ++ (codes ": not journalled\n  "
+    ++ codes "no node with this --repo writes this line; give the prefix of the node that wrote it\n"))
+journal_fault_text journal.ManyLines =
+    codes "journal:0: TooLong\n  a journal of more than 4294967294 lines cannot be shortened\n"
+journal_fault_text journal.Unshortened =
+    codes "error: the shorter journal cannot be written; the journal restores the same as before\n"
 
--- the message for standard error with its LF; the message for a wrong command line is the parser's
+-- The message for standard error, which ends with an LF. It is `None` for a wrong command line,
+-- since the parser makes that message.
 abbrev pub text_of : Fault → Option (List ℕ)
 text_of (CommandLine error) = None
 text_of (BadValue place wanted) = Some (

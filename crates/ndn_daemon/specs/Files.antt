@@ -28,7 +28,7 @@ IsUnread file path (Unread which place kind) = (which.now ≡ file) × (string_b
 IsUnread file path (Script why) = why ≡ Memory
 IsUnread file path why = ⊥
 
--- this is the reason why the file cannot be read
+-- if the fault is that a file cannot be read, then `kind` is the cause
 abbrev pub HasCause : ErrorKind → Fault → Type 0
 HasCause kind (Unread file path cause) = cause ≡ kind
 HasCause kind why = ⊤

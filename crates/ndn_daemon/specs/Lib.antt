@@ -7,4 +7,5 @@ pub mod Endpoint
 pub mod Options
 pub mod UdpOptions
 pub mod Turn
+pub mod Journal
 pub mod Command

@@ -36,7 +36,7 @@ face_of (came.Closed face) = Some face
 face_of came.Tick = None
 face_of came.NewRules = None
 
--- the outcome of an event, or None if the ports ended or the node must stop
+-- the outcome of an event, or `None` if the ports ended or the event could not be journalled
 abbrev pub IsOutcomeOf : Turn → Option (Result Verdict Memory) → Type 0
 IsOutcomeOf (Done verdict failed) outcome = outcome ≡ Some (Ok verdict)
 IsOutcomeOf Refused outcome = (refused : Memory) × (outcome ≡ Some (Err refused))

@@ -1,5 +1,5 @@
 -- The values of the options, and the faults of texts that are not values.
-use Rattle.std.specs.Prelude.{◌≡◌, ℕ, ◌<◌, ◌^◌, List, Option, None, Some, Result, Ok, Err, String, codes, string_bytes, ⊤}
+use Rattle.std.specs.Prelude.{◌≡◌, ℕ, ◌<◌, ◌^◌, List, [], Option, None, Some, Result, Ok, Err, String, codes, string_bytes, ⊤}
 use Rattle.std.specs.Str.Parse.{IsNumeral, digits_value}
 use Rattle.clap.specs.declared.parser.matches.ArgMatches.{ArgMatches}
 use Rattle.clap.specs.Matches.{found_of}
@@ -9,6 +9,7 @@ use Rattle.node_core.specs.declared.script.RunFault.TheVariants.{Memory}
 use Rattle.ndn_daemon.specs.declared.fault.Fault.{Fault}
 use Rattle.ndn_daemon.specs.declared.fault.Fault.TheVariants.{BadValue, Script}
 use Rattle.ndn_daemon.specs.declared.options.Options.{Options}
+use Rattle.ndn_daemon.specs.declared.options.ShorteningOptions.{ShorteningOptions}
 
 -- the options that the parser found, as rows
 abbrev pub rows_in : ArgMatches → List Row
@@ -40,23 +41,28 @@ pub record IsOptions (rows : List Row) (options : Options) : Type 0 where
   pub repo : ReadsAs (given_or (codes "/repo") (value_at rows (codes "repo"))) options.repo
   pub cache : IsCapacity (given_or (codes "1024") (value_at rows (codes "cache"))) options.cache
 
+-- the options of the shortening of a journal; the parser refuses a command line without a path
+pub record IsShorteningOptions (rows : List Row) (options : ShorteningOptions) : Type 0 where
+  pub journal : string_bytes options.journal ≡ given_or [] (value_at rows (codes "shorten"))
+  pub repo : ReadsAs (given_or (codes "/repo") (value_at rows (codes "repo"))) options.repo
+
 -- the fault of a text that spells no valid value
 abbrev pub IsWrong : {A : Type 0} → (A → Type 0) → Fault → Type 0
 IsWrong {A} Spell (BadValue place wanted) = (x : A) → Spell x → ⊥
 IsWrong Spell why = ⊥
 
--- the fault of a text that spells no valid value, or of memory that ran out
+-- the fault of a text that spells no valid value, or the fault that memory ran out
 abbrev pub IsRefused : {A : Type 0} → (A → Type 0) → Fault → Type 0
 IsRefused Spell (Script Memory) = ⊤
 IsRefused Spell why = IsWrong Spell why
 
--- the value that the text spells, or the fault of a text that spells no valid value
+-- the result is the value that the text spells, or the fault of a text that spells no valid value
 abbrev pub Reads : {A : Type 0} → (A → Type 0) → Result A Fault → Type 0
 Reads Spell (Ok value) = Spell value
 Reads Spell (Err fault) = IsWrong Spell fault
 
--- the value that the text spells, or the fault of a text that spells no valid value, or of memory
--- that ran out
+-- the result is the value that the text spells, or the fault of a text that spells no valid value,
+-- or the fault that memory ran out
 abbrev pub ReadsInMemory : {A : Type 0} → (A → Type 0) → Result A Fault → Type 0
 ReadsInMemory Spell (Ok value) = Spell value
 ReadsInMemory Spell (Err fault) = IsRefused Spell fault

@@ -37,16 +37,18 @@ pub record Tells (old new : NodeState) (before after : Shown) (events : ℕ) (te
   pub serves : Serves old new before after events refused failed
   pub text_is : text ≡ script_text old.policy.rules serves.arrivals serves.outcomes
 
--- each turn had an event, or the events ended before the last turn; the text of all was written
+-- each turn had an event, or the events ended before the last turn; the text of all events was
+-- written
 abbrev pub TakesTurns : NodeState → NodeState → Shown → Shown → ℕ → Option (List ℕ)
     → Option (List ℕ) → Type 0
 TakesTurns old new before after turns held holds =
     (events : ℕ) × (ended : Bool) × (text : List ℕ) × Tells old new before after events text
     × EndsAfter turns ended events after.coming × Appends held holds text
 
--- Unreceived: the text of the earlier events was written, and then the call for the next arrival
--- failed. Write and Memory: a prefix of the text of the events was written. Journal: an event is
--- not in the journal, and a prefix of the text of the earlier events was written.
+-- What happened before the fault `why`. `Unreceived`: the text of the earlier events was written,
+-- and then the call for the next arrival failed. `Write` and `Memory`: a prefix of the text of the
+-- events was written. `Journal`: the last event could not be journalled, and a prefix of the text
+-- of the earlier events was written.
 abbrev pub StopsTurns : NodeState → NodeState → Shown → Shown → ℕ → Option (List ℕ)
     → Option (List ℕ) → Fault → Type 0
 StopsTurns old new before after turns held holds Unreceived =
@@ -69,9 +71,10 @@ abbrev pub Writes : Option (List ℕ) → Option (List ℕ) → List ℕ → Lis
 Writes held holds gathered left =
     (front : List ℕ) × (gathered ≡ front ++ left) × Appends held holds front
 
--- Unreceived: the buffered text was written, and then the call for the next arrival failed. Write:
--- a prefix of the buffered text was written, and no turn was taken. Journal: an event was answered
--- but is not in the journal, and a prefix of the buffered text was written.
+-- What happened before the fault `why`. `Unreceived`: the buffered text was written, and then the
+-- call for the next arrival failed. `Write`: a prefix of the buffered text was written, and no turn
+-- was taken. `Journal`: the event of the turn could not be journalled, and a prefix of the buffered
+-- text was written.
 abbrev pub StopsTurn : NodeState → NodeState → Shown → Shown → Option (List ℕ) → Option (List ℕ)
     → List ℕ → Fault → Type 0
 StopsTurn old new before after held holds gathered Unreceived =
@@ -82,9 +85,9 @@ StopsTurn old new before after held holds gathered (Journal journal.Unwritten) =
     FailsToWrite old new before after × AppendsFront held holds gathered
 StopsTurn old new before after held holds gathered why = ⊥
 
--- the turns were taken, and nothing was printed
-abbrev pub TakesQuietTurns : NodeState → NodeState → Shown → Shown → ℕ → Type 0
-TakesQuietTurns old new before after turns =
+-- each turn had an event, or the events ended before the last turn
+abbrev pub ServesTurns : NodeState → NodeState → Shown → Shown → ℕ → Type 0
+ServesTurns old new before after turns =
     (events refused failed : ℕ) × (ended : Bool) × Serves old new before after events refused failed
     × EndsAfter turns ended events after.coming
 
@@ -93,13 +96,13 @@ abbrev pub fault_of : ServeFault → Fault
 fault_of (serve.Next events) = Unreceived
 fault_of (serve.Journal events) = Journal journal.Unwritten
 
--- after some events, the call for the next arrival failed, or an event is not in the journal
+-- after some events, the call for the next arrival failed, or an event could not be journalled
 abbrev pub StopsQuietTurns : NodeState → NodeState → Shown → Shown → ℕ → Fault → Type 0
 StopsQuietTurns old new before after turns why =
     (stop : ServeFault) × StopsServing old new before after turns stop × (why ≡ fault_of stop)
 
 -- why a node stops before its last turn: no datagram can be received, an answer cannot be written,
--- memory for printing it ran out, or an event is not in the journal
+-- memory for printing an answer ran out, or an event could not be journalled
 abbrev pub EndsTurns : Fault → Type 0
 EndsTurns Unreceived = ⊤
 EndsTurns (Script Write) = ⊤

@@ -24,7 +24,8 @@ values_at rows id = values_or_none (all_of id rows)
 abbrev pub flag_at : List Row → List ℕ → Option (List ℕ)
 flag_at rows id = one_of id rows
 
--- the flag's value is "true" if the flag is present, and "false" if it is not
+-- `b` is true if the parser gives the flag the value "true", and false if the parser gives it the
+-- value "false" or no value
 abbrev pub IsFlag : Option (List ℕ) → Bool → Type 0
 IsFlag said b =
     (said ≡ Some (codes "true") → b ≡ true)
@@ -72,8 +73,9 @@ pub record IsUdpOptions (rows : List Row) (options : UdpOptions) : Type 0 where
   pub journal : MayBePath (value_at rows (codes "journal")) options.journal
   pub quiet : IsFlag (flag_at rows (codes "quiet")) options.quiet
 
--- The ports for these options at the time `told`: no peer's face is opened yet, the other faces
--- close after the idle time, and strangers are accepted with `--open` or on a loopback address.
+-- The ports for these options, if the last time of their clock is `told`. No peer's face is opened
+-- yet, the other faces close after the idle time, and strangers are accepted with `--open` or on a
+-- loopback address.
 pub record ArePortsOf (options : UdpOptions) (told : ℕ) (ports : UdpState) : Type 0 where
   pub is_open : IsTrue ports.accepts_strangers ↔ (IsTrue options.«open» ⊎ IsLoopback options.listen)
   pub is : ports ≡ record (closes_after (options.idle * 1000)

@@ -5,7 +5,7 @@ ghost use Rattle.ndn_daemon.specs.Options.{ReadsInMemory, rows_in};
 ghost use Rattle.ndn_daemon.specs.Command.{HasFewPeers, IsAsked, IsFaultOfWords, IsRequest, reading_of};
 
 use crate::fault::Fault;
-use crate::options::Options;
+use crate::options::{Options, ShorteningOptions};
 use crate::udp_options::UdpOptions;
 use clap::error::ErrorKind;
 use clap::{Arg, ArgAction, ArgMatches, Command, Error};
@@ -22,6 +22,8 @@ pub enum Request {
     Script(Options),
     /// Run a node on a port.
     Udp(Options, UdpOptions),
+    /// Shorten a journal.
+    Shorten(ShorteningOptions),
 }
 
 const VERSION: &str = "0.1.0";
@@ -123,8 +125,28 @@ Exit status: 0 after the turns, 1 for a fault in a file (`rules:LINE: KIND` or `
 standard error, and below it what is wrong; `journal:LINE: KIND` for the journal), 2 for a wrong
 command line, 3 if a file, the port, output, the journal or memory fails.";
 
+const ABOUT_JOURNAL: &str = "Leaves out the lines of a journal that a node no longer needs";
+
+const AFTER_JOURNAL: &str =
+    "FILE is a journal that `ndn_node udp --journal FILE` wrote. Give the --repo of that node, and
+stop the node first: a journal that is in use is refused.
+
+What stays is what is needed for the open faces, routes, strategies, rules and the repository as
+they are after the last line, the last command of each signer, so that it cannot be repeated, and
+all lines before a command with the status 503. A line `tick` has the time of the last line. A last
+line without LF is left out, as at the start of a node.
+
+The shorter journal is compared with FILE on two new nodes, is written to FILE.short, and then takes
+the place of FILE. If the two nodes differ, or nothing can be left out, FILE stays as it is.
+Standard output has one line, `FILE: 7 lines, 4 kept` or `FILE: nothing is left out`.
+
+Exit status: 0 at the end, 1 for a bad line of the journal (`journal:LINE: KIND` on standard error,
+and below it what is wrong), 2 for a wrong command line, 3 if a file, output or memory fails, or the
+journal is in use.";
+
 const AFTER: &str =
-    "`ndn_node script --help` and `ndn_node udp --help` say what each of them reads and prints.
+    "`ndn_node script --help`, `ndn_node udp --help` and `ndn_node journal --help` say what each of
+them reads and prints.
 
 Exit status: 0 at the end, 1 for a fault in a file or a script, 2 for a wrong command line, 3 if a
 file, the port, input, output or memory fails.";
@@ -160,6 +182,8 @@ fn named_request(alloc: Global, name: &str, found: &ArgMatches<'_>) -> Result<Re
     if name == "udp" {
         let node = Options::read(alloc, found)?;
         Ok(Request::Udp(node, UdpOptions::read(alloc, found)?))
+    } else if name == "journal" {
+        Ok(Request::Shorten(ShorteningOptions::read(alloc, found)?))
     } else {
         Ok(Request::Script(Options::read(alloc, found)?))
     }
@@ -189,7 +213,8 @@ fn command<'a>(alloc: Global) -> Result<Command<'a>, AllocError> {
         .subcommand_required(true)
         .arg_required_else_help(true)
         .subcommand(script_command(alloc)?)?
-        .subcommand(udp_command(alloc)?)
+        .subcommand(udp_command(alloc)?)?
+        .subcommand(journal_command(alloc)?)
 }
 
 fn script_command<'a>(alloc: Global) -> Result<Command<'a>, AllocError> {
@@ -247,6 +272,19 @@ fn udp_command<'a>(alloc: Global) -> Result<Command<'a>, AllocError> {
     with_node(alloc, command)?.arg(peers(alloc))
 }
 
+fn journal_command<'a>(alloc: Global) -> Result<Command<'a>, AllocError> {
+    Command::new(alloc, "journal")
+        .about(ABOUT_JOURNAL)
+        .after_help(AFTER_JOURNAL)
+        .arg(required_option(
+            alloc,
+            "shorten",
+            "FILE",
+            "The journal; no node may be using it",
+        ))?
+        .arg(repo_option(alloc))
+}
+
 /// Adds the options of a node to the command.
 fn with_node<'a>(alloc: Global, command: Command<'a>) -> Result<Command<'a>, AllocError> {
     command
@@ -257,18 +295,23 @@ fn with_node<'a>(alloc: Global, command: Command<'a>) -> Result<Command<'a>, All
             "The rule file; without one, no rules",
         ))?
         .arg(option(alloc, "keys", "FILE", "The key file; without one, no keys"))?
-        .arg(option(
-            alloc,
-            "repo",
-            "URI",
-            "The repository's prefix; /repo if absent",
-        ))?
+        .arg(repo_option(alloc))?
         .arg(option(
             alloc,
             "cache",
             "N",
             "How many Data the cache holds, from 1 to 65536; 1024 if absent",
         ))
+}
+
+/// Returns the option for the repository's prefix.
+fn repo_option<'a>(alloc: Global) -> Arg<'a> {
+    option(
+        alloc,
+        "repo",
+        "URI",
+        "The repository's prefix; /repo if absent",
+    )
 }
 
 /// Returns the argument for the addresses and ports of the peers.

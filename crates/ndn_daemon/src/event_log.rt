@@ -13,18 +13,19 @@ use node_core::Verdict;
 use std::alloc::Global;
 use std::net::SocketAddr;
 
-/// The length of buffered text, in octets, from which on the text is written.
+/// Buffered text is written if it has at least this many octets.
 const MOST_GATHERED: usize = 65_536;
 
 /// The greatest time that a line stays buffered while events arrive, in milliseconds.
 const WAIT_MILLISECONDS: u64 = 1_000;
 
-/// The time between two reports of a count, in milliseconds.
+/// The least time between two reports of counts, in milliseconds. Only the report at the end of the
+/// log may be earlier.
 const COUNT_MILLISECONDS: u64 = 60_000;
 
 /// A destination for the lines of a log.
 pub trait LogSink: Drop {
-    // The lines that the sink was given, if it stores them.
+    // The lines that the sink was given, or `None` if they are not known.
     ghost given: { Self → Option (List ℕ) };
 
     /// Writes whole lines. Lines that cannot be written are lost without a fault.
@@ -64,7 +65,8 @@ pub struct EventLog<S: LogSink> {
     sink: S,
     shows_all: bool,
     text: Vec<u8>,
-    // Lines about failed sends, which follow the line of their event.
+    // Lines about failed sends. They are appended after the line of the event that caused the
+    // sends.
     later: Vec<u8>,
     // The time of the first line that is not yet written.
     since: u64,
@@ -138,7 +140,7 @@ impl<S: LogSink> EventLog<S> {
         }
     }
 
-    /// Stores the line of a failed send until the line of its event is appended.
+    /// Stores the line of a failed send until the line of the event that caused it is appended.
     pub fn put_failed_send(
         &mut self,
         moment: u64,
@@ -262,7 +264,8 @@ impl<S: LogSink> EventLog<S> {
         self.text.clear();
     }
 
-    /// Sets the time of the next line to `moment`, if no lines are waiting to be written.
+    /// Prepares for the next line at the time `moment`. If no lines are waiting to be written, that
+    /// line will be the first one, and its time is stored.
     pub fn begin(&mut self, moment: u64)
         ensures first { self.old.text.items ≡ [] → self.new.since ≡ moment }
         ensures others { self.new ≡ record self.old { since = self.new.since } }

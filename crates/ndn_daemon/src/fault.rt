@@ -62,6 +62,13 @@ pub enum JournalFault {
     Unwritten,
     /// The rule file and the key file together are too long for one line of the journal.
     LongRules,
+    /// No node whose repository has the given prefix writes the line with this number, counted from
+    /// 1.
+    NotJournalled(u64),
+    /// The journal has too many lines to be shortened.
+    ManyLines,
+    /// The shorter journal cannot be written.
+    Unshortened,
 }
 
 impl Fault {
@@ -87,11 +94,18 @@ impl Fault {
             Fault::Keys(KeyFault::BadLine(_) | KeyFault::TwiceNamed(_) | KeyFault::TooMany)
             | Fault::LargeKeys
             | Fault::Script(RunFault::BadLine(_))
-            | Fault::Journal(JournalFault::BadLine(_) | JournalFault::LongRules) => 1,
+            | Fault::Journal(
+                JournalFault::BadLine(_)
+                | JournalFault::LongRules
+                | JournalFault::NotJournalled(_)
+                | JournalFault::ManyLines,
+            ) => 1,
             Fault::Unread { .. }
             | Fault::Unbound { .. }
             | Fault::Unreceived
-            | Fault::Journal(JournalFault::Locked | JournalFault::Unwritten)
+            | Fault::Journal(
+                JournalFault::Locked | JournalFault::Unwritten | JournalFault::Unshortened,
+            )
             | Fault::Keys(KeyFault::Memory)
             | Fault::Script(
                 RunFault::Read
@@ -155,6 +169,16 @@ impl fmt::Display for Fault {
             ),
             Fault::Journal(JournalFault::LongRules) => f.write_str(
                 "journal:0: TooLong\n  the rule file and the key file have more than 9985 octets together\n",
+            ),
+            Fault::Journal(JournalFault::NotJournalled(line)) => writeln!(
+                f,
+                "journal:{line}: not journalled\n  no node with this --repo writes this line; give the prefix of the node that wrote it"
+            ),
+            Fault::Journal(JournalFault::ManyLines) => f.write_str(
+                "journal:0: TooLong\n  a journal of more than 4294967294 lines cannot be shortened\n",
+            ),
+            Fault::Journal(JournalFault::Unshortened) => f.write_str(
+                "error: the shorter journal cannot be written; the journal restores the same as before\n",
             ),
             Fault::Script(RunFault::Read) => {
                 f.write_str("error: standard input cannot be read\n")

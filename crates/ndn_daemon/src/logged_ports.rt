@@ -247,7 +247,8 @@ fn face_of(came: &Came<'_>) -> Option<u64>
     }
 }
 
-/// Returns the outcome of an event, or `None` if the ports ended or the node must stop.
+/// Returns the outcome of an event, or `None` if the ports ended or the event could not be
+/// journalled.
 fn outcome_of(turn: &Turn) -> Option<Result<Verdict, Memory>>
     ensures { IsOutcomeOf turn.now result }
 {

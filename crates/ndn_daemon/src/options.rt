@@ -1,7 +1,7 @@
 //! The values of the options and their defaults.
 ghost use Rattle.std.specs.Prelude.{◌≡◌, option_map};
 ghost use Rattle.ndn_names.specs.ReadsAs.{ReadsAs};
-ghost use Rattle.ndn_daemon.specs.Options.{IsCapacity, IsOptions, MayBePath, Reads, ReadsInMemory, given_or, rows_in, value_at};
+ghost use Rattle.ndn_daemon.specs.Options.{IsCapacity, IsOptions, IsShorteningOptions, MayBePath, Reads, ReadsInMemory, given_or, rows_in, value_at};
 
 use crate::fault::Fault;
 use clap::ArgMatches;
@@ -32,6 +32,28 @@ impl Options {
             keys: path_of(alloc, value(found, "keys"))?,
             repo: repo_of(alloc, given_or("/repo", value(found, "repo")))?,
             cache: cache_of(given_or("1024", value(found, "cache")))?,
+        })
+    }
+}
+
+/// The options of the shortening of a journal.
+#[derive(Debug, Drop)]
+pub struct ShorteningOptions {
+    /// The path of the journal.
+    pub journal: String,
+    /// The prefix of the repository of the node that wrote the journal.
+    pub repo: NameBuf,
+}
+
+impl ShorteningOptions {
+    /// Reads the options from the parsed command line. The parser refuses a command line without
+    /// the path of a journal.
+    pub fn read(alloc: Global, found: &ArgMatches<'_>) -> Result<ShorteningOptions, Fault>
+        ensures { ReadsInMemory (IsShorteningOptions (rows_in found.now)) result }
+    {
+        Ok(ShorteningOptions {
+            journal: String::from_str(alloc, given_or("", value(found, "shorten")))?,
+            repo: repo_of(alloc, given_or("/repo", value(found, "repo")))?,
         })
     }
 }

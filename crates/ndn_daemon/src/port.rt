@@ -2,16 +2,20 @@
 ghost use Rattle.std.specs.Prelude.{◌≡◌, ◌≢◌, ◌↔◌, ◌≤◌, ◌+◌, ◌++◌, [], Err, None, length, true, false, vec_len, IsOk, IsTrue, IfErr, IfOk, IfSome, MatchOption, OnErr, OnOk};
 ghost use Rattle.std.specs.Vec.{vec_capacity};
 ghost use Rattle.std.specs.Io.KnownBytes.{Appends};
-ghost use Rattle.forwarder.specs.Parts.{parts_fault};
+ghost use Rattle.forwarder.specs.Node.{NodeState};
+ghost use Rattle.forwarder.specs.Parts.{first_node, parts_fault};
+ghost use Rattle.journal.specs.declared.replaying.Replayed.{Replayed};
 ghost use Rattle.node_ports.specs.Serving.{IsTurn, Shown, shown};
 ghost use Rattle.node_core.specs.Script.Ending.{AppendsFront};
 ghost use Rattle.ndn_daemon.specs.UdpOptions.{ArePortsOf};
-ghost use Rattle.ndn_daemon.specs.Turn.{EndsTurns, HasNoTurns, StopsAt, StopsQuietTurns, StopsTurn, StopsTurns, TakesQuietTurns, TakesTurns, Writes, turn_text};
+ghost use Rattle.ndn_daemon.specs.Journal.{ReplaysJournal, TakesAllTurns, TakesLaterTurns};
+ghost use Rattle.ndn_daemon.specs.Turn.{EndsTurns, HasNoTurns, ServesTurns, StopsAt, StopsQuietTurns, StopsTurn, StopsTurns, TakesTurns, Writes, turn_text};
 
 use crate::disk_journal::DiskJournal;
 use crate::event_log::{EventLog, LogSink, StandardError};
 use crate::fault::{Fault, JournalFault};
 use crate::logged_ports::{HasEndpoints, LoggedPorts};
+use crate::stored_journal::StoredJournal;
 use crate::udp_options::{LogLevel, UdpOptions};
 use crate::watched_ports::{Restart, RuleSource, WatchedPorts};
 use info_rules::Rules;
@@ -31,8 +35,7 @@ use std::net::Net;
 use std::rt::Files;
 use std::time::{Clock, SystemTime};
 
-/// The greatest length of buffered text before it is written, in octets, not counting the text of
-/// one turn.
+/// Buffered text is written after a turn if it has at least this many octets.
 const MOST_GATHERED: usize = 65_536;
 
 /// The machine's clock.
@@ -44,7 +47,9 @@ pub struct MachineClock<'a, R> {
 
 impl<'a, R: Clock> MachineClock<'a, R> {
     /// Returns the clock. It has not been read yet.
-    pub fn new(rt: &'a R) -> MachineClock<'a, R> {
+    pub fn new(rt: &'a R) -> MachineClock<'a, R>
+        ensures { result.last ≡ 0 }
+    {
         MachineClock { rt, last: 0 }
     }
 }
@@ -72,7 +77,8 @@ fn milliseconds<R: Clock>(rt: &R) -> Option<u64> {
 /// output unless the node is quiet. The log, if there is one, is written to standard error. The
 /// node's rules and keys are replaced whenever their source has new ones. Invalid parts are
 /// reported before the port is bound. With a journal, the node starts with the state that the
-/// journal restores, and with the source's rules and keys.
+/// journal restores, and with the source's rules and keys. These rules and keys are journalled if
+/// they differ from the last ones of the journal.
 pub fn run_on_port<
     R: AllocGlobal + Eprint + Files<File = File> + Net + Print,
     M: Moments,
@@ -86,6 +92,9 @@ pub fn run_on_port<
     // bound and that memory runs out.
     ensures none { options.now.turns ≡ 0 → options.now.journal ≡ None
         → parts_fault parts.repo parts.cache ≡ None → IfErr result (HasNoTurns options.now.listen) }
+    ensures served { OnOk result ((last : NodeState)
+        × TakesAllTurns options.now.journal options.now.turns
+        (first_node parts.rules parts.keys parts.repo parts.cache) last) }
 {
     let mut node = match Node::new(rt.alloc(), parts) {
         Ok(node) => node,
@@ -107,9 +116,14 @@ fn take_as_begun<
 >(rt: &R, node: &mut Node, ports: P, source: S, options: &UdpOptions) -> Result<(), Fault>
     ensures fault { options.now.journal ≡ None → IfErr result EndsTurns }
     ensures none { options.now.turns ≡ 0 → options.now.journal ≡ None → IsOk result }
+    ensures served { OnOk result
+        (TakesAllTurns options.now.journal options.now.turns node.old node.new) }
 {
     match &options.journal {
-        Some(path) => take_journalled(rt, node, path, ports, source, options),
+        Some(path) => {
+            let journal = DiskJournal::open(rt, path)?;
+            take_restored(rt, node, journal, ports, source, options)
+        }
         None => take_logged(
             rt.alloc(),
             node,
@@ -121,22 +135,26 @@ fn take_as_begun<
     }
 }
 
-/// Replays the journal at this path on a node, and then lets the node take the requested turns and
-/// append to the journal.
-fn take_journalled<
-    R: AllocGlobal + Eprint + Files<File = File> + Print,
+/// Replays a journal on a node, and then lets the node take the requested turns and append to the
+/// journal. The source's rules and keys are journalled first, if they differ from the last ones of
+/// the journal.
+pub fn take_restored<
+    R: AllocGlobal + Eprint + Print,
+    J: StoredJournal,
     P: Ports + HasEndpoints + Drop,
     S: RuleSource,
 >(
     rt: &R,
     node: &mut Node,
-    path: &str,
+    mut journal: J,
     ports: P,
     mut source: S,
     options: &UdpOptions,
-) -> Result<(), Fault> {
-    let mut journal = DiskJournal::open(rt, path)?;
-    let restart = restart_of(rt, node, path, &mut journal, &mut source, options)?;
+) -> Result<(), Fault>
+    ensures { OnOk result
+        (TakesLaterTurns (J.synced journal) options.now.turns node.old node.new) }
+{
+    let restart = restart_of(rt, node, &mut journal, &mut source, options)?;
     let ports = WatchedPorts::after(restart, ports, source);
     take_logged(
         rt.alloc(),
@@ -149,32 +167,40 @@ fn take_journalled<
 }
 
 /// Replays the events of a journal on a node, and returns the first events after the restart.
-fn restart_of<R: AllocGlobal + Eprint, S: RuleSource>(
+fn restart_of<R: AllocGlobal + Eprint, J: StoredJournal, S: RuleSource>(
     rt: &R,
     node: &mut Node,
-    path: &str,
-    journal: &mut DiskJournal,
+    journal: &mut J,
     source: &mut S,
     options: &UdpOptions,
-) -> Result<Restart, Fault> {
+) -> Result<Restart, Fault>
+    ensures { OnOk result ((done : Replayed)
+        × ReplaysJournal (J.synced journal.old) (J.synced journal.new) node.old node.new done) }
+{
     let renewal = source.current()?;
-    let replayed = journal.replay(rt.alloc(), path, node)?;
-    if replayed.cut > 0 {
-        // The line was already removed, even if standard error cannot be written.
-        let _printed = eprintln!(rt;
-            "journal: the last line was cut short and is taken off: {} octets",
-            replayed.cut
-        );
-    }
+    let replayed = journal.replay(rt.alloc(), node)?;
+    report_cut(rt, replayed.cut);
+    let is_known = journal.has_last(rt.alloc(), &renewal)?;
+    let closing = unknown_faces(rt.alloc(), node, options)?;
     Ok(Restart {
         now: node.now(),
-        renewal: Some(renewal),
-        closing: unknown_faces(rt.alloc(), node, options)?,
+        renewal: if is_known { None } else { Some(renewal) },
+        closing,
     })
 }
 
+/// Reports on standard error that a line of this length was cut short by a crash and is removed.
+fn report_cut<R: Eprint>(rt: &R, cut: u64) {
+    if cut > 0 {
+        // The line was already removed, even if standard error cannot be written.
+        let _printed = eprintln!(rt;
+            "journal: the last line was cut short and is taken off: {cut} octets"
+        );
+    }
+}
+
 /// Returns the open faces that do not belong to peers. Such a face was opened for an endpoint that
-/// the node no longer knows, or for a peer with another scope.
+/// the node no longer knows, or for a peer that had another scope before the restart.
 fn unknown_faces(alloc: Global, node: &Node, options: &UdpOptions) -> Result<Vec<u64>, AllocError> {
     let mut unknown = Vec::new(alloc);
     for i in 0..MAX_FACES {
@@ -222,10 +248,9 @@ fn take_logged<P: Ports + HasEndpoints + Drop, S: LogSink, W: Write>(
         × TakesTurns node.old node.new
         (shown (P.failures ports) (P.coming ports) (P.taken ports) (P.journal ports)) after
         options.now.turns (W.contents writer.old) (W.contents writer.new)) }
-    ensures served { options.now.quiet ≡ true → OnOk result ((after : Shown)
-        × TakesQuietTurns node.old node.new
-        (shown (P.failures ports) (P.coming ports) (P.taken ports)
-        (P.journal ports)) after options.now.turns) }
+    ensures served { OnOk result ((after : Shown) × ServesTurns node.old node.new
+        (shown (P.failures ports) (P.coming ports) (P.taken ports) (P.journal ports)) after
+        options.now.turns) }
     ensures fault { IfErr result EndsTurns }
     ensures none { options.now.turns ≡ 0 → IsOk result }
     ensures quiet { options.now.quiet ≡ true → W.contents writer.new ≡ W.contents writer.old }
@@ -254,7 +279,7 @@ fn take_as_asked<P: Ports, W: Write>(
         (shown (P.failures ports.new) (P.coming ports.new) (P.taken ports.new)
         (P.journal ports.new))
         options.now.turns (W.contents writer.old) (W.contents writer.new)) }
-    ensures served { options.now.quiet ≡ true → OnOk result (TakesQuietTurns node.old node.new
+    ensures served { OnOk result (ServesTurns node.old node.new
         (shown (P.failures ports.old) (P.coming ports.old) (P.taken ports.old)
         (P.journal ports.old))
         (shown (P.failures ports.new) (P.coming ports.new) (P.taken ports.new)
@@ -278,7 +303,7 @@ fn take_quiet_turns<P: Ports>(
     ports: &mut P,
     turns: u64,
 ) -> Result<(), Fault>
-    ensures done { OnOk result (TakesQuietTurns node.old node.new
+    ensures done { OnOk result (ServesTurns node.old node.new
         (shown (P.failures ports.old) (P.coming ports.old) (P.taken ports.old)
         (P.journal ports.old))
         (shown (P.failures ports.new) (P.coming ports.new) (P.taken ports.new)

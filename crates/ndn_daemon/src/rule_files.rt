@@ -36,7 +36,7 @@ pub struct RuleFiles<'a, R> {
     keys: Option<String>,
     rules_stamp: Option<Stamp>,
     keys_stamp: Option<Stamp>,
-    // Whether the files must fit into one line of a journal.
+    // Whether both files together must fit into one line of a journal.
     are_journalled: bool,
 }
 
@@ -55,7 +55,7 @@ impl<'a, R: AllocGlobal + Files> RuleFiles<'a, R> {
         files
     }
 
-    /// From now on, the files must fit into one line of a journal.
+    /// Requires from now on that both files together fit into one line of a journal.
     pub fn journal(&mut self) {
         self.are_journalled = true;
     }

@@ -43,7 +43,7 @@ pub struct UdpOptions {
     pub log: LogLevel,
     /// The path of the journal. Without a journal, the node stores nothing for the next start.
     pub journal: Option<String>,
-    /// Whether answers are not printed.
+    /// Whether the node prints no answers.
     pub quiet: bool,
 }
 
@@ -171,8 +171,8 @@ fn check_peers(listen: &SocketAddr, peers: &[SocketAddr]) -> Result<(), Fault>
     Ok(())
 }
 
-/// Returns whether the peer is the node itself, which listens on `listen`. The node would receive
-/// its own datagrams.
+/// Returns whether the peer is the node itself, which listens on `listen`. With such a peer, the
+/// node would receive its own datagrams.
 fn is_itself(listen: &SocketAddr, peer: &SocketAddr) -> bool
     ensures { IsTrue result ↔ IsItself listen.now peer.now }
 {

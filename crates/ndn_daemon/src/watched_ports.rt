@@ -14,7 +14,7 @@ const LOOK_MILLISECONDS: u64 = 1000;
 
 /// A source of new rules and keys.
 pub trait RuleSource: Drop {
-    /// Returns rules and keys that replace those in force, if there are new ones.
+    /// Returns new rules and keys, which replace those in force, or `None` if nothing is new.
     fn renewed(&mut self) -> Option<Renewal>;
 
     /// Returns the present rules and keys, for a node that has a journal from now on.
@@ -26,7 +26,8 @@ pub trait RuleSource: Drop {
 pub struct Restart {
     /// The last time in the journal, which is also the time of these events.
     pub now: u64,
-    /// The rules and keys that were read from the files.
+    /// The rules and keys that were read from the files, if they differ from the last ones of the
+    /// journal.
     pub renewal: Option<Renewal>,
     /// The open faces of endpoints that are no longer known. They are to be closed.
     pub closing: Vec<u64>,
@@ -49,7 +50,9 @@ pub struct WatchedPorts<P: Ports + Drop, S: RuleSource> {
 
 impl<P: Ports + Drop, S: RuleSource> WatchedPorts<P, S> {
     /// Returns these ports with a source of rules that was last checked at the time `asked`.
-    pub fn new(ports: P, source: S, asked: u64) -> WatchedPorts<P, S> {
+    pub fn new(ports: P, source: S, asked: u64) -> WatchedPorts<P, S>
+        ensures { result.ports ≡ ports }
+    {
         WatchedPorts {
             ports,
             source,

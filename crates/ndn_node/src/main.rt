@@ -5,6 +5,7 @@ ghost use Rattle.std.specs.Prelude.{◌≤◌, length};
 
 use ndn_daemon::{
     Fault, MachineClock, Options, Request, RuleFiles, UdpOptions, request_of, run_on_port,
+    shorten_file,
 };
 use node_core::{NodeParts, RunFault, run_script};
 use std::env::Env;
@@ -35,6 +36,7 @@ fn run<R: Clock + Env + AllocGlobal + Eprint + Files<File = File> + Input + Net 
         Request::Help(help) => rt.print(help).map_err(|_| Fault::Script(RunFault::Write)),
         Request::Script(options) => script(rt, options),
         Request::Udp(node, options) => udp(rt, node, &options),
+        Request::Shorten(options) => shorten_file(rt, &options),
     }
 }
 
@@ -68,7 +70,8 @@ fn udp<R: AllocGlobal + Clock + Eprint + Files<File = File> + Net + Print>(
     run_on_port(rt, parts, MachineClock::new(rt), files, options)
 }
 
-/// Returns the parts of a node, with the rules and keys of its files, and the files themselves.
+/// Reads the rule file and the key file that the options name. Returns the parts of a node with the
+/// rules and keys of these files, and the files.
 fn parts_of<R: AllocGlobal + Files>(
     rt: &R,
     options: Options,

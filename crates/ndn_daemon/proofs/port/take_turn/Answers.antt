@@ -1,7 +1,3 @@
-use Rattle.std.proofs.Common.{List, subst}
-use Rattle.node_ports.specs.declared.serving.Turn.{Turn}
-use Rattle.node_ports.specs.declared.serving.Turn.TheVariants.{Unwritten}
-use Rattle.node_ports.specs.Serving.{IsTurn, shown}
 use Rattle.ndn_daemon.proofs.Gathered.{Writes-cut, front_of_writing}
 use Rattle.ndn_daemon.proofs.port.take_turn.Goals as goal
 

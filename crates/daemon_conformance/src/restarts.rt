@@ -1,0 +1,167 @@
+//! Tests of starts with a journal: which lines a start adds to the journal.
+ghost use Rattle.std.specs.Prelude.{Some};
+
+use crate::log::{Still, free_port, node_of};
+use crate::watched::{Once, renewal_of};
+use journal::{FileFault, JournalFile, Replayed, are_last_rules, replay};
+use ndn_daemon::{Fault, LogLevel, StoredJournal, UdpOptions, take_restored};
+use node_core::{Node, RunFault};
+use node_ports::{Renewal, UdpPorts, send_one};
+use std::alloc::Global;
+use std::net::{Ipv4Addr, Net, SocketAddr};
+
+/// A journal in memory. Its octets are known, so it meets all clauses of `StoredJournal`.
+#[derive(Drop)]
+struct MemoryJournal<'a> {
+    octets: &'a mut Vec<u8>,
+}
+
+impl<'a> JournalFile for MemoryJournal<'a> {
+    ghost synced = { λ journal. Some journal.octets.now.items };
+
+    fn append(&mut self, octets: &[u8]) -> Result<(), FileFault> {
+        match self.octets.extend_from_slice(octets) {
+            Ok(()) => Ok(()),
+            Err(_) => Err(FileFault::Failed),
+        }
+    }
+}
+
+impl<'a> StoredJournal for MemoryJournal<'a> {
+    fn has_last(&mut self, alloc: Global, renewal: &Renewal) -> Result<bool, Fault> {
+        let mut reader = self.octets.as_slice();
+        let (rules, keys) = (renewal.rule_octets(), renewal.key_octets());
+        match are_last_rules(alloc, &mut reader, rules, keys) {
+            Ok(are) => Ok(are),
+            Err(_) => Err(Fault::Script(RunFault::Memory)),
+        }
+    }
+
+    fn replay(&mut self, alloc: Global, node: &mut Node) -> Result<Replayed, Fault> {
+        let mut reader = self.octets.as_slice();
+        match replay(alloc, node, &mut reader) {
+            Ok(done) => {
+                self.octets.truncate(done.whole as usize);
+                Ok(done)
+            }
+            Err(_) => Err(Fault::Script(RunFault::Memory)),
+        }
+    }
+}
+
+/// Returns the options of a quiet node with these peers that takes one turn on this port.
+fn one_turn_at(port: u16, peers: Vec<SocketAddr>) -> UdpOptions {
+    UdpOptions {
+        listen: SocketAddr::from((Ipv4Addr::LOCALHOST, port)),
+        turns: 1,
+        peers,
+        local: 0,
+        idle: 600,
+        open: false,
+        log: LogLevel::None,
+        journal: None,
+        quiet: true,
+    }
+}
+
+/// Returns a source with these rules and without keys.
+fn source_of(alloc: Global, rules: &[u8]) -> Option<Once> {
+    let rules = Vec::from_slice(alloc, rules).ok()?;
+    Some(Once {
+        renewal: Some(renewal_of(alloc, rules, Vec::new(alloc))?),
+    })
+}
+
+/// Lets a node restart with this journal and this rule file, and take one turn. A datagram waits at
+/// its port. Returns whether the turn was taken.
+fn restarts(
+    rt: &(impl AllocGlobal + Eprint + Net + Print),
+    node: &mut Node,
+    journal: &mut Vec<u8>,
+    rules: &[u8],
+    options: &UdpOptions,
+) -> Option<bool> {
+    let listen = options.listen.port();
+    let source = source_of(rt.alloc(), rules)?;
+    let ports = UdpPorts::bind(rt, listen, &[], 0, Still).ok()?;
+    let _client = send_one(rt, listen, b"\x05\x03\xff").ok()?;
+    let journal = MemoryJournal { octets: journal };
+    Some(take_restored(rt, node, journal, ports, source, options).is_ok())
+}
+
+/// Returns whether `restarts` is true of a new node.
+fn new_node_restarts(
+    rt: &(impl AllocGlobal + Eprint + Net + Print),
+    journal: &mut Vec<u8>,
+    rules: &[u8],
+    options: &UdpOptions,
+) -> Option<bool> {
+    let mut node = node_of(rt.alloc())?;
+    restarts(rt, &mut node, journal, rules, options)
+}
+
+/// Starts a node with this journal, this rule file and these peers. Returns whether it took its
+/// turn.
+fn start(
+    rt: &(impl AllocGlobal + Eprint + Net + Print),
+    journal: &mut Vec<u8>,
+    rules: &[u8],
+    peers: Vec<SocketAddr>,
+) -> Option<bool> {
+    let options = one_turn_at(free_port(rt)?, peers);
+    new_node_restarts(rt, journal, rules, &options)
+}
+
+/// Returns whether the journal has exactly this text.
+fn has_text(journal: &Vec<u8>, text: &str) -> bool {
+    journal.as_slice() == text.as_bytes()
+}
+
+/// A start adds a line of new rules only if the rules differ from the last ones of the journal. The
+/// second start adds no line of rules, but a line for the face that the datagram opens.
+#[test]
+fn rules_at_a_start(rt: HostRuntime) {
+    let mut journal = Vec::new(rt.alloc());
+    assert!(rt; start(&rt, &mut journal, b"", Vec::new(rt.alloc())) == Some(true));
+    assert!(rt; has_text(&journal, "rules 0 - -\n"));
+    assert!(rt; start(&rt, &mut journal, b"", Vec::new(rt.alloc())) == Some(true));
+    assert!(rt; has_text(&journal, "rules 0 - -\nup 1 far 1000000\n"));
+    assert!(rt; start(&rt, &mut journal, b";", Vec::new(rt.alloc())) == Some(true));
+    assert!(rt;
+        has_text(
+            &journal,
+            "rules 0 - -\nup 1 far 1000000\nrules 1000000 3b -\n"
+        )
+    );
+}
+
+/// Returns the journal after a start without rules and with these peers.
+fn journal_after(
+    rt: &(impl AllocGlobal + Eprint + Net + Print),
+    journal: &[u8],
+    peers: &[SocketAddr],
+) -> Option<Vec<u8>> {
+    let peers = Vec::from_slice(rt.alloc(), peers).ok()?;
+    let mut journal = Vec::from_slice(rt.alloc(), journal).ok()?;
+    start(rt, &mut journal, b"", peers)?.then_some(journal)
+}
+
+/// A line that a crash cut short is removed before a line is added.
+#[test]
+fn a_cut_line_at_a_start(rt: HostRuntime) {
+    let after = journal_after(&rt, b"rules 0 - -\nrules 1 3b", &[]);
+    assert!(rt; after.is_some_and(|text| has_text(&text, "rules 0 - -\nup 1 far 1000000\n")));
+}
+
+/// A start closes the face of a stranger, and the face of a peer that was Local and is Far now. The
+/// face of the peer stays open if its scope has not changed.
+#[test]
+fn faces_at_a_start(rt: HostRuntime) {
+    let peers = [SocketAddr::from((Ipv4Addr::LOCALHOST, 6401))];
+    let after = journal_after(&rt, b"rules 0 - -\nup 1 far 5\nup 2 far 6\n", &peers);
+    let stranger = "rules 0 - -\nup 1 far 5\nup 2 far 6\ndown 2 6\n";
+    assert!(rt; after.is_some_and(|text| has_text(&text, stranger)));
+    let after = journal_after(&rt, b"rules 0 - -\nup 1 local 5\n", &peers);
+    let changed = "rules 0 - -\nup 1 local 5\ndown 1 5\n";
+    assert!(rt; after.is_some_and(|text| has_text(&text, changed)));
+}

@@ -1,0 +1,48 @@
+//! The shortening of a journal on a disk.
+
+use crate::disk_journal::DiskJournal;
+use crate::fault::{Fault, JournalFault};
+use crate::options::ShorteningOptions;
+use journal_shortening::{ShortenFault, shortened};
+use node_core::{NodeFault, RunFault};
+use std::fs::File;
+use std::rt::Files;
+
+/// Shortens the journal in a file, and prints how many of its lines are kept. If nothing can be
+/// left out, the file stays as it is.
+pub fn shorten_file<R: AllocGlobal + Files<File = File> + Print>(
+    rt: &R,
+    options: &ShorteningOptions,
+) -> Result<(), Fault> {
+    let path = options.journal.as_str();
+    let journal = DiskJournal::open_existing(rt, path)?;
+    let octets = journal.octets(rt.alloc())?;
+    match shortened(rt.alloc(), &options.repo, &octets) {
+        Ok(Some(shorter)) => {
+            journal.replace(rt, &shorter.text)?;
+            report(rt, path, shorter.lines, shorter.kept)
+        }
+        Ok(None) => {
+            let printed = println!(rt; "{path}: nothing is left out");
+            printed.map_err(|_| Fault::Script(RunFault::Write))
+        }
+        Err(fault) => Err(fault_of(fault)),
+    }
+}
+
+/// Prints how many lines of the journal at this path are kept.
+fn report<R: Print>(rt: &R, path: &str, lines: usize, kept: usize) -> Result<(), Fault> {
+    let printed = println!(rt; "{path}: {lines} lines, {kept} kept");
+    printed.map_err(|_| Fault::Script(RunFault::Write))
+}
+
+/// Returns the fault of the program for a fault of the shortening.
+fn fault_of(fault: ShortenFault) -> Fault {
+    match fault {
+        ShortenFault::BadLine(line) => Fault::Journal(JournalFault::BadLine(line)),
+        ShortenFault::NotJournalled(line) => Fault::Journal(JournalFault::NotJournalled(line)),
+        ShortenFault::TooLong => Fault::Journal(JournalFault::ManyLines),
+        ShortenFault::BadRepoPrefix => Fault::Script(RunFault::Node(NodeFault::BadRepoPrefix)),
+        ShortenFault::Memory => Fault::Script(RunFault::Memory),
+    }
+}
