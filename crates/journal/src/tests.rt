@@ -12,7 +12,7 @@ use info_rules::{InfoTree, Rules};
 use ndn_names::NameBuf;
 use std::alloc::Global;
 use std::io;
-use std::io::{BufReader, ErrorKind, Read};
+use std::io::{BufRead, BufReader, ErrorKind, Read};
 
 /// Returns whether `line` is the line of the entry at the time 1000.
 fn is_line(alloc: Global, entry: &Entry<'_>, line: &str) -> bool {
@@ -86,12 +86,20 @@ impl JournalFile for MemoryFile {
     }
 }
 
-/// The parts of a node without rules.
+/// Returns the rules of an empty rule file.
+fn no_rules(alloc: Global) -> Option<Rules> {
+    let tree = InfoTree::read(alloc, "").ok()?;
+    Rules::read(alloc, &tree).ok()
+}
+
+/// Returns the parts of a node without rules.
 fn parts(alloc: Global) -> Option<NodeParts> {
+    let rules = no_rules(alloc)?;
+    let repo = NameBuf::from_uri(alloc, "/repo").ok()?;
     Some(NodeParts {
-        rules: Rules::read(alloc, &InfoTree::read(alloc, "").ok()?).ok()?,
+        rules,
         keys: KeyBook::new(alloc),
-        repo: NameBuf::from_uri(alloc, "/repo").ok()?,
+        repo,
         cache: 16,
     })
 }
@@ -132,12 +140,44 @@ fn journal_of_a_moment(rt: HostRuntime) {
     assert!(rt; appends(rt.alloc(), Entry::Tick, Verdict::Passed, b""));
 }
 
-/// Replays a text on a new node, and returns the node and the result of the replay.
-fn replayed(alloc: Global, text: &[u8]) -> Option<(Node, Result<Replayed, ReplayFault>)> {
+/// What a test sees of a node after a replay.
+#[derive(Drop)]
+struct After {
+    // The result of the replay.
+    end: Result<Replayed, ReplayFault>,
+    // The node's time, and its first two open faces.
+    now: u64,
+    first: Option<u64>,
+    second: Option<u64>,
+}
+
+/// Returns the number of the open face at index `i`.
+fn face_at(node: &Node, i: usize) -> Option<u64> {
+    let (face, _) = node.open_face(i)?;
+    Some(face)
+}
+
+/// Replays a journal on a node.
+fn after_replay<R: BufRead>(alloc: Global, node: &mut Node, reader: &mut R) -> After {
+    let end = replay(alloc, node, reader);
+    After {
+        end,
+        now: node.now(),
+        first: face_at(node, 0),
+        second: face_at(node, 1),
+    }
+}
+
+/// Replays a journal on a new node. No other function owns a node.
+fn replayed<R: BufRead>(alloc: Global, reader: &mut R) -> Option<After> {
     let mut node = Node::new(alloc, parts(alloc)?).ok()?;
+    Some(after_replay(alloc, &mut node, reader))
+}
+
+/// Replays a text on a new node.
+fn text_replayed(alloc: Global, text: &[u8]) -> Option<After> {
     let mut reader = text;
-    let end = replay(alloc, &mut node, &mut reader);
-    Some((node, end))
+    replayed(alloc, &mut reader)
 }
 
 const SOME_EVENTS: &[u8] = b"rules 900 - -
@@ -159,7 +199,7 @@ fn replays_whole_lines(alloc: Global, text: &[u8]) -> bool {
         whole: whole as u64,
         cut: (text.len() - whole) as u64,
     };
-    replayed(alloc, text).is_some_and(|(_, end)| end == Ok(wanted))
+    text_replayed(alloc, text).is_some_and(|after| after.end == Ok(wanted))
 }
 
 /// A crash may cut a journal at any octet.
@@ -175,10 +215,9 @@ fn fronts_of_a_journal(rt: HostRuntime) {
 
 /// Returns the time and the open faces of the node on which the text was replayed.
 fn time_and_faces(alloc: Global, text: &[u8]) -> Option<(u64, Option<u64>, Option<u64>)> {
-    let (node, end) = replayed(alloc, text)?;
-    let first = node.open_face(0).map(|(face, _)| face);
-    let second = node.open_face(1).map(|(face, _)| face);
-    end.is_ok().then_some((node.now(), first, second))
+    let after = text_replayed(alloc, text)?;
+    after.end.ok()?;
+    Some((after.now, after.first, after.second))
 }
 
 /// A line that was cut short may spell another event, so it is not replayed.
@@ -195,7 +234,7 @@ fn lines_that_were_cut(rt: HostRuntime) {
 
 /// Returns the result of replaying the text.
 fn end_of(alloc: Global, text: &[u8]) -> Option<Result<Replayed, ReplayFault>> {
-    Some(replayed(alloc, text)?.1)
+    Some(text_replayed(alloc, text)?.end)
 }
 
 #[test]
@@ -233,10 +272,9 @@ impl Read for Failing<'_> {
 /// Returns the time of the node after a replay whose reader fails after these octets, and the
 /// fault.
 fn fails_after(alloc: Global, octets: &[u8], kind: ErrorKind) -> Option<(u64, ReplayFault)> {
-    let mut node = Node::new(alloc, parts(alloc)?).ok()?;
     let mut reader = BufReader::new(alloc, Failing { octets, kind }).ok()?;
-    let fault = replay(alloc, &mut node, &mut reader).err()?;
-    Some((node.now(), fault))
+    let after = replayed(alloc, &mut reader)?;
+    Some((after.now, after.end.err()?))
 }
 
 /// The lines before the failure are handled, and no other lines.
