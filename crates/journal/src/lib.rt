@@ -20,6 +20,3 @@ pub use law::{
 };
 pub use line::{Entry, LineFault, line_of};
 pub use replaying::{ReplayFault, Replayed, replay};
-
-#[cfg(test)]
-mod tests;

@@ -5,6 +5,7 @@ mod decisions;
 mod endpoints;
 mod faces;
 mod full_pending;
+mod journal_lines;
 mod journalled;
 mod new_rules;
 mod nodes;

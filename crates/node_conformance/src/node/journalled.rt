@@ -11,9 +11,9 @@ use std::alloc::Global;
 
 /// A file in memory, which accepts a given number of lines and then half of a line.
 #[derive(Drop)]
-struct MemoryFile {
-    octets: Vec<u8>,
-    left: u64,
+pub struct MemoryFile {
+    pub octets: Vec<u8>,
+    pub left: u64,
 }
 
 impl JournalFile for MemoryFile {

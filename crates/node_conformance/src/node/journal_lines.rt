@@ -1,15 +1,12 @@
 //! Tests of the lines of a journal, in the format of `docs/SCRIPTS.md`, and of appending and
 //! replaying.
-ghost use Rattle.std.specs.Prelude.{None};
 
-use crate::{
-    Coming, Entry, FileFault, JournalFile, ReplayFault, Replayed, append_event, are_last_rules,
-    last_rules, line_of, replay,
+use super::journalled::MemoryFile;
+use super::ports::on_node;
+use journal::{
+    Coming, Entry, ReplayFault, Replayed, append_event, are_last_rules, last_rules, line_of, replay,
 };
-use forwarder::{DropReason, Node, NodeParts, Scope, Verdict};
-use hmac_keys::KeyBook;
-use info_rules::{InfoTree, Rules};
-use ndn_names::NameBuf;
+use node_core::{DropReason, Node, Scope, Verdict};
 use std::alloc::Global;
 use std::io;
 use std::io::{BufRead, BufReader, ErrorKind, Read};
@@ -69,45 +66,11 @@ fn longest_lines(rt: HostRuntime) {
     assert!(rt; has_line(rt.alloc(), 9_994) == Some(false));
 }
 
-/// A journal file in memory.
-#[derive(Drop)]
-struct MemoryFile {
-    octets: Vec<u8>,
-}
-
-impl JournalFile for MemoryFile {
-    ghost synced = { λ _. None };
-
-    fn append(&mut self, octets: &[u8]) -> Result<(), FileFault> {
-        match self.octets.extend_from_slice(octets) {
-            Ok(()) => Ok(()),
-            Err(_) => Err(FileFault::Failed),
-        }
-    }
-}
-
-/// Returns the rules of an empty rule file.
-fn no_rules(alloc: Global) -> Option<Rules> {
-    let tree = InfoTree::read(alloc, "").ok()?;
-    Rules::read(alloc, &tree).ok()
-}
-
-/// Returns the parts of a node without rules.
-fn parts(alloc: Global) -> Option<NodeParts> {
-    let rules = no_rules(alloc)?;
-    let repo = NameBuf::from_uri(alloc, "/repo").ok()?;
-    Some(NodeParts {
-        rules,
-        keys: KeyBook::new(alloc),
-        repo,
-        cache: 16,
-    })
-}
-
 /// Returns the file after an event with this verdict was appended at the time 1000.
 fn file_after(alloc: Global, entry: Entry<'_>, verdict: Verdict) -> Option<MemoryFile> {
     let mut file = MemoryFile {
         octets: Vec::new(alloc),
+        left: 1,
     };
     let coming = Coming {
         entry,
@@ -140,44 +103,19 @@ fn journal_of_a_moment(rt: HostRuntime) {
     assert!(rt; appends(rt.alloc(), Entry::Tick, Verdict::Passed, b""));
 }
 
-/// What a test sees of a node after a replay.
-#[derive(Drop)]
-struct After {
-    // The result of the replay.
-    end: Result<Replayed, ReplayFault>,
-    // The node's time, and its first two open faces.
-    now: u64,
-    first: Option<u64>,
-    second: Option<u64>,
-}
-
-/// Returns the number of the open face at index `i`.
-fn face_at(node: &Node, i: usize) -> Option<u64> {
-    let (face, _) = node.open_face(i)?;
-    Some(face)
-}
-
-/// Replays a journal on a node.
-fn after_replay<R: BufRead>(alloc: Global, node: &mut Node, reader: &mut R) -> After {
-    let end = replay(alloc, node, reader);
-    After {
-        end,
-        now: node.now(),
-        first: face_at(node, 0),
-        second: face_at(node, 1),
-    }
-}
-
-/// Replays a journal on a new node. No other function owns a node.
-fn replayed<R: BufRead>(alloc: Global, reader: &mut R) -> Option<After> {
-    let mut node = Node::new(alloc, parts(alloc)?).ok()?;
-    Some(after_replay(alloc, &mut node, reader))
-}
-
-/// Replays a text on a new node.
-fn text_replayed(alloc: Global, text: &[u8]) -> Option<After> {
+/// Returns whether replaying a text on a node has this result.
+fn ends(alloc: Global, node: &mut Node, text: &[u8], end: &Result<Replayed, ReplayFault>) -> bool {
     let mut reader = text;
-    replayed(alloc, &mut reader)
+    replay(alloc, node, &mut reader) == *end
+}
+
+/// Returns whether replaying a text on a new node has this result.
+fn ends_on_new_node(
+    alloc: Global,
+    text: &[u8],
+    end: &Result<Replayed, ReplayFault>,
+) -> Option<bool> {
+    on_node(alloc, &|alloc, node| Some(ends(alloc, node, text, end)))
 }
 
 const SOME_EVENTS: &[u8] = b"rules 900 - -
@@ -187,19 +125,25 @@ in 2 1002 050b07030801410a0401020304
 down 2 1003
 ";
 
-/// Returns whether the whole lines of the text are replayed. Each line must be an event.
-fn replays_whole_lines(alloc: Global, text: &[u8]) -> bool {
+/// Returns the number of whole lines in the text, and their octets.
+fn whole_lines(text: &[u8]) -> (usize, usize) {
     let events = text.iter().filter(|octet| **octet == b'\n').count();
     let whole = text
         .iter()
         .rposition(|octet| *octet == b'\n')
         .map_or(0, |at| at + 1);
+    (events, whole)
+}
+
+/// Returns whether the whole lines of the text are replayed. Each line must be an event.
+fn replays_whole_lines(alloc: Global, text: &[u8]) -> bool {
+    let (events, whole) = whole_lines(text);
     let wanted = Replayed {
         events: events as u64,
         whole: whole as u64,
         cut: (text.len() - whole) as u64,
     };
-    text_replayed(alloc, text).is_some_and(|after| after.end == Ok(wanted))
+    ends_on_new_node(alloc, text, &Ok(wanted)) == Some(true)
 }
 
 /// A crash may cut a journal at any octet.
@@ -213,40 +157,65 @@ fn fronts_of_a_journal(rt: HostRuntime) {
     }
 }
 
-/// Returns the time and the open faces of the node on which the text was replayed.
-fn time_and_faces(alloc: Global, text: &[u8]) -> Option<(u64, Option<u64>, Option<u64>)> {
-    let after = text_replayed(alloc, text)?;
-    after.end.ok()?;
-    Some((after.now, after.first, after.second))
+/// Returns the number of the open face at index `i`.
+fn face_at(node: &Node, i: usize) -> Option<u64> {
+    let (face, _) = node.open_face(i)?;
+    Some(face)
+}
+
+/// Returns whether a node has this time and these as its first two open faces.
+fn has(node: &Node, wanted: &(u64, Option<u64>, Option<u64>)) -> bool {
+    (node.now(), face_at(node, 0), face_at(node, 1)) == *wanted
+}
+
+/// Returns whether a node has this time and these open faces after a replay of the text.
+fn leaves(
+    alloc: Global,
+    node: &mut Node,
+    text: &[u8],
+    wanted: &(u64, Option<u64>, Option<u64>),
+) -> bool {
+    let mut reader = text;
+    replay(alloc, node, &mut reader).is_ok() && has(node, wanted)
+}
+
+/// Returns whether `leaves` is true of a new node.
+fn leaves_new_node(
+    alloc: Global,
+    text: &[u8],
+    wanted: &(u64, Option<u64>, Option<u64>),
+) -> Option<bool> {
+    on_node(
+        alloc,
+        &|alloc, node| Some(leaves(alloc, node, text, wanted)),
+    )
 }
 
 /// A line that was cut short may spell another event, so it is not replayed.
 #[test]
 fn lines_that_were_cut(rt: HostRuntime) {
     let text = b"up 1 local 1000\nup 22 far 1001\ntick 1700\n";
-    let all = Some((1700, Some(1), Some(22)));
-    assert!(rt; time_and_faces(rt.alloc(), text) == all);
-    let last = Some((1001, Some(1), Some(22)));
-    assert!(rt; time_and_faces(rt.alloc(), &text[..text.len() - 3]) == last);
-    let first = Some((1000, Some(1), None));
-    assert!(rt; time_and_faces(rt.alloc(), b"up 1 local 1000\nup 22 far 1001") == first);
-}
-
-/// Returns the result of replaying the text.
-fn end_of(alloc: Global, text: &[u8]) -> Option<Result<Replayed, ReplayFault>> {
-    Some(text_replayed(alloc, text)?.end)
+    let all = (1700, Some(1), Some(22));
+    assert!(rt; leaves_new_node(rt.alloc(), text, &all) == Some(true));
+    let last = (1001, Some(1), Some(22));
+    assert!(rt; leaves_new_node(rt.alloc(), &text[..text.len() - 3], &last) == Some(true));
+    let first = (1000, Some(1), None);
+    let text = b"up 1 local 1000\nup 22 far 1001";
+    assert!(rt; leaves_new_node(rt.alloc(), text, &first) == Some(true));
 }
 
 #[test]
-fn bad_lines(rt: HostRuntime) {
-    let bad = Some(Err(ReplayFault::BadLine(3)));
-    assert!(rt; end_of(rt.alloc(), b"tick 1\n# 2\ntick 03\ntick 4\n") == bad);
-    let cut = Some(Ok(Replayed {
+fn bad_lines_of_a_journal(rt: HostRuntime) {
+    let bad = Err(ReplayFault::BadLine(3));
+    let text = b"tick 1\n# 2\ntick 03\ntick 4\n";
+    assert!(rt; ends_on_new_node(rt.alloc(), text, &bad) == Some(true));
+    let cut = Ok(Replayed {
         events: 1,
         whole: 11,
         cut: 7,
-    }));
-    assert!(rt; end_of(rt.alloc(), b"tick 1\n# 2\ntick 03") == cut);
+    });
+    let text = b"tick 1\n# 2\ntick 03";
+    assert!(rt; ends_on_new_node(rt.alloc(), text, &cut) == Some(true));
 }
 
 /// A reader that gives its octets once and then fails.
@@ -269,21 +238,43 @@ impl Read for Failing<'_> {
     }
 }
 
-/// Returns the time of the node after a replay whose reader fails after these octets, and the
-/// fault.
-fn fails_after(alloc: Global, octets: &[u8], kind: ErrorKind) -> Option<(u64, ReplayFault)> {
-    let mut reader = BufReader::new(alloc, Failing { octets, kind }).ok()?;
-    let after = replayed(alloc, &mut reader)?;
-    Some((after.now, after.end.err()?))
+/// Returns whether a replay on a node fails with this fault, and leaves the node at this time.
+fn fails_at<R: BufRead>(
+    alloc: Global,
+    node: &mut Node,
+    reader: &mut R,
+    now: u64,
+    fault: ReplayFault,
+) -> bool {
+    replay(alloc, node, reader) == Err(fault) && node.now() == now
 }
 
+/// Returns whether `fails_at` is true of a node and a reader that fails after these octets.
+fn fails_after(
+    alloc: Global,
+    node: &mut Node,
+    octets: &[u8],
+    kind: ErrorKind,
+    fault: ReplayFault,
+) -> Option<bool> {
+    let mut reader = BufReader::new(alloc, Failing { octets, kind }).ok()?;
+    Some(fails_at(alloc, node, &mut reader, 17, fault))
+}
+
+/// Returns whether a replay on a new node fails with this fault if the reader fails in this way.
 /// The lines before the failure are handled, and no other lines.
+fn fails_with(alloc: Global, kind: ErrorKind, fault: ReplayFault) -> Option<bool> {
+    on_node(
+        alloc,
+        &|alloc, node| fails_after(alloc, node, b"tick 17\ntick 1700", kind, fault),
+    )
+}
+
 #[test]
 fn a_reader_that_fails(rt: HostRuntime) {
-    let text = b"tick 17\ntick 1700";
-    assert!(rt; fails_after(rt.alloc(), text, ErrorKind::Other) == Some((17, ReplayFault::Read)));
-    let memory = Some((17, ReplayFault::Memory));
-    assert!(rt; fails_after(rt.alloc(), text, ErrorKind::OutOfMemory) == memory);
+    assert!(rt; fails_with(rt.alloc(), ErrorKind::Other, ReplayFault::Read) == Some(true));
+    let memory = ReplayFault::Memory;
+    assert!(rt; fails_with(rt.alloc(), ErrorKind::OutOfMemory, memory) == Some(true));
 }
 
 /// Returns whether the last whole line of new rules in the text has these octets of a rule file and
