@@ -1,9 +1,9 @@
 //! How the tests run command lines of the client and give it datagrams.
 
-use super::scene::Scene;
+use super::scene::{Scene, on_scene};
 use hmac_keys::KeyBook;
 use ndn_client::{
-    Exchange, Failure, Outcome, Plan, Progress, Silence, View, packet_in, parse_words, plan_of,
+    Exchange, Failure, Job, Outcome, Plan, Progress, Silence, View, packet_in, parse_words, plan_of,
 };
 use std::alloc::Global;
 use test_support::{KEYS, typed};
@@ -31,8 +31,9 @@ fn words_of<'a>(alloc: Global, line: &'a str) -> Option<Vec<&'a str>> {
 
 /// Returns the exchange for a packet that is printed in hexadecimal.
 fn printed_exchange(alloc: Global, text: &[u8]) -> Option<Exchange> {
+    let request = packet_in(alloc, text).ok()?;
     Some(Exchange {
-        request: packet_in(alloc, text).ok()?,
+        request,
         to: 6363,
         from: Some(6401),
         view: View::Lines,
@@ -40,15 +41,30 @@ fn printed_exchange(alloc: Global, text: &[u8]) -> Option<Exchange> {
     })
 }
 
-/// Returns the exchange of a command line at a moment. A packet that the command line prints is
-/// sent from port 6401.
-pub fn exchange_of(alloc: Global, line: &str, now: u64, book: &KeyBook) -> Option<Exchange> {
-    let words = words_of(alloc, line)?;
-    let job = parse_words(alloc, now, words.as_slice()).ok()?;
-    match plan_of(alloc, &job, book, "").ok()? {
+/// Returns the exchange of a plan. A packet that the plan prints is sent from port 6401.
+fn planned_exchange(alloc: Global, plan: Plan) -> Option<Exchange> {
+    match plan {
         Plan::Exchange(exchange) => Some(exchange),
         Plan::Print(text) => printed_exchange(alloc, &text),
     }
+}
+
+/// Returns the exchange of a job. A packet that the job prints is sent from port 6401.
+fn exchange_for(alloc: Global, job: &Job, book: &KeyBook) -> Option<Exchange> {
+    planned_exchange(alloc, plan_of(alloc, job, book, "").ok()?)
+}
+
+/// Returns the job of a command line at a moment.
+fn job_of(alloc: Global, line: &str, now: u64) -> Option<Job> {
+    let words = words_of(alloc, line)?;
+    parse_words(alloc, now, words.as_slice()).ok()
+}
+
+/// Returns the exchange of a command line at a moment. A packet that the command line prints is
+/// sent from port 6401.
+pub fn exchange_of(alloc: Global, line: &str, now: u64, book: &KeyBook) -> Option<Exchange> {
+    let job = job_of(alloc, line, now)?;
+    exchange_for(alloc, &job, book)
 }
 
 /// Returns the result of an exchange that receives these datagrams. The first datagram that is an
@@ -164,14 +180,27 @@ fn first_misplayed<'a>(
     None
 }
 
+/// Does the same as `misplayed`, with these keys.
+fn misplayed_with<'a>(
+    alloc: Global,
+    rules: &str,
+    book: &KeyBook,
+    rows: &'a str,
+) -> Option<&'a str> {
+    let row = on_scene(
+        alloc,
+        rules,
+        book,
+        &|alloc, scene, book| Some(first_misplayed(alloc, scene, book, rows)),
+    );
+    row.unwrap_or(Some("no node"))
+}
+
 /// Runs all rows on a new node under these rules, and returns the first row that does not end as it
 /// says.
 pub fn misplayed<'a>(alloc: Global, rules: &str, rows: &'a str) -> Option<&'a str> {
-    let Ok(book) = KeyBook::read(alloc, KEYS) else {
-        return Some("no keys");
-    };
-    match Scene::new(alloc, rules) {
-        Some(mut scene) => first_misplayed(alloc, &mut scene, &book, rows),
-        None => Some("no node"),
+    match KeyBook::read(alloc, KEYS) {
+        Ok(book) => misplayed_with(alloc, rules, &book, rows),
+        Err(_) => Some("no keys"),
     }
 }

@@ -2,7 +2,7 @@
 //! reply, or instead of the reply.
 
 use super::client::{ends_as, exchange_of, heard};
-use super::scene::Scene;
+use super::scene::{Scene, on_scene};
 use hmac_keys::KeyBook;
 use ndn_client::Exchange;
 use std::alloc::Global;
@@ -92,13 +92,11 @@ fn hears_on(
 /// Does the same as `hears_on`, with the sample keys and rules.
 fn hears_of(alloc: Global, line: &str, len: usize, row: &str) -> Option<bool> {
     let book = KeyBook::read(alloc, KEYS).ok()?;
-    hears_on(
+    on_scene(
         alloc,
-        &mut Scene::new(alloc, SAMPLE)?,
+        SAMPLE,
         &book,
-        line,
-        len,
-        row,
+        &|alloc, scene, book| hears_on(alloc, scene, book, line, len, row),
     )
 }
 

@@ -1,7 +1,7 @@
 //! A list of several segments, and a repository that is full.
 
 use super::client::{end_of, ends_as, exchange_of, plays, turn};
-use super::scene::Scene;
+use super::scene::{Scene, on_scene};
 use hmac_keys::KeyBook;
 use ndn_client::{Exchange, Progress};
 use std::alloc::Global;
@@ -79,11 +79,14 @@ fn lists(
 }
 
 /// Returns whether `plays` returns true for a new node.
-fn is_right(alloc: Global, plays: fn(Global, &mut Scene, &KeyBook) -> Option<bool>) -> Option<bool>
-    requires { IsAlwaysCallable plays }
+fn is_right<F: Fn(Global, &mut Scene, &KeyBook) -> Option<bool>>(
+    alloc: Global,
+    plays: &F,
+) -> Option<bool>
+    requires { F.IsAlwaysCallable plays.now }
 {
     let book = KeyBook::read(alloc, KEYS).ok()?;
-    plays(alloc, &mut Scene::new(alloc, SAMPLE)?, &book)
+    on_scene(alloc, SAMPLE, &book, plays)
 }
 
 /// Returns whether a list of 130 routes is received, and is received again after a change has
@@ -98,7 +101,7 @@ fn lists_routes(alloc: Global, scene: &mut Scene, book: &KeyBook) -> Option<bool
 
 #[test]
 fn routes_in_three_segments(rt: HostRuntime) {
-    assert!(rt; is_right(rt.alloc(), lists_routes) == Some(true));
+    assert!(rt; is_right(rt.alloc(), &lists_routes) == Some(true));
 }
 
 /// Returns whether a repository accepts 64 wants and no more.
@@ -117,5 +120,5 @@ fn takes_wants(alloc: Global, scene: &mut Scene, book: &KeyBook) -> Option<bool>
 
 #[test]
 fn full_repository(rt: HostRuntime) {
-    assert!(rt; is_right(rt.alloc(), takes_wants) == Some(true));
+    assert!(rt; is_right(rt.alloc(), &takes_wants) == Some(true));
 }

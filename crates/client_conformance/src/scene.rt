@@ -26,14 +26,63 @@ pub struct Scene {
     pub now: u64,
 }
 
+/// Returns the rules in the text of a rule file.
+fn rules_of(alloc: Global, text: &str) -> Option<Rules> {
+    let tree = InfoTree::read(alloc, text).ok()?;
+    Rules::read(alloc, &tree).ok()
+}
+
 /// Returns the parts of a node whose repository has the prefix `/repo`.
 fn parts_of(alloc: Global, rules: &str) -> Option<NodeParts> {
+    let rules = rules_of(alloc, rules)?;
+    let keys = KeyBook::read(alloc, KEYS).ok()?;
+    let repo = NameBuf::from_uri(alloc, "/repo").ok()?;
     Some(NodeParts {
-        rules: Rules::read(alloc, &InfoTree::read(alloc, rules).ok()?).ok()?,
-        keys: KeyBook::read(alloc, KEYS).ok()?,
-        repo: NameBuf::from_uri(alloc, "/repo").ok()?,
+        rules,
+        keys,
+        repo,
         cache: 1024,
     })
+}
+
+/// Returns a node under these rules.
+fn node_under(alloc: Global, rules: &str) -> Option<Node> {
+    Node::new(alloc, parts_of(alloc, rules)?).ok()
+}
+
+/// Returns what `play` returns for a scene, or `None` if its faces cannot be opened.
+fn play_on<T: Copy, F: Fn(Global, &mut Scene, &KeyBook) -> Option<T>>(
+    alloc: Global,
+    scene: &mut Scene,
+    book: &KeyBook,
+    play: &F,
+) -> Option<T>
+    requires { F.IsAlwaysCallable play.now }
+{
+    if scene.opens_faces() {
+        play(alloc, scene, book)
+    } else {
+        None
+    }
+}
+
+/// Returns what `play` returns for a scene with a new node under these rules, or `None` if there is
+/// no such scene. The three faces are open, and the moment is 1,000,000. No other function owns a
+/// scene.
+pub fn on_scene<T: Copy, F: Fn(Global, &mut Scene, &KeyBook) -> Option<T>>(
+    alloc: Global,
+    rules: &str,
+    book: &KeyBook,
+    play: &F,
+) -> Option<T>
+    requires { F.IsAlwaysCallable play.now }
+{
+    let mut scene = Scene {
+        node: node_under(alloc, rules)?,
+        outbox: Outbox::new(alloc),
+        now: 1_000_000,
+    };
+    play_on(alloc, &mut scene, book, play)
 }
 
 /// Returns the Data with this name and the Content `21.5 C`.
@@ -59,19 +108,11 @@ fn produced(alloc: Global, packet: &[u8]) -> Option<Vec<u8>> {
 }
 
 impl Scene {
-    /// Returns a scene with a new node under these rules. The three faces are open, and the moment
-    /// is 1,000,000.
-    pub fn new(alloc: Global, rules: &str) -> Option<Scene> {
-        let node = Node::new(alloc, parts_of(alloc, rules)?).ok()?;
-        let mut scene = Scene {
-            node,
-            outbox: Outbox::new(alloc),
-            now: 1_000_000,
-        };
-        let opened = scene.open(OPERATOR, Scope::Local)
-            && scene.open(PRODUCER, Scope::Far)
-            && scene.open(NEW_PORT, Scope::Far);
-        if opened { Some(scene) } else { None }
+    /// Opens the three faces, and returns whether the node accepts them.
+    fn opens_faces(&mut self) -> bool {
+        self.open(OPERATOR, Scope::Local)
+            && self.open(PRODUCER, Scope::Far)
+            && self.open(NEW_PORT, Scope::Far)
     }
 
     fn open(&mut self, face: u64, scope: Scope) -> bool {
