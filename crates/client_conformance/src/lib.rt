@@ -1,9 +1,11 @@
-//! Tests of the client against a node in the same process: the node gets the requests of a command
-//! line, and the client gets the node's packets. No sockets are opened.
+//! Tests of the client: its command lines, and its exchanges with a node in the same process, which
+//! gets the requests of a command line and whose packets the client gets.
 #![tactic(auto)]
 
 #[cfg(test)]
 mod client;
+#[cfg(test)]
+mod command_lines;
 #[cfg(test)]
 mod commands;
 #[cfg(test)]

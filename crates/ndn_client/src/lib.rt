@@ -1,5 +1,5 @@
-//! What the client `ndn_tool` does for a job: it writes packets, to print or to send them, and it
-//! explains packets.
+//! The client `ndn_tool`: it writes packets, prints them or sends them to a node, and explains
+//! packets.
 #![tactic(auto)]
 
 mod answer;
@@ -7,6 +7,7 @@ mod fault;
 mod input;
 mod key_file;
 mod plan;
+mod running;
 
 pub use fault::Fault;
 pub use input::{packet_in, read_input_line, read_packet_input};
@@ -20,3 +21,4 @@ pub use ndn_requests::{
     Exchange, Failure, NodeList, Outcome, Progress, Silence, View, judge, put_explained, silence_of,
 };
 pub use plan::{InputForm, Plan, fault_of_silence, input_form, plan_of};
+pub use running::{book_of, exchange_on, run, socket_of};

@@ -1,13 +1,16 @@
-use super::*;
-use hmac_keys::KeyFault;
+//! Tests of command lines of the client: what it prints, which packets it sends and reads, and its
+//! faults with their exit statuses.
+
+use hmac_keys::{KeyBook, KeyFault};
 use ndn_client::{
-    Failure, Silence, Usage, View, judge, packet_in, put_explained, put_input, read_book,
-    silence_of,
+    Exchange, Failure, Fault, Job, Outcome, Plan, Silence, ToolFault, Usage, View, book_of,
+    exchange_on, judge, packet_in, parse_words, plan_of, put_explained, put_input, read_book,
+    read_input_line, read_key_file, read_packet_input, silence_of, socket_of,
 };
 use ndn_packets::{Frame, PacketFault, WriteFault, put_reply, read_frame};
 use std::alloc::Global;
-use std::io::{Read, repeat};
-use std::net::Ipv4Addr;
+use std::io::{BufReader, Read, repeat};
+use std::net::{Ipv4Addr, UdpSocket};
 use std::process::Abort;
 
 /// A key file with one key, which is named `/ops/KEY/1` and consists of the text `key`.
@@ -27,14 +30,29 @@ fn job_of(alloc: Global, command: &str) -> Result<Job, ToolFault> {
     parse_words(alloc, 1_000_000, arguments.as_slice())
 }
 
-/// Returns the text that the program prints for a command, with the keys of the key file `keys`.
-fn answered(alloc: Global, command: &str, keys: &str) -> Result<String, ToolFault> {
-    let job = job_of(alloc, command)?;
-    let book = KeyBook::read(alloc, keys).map_err(|_| ToolFault::Memory)?;
-    match plan_of(alloc, &job, &book, "")? {
+/// Returns the text that a plan prints.
+fn printed_text(plan: Plan) -> Result<String, ToolFault> {
+    match plan {
         Plan::Print(text) => String::from_utf8(text).map_err(|_| ToolFault::NoKey),
         Plan::Exchange(_) => Err(ToolFault::NoKey),
     }
+}
+
+/// Returns the text that the program prints for a job, with these keys.
+fn text_of(alloc: Global, job: &Job, book: &KeyBook) -> Result<String, ToolFault> {
+    printed_text(plan_of(alloc, job, book, "")?)
+}
+
+/// Returns the text that the program prints for a job, with the keys of the key file `keys`.
+fn text_with(alloc: Global, job: &Job, keys: &str) -> Result<String, ToolFault> {
+    let book = KeyBook::read(alloc, keys).map_err(|_| ToolFault::Memory)?;
+    text_of(alloc, job, &book)
+}
+
+/// Returns the text that the program prints for a command, with the keys of the key file `keys`.
+fn answered(alloc: Global, command: &str, keys: &str) -> Result<String, ToolFault> {
+    let job = job_of(alloc, command)?;
+    text_with(alloc, &job, keys)
 }
 
 /// Returns the exit status of a command and the text that it prints.
@@ -1425,6 +1443,31 @@ fn long_replies(rt: HostRuntime) {
     assert!(rt; long_says(rt.alloc(), "data /localhost/nfd/fib/add-nexthop/", " \n") == Some(true));
 }
 
+/// Returns an exchange that sends this request to a port.
+fn exchange_to(alloc: Global, request: Vec<u8>, to: u16) -> Exchange {
+    Exchange {
+        request,
+        to,
+        from: None,
+        view: View::Lines,
+        contents: Vec::new(alloc),
+    }
+}
+
+/// Returns the outcome of a client on this socket that sends the request to a port.
+fn asks(rt: &HostRuntime, client: &UdpSocket, request: Vec<u8>, to: u16) -> Result<(), Fault> {
+    let exchange = exchange_to(rt.alloc(), request, to);
+    exchange_on(rt, client, exchange, &KeyBook::new(rt.alloc()))
+}
+
+/// Sends two datagrams from the node to the client. Returns `None` if one cannot be sent.
+fn sends_both(node: &UdpSocket, client: &UdpSocket, first: &[u8], second: &[u8]) -> Option<()> {
+    let address = client.local_addr().ok()?;
+    node.send_to(first, address).ok()?;
+    node.send_to(second, address).ok()?;
+    Some(())
+}
+
 /// Returns the outcome of a client that sends the request and receives these two datagrams.
 fn hears(
     rt: &HostRuntime,
@@ -1432,21 +1475,11 @@ fn hears(
     first: &[u8],
     second: &[u8],
 ) -> Option<Result<(), Fault>> {
-    let book = KeyBook::new(rt.alloc());
     let node = UdpSocket::bind(rt, (Ipv4Addr::LOCALHOST, 0)).ok()?;
     let to = node.local_addr().ok()?.port();
     let client = socket_of(rt, None, to).ok()?;
-    let address = client.local_addr().ok()?;
-    node.send_to(first, address).ok()?;
-    node.send_to(second, address).ok()?;
-    let exchange = Exchange {
-        request,
-        to,
-        from: None,
-        view: View::Lines,
-        contents: Vec::new(rt.alloc()),
-    };
-    Some(exchange_on(rt, &client, exchange, &book))
+    sends_both(&node, &client, first, second)?;
+    Some(asks(rt, &client, request, to))
 }
 
 /// Returns the outcome of a client whose second datagram is a reply of more than 9,000 octets with

@@ -1,0 +1,257 @@
+//! A run of the client: the arguments, the clock, files, standard input and sockets of the operating
+//! system.
+ghost use Rattle.std.specs.Prelude.{◌≤◌, length, IfOk};
+
+use crate::fault::Fault;
+use crate::input::{read_input_line, read_packet_input};
+use crate::key_file::{read_key_file, unread_keys};
+use crate::plan::{InputForm, Plan, fault_of_silence, input_form, plan_of};
+use hmac_keys::KeyBook;
+use ndn_jobs::{Job, ToolFault, parse_words};
+use ndn_requests::{Exchange, Outcome, Progress};
+use std::env::Env;
+use std::fs::File;
+use std::io::{BufRead, BufReader, Input, Write};
+use std::net::{Ipv4Addr, Net, UdpSocket};
+use std::rt::Files;
+use std::time::{Clock, Duration, Instant, SystemTime};
+use std::{env, io};
+
+/// The greatest length of the payload of a UDP datagram over IPv4, in octets.
+const MAX_DATAGRAM: usize = 65_507;
+
+/// The time to wait for an answer, in seconds.
+const ANSWER_SECONDS: u64 = 4;
+
+/// Why no datagram was received.
+#[derive(Clone, Copy)]
+enum Missed {
+    /// No program uses the port.
+    Closed,
+    /// No datagram arrived in time.
+    Late,
+    /// The clock cannot be read.
+    Clock,
+}
+
+/// Runs the job of the command line and prints its answer.
+///
+/// # Errors
+///
+/// The fault has the message and the exit status for the person who gave the command line.
+pub fn run<R>(rt: &R) -> Result<(), Fault>
+where
+    R: Clock + Env + AllocGlobal + Eprint + Files + Input + Net + Print,
+{
+    let job = asked_job(rt)?;
+    match run_job(rt, &job) {
+        Err(Fault::Tool(ToolFault::NoKey)) if job.key_file().is_none() => Err(Fault::NoKeyFile),
+        done => done,
+    }
+}
+
+fn run_job<R>(rt: &R, job: &Job) -> Result<(), Fault>
+where
+    R: Clock + AllocGlobal + Eprint + Files + Input + Net + Print,
+{
+    let book = book_of(rt, job)?;
+    match input_form(job) {
+        InputForm::Nothing => run_plan(rt, job, &book, ""),
+        InputForm::Packet => run_plan(rt, job, &book, &read_packet_input(rt.alloc(), rt.reader())?),
+        InputForm::Lines => run_lines(rt, job, &book, &mut input_of(rt)?),
+    }
+}
+
+/// Returns a buffered reader of standard input.
+fn input_of<R: AllocGlobal + Input>(rt: &R) -> Result<BufReader<R::Reader>, Fault> {
+    BufReader::new(rt.alloc(), rt.reader()).map_err(|_| Fault::Tool(ToolFault::Memory))
+}
+
+/// Runs the job with each line of standard input, before the next line is read.
+fn run_lines<R, I: BufRead>(rt: &R, job: &Job, book: &KeyBook, input: &mut I) -> Result<(), Fault>
+where
+    R: Clock + AllocGlobal + Eprint + Net + Print,
+{
+    for _ in 0..u64::MAX {
+        let line = read_input_line(rt.alloc(), input)?;
+        if line.is_empty() {
+            break;
+        }
+        run_plan(rt, job, book, &line)?;
+    }
+    Ok(())
+}
+
+/// Runs the job with the text of standard input.
+fn run_plan<R>(rt: &R, job: &Job, book: &KeyBook, input: &str) -> Result<(), Fault>
+where
+    R: Clock + AllocGlobal + Eprint + Net + Print,
+{
+    match plan_of(rt.alloc(), job, book, input)? {
+        Plan::Print(text) => print(rt, &text),
+        Plan::Exchange(exchange) => run_exchange(rt, exchange, book),
+    }
+}
+
+/// Sends the first request of the exchange and the requests that follow it, and prints the answers.
+fn run_exchange<R: Clock + AllocGlobal + Eprint + Net + Print>(
+    rt: &R,
+    exchange: Exchange,
+    book: &KeyBook,
+) -> Result<(), Fault> {
+    let socket = socket_of(rt, exchange.from, exchange.to)?;
+    exchange_on(rt, &socket, exchange, book)
+}
+
+/// Runs the exchange on this socket: sends its requests, and prints the answers. The answer to each
+/// request must arrive within 4 seconds.
+///
+/// # Errors
+///
+/// The outcome of the exchange if a request was refused, or why there is no outcome.
+pub fn exchange_on<R: Clock + AllocGlobal + Eprint + Print>(
+    rt: &R,
+    socket: &UdpSocket,
+    exchange: Exchange,
+    book: &KeyBook,
+) -> Result<(), Fault> {
+    let mut exchange = exchange;
+    let mut buffer = vec![in rt.alloc(); 0; MAX_DATAGRAM]?;
+    for _ in 0..u64::MAX {
+        send(socket, &exchange.request)?;
+        if let Some(outcome) = next_answer(rt, socket, &mut exchange, &mut buffer, book)? {
+            return outcome.map_err(Fault::NotDone);
+        }
+    }
+    Err(fault_of_silence(&exchange, false))
+}
+
+fn print<R: Print>(rt: &R, text: &[u8]) -> Result<(), Fault> {
+    io::writer(rt).write_all(text).map_err(|_| Fault::Write)
+}
+
+/// Returns the job of the command line.
+fn asked_job<R: Clock + Env + AllocGlobal>(rt: &R) -> Result<Job, Fault> {
+    let now = milliseconds(rt)?;
+    let arguments = arguments_of(rt)?;
+    Ok(parse_words(rt.alloc(), now, arguments.as_slice())?)
+}
+
+/// Waits for the answer to the last request on this socket. Returns `None` if the next request is
+/// to be sent. If the exchange is over, prints the answer and returns the outcome. A datagram that
+/// does not answer the request is reported on standard error.
+fn next_answer<R: Clock + AllocGlobal + Eprint + Print>(
+    rt: &R,
+    socket: &UdpSocket,
+    exchange: &mut Exchange,
+    buffer: &mut [u8],
+    book: &KeyBook,
+) -> Result<Option<Outcome>, Fault> {
+    let start = Instant::now(rt).map_err(|_| Fault::Clock)?;
+    for _ in 0..u64::MAX {
+        let len = match receive(rt, socket, start, buffer) {
+            Ok(len) => len,
+            Err(Missed::Clock) => return Err(Fault::Clock),
+            Err(Missed::Closed) => return Err(fault_of_silence(exchange, true)),
+            Err(Missed::Late) => return Err(fault_of_silence(exchange, false)),
+        };
+        match exchange.take(rt.alloc(), &buffer[..len], book)? {
+            Progress::Next => return Ok(None),
+            Progress::Done(text, outcome) => {
+                print(rt, &text)?;
+                return Ok(Some(outcome));
+            }
+            Progress::Ignored => {
+                // The datagram is ignored even if standard error cannot be written.
+                let _printed = eprintln!(rt;
+                    "ignored: a datagram that is no answer to the request"
+                );
+            }
+        }
+    }
+    Err(fault_of_silence(exchange, false))
+}
+
+/// Returns a socket from port `from` to port `to` of 127.0.0.1. If `from` is not given, the system
+/// chooses a port.
+///
+/// # Errors
+///
+/// `Unbound` if another program has the port `from`, and `Send` if there is no such socket.
+pub fn socket_of<R: Net>(rt: &R, from: Option<u16>, to: u16) -> Result<UdpSocket, Fault> {
+    let Ok(socket) = UdpSocket::bind(rt, (Ipv4Addr::LOCALHOST, from.unwrap_or(0))) else {
+        return Err(match from {
+            Some(port) => Fault::Unbound { port },
+            None => Fault::Send,
+        });
+    };
+    socket
+        .connect((Ipv4Addr::LOCALHOST, to))
+        .map_err(|_| Fault::Send)?;
+    Ok(socket)
+}
+
+fn send(socket: &UdpSocket, packet: &[u8]) -> Result<(), Fault> {
+    match socket.send(packet) {
+        Ok(sent) if sent == packet.len() => Ok(()),
+        _ => Err(Fault::Send),
+    }
+}
+
+/// Receives one datagram and returns its length in octets. Fails if none arrives within
+/// `ANSWER_SECONDS` of `start`.
+fn receive<R: Clock>(
+    rt: &R,
+    socket: &UdpSocket,
+    start: Instant,
+    buffer: &mut [u8],
+) -> Result<usize, Missed>
+    ensures { IfOk result (λ len. len ≤ length buffer.new) }
+{
+    let waited = start.elapsed(rt).map_err(|_| Missed::Clock)?;
+    let left = Duration::from_secs(ANSWER_SECONDS).saturating_sub(waited);
+    // The system refuses a timeout of zero. If no time remains, the answer is late.
+    socket
+        .set_read_timeout(Some(left))
+        .map_err(|_| Missed::Late)?;
+    socket.recv(buffer).map_err(|error| match error.kind() {
+        io::ErrorKind::ConnectionRefused => Missed::Closed,
+        _ => Missed::Late,
+    })
+}
+
+fn arguments_of<R: Env + AllocGlobal>(rt: &R) -> Result<Vec<String>, Fault> {
+    match env::args(rt) {
+        Ok(arguments) => Ok(arguments.collect(rt.alloc())?),
+        Err(error) if error.kind() == io::ErrorKind::OutOfMemory => {
+            Err(Fault::Tool(ToolFault::Memory))
+        }
+        Err(_) => Err(Fault::NotText),
+    }
+}
+
+/// Returns the time of the clock in milliseconds since 1970.
+fn milliseconds<R: Clock>(rt: &R) -> Result<u64, Fault> {
+    let Ok(time) = SystemTime::now(rt) else {
+        return Err(Fault::Clock);
+    };
+    match time.duration_since(SystemTime::UNIX_EPOCH) {
+        Ok(duration) => u64::try_from(duration.as_millis()).map_err(|_| Fault::Clock),
+        Err(_) => Err(Fault::Clock),
+    }
+}
+
+/// Returns the keys of the key file that the job names, or no keys if it names no file.
+///
+/// # Errors
+///
+/// Why the file cannot be opened or read, or the fault of its first faulty line.
+pub fn book_of<R: AllocGlobal + Files>(rt: &R, job: &Job) -> Result<KeyBook, Fault> {
+    let Some(path) = job.key_file() else {
+        return Ok(KeyBook::new(rt.alloc()));
+    };
+    match File::open(rt, path) {
+        Ok(file) => read_key_file(rt.alloc(), path, file),
+        Err(error) => Err(unread_keys(rt.alloc(), path, &error)),
+    }
+}
