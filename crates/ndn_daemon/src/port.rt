@@ -100,12 +100,28 @@ pub fn run_on_port<
         Ok(node) => node,
         Err(fault) => return Err(Fault::Script(RunFault::Node(fault))),
     };
+    take_bound(rt, &mut node, moments, source, options)
+}
+
+/// Binds the ports that the options describe, and lets a node take the requested turns.
+fn take_bound<
+    R: AllocGlobal + Eprint + Files<File = File> + Net + Print,
+    M: Moments,
+    S: RuleSource,
+>(rt: &R, node: &mut Node, moments: M, source: S, options: &UdpOptions) -> Result<(), Fault>
+    requires { length options.now.peers.items ≤ MAX_FACES }
+    ensures fault { options.now.journal ≡ None → IfErr result (StopsAt options.now.listen) }
+    ensures none { options.now.turns ≡ 0 → options.now.journal ≡ None
+        → IfErr result (HasNoTurns options.now.listen) }
+    ensures served { OnOk result
+        (TakesAllTurns options.now.journal options.now.turns node.old node.new) }
+{
     let Some(ports) = bound_ports(rt, moments, options) else {
         return Err(Fault::Unbound {
             endpoint: options.listen,
         });
     };
-    take_as_begun(rt, &mut node, ports, source, options)
+    take_as_begun(rt, node, ports, source, options)
 }
 
 /// Lets a node take the requested turns, with a journal if the options name one.
