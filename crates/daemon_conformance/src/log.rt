@@ -6,7 +6,7 @@ use hmac_keys::KeyBook;
 use ndn_daemon::{EventLog, LogSink, LoggedPorts};
 use ndn_names::NameBuf;
 use node_core::{Node, NodeParts, read_rules};
-use node_ports::{Moments, UdpPorts, send_one, serve};
+use node_ports::{Moments, Ports, UdpPorts, send_one, serve};
 use std::alloc::Global;
 use std::cell::Cell;
 use std::net::{Ipv4Addr, Net, UdpSocket};
@@ -30,14 +30,24 @@ pub fn free_port(rt: &impl Net) -> Option<u16> {
 }
 
 /// Returns a node without rules.
-pub fn node_of(alloc: Global) -> Option<Node> {
+fn node_of(alloc: Global) -> Option<Node> {
+    let repo = NameBuf::from_uri(alloc, "/repo").ok()?;
     let parts = NodeParts {
         rules: read_rules(alloc, b"").ok()?,
         keys: KeyBook::new(alloc),
-        repo: NameBuf::from_uri(alloc, "/repo").ok()?,
+        repo,
         cache: 16,
     };
     Node::new(alloc, parts).ok()
+}
+
+/// Returns what `play` returns for a new node without rules, or `None` if the node cannot be
+/// created.
+pub fn on_node<F: Fn(&mut Node) -> Option<bool>>(alloc: Global, play: &F) -> Option<bool>
+    requires { F.IsAlwaysCallable play.now }
+{
+    let mut node = node_of(alloc)?;
+    play(&mut node)
 }
 
 /// A sink that counts how often it is given lines that begin with `front` and end with `back`. Any
@@ -61,22 +71,39 @@ impl<'a> LogSink for Expected<'a> {
     }
 }
 
-/// Sends octets to a node whose log writes to the sink `expected`, and lets the node take two
+/// Sends octets to a node whose log writes to a sink like `expected`, and lets the node take two
 /// turns. Returns whether both turns were taken.
 fn writes(
     rt: &(impl AllocGlobal + Net),
     node: &mut Node,
     octets: &[u8],
     shows_all: bool,
-    expected: Expected<'_>,
+    expected: &Expected<'_>,
 ) -> Option<bool> {
     let listen = free_port(rt)?;
+    let sink = Expected {
+        front: expected.front,
+        back: expected.back,
+        held: expected.held,
+    };
     let ports = UdpPorts::bind(rt, listen, &[], 0, Still).ok()?;
-    let mut ports = LoggedPorts::new(ports, EventLog::new(rt.alloc(), expected, shows_all));
-    let _client = send_one(rt, listen, octets).ok()?;
-    let served = serve(rt.alloc(), node, &mut ports, 2);
+    let mut ports = LoggedPorts::new(ports, EventLog::new(rt.alloc(), sink, shows_all));
+    let served = serves(rt, node, &mut ports, listen, octets);
     ports.finish();
-    Some(served.is_ok())
+    served
+}
+
+/// Sends octets to this port, and lets the node take two turns at these ports. Returns whether
+/// both turns were taken.
+fn serves<P: Ports>(
+    rt: &(impl AllocGlobal + Net),
+    node: &mut Node,
+    ports: &mut P,
+    listen: u16,
+    octets: &[u8],
+) -> Option<bool> {
+    let _client = send_one(rt, listen, octets).ok()?;
+    Some(serve(rt.alloc(), node, ports, 2).is_ok())
 }
 
 /// Returns whether `writes` is true of a new node.
@@ -84,10 +111,12 @@ fn written(
     rt: &(impl AllocGlobal + Net),
     octets: &[u8],
     shows_all: bool,
-    expected: Expected<'_>,
+    expected: &Expected<'_>,
 ) -> Option<bool> {
-    let mut node = node_of(rt.alloc())?;
-    writes(rt, &mut node, octets, shows_all, expected)
+    on_node(
+        rt.alloc(),
+        &|node| writes(rt, node, octets, shows_all, expected),
+    )
 }
 
 /// A dropped packet has a line. The face that opens for the packet has no line.
@@ -99,7 +128,7 @@ fn log_of_what_is_dropped(rt: HostRuntime) {
         back: " packet: dropped, Malformed Tlv Truncated, 3 octets beginning 0503ff\n",
         held: &held,
     };
-    assert!(rt; written(&rt, b"\x05\x03\xff", false, expected) == Some(true));
+    assert!(rt; written(&rt, b"\x05\x03\xff", false, &expected) == Some(true));
     assert!(rt; held.get() == 1);
 }
 
@@ -113,7 +142,7 @@ fn log_without_plain_forwarding(rt: HostRuntime) {
         held: &held,
     };
     let interest = b"\x05\x0b\x07\x03\x08\x01A\x0a\x04\x01\x02\x03\x04";
-    assert!(rt; written(&rt, interest, false, expected) == Some(true));
+    assert!(rt; written(&rt, interest, false, &expected) == Some(true));
     assert!(rt; held.get() == 0);
 }
 
@@ -127,6 +156,6 @@ fn log_of_all(rt: HostRuntime) {
         held: &held,
     };
     let interest = b"\x05\x0b\x07\x03\x08\x01A\x0a\x04\x01\x02\x03\x04";
-    assert!(rt; written(&rt, interest, true, expected) == Some(true));
+    assert!(rt; written(&rt, interest, true, &expected) == Some(true));
     assert!(rt; held.get() == 1);
 }

@@ -1,7 +1,7 @@
 //! Tests of starts with a journal: which lines a start adds to the journal.
 ghost use Rattle.std.specs.Prelude.{Some};
 
-use crate::log::{Still, free_port, node_of};
+use crate::log::{Still, free_port, on_node};
 use crate::watched::{Once, renewal_of};
 use journal::{FileFault, JournalFile, Replayed, are_last_rules, replay};
 use ndn_daemon::{Fault, LogLevel, StoredJournal, UdpOptions, take_restored};
@@ -89,68 +89,58 @@ fn restarts(
     Some(take_restored(rt, node, journal, ports, source, options).is_ok())
 }
 
-/// Returns whether `restarts` is true of a new node.
-fn new_node_restarts(
+/// Returns whether `restarts` is true of this journal, and turns it into the journal `after`.
+fn leaves(
     rt: &(impl AllocGlobal + Eprint + Net + Print),
-    journal: &mut Vec<u8>,
+    node: &mut Node,
+    before: &str,
     rules: &[u8],
     options: &UdpOptions,
+    after: &str,
 ) -> Option<bool> {
-    let mut node = node_of(rt.alloc())?;
-    restarts(rt, &mut node, journal, rules, options)
+    let mut journal = Vec::from_slice(rt.alloc(), before.as_bytes()).ok()?;
+    let restarted = restarts(rt, node, &mut journal, rules, options)?;
+    Some(restarted && journal.as_slice() == after.as_bytes())
 }
 
-/// Starts a node with this journal, this rule file and these peers. Returns whether it took its
-/// turn.
-fn start(
+/// Returns whether a start of a new node with this journal, this rule file and these peers takes
+/// its turn and leaves the journal `after`.
+fn start_leaves(
     rt: &(impl AllocGlobal + Eprint + Net + Print),
-    journal: &mut Vec<u8>,
+    before: &str,
     rules: &[u8],
-    peers: Vec<SocketAddr>,
+    peers: &[SocketAddr],
+    after: &str,
 ) -> Option<bool> {
-    let options = one_turn_at(free_port(rt)?, peers);
-    new_node_restarts(rt, journal, rules, &options)
+    let port = free_port(rt)?;
+    let peers = Vec::from_slice(rt.alloc(), peers).ok()?;
+    let options = one_turn_at(port, peers);
+    on_node(
+        rt.alloc(),
+        &|node| leaves(rt, node, before, rules, &options, after),
+    )
 }
 
-/// Returns whether the journal has exactly this text.
-fn has_text(journal: &Vec<u8>, text: &str) -> bool {
-    journal.as_slice() == text.as_bytes()
-}
+const NO_RULES: &str = "rules 0 - -\n";
+
+const NO_RULES_AND_A_FACE: &str = "rules 0 - -\nup 1 far 1000000\n";
+
+const OTHER_RULES: &str = "rules 0 - -\nup 1 far 1000000\nrules 1000000 3b -\n";
 
 /// A start adds a line of new rules only if the rules differ from the last ones of the journal. The
 /// second start adds no line of rules, but a line for the face that the datagram opens.
 #[test]
 fn rules_at_a_start(rt: HostRuntime) {
-    let mut journal = Vec::new(rt.alloc());
-    assert!(rt; start(&rt, &mut journal, b"", Vec::new(rt.alloc())) == Some(true));
-    assert!(rt; has_text(&journal, "rules 0 - -\n"));
-    assert!(rt; start(&rt, &mut journal, b"", Vec::new(rt.alloc())) == Some(true));
-    assert!(rt; has_text(&journal, "rules 0 - -\nup 1 far 1000000\n"));
-    assert!(rt; start(&rt, &mut journal, b";", Vec::new(rt.alloc())) == Some(true));
-    assert!(rt;
-        has_text(
-            &journal,
-            "rules 0 - -\nup 1 far 1000000\nrules 1000000 3b -\n"
-        )
-    );
-}
-
-/// Returns the journal after a start without rules and with these peers.
-fn journal_after(
-    rt: &(impl AllocGlobal + Eprint + Net + Print),
-    journal: &[u8],
-    peers: &[SocketAddr],
-) -> Option<Vec<u8>> {
-    let peers = Vec::from_slice(rt.alloc(), peers).ok()?;
-    let mut journal = Vec::from_slice(rt.alloc(), journal).ok()?;
-    start(rt, &mut journal, b"", peers)?.then_some(journal)
+    assert!(rt; start_leaves(&rt, "", b"", &[], NO_RULES) == Some(true));
+    assert!(rt; start_leaves(&rt, NO_RULES, b"", &[], NO_RULES_AND_A_FACE) == Some(true));
+    assert!(rt; start_leaves(&rt, NO_RULES_AND_A_FACE, b";", &[], OTHER_RULES) == Some(true));
 }
 
 /// A line that a crash cut short is removed before a line is added.
 #[test]
 fn a_cut_line_at_a_start(rt: HostRuntime) {
-    let after = journal_after(&rt, b"rules 0 - -\nrules 1 3b", &[]);
-    assert!(rt; after.is_some_and(|text| has_text(&text, "rules 0 - -\nup 1 far 1000000\n")));
+    let cut = "rules 0 - -\nrules 1 3b";
+    assert!(rt; start_leaves(&rt, cut, b"", &[], NO_RULES_AND_A_FACE) == Some(true));
 }
 
 /// A start closes the face of a stranger, and the face of a peer that was Local and is Far now. The
@@ -158,10 +148,10 @@ fn a_cut_line_at_a_start(rt: HostRuntime) {
 #[test]
 fn faces_at_a_start(rt: HostRuntime) {
     let peers = [SocketAddr::from((Ipv4Addr::LOCALHOST, 6401))];
-    let after = journal_after(&rt, b"rules 0 - -\nup 1 far 5\nup 2 far 6\n", &peers);
-    let stranger = "rules 0 - -\nup 1 far 5\nup 2 far 6\ndown 2 6\n";
-    assert!(rt; after.is_some_and(|text| has_text(&text, stranger)));
-    let after = journal_after(&rt, b"rules 0 - -\nup 1 local 5\n", &peers);
-    let changed = "rules 0 - -\nup 1 local 5\ndown 1 5\n";
-    assert!(rt; after.is_some_and(|text| has_text(&text, changed)));
+    let stranger = "rules 0 - -\nup 1 far 5\nup 2 far 6\n";
+    let closed = "rules 0 - -\nup 1 far 5\nup 2 far 6\ndown 2 6\n";
+    assert!(rt; start_leaves(&rt, stranger, b"", &peers, closed) == Some(true));
+    let local = "rules 0 - -\nup 1 local 5\n";
+    let closed = "rules 0 - -\nup 1 local 5\ndown 1 5\n";
+    assert!(rt; start_leaves(&rt, local, b"", &peers, closed) == Some(true));
 }

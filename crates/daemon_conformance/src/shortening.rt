@@ -137,29 +137,34 @@ fn packet_in(alloc: Global, line: &str) -> Option<Vec<u8>> {
     if word(line, 0) == "data" {
         return data_of(alloc, word(line, 3), "01", None);
     }
+    let time = word(line, 2).parse::<u64>().ok()?;
     let name = NameBuf::from_uri(alloc, word(line, 4)).ok()?;
     let signer = NameBuf::from_uri(alloc, word(line, 3)).ok()?;
-    command_of(alloc, &name, &signer, word(line, 2).parse::<u64>().ok()?)
+    command_of(alloc, &name, &signer, time)
 }
 
 /// Appends the line that a line of a test stands for, with its LF.
 fn push_line(alloc: Global, text: &mut String, line: &str) -> Option<()> {
     match word(line, 0) {
-        "ask" | "data" => {
-            let octets = hex::encode(alloc, &packet_in(alloc, line)?).ok()?;
-            let start = format!(in alloc; "in {} {} ", word(line, 1), word(line, 2)).ok()?;
-            text.push_str(&start).ok()?;
-            text.push_str(&octets).ok()?;
-        }
-        "rules" => {
-            let rules = hex::encode(alloc, RULES.as_bytes()).ok()?;
-            let keys = hex::encode(alloc, KEYS.as_bytes()).ok()?;
-            let rules = format!(in alloc; "{line} {rules} {keys}").ok()?;
-            text.push_str(&rules).ok()?;
-        }
+        "ask" | "data" => push_packet(alloc, text, line)?,
+        "rules" => push_rules(alloc, text, line)?,
         _ => text.push_str(line).ok()?,
     }
     text.push('\n').ok()
+}
+
+/// Appends the line of the packet that a line of a test stands for, without its LF.
+fn push_packet(alloc: Global, text: &mut String, line: &str) -> Option<()> {
+    let packet = packet_in(alloc, line)?;
+    let octets = hex::encode(alloc, &packet).ok()?;
+    write!(text, "in {} {} {octets}", word(line, 1), word(line, 2)).ok()
+}
+
+/// Appends the line of the rules that a line of a test stands for, without its LF.
+fn push_rules(alloc: Global, text: &mut String, line: &str) -> Option<()> {
+    let rules = hex::encode(alloc, RULES.as_bytes()).ok()?;
+    let keys = hex::encode(alloc, KEYS.as_bytes()).ok()?;
+    write!(text, "{line} {rules} {keys}").ok()
 }
 
 /// Returns the journal that the lines of a test stand for.
