@@ -58,8 +58,7 @@ fn is_fresh(alloc: Global, guard: &Guard, command: &str) -> Option<bool> {
 /// Shows whether a command is fresh after the commands that were recorded before it.
 fn freshness(alloc: Global, row: &str) -> Option<String> {
     let (past, command) = row.split_once("? ")?;
-    let guard = guard_of(alloc, past)?;
-    let answer = if is_fresh(alloc, &guard, command)? {
+    let answer = if is_fresh_after(alloc, past, command)? {
         "fresh"
     } else {
         "no"
@@ -67,21 +66,39 @@ fn freshness(alloc: Global, row: &str) -> Option<String> {
     String::from_str(alloc, answer).ok()
 }
 
+/// Returns whether a command is fresh after the commands `past` were recorded.
+fn is_fresh_after(alloc: Global, past: &str, command: &str) -> Option<bool> {
+    let guard = guard_of(alloc, past)?;
+    is_fresh(alloc, &guard, command)
+}
+
 /// Returns the guard in which these commands were recorded.
 fn guard_of(alloc: Global, past: &str) -> Option<Guard> {
     let mut guard = Guard::new(alloc);
-    for recorded in past.split_terminator(", ") {
-        record(alloc, &mut guard, recorded.trim())?;
-    }
+    record_all(alloc, &mut guard, past)?;
     Some(guard)
+}
+
+/// Records these commands.
+fn record_all(alloc: Global, guard: &mut Guard, past: &str) -> Option<()> {
+    for recorded in past.split_terminator(", ") {
+        record(alloc, guard, recorded.trim())?;
+    }
+    Some(())
 }
 
 /// Shows whether two guards, each given by its commands, have the same times and numbers.
 fn sameness(alloc: Global, row: &str) -> Option<String> {
     let (past, other) = row.split_once("; ")?;
+    let is_same = are_same(alloc, past, other)?;
+    format!(in alloc; "{is_same}").ok()
+}
+
+/// Returns whether two guards, each given by its commands, have the same times and numbers.
+fn are_same(alloc: Global, past: &str, other: &str) -> Option<bool> {
     let guard = guard_of(alloc, past)?;
     let other = guard_of(alloc, other)?;
-    format!(in alloc; "{}", guard.has_same_times(&other)).ok()
+    Some(guard.has_same_times(&other))
 }
 
 /// Two guards are the same if they have the same signers with the same times and numbers.
@@ -161,14 +178,18 @@ prepare /k, prepare /l, /k 0 0, ? /k 0 1 0 -> no
 /// Returns whether a prepared recording does not run out of memory, and whether a failed
 /// preparation changes nothing.
 fn keeps_its_promise(alloc: Global) -> Option<bool> {
-    let mut guard = Guard::new(alloc);
     let key = key_in(alloc, "/k")?;
-    let signer = signer_of(&key);
+    let mut guard = Guard::new(alloc);
+    Some(promise_is_kept(&mut guard, signer_of(&key)))
+}
+
+/// Returns the same for this new guard and this signer.
+fn promise_is_kept(guard: &mut Guard, signer: Signer<'_>) -> bool {
     if guard.prepare(signer).is_err() {
-        return Some(guard.check(signer, 0, None, 0));
+        return guard.check(signer, 0, None, 0);
     }
     let recorded = guard.record(signer, 0, None).is_ok();
-    Some(recorded && !guard.check(signer, 0, None, 0) && guard.record(signer, 1, None).is_ok())
+    recorded && !guard.check(signer, 0, None, 0) && guard.record(signer, 1, None).is_ok()
 }
 
 #[test]
@@ -179,17 +200,27 @@ fn refused_memory_for_records(rt: HostRuntime) {
 /// Returns whether earlier records are unchanged by a recording for a new signer that may run out
 /// of memory. Memory may run out because another signer's recording used up the preparation.
 fn leaves_earlier_records(alloc: Global) -> Option<bool> {
+    let first = key_in(alloc, "/k")?;
+    let second = key_in(alloc, "/l")?;
+    new_guard_leaves_records(alloc, signer_of(&first), signer_of(&second))
+}
+
+/// Returns the same for a new guard and these two signers.
+fn new_guard_leaves_records(alloc: Global, first: Signer<'_>, second: Signer<'_>) -> Option<bool> {
     let mut guard = Guard::new(alloc);
-    let (first, second) = (key_in(alloc, "/k")?, key_in(alloc, "/l")?);
-    let (first, second) = (signer_of(&first), signer_of(&second));
+    leaves_records(&mut guard, first, second)
+}
+
+/// Returns the same for this new guard and these two signers.
+fn leaves_records(guard: &mut Guard, first: Signer<'_>, second: Signer<'_>) -> Option<bool> {
     guard.record(Signer::Digest, 5, Some(5)).ok()?;
     guard.prepare(second).ok()?;
     guard.record(first, 5, Some(5)).ok()?;
     let was_recorded = guard.record(second, 5, Some(5)).is_ok();
     Some(
         guard.check(second, 5, Some(5), 5) != was_recorded
-            && is_recorded(&guard, Signer::Digest)
-            && is_recorded(&guard, first),
+            && is_recorded(guard, Signer::Digest)
+            && is_recorded(guard, first),
     )
 }
 

@@ -3,7 +3,7 @@
 //! least.
 
 use name_patterns::Pattern;
-use ndn_names::NameBuf;
+use ndn_names::{Name, NameBuf};
 use std::alloc::Global;
 
 /// The greatest number of atoms in a pattern of these tests, including two implied atoms.
@@ -81,46 +81,72 @@ impl Numbers {
 
 /// Returns a pattern of up to four written atoms, some of which may be in a group.
 fn next_sample(alloc: Global, numbers: &mut Numbers) -> Option<Sample> {
-    let mut text = String::new(alloc);
-    let mut atoms = [NOTHING; ATOMS];
-    let mut group = None;
+    let mut sample = Sample {
+        text: String::new(alloc),
+        atoms: [NOTHING; ATOMS],
+        group: None,
+    };
+    spell_next(numbers, &mut sample)?;
+    Some(sample)
+}
+
+/// Spells the next pattern in an empty sample.
+fn spell_next(numbers: &mut Numbers, sample: &mut Sample) -> Option<()> {
     let written = numbers.below(5);
     let first = numbers.below(5);
     let end = first.saturating_add(numbers.below(3));
-    if numbers.below(2) == 0 {
-        atoms[0] = ANYTHING;
-    } else {
-        text.push_str("^").ok()?;
-    }
+    sample.put_end(numbers, 0, "^")?;
     for i in 0..4 {
         if i == first && i < written {
-            text.push_str("(").ok()?;
-            group = Some((i + 1, i + 1));
+            sample.open_group(i + 1)?;
         }
         if i < written {
-            let (test, letters) = *TESTS.get(numbers.below(6))?;
-            let (repeat, least, most) = *REPEATS.get(numbers.below(10))?;
-            text.push_str(test).ok()?;
-            text.push_str(repeat).ok()?;
-            atoms[i + 1] = Spelled {
-                letters,
-                least,
-                most,
-            };
+            sample.put_atom(numbers, i + 1)?;
         }
-        if let Some((start, _)) = group {
-            if i == end || (i == 3 && end > 3) {
-                text.push_str(")").ok()?;
-                group = Some((start, i + 2));
-            }
+        if i == end || (i == 3 && end > 3) {
+            sample.close_group(i + 2)?;
         }
     }
-    if numbers.below(2) == 0 {
-        atoms[5] = ANYTHING;
-    } else {
-        text.push_str("$").ok()?;
+    sample.put_end(numbers, 5, "$")
+}
+
+impl Sample {
+    /// Puts this anchor at an end of the pattern, or the implied atom with this number.
+    fn put_end(&mut self, numbers: &mut Numbers, number: usize, anchor: &str) -> Option<()> {
+        if numbers.below(2) == 0 {
+            *self.atoms.get_mut(number)? = ANYTHING;
+            return Some(());
+        }
+        self.text.push_str(anchor).ok()
     }
-    Some(Sample { text, atoms, group })
+
+    /// Opens the group before the atom with this number.
+    fn open_group(&mut self, number: usize) -> Option<()> {
+        self.group = Some((number, number));
+        self.text.push_str("(").ok()
+    }
+
+    /// Puts an atom, which gets this number.
+    fn put_atom(&mut self, numbers: &mut Numbers, number: usize) -> Option<()> {
+        let (test, letters) = *TESTS.get(numbers.below(6))?;
+        let (repeat, least, most) = *REPEATS.get(numbers.below(10))?;
+        *self.atoms.get_mut(number)? = Spelled {
+            letters,
+            least,
+            most,
+        };
+        self.text.push_str(test).ok()?;
+        self.text.push_str(repeat).ok()
+    }
+
+    /// Closes the group, if there is one, before the atom with this number.
+    fn close_group(&mut self, number: usize) -> Option<()> {
+        let Some((start, _)) = self.group else {
+            return Some(());
+        };
+        self.group = Some((start, number));
+        self.text.push_str(")").ok()
+    }
 }
 
 /// Returns up to four letters.
@@ -177,22 +203,21 @@ fn place_of(counts: &[usize; ATOMS], end: usize) -> usize {
         .fold(0usize, |sum, count| sum.saturating_add(*count))
 }
 
-/// Returns whether the pattern matches the letters, or `None` if the pattern and the simple program
-/// disagree about the match or its group.
-fn agreed(
-    alloc: Global,
-    text: &str,
-    atoms: &[Spelled],
-    group: Option<(usize, usize)>,
-    letters: &[u8],
-) -> Option<bool> {
+/// Returns whether the sample's pattern matches the letters, or `None` if the pattern and the
+/// simple program disagree about the match or its group.
+fn agreed(alloc: Global, sample: &Sample, letters: &[u8]) -> Option<bool> {
     let name = name_of(alloc, letters)?;
-    let pattern = Pattern::read(alloc, text).ok()?;
-    let Some(counts) = greatest_split(atoms, letters) else {
-        return pattern.matches(name.view()).is_none().then_some(false);
+    let pattern = Pattern::read(alloc, sample.text.as_str()).ok()?;
+    agreed_on(&pattern, name.view(), sample, letters)
+}
+
+/// Returns the same for the pattern that was read and the name of the letters.
+fn agreed_on(pattern: &Pattern, name: Name<'_>, sample: &Sample, letters: &[u8]) -> Option<bool> {
+    let Some(counts) = greatest_split(&sample.atoms, letters) else {
+        return pattern.matches(name).is_none().then_some(false);
     };
-    let captures = pattern.matches(name.view())?;
-    let group = group.map(|(first, end)| (place_of(&counts, first), place_of(&counts, end)));
+    let group = sample.group.map(|(first, end)| (place_of(&counts, first), place_of(&counts, end)));
+    let captures = pattern.matches(name)?;
     let agrees = captures.group(0) == Some((0, letters.len())) && captures.group(1) == group;
     agrees.then_some(true)
 }
@@ -200,9 +225,9 @@ fn agreed(
 /// Returns whether the next pattern matches the next letters, or `None` if the simple program
 /// disagrees.
 fn next_agreed(alloc: Global, numbers: &mut Numbers) -> Option<bool> {
-    let Sample { text, atoms, group } = next_sample(alloc, numbers)?;
+    let sample = next_sample(alloc, numbers)?;
     let letters = next_letters(alloc, numbers)?;
-    agreed(alloc, text.as_str(), &atoms, group, &letters)
+    agreed(alloc, &sample, &letters)
 }
 
 /// Returns how many of 3000 samples match, or the number of the first sample on which the simple

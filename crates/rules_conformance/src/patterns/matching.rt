@@ -12,14 +12,19 @@ use test_support::first_wrong;
 /// the index after its last component, as in `0-5 0-3 4-5`.
 fn shown(alloc: Global, captures: &Captures) -> Option<String> {
     let mut shown = String::new(alloc);
+    put_groups(&mut shown, captures)?;
+    Some(shown)
+}
+
+/// Appends the groups from group 0 on.
+fn put_groups(shown: &mut String, captures: &Captures) -> Option<()> {
     for i in 0..12 {
         if let Some((start, end)) = captures.group(i) {
             let space = if i == 0 { "" } else { " " };
-            let group = format!(in alloc; "{space}{start}-{end}").ok()?;
-            shown.push_str(group.as_str()).ok()?;
+            write!(shown, "{space}{start}-{end}").ok()?;
         }
     }
-    Some(shown)
+    Some(())
 }
 
 /// Reads the pattern and the name in `PATTERN at NAME`.

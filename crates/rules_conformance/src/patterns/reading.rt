@@ -7,14 +7,17 @@ use test_support::first_wrong;
 
 /// Returns whether a row `TEXT → FAULT` or `TEXT → 2 groups` is correct.
 pub fn is_read_so(alloc: Global, row: &str) -> bool {
-    let Some((text, wanted)) = row.split_once(" → ") else {
-        return false;
-    };
-    let told = match Pattern::read(alloc, text) {
-        Ok(pattern) => format!(in alloc; "{} groups", pattern.groups()),
-        Err(fault) => format!(in alloc; "{fault:?}"),
-    };
-    told.is_ok_and(|told| told.as_str() == wanted)
+    row.split_once(" → ").is_some_and(|(text, wanted)| {
+        reading_of(alloc, text).is_some_and(|told| told.as_str() == wanted)
+    })
+}
+
+/// Returns the number of groups in the pattern of a text, or the fault of the text.
+fn reading_of(alloc: Global, text: &str) -> Option<String> {
+    match Pattern::read(alloc, text) {
+        Ok(pattern) => format!(in alloc; "{} groups", pattern.groups()).ok(),
+        Err(fault) => format!(in alloc; "{fault:?}").ok(),
+    }
 }
 
 /// Returns whether the fault is reported in these words.

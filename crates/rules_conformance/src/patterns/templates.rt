@@ -31,7 +31,12 @@ fn expanded(
 fn made(alloc: Global, pattern: &str, name: &str, template: &str) -> Option<String> {
     let pattern = Pattern::read(alloc, pattern).ok()?;
     let name = NameBuf::from_uri(alloc, name).ok()?;
-    match expanded(alloc, &pattern, template, name.view()).ok()?? {
+    made_at(alloc, &pattern, template, name.view())
+}
+
+/// Returns the same for the pattern and the name that were read.
+fn made_at(alloc: Global, pattern: &Pattern, template: &str, name: Name<'_>) -> Option<String> {
+    match expanded(alloc, pattern, template, name).ok()?? {
         Ok(made) => made.to_uri(alloc).ok(),
         Err(fault) => format!(in alloc; "{fault:?}").ok(),
     }

@@ -3,7 +3,7 @@
 use super::reading::rules_of;
 use crate::rows::assert_right;
 use hmac_keys::KeyBook;
-use info_rules::{Decision, Kind, Packet, Rules};
+use info_rules::{Decision, Kind, Packet, RuleNo, Rules};
 use ndn_names::{Name, NameBuf};
 use ndn_packets::{DataWriter, Frame, InterestWriter, Sign, read_frame};
 use std::alloc::Global;
@@ -12,33 +12,46 @@ use test_support::{KEYS, first_wrong, typed};
 /// Returns the octets of a Data, or of a signed Interest with the time 1.
 fn written<'a>(alloc: Global, kind: &str, name: Name<'a>, sign: Sign<'a>) -> Option<Vec<u8>> {
     let mut octets = Vec::new(alloc);
-    if kind == "data" {
-        let writer = DataWriter {
-            name,
-            freshness: None,
-            last: None,
-            content: Some(b"x"),
-            sign,
-        };
-        writer.write(&mut octets).ok()?;
-    } else if kind == "interest" {
-        let writer = InterestWriter {
-            name,
-            can_be_prefix: false,
-            must_be_fresh: false,
-            nonce: [1, 2, 3, 4],
-            lifetime: None,
-            hop_limit: None,
-            parameters: None,
-            sign: Some(sign),
-            time: Some(1),
-            seq: None,
-        };
-        writer.write(&mut octets).ok()?;
-    } else {
-        return None;
-    }
+    put_packet(&mut octets, kind, name, sign)?;
     Some(octets)
+}
+
+/// Appends a Data, or a signed Interest with the time 1.
+fn put_packet<'a>(octets: &mut Vec<u8>, kind: &str, name: Name<'a>, sign: Sign<'a>) -> Option<()> {
+    match kind {
+        "data" => put_data(octets, name, sign),
+        "interest" => put_interest(octets, name, sign),
+        _ => None,
+    }
+}
+
+/// Appends a Data.
+fn put_data<'a>(octets: &mut Vec<u8>, name: Name<'a>, sign: Sign<'a>) -> Option<()> {
+    let writer = DataWriter {
+        name,
+        freshness: None,
+        last: None,
+        content: Some(b"x"),
+        sign,
+    };
+    writer.write(octets).ok()
+}
+
+/// Appends a signed Interest with the time 1.
+fn put_interest<'a>(octets: &mut Vec<u8>, name: Name<'a>, sign: Sign<'a>) -> Option<()> {
+    let writer = InterestWriter {
+        name,
+        can_be_prefix: false,
+        must_be_fresh: false,
+        nonce: [1, 2, 3, 4],
+        lifetime: None,
+        hop_limit: None,
+        parameters: None,
+        sign: Some(sign),
+        time: Some(1),
+        seq: None,
+    };
+    writer.write(octets).ok()
 }
 
 fn sign_by<'a>(name: Name<'a>, key: &'a [u8]) -> Sign<'a> {
@@ -54,13 +67,17 @@ fn octets_of(alloc: Global, packet: &str) -> Option<Vec<u8>> {
     }
     let (name, signer) = rest.split_once(" by ")?;
     let name = NameBuf::from_uri(alloc, name).ok()?;
+    signed_octets(alloc, kind, name.view(), signer)
+}
+
+/// Returns the octets of a packet with this kind, name and signer.
+fn signed_octets(alloc: Global, kind: &str, name: Name<'_>, signer: &str) -> Option<Vec<u8>> {
     if signer == "digest" {
-        return written(alloc, kind, name.view(), Sign::Digest);
+        return written(alloc, kind, name, Sign::Digest);
     }
     let (key_name, key) = signer.split_once(' ')?;
     let key_name = NameBuf::from_uri(alloc, key_name).ok()?;
-    let sign = sign_by(key_name.view(), key.as_bytes());
-    written(alloc, kind, name.view(), sign)
+    written(alloc, kind, name, sign_by(key_name.view(), key.as_bytes()))
 }
 
 /// Returns the packet in a frame, if it is an Interest or a Data.
@@ -74,21 +91,39 @@ fn packet_of<'a>(frame: &'a Frame<'a>) -> Option<Packet<'a>> {
 
 /// Returns the decision of the rules on a packet with these octets.
 fn decided(alloc: Global, rules: &Rules, keys: &str, octets: &[u8]) -> Option<Decision> {
-    let keys = KeyBook::read(alloc, keys).ok()?;
     let frame = read_frame(octets).ok()?;
-    rules.decide(alloc, &keys, packet_of(&frame)?).ok()
+    let packet = packet_of(&frame)?;
+    let keys = KeyBook::read(alloc, keys).ok()?;
+    rules.decide(alloc, &keys, packet).ok()
 }
 
 /// Returns the decision of a rule file on a packet, as `allowed 0`, `denied 0 Tag` or `no rule`.
 /// For `any` with a kind and a name, returns the first rule that applies, as `rule 0` or `no rule`.
 /// Returns `None` if an input is not valid.
 pub fn told_of(alloc: Global, file: &str, keys: &str, packet: &str) -> Option<String> {
-    let rules = rules_of(alloc, typed(alloc, file)?.as_str()).ok()?;
-    if let Some(named) = packet.strip_prefix("any ") {
-        return told_first(alloc, &rules, named);
+    let rules = typed_rules(alloc, file)?;
+    match packet.strip_prefix("any ") {
+        Some(named) => told_first(alloc, &rules, named),
+        None => told_decision(alloc, &rules, keys, packet),
     }
+}
+
+/// Returns the rules of a file, in which symbols stand for other characters.
+fn typed_rules(alloc: Global, file: &str) -> Option<Rules> {
+    let text = typed(alloc, file)?;
+    rules_of(alloc, text.as_str()).ok()
+}
+
+/// Returns the decision of the rules on a packet.
+fn told_decision(alloc: Global, rules: &Rules, keys: &str, packet: &str) -> Option<String> {
     let octets = octets_of(alloc, packet)?;
-    match decided(alloc, &rules, keys, &octets)? {
+    let decision = decided(alloc, rules, keys, &octets)?;
+    decision_shown(alloc, decision)
+}
+
+/// Shows a decision.
+fn decision_shown(alloc: Global, decision: Decision) -> Option<String> {
+    match decision {
         Decision::Allowed(rule) => format!(in alloc; "allowed {}", rule.0).ok(),
         Decision::Denied(rule, reason) => format!(in alloc; "denied {} {reason:?}", rule.0).ok(),
         Decision::NoRule => String::from_str(alloc, "no rule").ok(),
@@ -98,13 +133,18 @@ pub fn told_of(alloc: Global, file: &str, keys: &str, packet: &str) -> Option<St
 /// Returns the first rule that applies to a kind and a name.
 fn told_first(alloc: Global, rules: &Rules, named: &str) -> Option<String> {
     let (kind, name) = named.split_once(' ')?;
-    let name = NameBuf::from_uri(alloc, name).ok()?;
     let kind = match kind {
         "data" => Kind::Data,
         "interest" => Kind::Interest,
         _ => return None,
     };
-    match rules.first_match(kind, name.view()) {
+    let name = NameBuf::from_uri(alloc, name).ok()?;
+    rule_shown(alloc, rules.first_match(kind, name.view()))
+}
+
+/// Shows the number of a rule, if there is one.
+fn rule_shown(alloc: Global, rule: Option<RuleNo>) -> Option<String> {
+    match rule {
         Some(rule) => format!(in alloc; "rule {}", rule.0).ok(),
         None => String::from_str(alloc, "no rule").ok(),
     }

@@ -14,11 +14,15 @@ pub fn rules_of(alloc: Global, text: &str) -> Result<Rules, RulesFault> {
 /// Returns whether a text has this number of rules, as in `rules: 1`, or this fault, as in `3
 /// Syntax`.
 fn is_told(alloc: Global, text: &str, wanted: &str) -> bool {
-    let told = match rules_of(alloc, text) {
-        Ok(rules) => format!(in alloc; "rules: {}", rules.len()),
-        Err(fault) => format!(in alloc; "{} {:?}", fault.line, fault.kind),
-    };
-    told.is_ok_and(|told| told.as_str() == wanted)
+    told_of(alloc, text).is_some_and(|told| told.as_str() == wanted)
+}
+
+/// Returns the number of rules in a text, or its fault.
+fn told_of(alloc: Global, text: &str) -> Option<String> {
+    match rules_of(alloc, text) {
+        Ok(rules) => format!(in alloc; "rules: {}", rules.len()).ok(),
+        Err(fault) => format!(in alloc; "{} {:?}", fault.line, fault.kind).ok(),
+    }
 }
 
 /// Returns whether a row `TEXT → LINE KIND` or `TEXT → rules: 1` is correct, with other texts
@@ -27,11 +31,17 @@ fn is_told_between(alloc: Global, before: &str, row: &str, after: &str) -> bool 
     let Some((inner, wanted)) = row.split_once(" → ") else {
         return false;
     };
-    let text = format!(in alloc; "{before}{inner}{after}");
-    let Some(text) = text.ok().and_then(|text| typed(alloc, text.as_str())) else {
-        return false;
-    };
-    is_told(alloc, text.as_str(), wanted)
+    typed_between(alloc, before, inner, after).is_some_and(|text| is_told(
+        alloc,
+        text.as_str(),
+        wanted,
+    ))
+}
+
+/// Returns a text between two others, where symbols are replaced by what they stand for.
+fn typed_between(alloc: Global, before: &str, inner: &str, after: &str) -> Option<String> {
+    let text = format!(in alloc; "{before}{inner}{after}").ok()?;
+    typed(alloc, text.as_str())
 }
 
 fn is_told_so(alloc: Global, row: &str) -> bool {
@@ -232,29 +242,34 @@ fn a_second_form_lacks_nothing(rt: HostRuntime) {
     assert_right(&rt, first_wrong(rt.alloc(), SECOND_FORM, is_told_so));
 }
 
-/// Returns whether a file of `count` rules is read with this result.
+/// Returns whether a text of `count` rules is read with this result.
 fn are_rules_told(alloc: Global, count: u32, wanted: &str) -> bool {
     let mut text = String::new(alloc);
+    put_rules(alloc, &mut text, count).is_some() && is_told(alloc, text.as_str(), wanted)
+}
+
+/// Appends this many rules.
+fn put_rules(alloc: Global, text: &mut String, count: u32) -> Option<()> {
     for number in 0..count {
-        let rule = format!(in alloc; "rule {{\n id {number}\n for data }}\n");
-        if !rule.is_ok_and(|rule| text.push_str(rule.as_str()).is_ok()) {
-            return false;
-        }
+        let rule = format!(in alloc; "rule {{\n id {number}\n for data }}\n").ok()?;
+        text.push_str(rule.as_str()).ok()?;
     }
-    is_told(alloc, text.as_str(), wanted)
+    Some(())
 }
 
 /// Returns whether a rule with `count` of these blocks is read with this result.
 fn are_blocks_told(alloc: Global, count: u32, block: &str, wanted: &str) -> bool {
-    let Ok(mut text) = String::from_str(alloc, "rule {\n id a\n for data\n") else {
-        return false;
-    };
+    let mut text = String::new(alloc);
+    put_blocks(&mut text, count, block).is_some() && is_told(alloc, text.as_str(), wanted)
+}
+
+/// Appends a rule with this many blocks.
+fn put_blocks(text: &mut String, count: u32, block: &str) -> Option<()> {
+    text.push_str("rule {\n id a\n for data\n").ok()?;
     for _ in 0..count {
-        if text.push_str(block).is_err() {
-            return false;
-        }
+        text.push_str(block).ok()?;
     }
-    text.push('}').is_ok() && is_told(alloc, text.as_str(), wanted)
+    text.push('}').ok()
 }
 
 const FILTER: &str = "filter {\n type name\n regex <A> }\n";

@@ -24,13 +24,25 @@ fn shown_entry(alloc: Global, entry: &str) -> Option<String> {
 /// Returns a tree in the format of `Debug`. The tree is given as its entries, separated by bars, or
 /// as the word `nothing`.
 fn shown_tree(alloc: Global, entries: &str) -> Option<String> {
-    let mut shown = String::from_str(alloc, "InfoTree { entries: [").ok()?;
+    let shown = shown_entries(alloc, entries)?;
+    let front = shown.strip_suffix(", ").unwrap_or(shown.as_str());
+    format!(in alloc; "InfoTree {{ entries: [{front}] }}").ok()
+}
+
+/// Returns the entries of a tree in the format of `Debug`, each followed by a comma and a space.
+fn shown_entries(alloc: Global, entries: &str) -> Option<String> {
+    let mut shown = String::new(alloc);
+    put_entries(alloc, &mut shown, entries)?;
+    Some(shown)
+}
+
+/// Appends the entries of a tree in the same format.
+fn put_entries(alloc: Global, shown: &mut String, entries: &str) -> Option<()> {
     for entry in entries.split(" | ").filter(|entry| *entry != "nothing") {
         shown.push_str(shown_entry(alloc, entry)?.as_str()).ok()?;
         shown.push_str(", ").ok()?;
     }
-    let front = shown.strip_suffix(", ").unwrap_or(shown.as_str());
-    format!(in alloc; "{front}] }}").ok()
+    Some(())
 }
 
 /// Returns whether a row `TEXT → ENTRIES` is correct.
@@ -38,13 +50,21 @@ fn is_spelled_so(alloc: Global, row: &str) -> bool {
     let Some(row) = typed(alloc, row) else {
         return false;
     };
-    let Some((text, entries)) = row.split_once(" → ") else {
-        return false;
-    };
-    let (Ok(tree), Some(wanted)) = (InfoTree::read(alloc, text), shown_tree(alloc, entries)) else {
-        return false;
-    };
-    format!(in alloc; "{tree:?}").is_ok_and(|shown| shown == wanted)
+    row.split_once(" → ").is_some_and(|(text, entries)| has_entries(alloc, text, entries)
+        == Some(true))
+}
+
+/// Returns whether a text has these entries.
+fn has_entries(alloc: Global, text: &str, entries: &str) -> Option<bool> {
+    let wanted = shown_tree(alloc, entries)?;
+    let shown = debug_of(alloc, text)?;
+    Some(shown == wanted)
+}
+
+/// Returns the tree of a text in the format of `Debug`.
+fn debug_of(alloc: Global, text: &str) -> Option<String> {
+    let tree = InfoTree::read(alloc, text).ok()?;
+    format!(in alloc; "{tree:?}").ok()
 }
 
 /// Returns whether a text has a fault of this kind on this line.
@@ -258,20 +278,24 @@ fn nesting(rt: HostRuntime) {
 /// Returns a comment of `len` octets, followed by `end`.
 fn long_text(alloc: Global, len: usize, end: &str) -> Option<String> {
     let mut text = String::new(alloc);
-    for _ in 0..len {
-        text.push(';').ok()?;
-    }
+    put_comment(&mut text, len)?;
     text.push_str(end).ok()?;
     Some(text)
 }
 
+/// Appends a comment of `len` octets.
+fn put_comment(text: &mut String, len: usize) -> Option<()> {
+    for _ in 0..len {
+        text.push(';').ok()?;
+    }
+    Some(())
+}
+
 /// Returns whether a comment of `len` octets, followed by `end`, has no entries.
-fn is_empty_with(alloc: Global, len: usize, end: &str) -> bool {
-    let tree = long_text(alloc, len, end).map(|text| InfoTree::read(alloc, text.as_str()));
-    let Some(Ok(tree)) = tree else {
-        return false;
-    };
-    format!(in alloc; "{tree:?}").is_ok_and(|shown| shown.as_str() == "InfoTree { entries: [] }")
+fn is_empty_with(alloc: Global, len: usize, end: &str) -> Option<bool> {
+    let text = long_text(alloc, len, end)?;
+    let shown = debug_of(alloc, text.as_str())?;
+    Some(shown.as_str() == "InfoTree { entries: [] }")
 }
 
 /// Returns whether a comment of `len` octets, followed by `end`, has this fault.
@@ -281,7 +305,7 @@ fn has_fault_with(alloc: Global, len: usize, end: &str, wanted: &str) -> bool {
 
 #[test]
 fn lengths(rt: HostRuntime) {
-    assert!(rt; is_empty_with(rt.alloc(), 65536, ""));
+    assert!(rt; is_empty_with(rt.alloc(), 65536, "") == Some(true));
     assert!(rt; has_fault_with(rt.alloc(), 65536, "}", "0 TooLarge"));
     assert!(rt; has_fault_with(rt.alloc(), 65534, "\n}", "2 Syntax"));
 }
