@@ -11,13 +11,21 @@ use test_support::octets;
 /// the HMAC that an `HmacKey` computes, is different.
 fn tag(alloc: Global, input: &str) -> Option<String> {
     let (key, text) = input.split_once(" | ")?;
-    let key = octets(alloc, key)?;
-    let text = octets(alloc, text)?;
-    let tag = tag_of_any_parts(&key, &text)?;
-    if HmacKey::new(key).tag(&text, &[]) != tag {
-        return None;
-    }
+    let tag = tag_of_both(alloc, key, text)?;
     hex::encode(alloc, tag.as_slice()).ok()
+}
+
+/// Returns this HMAC, where the key and the text are given in hexadecimal.
+fn tag_of_both(alloc: Global, key: &str, text: &str) -> Option<[u8; 32]> {
+    let text = octets(alloc, text)?;
+    let key = octets(alloc, key)?;
+    tag_under(key, &text)
+}
+
+/// Returns the HMAC of a text under a key, if the text in two parts and an `HmacKey` give it too.
+fn tag_under(key: Vec<u8>, text: &[u8]) -> Option<[u8; 32]> {
+    let tag = tag_of_any_parts(&key, text)?;
+    (HmacKey::new(key).tag(text, &[]) == tag).then_some(tag)
 }
 
 /// Returns the tag of a text, if every split of the text into two parts gives this tag.
@@ -65,10 +73,15 @@ fn keys_around_a_block(rt: HostRuntime) {
 /// Returns whether a value is equal to a tag of 32 octets.
 fn is_tag(alloc: Global, input: &str) -> Option<String> {
     let (value, tag) = input.split_once(" | ")?;
+    let tag = tag_in(alloc, tag)?;
     let value = octets(alloc, value)?;
-    let tag = octets(alloc, tag)?;
-    let tag = <[u8; 32]>::try_from(tag.as_slice()).ok()?;
     tags_equal(&value, &tag).to_string(alloc).ok()
+}
+
+/// Returns a tag, given as 32 octets in hexadecimal.
+fn tag_in(alloc: Global, text: &str) -> Option<[u8; 32]> {
+    let octets = octets(alloc, text)?;
+    <[u8; 32]>::try_from(octets.as_slice()).ok()
 }
 
 #[test]
@@ -119,11 +132,24 @@ fn key_shown(alloc: Global, len: usize, key: &[u8]) -> Option<String> {
 fn key_file(alloc: Global, input: &str) -> Option<String> {
     let (count, rest) = input.split_once('|').unwrap_or(("0", input));
     let (end, uri) = rest.split_once(" ? ").unwrap_or((rest, "/"));
+    let count = count.parse().ok()?;
     let mut file = String::new(alloc);
-    for i in 0..count.parse::<u16>().ok()? {
+    put_keys(&mut file, count)?;
+    put_lines(&mut file, end)?;
+    found(alloc, &file, uri)
+}
+
+/// Appends the lines of this many keys.
+fn put_keys(file: &mut String, count: u16) -> Option<()> {
+    for i in 0..count {
         write!(file, "/{i} 00\n").ok()?;
     }
-    for character in end.chars() {
+    Some(())
+}
+
+/// Appends lines in which `↵` stands for an LF and `␍` for a CR.
+fn put_lines(file: &mut String, lines: &str) -> Option<()> {
+    for character in lines.chars() {
         file.push(match character {
             '↵' => '\n',
             '␍' => '\r',
@@ -131,7 +157,7 @@ fn key_file(alloc: Global, input: &str) -> Option<String> {
         })
         .ok()?;
     }
-    found(alloc, &file, uri)
+    Some(())
 }
 
 #[test]
@@ -190,17 +216,23 @@ A 00 -> BadLine(1)
 /// Returns the result of looking up `/A` in a key file that gives these octets to `/A`. The key's
 /// digits at the end of the result are left out.
 fn file_of_key(alloc: Global, input: &str) -> Option<String> {
-    let digits = hex::encode(alloc, octets(alloc, input)?).ok()?;
+    let digits = digits_of(alloc, input)?;
+    let found = found_with(alloc, &digits)?;
+    let front = found.strip_suffix(digits.as_str()).unwrap_or(&found);
+    String::from_str(alloc, front.trim_end()).ok()
+}
+
+/// Returns the digits of octets that are given in words.
+fn digits_of(alloc: Global, words: &str) -> Option<String> {
+    let octets = octets(alloc, words)?;
+    hex::encode(alloc, &octets).ok()
+}
+
+/// Returns the result of looking up `/A` in a key file that gives the octets of these digits to
+/// `/A`.
+fn found_with(alloc: Global, digits: &str) -> Option<String> {
     let file = format!(in alloc; "/A {digits}\n").ok()?;
-    let found = found(alloc, &file, "/A")?;
-    String::from_str(
-        alloc,
-        found
-            .strip_suffix(digits.as_str())
-            .unwrap_or(&found)
-            .trim_end(),
-    )
-    .ok()
+    found(alloc, &file, "/A")
 }
 
 /// Keys of 1, 256 and 257 octets.

@@ -104,7 +104,8 @@ fn appended(alloc: Global, input: &str) -> Option<String> {
     let (kind, value) = component.split_once(':')?;
     let kind = kind.parse().ok()?;
     let start = octets(alloc, start)?;
-    appended_to(alloc, &start, kind, &octets(alloc, value)?)
+    let value = octets(alloc, value)?;
+    appended_to(alloc, &start, kind, &value)
 }
 
 fn appended_to(alloc: Global, start: &[u8], kind: u16, value: &[u8]) -> Option<String> {
@@ -144,7 +145,12 @@ fn appended_components(rt: HostRuntime) {
 fn uri_of(alloc: Global, input: &str) -> Option<String> {
     let name = name_of(alloc, input)?;
     let text = name.to_uri(alloc).ok()?;
-    (NameBuf::from_uri(alloc, &text).ok()? == name).then_some(text)
+    reads_as(alloc, &text, &name).then_some(text)
+}
+
+/// Returns whether a URI text reads as this name.
+fn reads_as(alloc: Global, text: &str, name: &NameBuf) -> bool {
+    NameBuf::from_uri(alloc, text).is_ok_and(|read| read == *name)
 }
 
 #[test]
@@ -259,19 +265,34 @@ fn words_of_numbers(rt: HostRuntime) {
 /// Returns the octets of the name that a URI text reads as, or the fault. Also checks that
 /// `uri_len` returns the number of components, or the same fault.
 fn octets_of(alloc: Global, input: &str) -> Option<String> {
-    let read = NameBuf::from_uri(alloc, input);
-    if uri_len(input)
-        != read
-            .as_ref()
-            .map(|name| name.view().len())
-            .map_err(|fault| *fault)
-    {
+    match NameBuf::from_uri(alloc, input) {
+        Ok(name) => octets_counted(alloc, name.view(), uri_len(input)),
+        Err(fault) => fault_counted(alloc, fault, uri_len(input)),
+    }
+}
+
+/// Returns the octets of a name, if `counted` is the number of its components.
+fn octets_counted(
+    alloc: Global,
+    name: Name<'_>,
+    counted: Result<usize, NameFault>,
+) -> Option<String> {
+    if counted != Ok(name.len()) {
         return None;
     }
-    match read {
-        Ok(name) => hex::encode(alloc, name.view().as_octets()).ok(),
-        Err(fault) => fault_text(alloc, fault),
+    hex::encode(alloc, name.as_octets()).ok()
+}
+
+/// Returns a fault, if `counted` is the same one.
+fn fault_counted(
+    alloc: Global,
+    fault: NameFault,
+    counted: Result<usize, NameFault>,
+) -> Option<String> {
+    if counted != Err(fault) {
+        return None;
     }
+    fault_text(alloc, fault)
 }
 
 /// Returns whether two URI texts read as the same name, if the result is the same in either order.
@@ -447,11 +468,22 @@ ndn:ndn:/A -> BadUri
 /// Returns the number of components in a text of 64 components followed by the input, or the fault.
 fn after_64_components(alloc: Global, input: &str) -> Option<String> {
     let mut text = String::new(alloc);
+    put_64_components(&mut text)?;
+    text.push_str(input).ok()?;
+    number_or_fault(alloc, &text)
+}
+
+/// Appends 64 components to a text.
+fn put_64_components(text: &mut String) -> Option<()> {
     for _ in 0..64 {
         text.push_str("/A").ok()?;
     }
-    text.push_str(input).ok()?;
-    match NameBuf::from_uri(alloc, &text) {
+    Some(())
+}
+
+/// Returns the number of components of the name that a text reads as, or the fault.
+fn number_or_fault(alloc: Global, text: &str) -> Option<String> {
+    match NameBuf::from_uri(alloc, text) {
         Ok(name) => name.view().len().to_string(alloc).ok(),
         Err(fault) => fault_text(alloc, fault),
     }
@@ -474,16 +506,27 @@ fn sixty_four_components(rt: HostRuntime) {
 /// Returns the prefixes of a name, from the empty one to the whole name.
 fn prefixes(alloc: Global, input: &str) -> Option<String> {
     let name = NameBuf::from_uri(alloc, input).ok()?;
-    let len = name.view().len();
+    prefixes_of(alloc, name.view())
+}
+
+/// Returns the prefixes of this name.
+fn prefixes_of(alloc: Global, name: Name<'_>) -> Option<String> {
     let mut text = String::new(alloc);
+    put_prefixes(&mut text, name)?;
+    Some(text)
+}
+
+/// Appends the prefixes of this name.
+fn put_prefixes(text: &mut String, name: Name<'_>) -> Option<()> {
+    let len = name.len();
     for n in 0..=len {
-        let prefix = name.view().prefix(n);
+        let prefix = name.prefix(n);
         if prefix.len() != n {
             return None;
         }
         write!(text, "({prefix})").ok()?;
     }
-    Some(text)
+    Some(())
 }
 
 #[test]
@@ -531,7 +574,12 @@ fn relation(alloc: Global, input: &str) -> Option<String> {
     let (left, right) = input.split_once(' ')?;
     let left = NameBuf::from_uri(alloc, left).ok()?;
     let right = NameBuf::from_uri(alloc, right).ok()?;
-    let order = order_of(&left, &right)?;
+    relation_of(alloc, &left, &right)
+}
+
+/// Returns the order of these names, and whether the first is a prefix of the second.
+fn relation_of(alloc: Global, left: &NameBuf, right: &NameBuf) -> Option<String> {
+    let order = order_of(left, right)?;
     let prefix = if left.view().is_prefix_of(right.view()) {
         ", a prefix"
     } else {
@@ -584,9 +632,12 @@ fn first_components(alloc: Global, input: &str) -> Option<String> {
     let (left, right) = input.split_once(' ')?;
     let left = NameBuf::from_uri(alloc, left).ok()?;
     let right = NameBuf::from_uri(alloc, right).ok()?;
-    let left = left.view().component(0)?;
-    let right = right.view().component(0)?;
-    let order = order_of_components(&left, &right)?;
+    order_of_first(alloc, left.view(), right.view())
+}
+
+/// Returns how the first components of these names compare.
+fn order_of_first(alloc: Global, left: Name<'_>, right: Name<'_>) -> Option<String> {
+    let order = order_of_components(&left.component(0)?, &right.component(0)?)?;
     format!(in alloc; "{order:?}").ok()
 }
 
@@ -622,9 +673,20 @@ fn components_shown(alloc: Global, name: Name<'_>) -> Option<String> {
 
 /// Returns the components of a name, and the number of components after the first one.
 fn in_turn(alloc: Global, input: &str) -> Option<String> {
-    let name = NameBuf::from_uri(alloc, input).ok()?.try_clone(alloc).ok()?;
-    let count = count_after_first(name.view())?;
-    let components = components_shown(alloc, name.view())?;
+    let name = copy_of(alloc, input)?;
+    in_turn_of(alloc, name.view())
+}
+
+/// Returns a copy of the name that a URI text reads as.
+fn copy_of(alloc: Global, uri: &str) -> Option<NameBuf> {
+    let name = NameBuf::from_uri(alloc, uri).ok()?;
+    name.try_clone(alloc).ok()
+}
+
+/// Returns the components of this name, and the number of components after the first one.
+fn in_turn_of(alloc: Global, name: Name<'_>) -> Option<String> {
+    let count = count_after_first(name)?;
+    let components = components_shown(alloc, name)?;
     format!(in alloc; "{components}, {count} after the first").ok()
 }
 
@@ -704,19 +766,38 @@ sha256digest=00 -> BadUri
 /// Reads and writes a name, copies it and appends a component. Returns whether each of these calls
 /// succeeds, or fails only because memory runs out.
 fn give_all_or_memory(alloc: Global, text: &str) -> bool {
-    let mut name = match NameBuf::from_uri(alloc, text) {
-        Ok(name) => name,
-        Err(fault) => return fault == NameFault::Memory,
-    };
-    if name
-        .to_uri(alloc)
-        .is_ok_and(|printed| printed.as_str() != text)
-    {
-        return false;
+    match NameBuf::from_uri(alloc, text) {
+        Ok(mut name) => name_gives_all_or_memory(alloc, &mut name, text),
+        Err(fault) => fault == NameFault::Memory,
     }
-    if NameBuf::from_name(alloc, name.view()).is_ok_and(|copy| copy != name) {
-        return false;
+}
+
+/// Returns the same for the calls on a name that was read.
+fn name_gives_all_or_memory(alloc: Global, name: &mut NameBuf, text: &str) -> bool {
+    is_written_or_memory(alloc, name, text)
+        && is_copied_or_memory(alloc, name)
+        && appends_or_memory(name)
+}
+
+/// Returns whether the name is written as this text, unless memory runs out.
+fn is_written_or_memory(alloc: Global, name: &NameBuf, text: &str) -> bool {
+    match name.to_uri(alloc) {
+        Ok(printed) => printed.as_str() == text,
+        Err(_) => true,
     }
+}
+
+/// Returns whether a copy of the name is equal to it, unless memory runs out.
+fn is_copied_or_memory(alloc: Global, name: &NameBuf) -> bool {
+    match NameBuf::from_name(alloc, name.view()) {
+        Ok(copy) => copy == *name,
+        Err(_) => true,
+    }
+}
+
+/// Returns whether a sixth component is appended to a name, or memory runs out and the name is
+/// unchanged.
+fn appends_or_memory(name: &mut NameBuf) -> bool {
     match name.append(8, &[0; 300]) {
         Ok(()) => name.view().len() == 6,
         Err(fault) => fault == NameFault::Memory && name.view().len() == 5,

@@ -20,10 +20,16 @@ use test_support::octets;
 fn packet(alloc: Global, input: &str) -> Option<Vec<u8>> {
     let (kinds, value) = input.split_once('|').unwrap_or(("", input));
     let mut octets = octets(alloc, value)?;
-    for kind in kinds.split_ascii_whitespace().rev() {
-        octets = element(alloc, kind, &octets)?;
-    }
+    enclose(alloc, &mut octets, kinds)?;
     Some(octets)
+}
+
+/// Replaces octets by nested elements around them. The types are given with the outermost first.
+fn enclose(alloc: Global, octets: &mut Vec<u8>, kinds: &str) -> Option<()> {
+    for kind in kinds.split_ascii_whitespace().rev() {
+        *octets = element(alloc, kind, octets)?;
+    }
+    Some(())
 }
 
 fn element(alloc: Global, kind: &str, value: &[u8]) -> Option<Vec<u8>> {
@@ -44,14 +50,22 @@ fn outcome_of(octets: &[u8]) -> &'static str {
     }
 }
 
+/// Returns "read" for a packet in a row that is a frame, and otherwise the name of its fault.
 fn outcome(alloc: Global, input: &str) -> Option<String> {
-    String::from_str(alloc, outcome_of(&packet(alloc, input)?)).ok()
+    let octets = packet(alloc, input)?;
+    String::from_str(alloc, outcome_of(&octets)).ok()
 }
 
 /// Returns the outcome of reading the proper prefixes of a packet, if it is the same for all of
 /// them.
 fn cut(alloc: Global, input: &str) -> Option<String> {
     let octets = packet(alloc, input)?;
+    cut_shown(alloc, &octets)
+}
+
+/// Returns the outcome of reading the proper prefixes of these octets, if it is the same for all
+/// of them.
+fn cut_shown(alloc: Global, octets: &[u8]) -> Option<String> {
     let outcome = outcome_of(&[]);
     for end in 0..octets.len() {
         if outcome_of(&octets[..end]) != outcome {
@@ -63,23 +77,30 @@ fn cut(alloc: Global, input: &str) -> Option<String> {
 
 /// Returns the octets of the packet in a frame, with the reason of a Nack.
 fn carried(alloc: Global, input: &str) -> Option<String> {
-    match read_frame(&packet(alloc, input)?).ok()? {
-        Frame::Interest(interest) => {
-            format!(in alloc; "Interest {}", hex::encode(alloc, interest.whole).ok()?).ok()
-        }
-        Frame::Data(data) => format!(in alloc;
-            "Data {}",
-            hex::encode(alloc, data.whole).ok()?
-        ).ok(),
-        Frame::Nack { reason, interest } => {
-            format!(in alloc;
-                "Nack {reason} {}",
-                hex::encode(alloc, interest.whole).ok()?
-            )
-            .ok()
-        }
+    let octets = packet(alloc, input)?;
+    carried_in(alloc, &octets)
+}
+
+/// Returns the octets of the packet in the frame of these octets, with the reason of a Nack.
+fn carried_in(alloc: Global, octets: &[u8]) -> Option<String> {
+    match read_frame(octets).ok()? {
+        Frame::Interest(interest) => packet_shown(alloc, "Interest", interest.whole),
+        Frame::Data(data) => packet_shown(alloc, "Data", data.whole),
+        Frame::Nack { reason, interest } => nack_shown(alloc, reason, interest.whole),
         Frame::Idle => String::from_str(alloc, "Idle").ok(),
     }
+}
+
+/// Shows the kind and the octets of a packet.
+fn packet_shown(alloc: Global, kind: &str, octets: &[u8]) -> Option<String> {
+    let octets = hex::encode(alloc, octets).ok()?;
+    format!(in alloc; "{kind} {octets}").ok()
+}
+
+/// Shows the reason of a Nack and the octets of its Interest.
+fn nack_shown(alloc: Global, reason: u64, octets: &[u8]) -> Option<String> {
+    let octets = hex::encode(alloc, octets).ok()?;
+    format!(in alloc; "Nack {reason} {octets}").ok()
 }
 
 /// Returns the octets of an optional field as text.
@@ -91,26 +112,46 @@ fn value_text(alloc: Global, value: Option<&[u8]>) -> Option<String> {
     }
 }
 
-fn signature_text(alloc: Global, signature: Signature<'_>) -> Option<String> {
-    let Signature {
-        kind,
-        locator,
-        time,
-        seq,
-        value,
-    } = signature;
-    let key = match locator {
-        Locator::Missing => String::from_str(alloc, "missing"),
-        Locator::Name(name) => name.to_string(alloc),
-        Locator::Digest => String::from_str(alloc, "digest"),
-        Locator::Other => String::from_str(alloc, "other"),
+/// Returns the name of the key in a KeyLocator, or the form of another KeyLocator.
+fn locator_text(alloc: Global, locator: Locator<'_>) -> Option<String> {
+    match locator {
+        Locator::Missing => String::from_str(alloc, "missing").ok(),
+        Locator::Name(name) => name.to_string(alloc).ok(),
+        Locator::Digest => String::from_str(alloc, "digest").ok(),
+        Locator::Other => String::from_str(alloc, "other").ok(),
+    }
+}
+
+/// Returns all fields of a signature, or `unsigned` if there is none.
+fn signature_text(alloc: Global, signature: Option<Signature<'_>>) -> Option<String> {
+    let Some(signature) = signature else {
+        return String::from_str(alloc, "unsigned").ok();
     };
-    let key = key.ok()?;
-    let value = value_text(alloc, Some(value))?;
+    let key = locator_text(alloc, signature.locator)?;
+    signature_by(alloc, &signature, &key)
+}
+
+/// Returns all fields of a signature, where this is the text of its KeyLocator.
+fn signature_by(alloc: Global, signature: &Signature<'_>, key: &str) -> Option<String> {
+    let (kind, time, seq) = (signature.kind, signature.time, signature.seq);
+    let value = value_text(alloc, Some(signature.value))?;
     format!(in alloc; "signature {kind}, key {key}, time {time:?}, seq {seq:?}, value {value}").ok()
 }
 
-fn interest_text(alloc: Global, interest: Interest<'_>) -> Option<String> {
+/// Returns all fields of an Interest.
+fn interest_text(alloc: Global, interest: &Interest<'_>) -> Option<String> {
+    let signature = signature_text(alloc, interest.signature)?;
+    let parameters = value_text(alloc, interest.parameters)?;
+    interest_with(alloc, interest, &parameters, &signature)
+}
+
+/// Returns all fields of an Interest, where these are the texts of its parameters and signature.
+fn interest_with(
+    alloc: Global,
+    interest: &Interest<'_>,
+    parameters: &str,
+    signature: &str,
+) -> Option<String> {
     let Interest {
         name,
         can_be_prefix,
@@ -120,35 +161,35 @@ fn interest_text(alloc: Global, interest: Interest<'_>) -> Option<String> {
         ..
     } = interest;
     let nonce = hex::encode(alloc, interest.nonce.as_slice()).ok()?;
-    let parameters = value_text(alloc, interest.parameters)?;
-    let signature = match interest.signature {
-        None => String::from_str(alloc, "unsigned").ok()?,
-        Some(signature) => signature_text(alloc, signature)?,
-    };
     format!(in alloc;
         "Interest {name}, prefix {can_be_prefix}, fresh {must_be_fresh}, nonce {nonce}, lifetime {lifetime}, hops {hop_limit:?}, parameters {parameters}, {signature}"
     ).ok()
 }
 
-fn data_text(alloc: Global, data: Data<'_>) -> Option<String> {
-    let Data {
-        name,
-        freshness,
-        content,
-        signature,
-        ..
-    } = data;
-    let content = value_text(alloc, content)?;
-    let signature = signature_text(alloc, signature)?;
+/// Returns all fields of a Data.
+fn data_text(alloc: Global, data: &Data<'_>) -> Option<String> {
+    let signature = signature_text(alloc, Some(data.signature))?;
+    data_with(alloc, data, &signature)
+}
+
+/// Returns all fields of a Data, where this is the text of its signature.
+fn data_with(alloc: Global, data: &Data<'_>, signature: &str) -> Option<String> {
+    let (name, freshness) = (data.name, data.freshness);
+    let content = value_text(alloc, data.content)?;
     format!(in alloc; "Data {name}, fresh {freshness}, content {content}, {signature}").ok()
 }
 
 /// Returns all fields of an Interest or a Data.
 fn fields(alloc: Global, input: &str) -> Option<String> {
     let octets = packet(alloc, input)?;
-    match read_frame(&octets).ok()? {
-        Frame::Interest(interest) => interest_text(alloc, interest),
-        Frame::Data(data) => data_text(alloc, data),
+    fields_in(alloc, &octets)
+}
+
+/// Returns all fields of the Interest or the Data in these octets.
+fn fields_in(alloc: Global, octets: &[u8]) -> Option<String> {
+    match read_frame(octets).ok()? {
+        Frame::Interest(interest) => interest_text(alloc, &interest),
+        Frame::Data(data) => data_text(alloc, &data),
         _ => None,
     }
 }

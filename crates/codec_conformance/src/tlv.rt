@@ -11,11 +11,17 @@ fn spelling(alloc: Global, number: &str) -> Option<String> {
     let number = number.parse().ok()?;
     let mut out = Vec::new(alloc);
     put_number(&mut out, number).ok()?;
-    let (read, rest) = number_of(&out).ok()?;
-    if read != number || !rest.is_empty() || number_len(number) != out.len() {
+    spelling_shown(alloc, number, &out)
+}
+
+/// Returns the octets in hexadecimal, if they read as this number and have the length of its
+/// encoding.
+fn spelling_shown(alloc: Global, number: u64, octets: &[u8]) -> Option<String> {
+    let (read, rest) = number_of(octets).ok()?;
+    if read != number || !rest.is_empty() || number_len(number) != octets.len() {
         return None;
     }
-    hex::encode(alloc, out).ok()
+    hex::encode(alloc, octets).ok()
 }
 
 #[test]
@@ -32,7 +38,12 @@ fn number_spellings(rt: HostRuntime) {
 /// Returns the element at the front of some octets and the octets after it, or the fault.
 fn first(alloc: Global, input: &str) -> Option<String> {
     let octets = octets(alloc, input)?;
-    match first_element(&octets) {
+    first_in(alloc, &octets)
+}
+
+/// Does the same with the octets themselves.
+fn first_in(alloc: Global, octets: &[u8]) -> Option<String> {
+    match first_element(octets) {
         Ok((element, rest)) => {
             let (kind, value_len) = (element.kind, element.value.len());
             let (len, rest_len) = (element.whole.len(), rest.len());
@@ -46,11 +57,18 @@ fn first(alloc: Global, input: &str) -> Option<String> {
 fn written(alloc: Global, input: &str) -> Option<String> {
     let (kind, value) = input.split_once(' ')?;
     let kind = kind.parse().ok()?;
-    let mut out = Vec::new(alloc);
-    if kind > 0 {
-        put_element(&mut out, kind, &octets(alloc, value)?).ok()?;
+    let value = octets(alloc, value)?;
+    element_shown(alloc, kind, &value)
+}
+
+/// Returns the octets of an element in hexadecimal.
+fn element_shown(alloc: Global, kind: u32, value: &[u8]) -> Option<String> {
+    if kind == 0 {
+        return None;
     }
-    hex::encode(alloc, out).ok()
+    let mut out = Vec::new(alloc);
+    put_element(&mut out, kind, value).ok()?;
+    hex::encode(alloc, &out).ok()
 }
 
 /// An Interest with the Name /A and a Nonce.
@@ -134,10 +152,15 @@ fn shortest_integer(alloc: Global, number: &str) -> Option<String> {
     let number = number.parse().ok()?;
     let mut out = Vec::new(alloc);
     put_nni(&mut out, number).ok()?;
-    if nni_len(number) != out.len() {
+    integer_shown(alloc, number, &out)
+}
+
+/// Returns the octets in hexadecimal, if they have the length of this number's encoding.
+fn integer_shown(alloc: Global, number: u64, octets: &[u8]) -> Option<String> {
+    if nni_len(number) != octets.len() {
         return None;
     }
-    hex::encode(alloc, out).ok()
+    hex::encode(alloc, octets).ok()
 }
 
 #[test]
@@ -164,14 +187,25 @@ fn integers(rt: HostRuntime) {
 /// Returns the types of the elements and the lengths of their values, up to the end or to a fault.
 fn elements(alloc: Global, input: &str) -> Option<String> {
     let octets = octets(alloc, input)?;
+    elements_in(alloc, &octets)
+}
+
+/// Does the same with the octets themselves.
+fn elements_in(alloc: Global, octets: &[u8]) -> Option<String> {
     let mut text = String::new(alloc);
-    for element in Elements::new(&octets) {
+    put_elements(&mut text, octets)?;
+    Some(text)
+}
+
+/// Appends the types of the elements and the lengths of their values.
+fn put_elements(text: &mut String, octets: &[u8]) -> Option<()> {
+    for element in Elements::new(octets) {
         match element {
             Ok(element) => write!(text, "({} {})", element.kind, element.value.len()).ok()?,
             Err(fault) => write!(text, "({fault:?})").ok()?,
         }
     }
-    Some(text)
+    Some(())
 }
 
 #[test]
@@ -183,20 +217,27 @@ fn elements_end_with_the_octets_or_a_fault(rt: HostRuntime) {
     check_rows(&rt, rt.alloc(), rows, elements);
 }
 
-/// Returns whether each of these calls appends all of its octets, or none if memory runs out.
-fn append_all_or_nothing(alloc: Global) -> bool {
-    let mut number = Vec::new(alloc);
-    let number_put = put_number(&mut number, 65_536).is_ok();
-    let mut integer = Vec::new(alloc);
-    let integer_put = put_nni(&mut integer, 65_536).is_ok();
-    let mut element = Vec::new(alloc);
-    let element_put = put_element(&mut element, 8, &[1; 13]).is_ok();
-    number_put != number.is_empty()
-        && integer_put != integer.is_empty()
-        && element_put != element.is_empty()
+/// Returns whether a number is appended with all of its octets, or not at all if memory runs out.
+fn appends_number(alloc: Global) -> bool {
+    let mut out = Vec::new(alloc);
+    put_number(&mut out, 65_536).is_ok() != out.is_empty()
+}
+
+/// Returns whether an integer is appended with all of its octets, or not at all if memory runs out.
+fn appends_integer(alloc: Global) -> bool {
+    let mut out = Vec::new(alloc);
+    put_nni(&mut out, 65_536).is_ok() != out.is_empty()
+}
+
+/// Returns whether an element is appended with all of its octets, or not at all if memory runs out.
+fn appends_element(alloc: Global) -> bool {
+    let mut out = Vec::new(alloc);
+    put_element(&mut out, 8, &[1; 13]).is_ok() != out.is_empty()
 }
 
 #[test]
 fn refused_memory_appends_nothing(rt: HostRuntime) {
-    assert!(rt; append_all_or_nothing(rt.alloc()));
+    assert!(rt; appends_number(rt.alloc()));
+    assert!(rt; appends_integer(rt.alloc()));
+    assert!(rt; appends_element(rt.alloc()));
 }

@@ -11,7 +11,12 @@ use test_support::{digest_of, octets};
 /// Returns the two parts that a packet's signature covers.
 fn covered(alloc: Global, input: &str) -> Option<String> {
     let octets = packet(alloc, input)?;
-    let parts = match read_frame(&octets).ok()? {
+    covered_in(alloc, &octets)
+}
+
+/// Returns the two parts that the signature of the packet in these octets covers.
+fn covered_in(alloc: Global, octets: &[u8]) -> Option<String> {
+    let parts = match read_frame(octets).ok()? {
         Frame::Interest(interest) => interest.signed_parts(),
         Frame::Data(data) => data.signed_parts(),
         _ => return None,
@@ -85,21 +90,31 @@ fn lent_shown(alloc: Global, limit: Option<u8>, octets: &[u8]) -> Option<String>
 
 /// Returns the HopLimit, if the octets are unchanged.
 fn kept_shown(alloc: Global, limit: Option<u8>, octets: &[u8], input: &str) -> Option<String> {
-    if packet(alloc, input)?.as_slice() != octets {
+    if !is_packet(alloc, octets, input) {
         return None;
     }
     format!(in alloc; "{limit:?}").ok()
+}
+
+/// Returns whether the octets are those of the packet in a row.
+fn is_packet(alloc: Global, octets: &[u8], input: &str) -> bool {
+    packet(alloc, input).is_some_and(|packet| packet.as_slice() == octets)
 }
 
 /// Returns the HopLimit of an Interest, and its octets after the HopLimit is set to 6. If no
 /// HopLimit can be borrowed, returns only the HopLimit that is read, if any.
 fn lent(alloc: Global, input: &str) -> Option<String> {
     let mut octets = packet(alloc, input)?;
-    let limit = hop_limit_of(&octets);
-    if lends(&mut octets) {
-        lent_shown(alloc, limit, &octets)
+    lent_or_kept(alloc, &mut octets, input)
+}
+
+/// Does the same with the octets of the packet in a row.
+fn lent_or_kept(alloc: Global, octets: &mut [u8], input: &str) -> Option<String> {
+    let limit = hop_limit_of(octets);
+    if lends(octets) {
+        lent_shown(alloc, limit, octets)
     } else {
-        kept_shown(alloc, limit, &octets, input)
+        kept_shown(alloc, limit, octets, input)
     }
 }
 
@@ -129,8 +144,13 @@ const DATA: &str = "060f0703080141150178 16031b0100 1700";
 fn answers(alloc: Global, input: &str) -> Option<String> {
     let asked = NameBuf::from_uri(alloc, input).ok()?;
     let octets = octets(alloc, DATA)?;
-    match read_frame(&octets).ok()? {
-        Frame::Data(data) => answers_shown(alloc, data, asked.view()),
+    answers_in(alloc, &octets, asked.view())
+}
+
+/// Shows these results for the Data in these octets.
+fn answers_in(alloc: Global, octets: &[u8], asked: Name<'_>) -> Option<String> {
+    match read_frame(octets).ok()? {
+        Frame::Data(data) => answers_shown(alloc, data, asked),
         _ => None,
     }
 }

@@ -11,7 +11,13 @@ use std::test::*;
 
 /// Returns the PIT token of a frame.
 fn token(alloc: Global, input: &str) -> Option<String> {
-    value_text(alloc, read_lp(&packet(alloc, input)?).ok()?.token)
+    let octets = packet(alloc, input)?;
+    token_in(alloc, &octets)
+}
+
+/// Returns the PIT token of the frame in these octets.
+fn token_in(alloc: Global, octets: &[u8]) -> Option<String> {
+    value_text(alloc, read_lp(octets).ok()?.token)
 }
 
 /// Returns the link packet around an Interest, with a token. The link packet has a Nack if `reason`

@@ -231,18 +231,35 @@ fn outcome_with(packet: &mut [u8], place: usize, octet: u8) -> Option<&'static s
     Some(outcome)
 }
 
-/// Replaces each octet from index `first` to `last` by `octet` in turn. Returns how many of these
-/// packets have the outcome `wanted`, or the first other outcome.
-fn outcomes(
-    packet: &mut [u8],
+/// A change of a packet, and its outcome: each octet from index `first` to `last` is replaced by
+/// `octet` in turn.
+#[derive(Clone, Copy)]
+struct Change<'a> {
     first: usize,
     last: usize,
     octet: u8,
-    wanted: &str,
-) -> Result<u64, &'static str> {
+    wanted: &'a str,
+}
+
+/// Returns the change in a row, given as the first and the last index, an octet and an outcome.
+fn change_in(input: &str) -> Option<Change<'_>> {
+    let (first, rest) = input.split_once(' ')?;
+    let (last, rest) = rest.split_once(' ')?;
+    let (octet, wanted) = rest.split_once(' ')?;
+    Some(Change {
+        first: first.parse().ok()?,
+        last: last.parse().ok()?,
+        octet: u8::from_str_radix(octet, 16).ok()?,
+        wanted,
+    })
+}
+
+/// Returns how many of the changed packets have the wanted outcome, or the first other outcome.
+fn outcomes(packet: &mut [u8], change: &Change<'_>) -> Result<u64, &'static str> {
+    let wanted = change.wanted;
     let mut count = 0u64;
-    for place in first..=last {
-        let Some(outcome) = outcome_with(packet, place, octet) else {
+    for place in change.first..=change.last {
+        let Some(outcome) = outcome_with(packet, place, change.octet) else {
             continue;
         };
         if outcome != wanted && (outcome == "read" || wanted != "refused") {
@@ -253,17 +270,17 @@ fn outcomes(
     Ok(count)
 }
 
-/// The input is the first and the last index, an octet and an outcome. Replaces each octet of the
-/// command from the first to the last index in turn. Returns how many of these packets have this
-/// outcome, or the first other outcome.
+/// Changes the command as a row says. Returns how many of the changed packets have the outcome of
+/// the row, or the first other outcome.
 fn changed(alloc: Global, input: &str) -> Option<String> {
-    let mut words = input.split(' ');
-    let first = words.next()?.parse::<usize>().ok()?;
-    let last = words.next()?.parse::<usize>().ok()?;
-    let octet = u8::from_str_radix(words.next()?, 16).ok()?;
-    let wanted = words.next()?;
+    let change = change_in(input)?;
     let mut command = octets(alloc, COMMAND)?;
-    match outcomes(&mut command, first, last, octet, wanted) {
+    outcomes_shown(alloc, &mut command, &change)
+}
+
+/// Shows the outcomes of a changed packet.
+fn outcomes_shown(alloc: Global, packet: &mut [u8], change: &Change<'_>) -> Option<String> {
+    match outcomes(packet, change) {
         Ok(count) => format!(in alloc; "{count}").ok(),
         Err(outcome) => String::from_str(alloc, outcome).ok(),
     }
@@ -433,7 +450,12 @@ fn key_locators(rt: HostRuntime) {
 /// Returns the length of the Content of a Data, and of the whole Data.
 fn lengths(alloc: Global, input: &str) -> Option<String> {
     let octets = packet(alloc, input)?;
-    match read_frame(&octets).ok()? {
+    lengths_in(alloc, &octets)
+}
+
+/// Returns the two lengths of the Data in these octets.
+fn lengths_in(alloc: Global, octets: &[u8]) -> Option<String> {
+    match read_frame(octets).ok()? {
         Frame::Data(data) => {
             format!(in alloc; "{} of {}", data.content?.len(), data.whole.len()).ok()
         }
@@ -468,8 +490,14 @@ fn packet_size_limit(rt: HostRuntime) {
 /// Returns how the keys of two Interests compare.
 fn keys(alloc: Global, input: &str) -> Option<String> {
     let (one, other) = input.split_once(' ')?;
-    let (one, other) = (packet(alloc, one)?, packet(alloc, other)?);
-    match (read_frame(&one), read_frame(&other)) {
+    let one = packet(alloc, one)?;
+    let other = packet(alloc, other)?;
+    keys_in(alloc, &one, &other)
+}
+
+/// Returns how the keys of the Interests in these octets compare.
+fn keys_in(alloc: Global, one: &[u8], other: &[u8]) -> Option<String> {
+    match (read_frame(one), read_frame(other)) {
         (Ok(Frame::Interest(one)), Ok(Frame::Interest(other))) => {
             format!(in alloc; "{:?}", one.key().compare(other.key())).ok()
         }

@@ -41,37 +41,51 @@ fn written_interest(alloc: Global, writer: &InterestWriter<'_>) -> Option<String
     appended(alloc, fault, &out)
 }
 
-/// Returns what is written for an Interest whose fields are in columns, or the fault.
-fn interest_in(alloc: Global, columns: &[&str]) -> Option<String> {
-    let [
+/// The octets of the columns of a row: a name, a value and the name of a key. The value is the
+/// ApplicationParameters or the Content.
+#[derive(Drop)]
+struct Octets {
+    name: Vec<u8>,
+    value: Option<Vec<u8>>,
+    key_name: Option<Vec<u8>>,
+}
+
+/// Returns the octets of the name in the first column, and of the value and the name of the key in
+/// the columns at these indexes.
+fn octets_in(alloc: Global, columns: &[&str], value: usize, key: usize) -> Option<Octets> {
+    let (name, value, key) = (columns.first()?, columns.get(value)?, columns.get(key)?);
+    let name = octets(alloc, name)?;
+    Some(Octets {
         name,
-        prefix,
-        fresh,
-        lifetime,
-        hops,
-        parameters,
-        key,
-        time,
-        seq,
-    ] = columns
-    else {
+        value: octets(alloc, value),
+        key_name: octets(alloc, key),
+    })
+}
+
+/// Returns what is written for an Interest with these columns and their octets, or the fault.
+fn interest_of(alloc: Global, columns: &[&str], octets: &Octets) -> Option<String> {
+    let [_, prefix, fresh, lifetime, hops, _, key, time, seq] = columns else {
         return None;
     };
-    let (name, parameters) = (octets(alloc, name)?, octets(alloc, parameters));
-    let key_name = octets(alloc, key).unwrap_or(Vec::new(alloc));
     let writer = InterestWriter {
-        name: Name::read(&name).ok()?,
+        name: Name::read(&octets.name).ok()?,
         can_be_prefix: *prefix == "true",
         must_be_fresh: *fresh == "true",
         nonce: [1, 2, 3, 4],
         lifetime: lifetime.parse().ok(),
         hop_limit: hops.parse().ok(),
-        parameters: parameters.as_deref(),
-        sign: sign(key, &key_name)?,
+        parameters: octets.value.as_deref(),
+        sign: sign(key, octets.key_name.as_deref().unwrap_or(&[]))?,
         time: time.parse().ok(),
         seq: seq.parse().ok(),
     };
     written_interest(alloc, &writer)
+}
+
+/// Returns what is written for an Interest whose fields are in columns, or the fault.
+fn interest_in(alloc: Global, columns: &[&str]) -> Option<String> {
+    let octets = octets_in(alloc, columns, 5, 6)?;
+    interest_of(alloc, columns, &octets)
 }
 
 /// Returns what is written for an Interest whose fields are in a row, or the fault.
@@ -87,21 +101,25 @@ fn written(alloc: Global, writer: &DataWriter<'_>) -> Option<String> {
     appended(alloc, fault, &out)
 }
 
-/// Returns what is written for a Data whose fields are in columns, or the fault.
-fn data_in(alloc: Global, columns: &[&str]) -> Option<String> {
-    let [name, freshness, last, content, key] = columns else {
+/// Returns what is written for a Data with these columns and their octets, or the fault.
+fn data_of(alloc: Global, columns: &[&str], octets: &Octets) -> Option<String> {
+    let [_, freshness, last, _, key] = columns else {
         return None;
     };
-    let (name, content) = (octets(alloc, name)?, octets(alloc, content));
-    let key_name = octets(alloc, key).unwrap_or(Vec::new(alloc));
     let writer = DataWriter {
-        name: Name::read(&name).ok()?,
+        name: Name::read(&octets.name).ok()?,
         freshness: freshness.parse().ok(),
         last: last.parse().ok(),
-        content: content.as_deref(),
-        sign: sign(key, &key_name)??,
+        content: octets.value.as_deref(),
+        sign: sign(key, octets.key_name.as_deref().unwrap_or(&[]))??,
     };
     written(alloc, &writer)
+}
+
+/// Returns what is written for a Data whose fields are in columns, or the fault.
+fn data_in(alloc: Global, columns: &[&str]) -> Option<String> {
+    let octets = octets_in(alloc, columns, 3, 4)?;
+    data_of(alloc, columns, &octets)
 }
 
 /// Returns what is written for a Data whose fields are in a row, or the fault.
@@ -110,17 +128,20 @@ fn data(alloc: Global, input: &str) -> Option<String> {
     data_in(alloc, columns.as_slice())
 }
 
-/// Returns what is written for a reply, or the fault.
-fn written_reply(alloc: Global, name: Name<'_>, content: &[u8]) -> Option<String> {
+/// Returns what is written for a reply with the name in these octets, or the fault.
+fn written_reply(alloc: Global, name: &[u8], content: &[u8]) -> Option<String> {
+    let name = Name::read(name).ok()?;
     let mut out = vec![in alloc; 9].ok()?;
     let done = put_reply(&mut out, name, content);
     appended(alloc, done.err().map(|_| "Memory"), &out)
 }
 
+/// Returns what is written for a reply whose name and Content are in a row, or the fault.
 fn reply(alloc: Global, input: &str) -> Option<String> {
     let (name, content) = input.split_once(", ")?;
-    let (name, content) = (octets(alloc, name)?, octets(alloc, content)?);
-    written_reply(alloc, Name::read(&name).ok()?, &content)
+    let name = octets(alloc, name)?;
+    let content = octets(alloc, content)?;
+    written_reply(alloc, &name, &content)
 }
 
 /// Returns what is written for a Nack, or the fault.
@@ -130,9 +151,12 @@ fn written_nack_of(alloc: Global, reason: u64, interest: &[u8]) -> Option<String
     appended(alloc, done.err().map(|_| "Memory"), &out)
 }
 
+/// Returns what is written for a Nack whose reason and Interest are in a row, or the fault.
 fn nack(alloc: Global, input: &str) -> Option<String> {
     let (reason, interest) = input.split_once(", ")?;
-    written_nack_of(alloc, reason.parse().ok()?, &octets(alloc, interest)?)
+    let reason = reason.parse().ok()?;
+    let interest = octets(alloc, interest)?;
+    written_nack_of(alloc, reason, &interest)
 }
 
 #[test]
@@ -234,9 +258,17 @@ fn lengths_of_data(rt: HostRuntime) {
     check_rows(&rt, rt.alloc(), rows, interest);
 }
 
-/// Returns whether the text begins with `begin`. If memory ran out, the result is true as well.
-fn begins_or_memory(shown: Option<String>, begin: &str) -> bool {
-    match shown {
+/// Returns whether `show` gives a text that begins with `begin` for this input. If memory ran out,
+/// the result is true as well.
+fn begins_or_memory(
+    alloc: Global,
+    show: fn(Global, &str) -> Option<String>,
+    input: &str,
+    begin: &str,
+) -> bool
+    requires { IsAlwaysCallable show }
+{
+    match show(alloc, input) {
         None => true,
         Some(shown) => shown.starts_with(begin) || shown.as_str() == "Memory",
     }
@@ -245,11 +277,11 @@ fn begins_or_memory(shown: Option<String>, begin: &str) -> bool {
 /// If memory runs out, nothing is appended.
 #[test]
 fn refused_memory(rt: HostRuntime) {
-    let signed = interest(rt.alloc(), "080141, false, false, -, -, -, digest, -, -");
-    assert!(rt; begins_or_memory(signed, "05"));
-    assert!(rt; begins_or_memory(data(rt.alloc(), "080141, -, -, 78, digest"), "06"));
-    assert!(rt; begins_or_memory(reply(rt.alloc(), "080141, 78"), "06"));
-    assert!(rt; begins_or_memory(nack(rt.alloc(), "150, 050b07030801410a0401020304"), "64"));
+    let signed = "080141, false, false, -, -, -, digest, -, -";
+    assert!(rt; begins_or_memory(rt.alloc(), interest, signed, "05"));
+    assert!(rt; begins_or_memory(rt.alloc(), data, "080141, -, -, 78, digest", "06"));
+    assert!(rt; begins_or_memory(rt.alloc(), reply, "080141, 78", "06"));
+    assert!(rt; begins_or_memory(rt.alloc(), nack, "150, 050b07030801410a0401020304", "64"));
 }
 
 /// An Interest with the Name /A.
@@ -284,15 +316,21 @@ fn put_both(out: &mut Vec<u8>, name: Name<'_>) -> Option<()> {
     data.write(out).ok()
 }
 
+/// Appends the packets of all writers to an empty output. Returns its length and its capacity if
+/// the first and the last packet are the right ones.
+fn fill(out: &mut Vec<u8>) -> Option<(usize, usize)> {
+    let name = Name::read(b"\x08\x01A").ok()?;
+    put_both(out, name)?;
+    put_reply(out, name, b"x").ok()?;
+    put_nack(out, 150, PLAIN).ok()?;
+    (out.starts_with(PLAIN) && out.ends_with(NACK)).then_some((out.len(), out.capacity()))
+}
+
 /// Returns the length and the capacity of an output with a capacity of 200 octets, after all
 /// writers have appended to it.
 fn filled_room(alloc: Global) -> Option<(usize, usize)> {
-    let name = Name::read(b"\x08\x01A").ok()?;
     let mut out = Vec::with_capacity(alloc, 200).ok()?;
-    put_both(&mut out, name)?;
-    put_reply(&mut out, name, b"x").ok()?;
-    put_nack(&mut out, 150, PLAIN).ok()?;
-    (out.starts_with(PLAIN) && out.ends_with(NACK)).then_some((out.len(), out.capacity()))
+    fill(&mut out)
 }
 
 /// The earlier octets of an output stay unchanged. If the output has enough capacity, nothing is
