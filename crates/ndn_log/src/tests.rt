@@ -57,17 +57,34 @@ fn is_event_line(alloc: Global, came: Came<'_>, verdict: Verdict, line: &str) ->
     shown(alloc, came, verdict).is_some_and(|text| text.as_slice() == line.as_bytes())
 }
 
+/// Returns the line of an event on a face at 192.0.2.7:6363 with this verdict.
 fn shown(alloc: Global, came: Came<'_>, verdict: Verdict) -> Option<Vec<u8>> {
+    let rules = rules_of(alloc)?;
+    let mut text = Vec::new(alloc);
+    put_line(alloc, &mut text, came, verdict, &rules)?;
+    Some(text)
+}
+
+/// Returns the rules of these tests.
+fn rules_of(alloc: Global) -> Option<Rules> {
     let tree = InfoTree::read(alloc, RULES).ok()?;
-    let rules = Rules::read(alloc, &tree).ok()?;
+    Rules::read(alloc, &tree).ok()
+}
+
+/// Appends the line of an event on a face at 192.0.2.7:6363 with this verdict.
+fn put_line(
+    alloc: Global,
+    text: &mut Vec<u8>,
+    came: Came<'_>,
+    verdict: Verdict,
+    rules: &Rules,
+) -> Option<()> {
     let entry = Entry {
         moment: MOMENT,
         endpoint: Some(SocketAddr::V4(SocketAddrV4::new(Ipv4Addr::new(192, 0, 2, 7), 6363))),
         came,
     };
-    let mut text = Vec::new(alloc);
-    put_event(alloc, &mut text, &entry, &Ok(verdict), &rules).ok()?;
-    Some(text)
+    put_event(alloc, text, &entry, &Ok(verdict), rules).ok()
 }
 
 /// Returns whether the line of a truncated packet says that the packet may have been longer.
@@ -92,13 +109,18 @@ fn says_more(alloc: Global) -> bool {
 /// later, a failed send, and a stranger's datagram.
 fn shown_notes(alloc: Global) -> Option<Vec<u8>> {
     let mut text = Vec::new(alloc);
-    put_closed_idle(alloc, &mut text, 253_402_207_200_999, 1).ok()?;
-    put_closed_idle(alloc, &mut text, 253_402_207_201_000, 2).ok()?;
+    put_notes(alloc, &mut text)?;
+    Some(text)
+}
+
+/// Appends these four lines.
+fn put_notes(alloc: Global, text: &mut Vec<u8>) -> Option<()> {
+    put_closed_idle(alloc, text, 253_402_207_200_999, 1).ok()?;
+    put_closed_idle(alloc, text, 253_402_207_201_000, 2).ok()?;
     let ip = Ipv6Addr::new(0x2001, 0xdb8, 0, 0, 0, 0, 0, 1);
     let endpoint = Some(SocketAddr::V6(SocketAddrV6::new(ip, 6363, 0, 0)));
-    put_failed_send(alloc, &mut text, MOMENT, 3, endpoint, b"\x06\x82").ok()?;
-    put_strangers(alloc, &mut text, MOMENT, 1).ok()?;
-    Some(text)
+    put_failed_send(alloc, text, MOMENT, 3, endpoint, b"\x06\x82").ok()?;
+    put_strangers(alloc, text, MOMENT, 1).ok()
 }
 
 const NOTES: &str = "9999-12-30T22:00:00.999Z 1 face closed idle
