@@ -7,6 +7,8 @@ mod command_line;
 #[cfg(test)]
 mod log;
 #[cfg(test)]
+mod log_lines;
+#[cfg(test)]
 mod restarts;
 #[cfg(test)]
 mod shortening;

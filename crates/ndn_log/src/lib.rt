@@ -13,6 +13,3 @@ mod words;
 pub use entry::{Came, Entry, is_plain};
 pub use event::put_event;
 pub use notes::{put_closed_idle, put_failed_send, put_strangers};
-
-#[cfg(test)]
-mod tests;

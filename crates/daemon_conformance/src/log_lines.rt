@@ -1,9 +1,9 @@
 //! Tests of log lines as operators read them.
 
-use super::*;
-use forwarder::{DropReason, Scope, Verdict};
 use info_rules::{InfoTree, Kind, Reason, RuleNo, Rules};
+use ndn_log::{Came, Entry, put_closed_idle, put_event, put_failed_send, put_strangers};
 use ndn_packets::PacketFault;
+use node_core::{DropReason, Scope, Verdict};
 use std::alloc::Global;
 use std::net::{Ipv4Addr, Ipv6Addr, SocketAddr, SocketAddrV4, SocketAddrV6};
 
