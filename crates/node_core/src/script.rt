@@ -10,8 +10,8 @@ mod output;
 mod player;
 mod word;
 
-use crate::script::player::{CHUNK, Player};
-use forwarder::{Node, NodeFault, NodeParts, Outbox};
+use crate::script::player::Player;
+use forwarder::{Node, NodeFault, NodeParts};
 pub use line::{Line, line_of};
 pub use output::put_all;
 use std::alloc::Global;
@@ -68,22 +68,11 @@ pub fn run_script<R: Read, W: Write>(
         (R.remaining reader.old) (R.remaining reader.new) (W.contents writer.old)
         (W.contents writer.new)) }
 {
-    let node = match Node::new(alloc, parts) {
-        Ok(node) => node,
+    let mut player = match Node::new(alloc, parts) {
+        Ok(node) => Player::new(alloc, node),
         Err(fault) => return Err(RunFault::Node(fault)),
     };
-    let Ok(mut chunk) = vec![in alloc; 0u8; CHUNK] else {
-        return Err(RunFault::Memory);
-    };
-    let mut player = Player {
-        alloc,
-        node,
-        outbox: Outbox::new(alloc),
-        text: Vec::new(alloc),
-        lines: 0,
-        events: 0,
-    };
-    player.play(chunk.as_mut_slice(), reader, writer)
+    player.run(reader, writer)
 }
 
 /// Law: a text is a script of at most one list of events. A text has at most one first bad line,

@@ -411,7 +411,7 @@ fn added_deep(alloc: Global, station: &mut Station) -> Option<u16> {
     Some(added(station, &name, 7))
 }
 
-/// Returns the number of next hops for Interests with the name with this number.
+/// Returns how many next hops an Interest for the name `numbered(number)` has.
 fn hops_at(alloc: Global, station: &Station, number: u16) -> Option<usize> {
     let name = numbered(alloc, number)?;
     Some(station.hops(name.view()))

@@ -33,8 +33,41 @@ pub struct Player {
 }
 
 impl Player {
-    /// Runs a script from its start to the end of the reader. `chunk` is the buffer for reading.
-    pub fn play<R: Read, W: Write>(
+    /// Returns the state before the first line of a script.
+    pub fn new(alloc: Global, node: Node) -> Player
+        ensures node { result.node ≡ node }
+        ensures lines { result.lines ≡ 0 }
+        ensures events { result.events ≡ 0 }
+    {
+        Player {
+            alloc,
+            node,
+            outbox: Outbox::new(alloc),
+            text: Vec::new(alloc),
+            lines: 0,
+            events: 0,
+        }
+    }
+
+    /// Runs a script from its start to the end of the reader.
+    pub fn run<R: Read, W: Write>(&mut self, reader: &mut R, writer: &mut W) -> Result<(), RunFault>
+        requires { IsStart (place_of self.old) }
+        ensures done { OnOk result
+            (Ends self.old.node (R.remaining reader.old) (R.remaining reader.new)
+            (W.contents writer.old) (W.contents writer.new)) }
+        ensures stopped { IfErr result
+            (λ fault. Stops self.old.node fault (R.remaining reader.old) (R.remaining reader.new)
+            (W.contents writer.old) (W.contents writer.new)) }
+        ensures parts { IfErr result ComesWithGoodParts }
+    {
+        let Ok(mut chunk) = vec![in self.alloc; 0u8; CHUNK] else {
+            return Err(RunFault::Memory);
+        };
+        self.play(chunk.as_mut_slice(), reader, writer)
+    }
+
+    // Does the same as `run`. `chunk` is the buffer for reading.
+    fn play<R: Read, W: Write>(
         &mut self,
         chunk: &mut [u8],
         reader: &mut R,
