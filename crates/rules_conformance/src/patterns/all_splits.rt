@@ -203,21 +203,33 @@ fn place_of(counts: &[usize; ATOMS], end: usize) -> usize {
         .fold(0usize, |sum, count| sum.saturating_add(*count))
 }
 
-/// Returns whether the sample's pattern matches the letters, or `None` if the pattern and the
-/// simple program disagree about the match or its group.
-fn agreed(alloc: Global, sample: &Sample, letters: &[u8]) -> Option<bool> {
+/// Returns whether the pattern matches the letters, or `None` if the pattern and the simple program
+/// disagree about the match or its group.
+fn agreed(
+    alloc: Global,
+    text: &str,
+    atoms: &[Spelled],
+    group: Option<(usize, usize)>,
+    letters: &[u8],
+) -> Option<bool> {
     let name = name_of(alloc, letters)?;
-    let pattern = Pattern::read(alloc, sample.text.as_str()).ok()?;
-    agreed_on(&pattern, name.view(), sample, letters)
+    let pattern = Pattern::read(alloc, text).ok()?;
+    agreed_on(&pattern, name.view(), atoms, group, letters)
 }
 
 /// Returns the same for the pattern that was read and the name of the letters.
-fn agreed_on(pattern: &Pattern, name: Name<'_>, sample: &Sample, letters: &[u8]) -> Option<bool> {
-    let Some(counts) = greatest_split(&sample.atoms, letters) else {
+fn agreed_on(
+    pattern: &Pattern,
+    name: Name<'_>,
+    atoms: &[Spelled],
+    group: Option<(usize, usize)>,
+    letters: &[u8],
+) -> Option<bool> {
+    let Some(counts) = greatest_split(atoms, letters) else {
         return pattern.matches(name).is_none().then_some(false);
     };
-    let group = sample.group.map(|(first, end)| (place_of(&counts, first), place_of(&counts, end)));
     let captures = pattern.matches(name)?;
+    let group = group.map(|(first, end)| (place_of(&counts, first), place_of(&counts, end)));
     let agrees = captures.group(0) == Some((0, letters.len())) && captures.group(1) == group;
     agrees.then_some(true)
 }
@@ -225,9 +237,9 @@ fn agreed_on(pattern: &Pattern, name: Name<'_>, sample: &Sample, letters: &[u8])
 /// Returns whether the next pattern matches the next letters, or `None` if the simple program
 /// disagrees.
 fn next_agreed(alloc: Global, numbers: &mut Numbers) -> Option<bool> {
-    let sample = next_sample(alloc, numbers)?;
+    let Sample { text, atoms, group } = next_sample(alloc, numbers)?;
     let letters = next_letters(alloc, numbers)?;
-    agreed(alloc, &sample, &letters)
+    agreed(alloc, text.as_str(), &atoms, group, &letters)
 }
 
 /// Returns how many of 3000 samples match, or the number of the first sample on which the simple
