@@ -165,42 +165,25 @@ pub fn plays(alloc: Global, scene: &mut Scene, book: &KeyBook, row: &str) -> Opt
     ends_as(alloc, &exchange, progress, wanted)
 }
 
-/// Runs all rows on one node, in order, and returns the first row that does not end as it says.
-fn first_misplayed<'a>(
-    alloc: Global,
-    scene: &mut Scene,
-    book: &KeyBook,
-    rows: &'a str,
-) -> Option<&'a str> {
-    for row in rows.lines() {
+/// Runs all rows on one node, in order. Returns the number of the first line, counted from 1, whose
+/// row does not end as it says, or 0 if there is none.
+fn first_misplayed(alloc: Global, scene: &mut Scene, book: &KeyBook, rows: &str) -> usize {
+    for (before, row) in rows.lines().enumerate() {
         if !row.is_empty() && plays(alloc, scene, book, row) != Some(true) {
-            return Some(row);
+            return before.saturating_add(1);
         }
     }
-    None
+    0
 }
 
-/// Does the same as `misplayed`, with these keys.
-fn misplayed_with<'a>(
-    alloc: Global,
-    rules: &str,
-    book: &KeyBook,
-    rows: &'a str,
-) -> Option<&'a str> {
-    let row = on_scene(
+/// Returns what `first_misplayed` returns for a new node under these rules, or `None` if there is
+/// no such node.
+pub fn misplayed(alloc: Global, rules: &str, rows: &str) -> Option<usize> {
+    let book = KeyBook::read(alloc, KEYS).ok()?;
+    on_scene(
         alloc,
         rules,
-        book,
+        &book,
         &|alloc, scene, book| Some(first_misplayed(alloc, scene, book, rows)),
-    );
-    row.unwrap_or(Some("no node"))
-}
-
-/// Runs all rows on a new node under these rules, and returns the first row that does not end as it
-/// says.
-pub fn misplayed<'a>(alloc: Global, rules: &str, rows: &'a str) -> Option<&'a str> {
-    match KeyBook::read(alloc, KEYS) {
-        Ok(book) => misplayed_with(alloc, rules, &book, rows),
-        Err(_) => Some("no keys"),
-    }
+    )
 }
