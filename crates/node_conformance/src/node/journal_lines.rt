@@ -141,7 +141,7 @@ fn replays_whole_lines(alloc: Global, text: &[u8]) -> bool {
     let wanted = Replayed {
         events: events as u64,
         whole: whole as u64,
-        cut: (text.len() - whole) as u64,
+        cut: text.len().saturating_sub(whole) as u64,
     };
     ends_on_new_node(alloc, text, &Ok(wanted)) == Some(true)
 }
