@@ -7,8 +7,8 @@ use Rattle.journal_shortening.specs.Comparing.{HaveSameTables}
 use Rattle.journal_shortening.specs.declared.fault.ShortenFault.{ShortenFault}
 use Rattle.journal_shortening.specs.Shortened.{AgreeOnEmptyNodes, AgreesWithEmptyNode, IsEmptyNode}
 
--- If `other_first` is an empty node, and `other` restores the same tables on it as `text` restores on
--- `first`, then `AgreesWithEmptyNode` holds: `other` restores them on some empty node.
+-- If `other_first` is an empty node, and `other` restores the same tables on it as `text` restores
+-- on `first`, then `AgreesWithEmptyNode` holds: `other` restores them on some empty node.
 pub on_empty : (repo : List Field) (text other : List ℕ) (first last other_first other_last : NodeState) (r : Result Bool ShortenFault) → IsEmptyNode repo other_first
     → IfOk r (λ same. IsTrue same → HaveSameTables text first last other other_first other_last) → IfOk r (λ same. IsTrue same → AgreesWithEmptyNode repo text first last other)
 on_empty repo text other first last other_first other_last (Ok same) empty h = λ t. record { other_first = other_first; other_last = other_last; is_empty = empty; tables = h t }

@@ -8,7 +8,8 @@ use Rattle.forwarder.specs.declared.node.NodeParts.{NodeParts}
 use Rattle.journal_shortening.specs.Comparing.{HaveSameLastRules, HaveSameTables}
 use Rattle.journal_shortening.specs.Needed.{PutsNeeded}
 
--- the parts of a node whose repository has this prefix, with the rules of an empty file, and no keys
+-- the parts of a node whose repository has this prefix, with the rules of an empty file and without
+-- keys
 pub record AreEmptyParts (repo : List Field) (parts : NodeParts) : Type 0 where
   pub are_rules : AreRules [] parts.rules
   pub no_keys : parts.keys ≡ []
@@ -30,8 +31,8 @@ pub record AgreesWithEmptyNode (repo : List Field) (text : List ℕ) (first last
   pub is_empty : IsEmptyNode repo other_first
   pub tables : HaveSameTables text first last other other_first other_last
 
--- The journals `text` and `other` restore the same tables on two empty nodes whose repositories have
--- the prefix `repo`.
+-- The journals `text` and `other` restore the same tables on two empty nodes whose repositories
+-- have the prefix `repo`.
 pub record AgreeOnEmptyNodes (repo : List Field) (text other : List ℕ) : Type 0 where
   pub first : NodeState
   pub last : NodeState

@@ -42,8 +42,8 @@ fn play_all(alloc: Global, node: &mut Node, journal: &[u8]) -> Result<(), Shorte
 }
 
 /// Returns whether the last whole lines of new rules in two journals have the same rules and keys,
-/// octet by octet. Also returns `true` if neither journal has such a line. The fault is `TooLong` or
-/// `Memory`.
+/// octet by octet. Also returns `true` if neither journal has such a line. The fault is `TooLong`
+/// or `Memory`.
 pub fn have_same_last_rules(alloc: Global, old: &[u8], new: &[u8]) -> Result<bool, ShortenFault>
     ensures { IfOk result (λ same. IsTrue same → HaveSameLastRules old.now new.now) }
 {

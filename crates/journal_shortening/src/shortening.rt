@@ -89,8 +89,8 @@ fn restores_same_on_empty(
     restores_same_on(alloc, repo, &mut node, old, new)
 }
 
-/// Returns whether the journal `new` restores the same tables on an empty node as the journal `old` on
-/// `node`.
+/// Returns whether the journal `new` restores the same tables on an empty node as the journal `old`
+/// on `node`.
 fn restores_same_on(
     alloc: Global,
     repo: &NameBuf,

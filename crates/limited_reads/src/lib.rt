@@ -61,6 +61,3 @@ fn kept_within(octets: Vec<u8>, limit: u32) -> Option<Vec<u8>>
     }
     Some(octets)
 }
-
-#[cfg(test)]
-mod tests;

@@ -1,5 +1,9 @@
-use super::*;
-use std::io::{BufReader, repeat};
+//! Tests of reads that return no more octets than a limit.
+
+use limited_reads::{read_line_within, read_within};
+use std::alloc::Global;
+use std::io;
+use std::io::{BufReader, Read, repeat};
 
 /// The greatest length of a rule file, in octets.
 const LIMIT: u32 = 65_536;
