@@ -303,7 +303,8 @@ fn a_data_that_stays(rt: HostRuntime) {
     keeps_marked(&rt, A_DATA_THAT_STAYS);
 }
 
-/// A deleted Data leaves only the command that deleted it, if the signer sent no later command.
+/// Of the lines about a Data that was inserted and then deleted, only the delete stays. It stays
+/// because it is the last command of its signer.
 const A_DATA_THAT_GOES: &str = "* rules 900
 * up 1 local 1000
 * up 2 far 1000

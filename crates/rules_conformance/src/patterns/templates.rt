@@ -26,8 +26,9 @@ fn expanded(
     }
 }
 
-/// Returns the URI of a template's expansion at a name, or the reason why there is none. Returns
-/// `None` if the pattern or the name is not valid, or the pattern does not match.
+/// Returns the URI of a template's expansion at a name, or the fault of the name that would be too
+/// long. Returns `None` if the pattern, the name or the template is not valid, if the pattern does
+/// not match, or if `is_too_long` disagrees with the expansion.
 fn made(alloc: Global, pattern: &str, name: &str, template: &str) -> Option<String> {
     let pattern = Pattern::read(alloc, pattern).ok()?;
     let name = NameBuf::from_uri(alloc, name).ok()?;
