@@ -1034,7 +1034,8 @@ ndn_tool route add /A --face 1 --send 1 --from x => from: give a port
 ndn_tool route add /A --face 1 --from 1 => from: give the port to send to as well
 ";
 
-/// A wrong command line ends with exit status 2 and a text that contains this part.
+/// A wrong command line ends with exit status 2 and a text that contains the part in the command
+/// line's row.
 #[test]
 fn command_lines(rt: HostRuntime) {
     check_parts(&rt, 2, COMMAND_LINES);
@@ -1151,7 +1152,8 @@ fn key_file_status(rt: &HostRuntime, job: &Job) -> u8 {
     }
 }
 
-/// Returns whether a command names this key file, and reading that file has this status.
+/// Returns whether a command names this key file, and `key_file_status` returns this status for
+/// the command's job.
 fn has_key_file(rt: &HostRuntime, command: &str, path: Option<&str>, status: u8) -> bool {
     job_of(rt.alloc(), command).is_ok_and(|job| job.key_file() == path
         && key_file_status(rt, &job) == status)
@@ -1250,7 +1252,8 @@ fn prints_in_memory(alloc: Global, command: &str, wanted: &str) -> bool {
     }
 }
 
-/// With enough memory, the answer is printed. Without it, the fault is reported.
+/// If there is enough memory, the answer is printed. Otherwise the command ends with exit status
+/// 3.
 #[test]
 fn refused_memory(rt: HostRuntime) {
     for part in IN_MEMORY.split("$ ") {

@@ -39,7 +39,8 @@ fn datagrams(alloc: Global, words: &str, reply: &[u8], earlier: &[u8]) -> Option
     Some(datagrams)
 }
 
-/// Returns the only reply of the node to a command line.
+/// Returns the node's reply to the request of an exchange, or `None` if there is not exactly one
+/// reply.
 fn reply_to(alloc: Global, scene: &mut Scene, exchange: &Exchange) -> Option<Vec<u8>> {
     let mut replies = scene.answers(alloc, exchange.from, &exchange.request)?;
     if replies.len() == 1 {
@@ -56,8 +57,8 @@ fn earlier_reply(alloc: Global, scene: &mut Scene, book: &KeyBook) -> Option<Vec
     reply_to(alloc, scene, &exchange)
 }
 
-/// Returns whether an exchange ends as a row says, given its reply and the reply to the previous
-/// command.
+/// Returns whether an exchange ends as a row says, given the reply to the exchange's command and
+/// the reply to the previous command.
 fn hears(
     alloc: Global,
     exchange: &mut Exchange,
@@ -131,8 +132,8 @@ fn long_name(alloc: Global) -> Option<String> {
     Some(name)
 }
 
-/// Returns whether a command for this name ends as the row says. Its reply contains the name twice,
-/// in 7,956 octets each time, and 151 other octets.
+/// Returns whether a command for this name ends as the row says. The reply to the command contains
+/// the name twice, in 7,956 octets each time, and 151 other octets.
 fn hears_name(alloc: Global, name: &str, row: &str) -> Option<bool> {
     let line = "route add ~ --face 2 $KEY $NODE"
         .replace(alloc, '~', name)

@@ -1,5 +1,5 @@
-//! Tests of the client: its command lines, and its exchanges with a node in the same process, which
-//! gets the requests of a command line and whose packets the client gets.
+//! Tests of the client: its command lines, and its exchanges with a node in the same process. The
+//! tests give the client's requests to the node, and the node's packets to the client.
 #![tactic(auto)]
 
 #[cfg(test)]

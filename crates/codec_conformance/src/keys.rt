@@ -15,14 +15,16 @@ fn tag(alloc: Global, input: &str) -> Option<String> {
     hex::encode(alloc, tag.as_slice()).ok()
 }
 
-/// Returns this HMAC, where the key and the text are given in hexadecimal.
+/// Returns the HMAC of a text under a key, as `tag` does. The key and the text are given in
+/// hexadecimal.
 fn tag_of_both(alloc: Global, key: &str, text: &str) -> Option<[u8; 32]> {
     let text = octets(alloc, text)?;
     let key = octets(alloc, key)?;
     tag_under(key, &text)
 }
 
-/// Returns the HMAC of a text under a key, if the text in two parts and an `HmacKey` give it too.
+/// Returns the HMAC of a text under a key, if the HMAC of the text in two parts and the HMAC that
+/// an `HmacKey` computes are equal to it.
 fn tag_under(key: Vec<u8>, text: &[u8]) -> Option<[u8; 32]> {
     let tag = tag_of_any_parts(&key, text)?;
     (HmacKey::new(key).tag(text, &[]) == tag).then_some(tag)
@@ -139,7 +141,7 @@ fn key_file(alloc: Global, input: &str) -> Option<String> {
     found(alloc, &file, uri)
 }
 
-/// Appends the lines of this many keys.
+/// Appends the lines of the keys /0, /1 and so on, `count` lines in all.
 fn put_keys(file: &mut String, count: u16) -> Option<()> {
     for i in 0..count {
         write!(file, "/{i} 00\n").ok()?;
@@ -213,8 +215,8 @@ A 00 -> BadLine(1)
     check_rows(&rt, rt.alloc(), rows, key_file);
 }
 
-/// Returns the result of looking up `/A` in a key file that gives these octets to `/A`. The key's
-/// digits at the end of the result are left out.
+/// Returns the result of looking up `/A` in a key file that gives `/A` the octets of the input. The
+/// key's digits at the end of the result are left out.
 fn file_of_key(alloc: Global, input: &str) -> Option<String> {
     let digits = digits_of(alloc, input)?;
     let found = found_with(alloc, &digits)?;
@@ -222,7 +224,7 @@ fn file_of_key(alloc: Global, input: &str) -> Option<String> {
     String::from_str(alloc, front.trim_end()).ok()
 }
 
-/// Returns the digits of octets that are given in words.
+/// Returns the hexadecimal digits of octets that are given in words such as `5ax256`.
 fn digits_of(alloc: Global, words: &str) -> Option<String> {
     let octets = octets(alloc, words)?;
     hex::encode(alloc, &octets).ok()
@@ -235,7 +237,7 @@ fn found_with(alloc: Global, digits: &str) -> Option<String> {
     found(alloc, &file, "/A")
 }
 
-/// Keys of 1, 256 and 257 octets.
+/// Keys of 0, 1, 256 and 257 octets.
 #[test]
 fn lengths_of_keys(rt: HostRuntime) {
     let rows = "

@@ -21,7 +21,8 @@ fn components(alloc: Global, input: &str) -> Option<String> {
     }
 }
 
-/// Returns the number of a name's components and the last component.
+/// Returns the number of a name's components and the last component, if the iterator returns this
+/// number of components and there is no further component.
 fn number_and_last(alloc: Global, name: Name<'_>) -> Option<String> {
     let len = name.len();
     if name.iter().count() != len || name.component(len).is_some() {
@@ -283,7 +284,7 @@ fn octets_counted(
     hex::encode(alloc, name.as_octets()).ok()
 }
 
-/// Returns a fault, if `counted` is the same one.
+/// Returns a fault, if `counted` is the same fault.
 fn fault_counted(
     alloc: Global,
     fault: NameFault,
@@ -772,7 +773,8 @@ fn give_all_or_memory(alloc: Global, text: &str) -> bool {
     }
 }
 
-/// Returns the same for the calls on a name that was read.
+/// Returns whether writing this name, copying it and appending a component to it each succeed, or
+/// fail only because memory runs out.
 fn name_gives_all_or_memory(alloc: Global, name: &mut NameBuf, text: &str) -> bool {
     is_written_or_memory(alloc, name, text)
         && is_copied_or_memory(alloc, name)
@@ -787,7 +789,7 @@ fn is_written_or_memory(alloc: Global, name: &NameBuf, text: &str) -> bool {
     }
 }
 
-/// Returns whether a copy of the name is equal to it, unless memory runs out.
+/// Returns whether a copy of the name is equal to the name, unless memory runs out.
 fn is_copied_or_memory(alloc: Global, name: &NameBuf) -> bool {
     match NameBuf::from_name(alloc, name.view()) {
         Ok(copy) => copy == *name,

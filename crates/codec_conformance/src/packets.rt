@@ -131,7 +131,7 @@ fn signature_text(alloc: Global, signature: Option<Signature<'_>>) -> Option<Str
     signature_by(alloc, &signature, &key)
 }
 
-/// Returns all fields of a signature, where this is the text of its KeyLocator.
+/// Returns all fields of a signature, where `key` is the text of its KeyLocator.
 fn signature_by(alloc: Global, signature: &Signature<'_>, key: &str) -> Option<String> {
     let (kind, time, seq) = (signature.kind, signature.time, signature.seq);
     let value = value_text(alloc, Some(signature.value))?;
@@ -145,7 +145,8 @@ fn interest_text(alloc: Global, interest: &Interest<'_>) -> Option<String> {
     interest_with(alloc, interest, &parameters, &signature)
 }
 
-/// Returns all fields of an Interest, where these are the texts of its parameters and signature.
+/// Returns all fields of an Interest, where `parameters` and `signature` are the texts of its
+/// parameters and of its signature.
 fn interest_with(
     alloc: Global,
     interest: &Interest<'_>,
@@ -172,7 +173,7 @@ fn data_text(alloc: Global, data: &Data<'_>) -> Option<String> {
     data_with(alloc, data, &signature)
 }
 
-/// Returns all fields of a Data, where this is the text of its signature.
+/// Returns all fields of a Data, where `signature` is the text of its signature.
 fn data_with(alloc: Global, data: &Data<'_>, signature: &str) -> Option<String> {
     let (name, freshness) = (data.name, data.freshness);
     let content = value_text(alloc, data.content)?;

@@ -35,13 +35,15 @@ fn number_spellings(rt: HostRuntime) {
     check_rows(&rt, rt.alloc(), rows, spelling);
 }
 
-/// Returns the element at the front of some octets and the octets after it, or the fault.
+/// Returns the type and the lengths of the element at the front of some octets and the number of
+/// octets after it, or the fault.
 fn first(alloc: Global, input: &str) -> Option<String> {
     let octets = octets(alloc, input)?;
     first_in(alloc, &octets)
 }
 
-/// Does the same with the octets themselves.
+/// Returns the type and the lengths of the element at the front of these octets and the number of
+/// octets after it, or the fault.
 fn first_in(alloc: Global, octets: &[u8]) -> Option<String> {
     match first_element(octets) {
         Ok((element, rest)) => {
@@ -71,7 +73,7 @@ fn element_shown(alloc: Global, kind: u32, value: &[u8]) -> Option<String> {
     hex::encode(alloc, &out).ok()
 }
 
-/// An Interest with the Name /A and a Nonce.
+/// An element of type 5, an Interest, whose value has 11 octets.
 #[test]
 fn smallest_interest(rt: HostRuntime) {
     let rows = "
@@ -139,7 +141,7 @@ Memory -> out of memory
     check_rows(&rt, rt.alloc(), rows, fault_text);
 }
 
-/// Returns a whole value, read as a NonNegativeInteger.
+/// Returns the number that a whole value encodes as a NonNegativeInteger, or the fault.
 fn integer(alloc: Global, input: &str) -> Option<String> {
     match nni_of(&octets(alloc, input)?) {
         Ok(number) => number.to_string(alloc).ok(),
@@ -190,14 +192,15 @@ fn elements(alloc: Global, input: &str) -> Option<String> {
     elements_in(alloc, &octets)
 }
 
-/// Does the same with the octets themselves.
+/// Returns the types of the elements in these octets and the lengths of their values, up to the end
+/// or to a fault.
 fn elements_in(alloc: Global, octets: &[u8]) -> Option<String> {
     let mut text = String::new(alloc);
     put_elements(&mut text, octets)?;
     Some(text)
 }
 
-/// Appends the types of the elements and the lengths of their values.
+/// Appends the types of the elements and the lengths of their values, up to the end or to a fault.
 fn put_elements(text: &mut String, octets: &[u8]) -> Option<()> {
     for element in Elements::new(octets) {
         match element {
@@ -217,19 +220,22 @@ fn elements_end_with_the_octets_or_a_fault(rt: HostRuntime) {
     check_rows(&rt, rt.alloc(), rows, elements);
 }
 
-/// Returns whether a number is appended with all of its octets, or not at all if memory runs out.
+/// Returns whether octets are appended if a number is written, and no octets are appended if memory
+/// runs out.
 fn appends_number(alloc: Global) -> bool {
     let mut out = Vec::new(alloc);
     put_number(&mut out, 65_536).is_ok() != out.is_empty()
 }
 
-/// Returns whether an integer is appended with all of its octets, or not at all if memory runs out.
+/// Returns whether octets are appended if an integer is written, and no octets are appended if
+/// memory runs out.
 fn appends_integer(alloc: Global) -> bool {
     let mut out = Vec::new(alloc);
     put_nni(&mut out, 65_536).is_ok() != out.is_empty()
 }
 
-/// Returns whether an element is appended with all of its octets, or not at all if memory runs out.
+/// Returns whether octets are appended if an element is written, and no octets are appended if
+/// memory runs out.
 fn appends_element(alloc: Global) -> bool {
     let mut out = Vec::new(alloc);
     put_element(&mut out, 8, &[1; 13]).is_ok() != out.is_empty()

@@ -108,7 +108,7 @@ fn put_strategy(text: &mut String, strategy: Option<Name<'_>>) -> Option<()> {
     }
 }
 
-/// If fields are absent, the face is 0 and the cost is 0.
+/// Without a FaceId the face is 0, and without a Cost the cost is 0.
 #[test]
 fn absent_fields(rt: HostRuntime) {
     let rows = "
@@ -125,8 +125,8 @@ fn absent_fields(rt: HostRuntime) {
     check_rows(&rt, rt.alloc(), rows, command_shown);
 }
 
-/// Fields may come in any order. The first field of each type counts, and unknown elements are
-/// ignored.
+/// Fields may come in any order. The first field of each type counts, and complete elements of
+/// unknown types are ignored.
 #[test]
 fn the_first_of_each_field_counts(rt: HostRuntime) {
     let rows = "
@@ -182,7 +182,7 @@ fn applied_shown(alloc: Global, row: &str) -> Option<String> {
     shown_on_station(alloc, row, applied_on)
 }
 
-/// Does the same on this station.
+/// Does what `applied_shown` does, on this station.
 fn applied_on(alloc: Global, station: &mut Station, row: &str) -> Option<String> {
     let of_strategies = row.starts_with("/localhost/nfd/strategy-choice/set ");
     let name = name_in(alloc, row)?;
@@ -208,8 +208,8 @@ fn octets_shown(alloc: Global, status: u16, body: &[u8], list: &[u8]) -> Option<
     format!(in alloc; "{status} {body} {list}").ok()
 }
 
-/// Routes to another face, to the face of the command, and to a face that is not up. The reply
-/// contains the face.
+/// Routes to another face, to the face of the command, and to a face that is not up. The reply with
+/// status 200 contains the face.
 #[test]
 fn a_route_needs_an_open_face(rt: HostRuntime) {
     let rows = "
@@ -221,7 +221,8 @@ fn a_route_needs_an_open_face(rt: HostRuntime) {
     check_rows(&rt, rt.alloc(), rows, applied_shown);
 }
 
-/// A strategy without its Version component, an unknown strategy, and a name of 33 components.
+/// Strategies with and without a Version component, unknown strategies, and names of 32 and of 33
+/// components.
 #[test]
 fn a_strategy_is_known_by_its_name(rt: HostRuntime) {
     let rows = "
@@ -250,7 +251,8 @@ fn prefixes_of_32_components(rt: HostRuntime) {
     check_rows(&rt, rt.alloc(), rows, applied_shown);
 }
 
-/// Removal of a route that does not exist, and of a route to a face that is not up.
+/// Removal of a next hop that does not exist, on a face that is not up, and of a strategy that does
+/// not exist.
 #[test]
 fn removals_of_what_is_not_there(rt: HostRuntime) {
     let rows = "
@@ -270,7 +272,8 @@ fn the_count_of_an_erase_is_repeated(rt: HostRuntime) {
     check_rows(&rt, rt.alloc(), rows, applied_shown);
 }
 
-/// Returns whether a reply is encoded as the octets `expected`. Both are in hexadecimal.
+/// Returns whether `expected` is the encoding of a reply. The body and `expected` are in
+/// hexadecimal.
 fn replies(alloc: Global, status: u16, text: &str, body: &str, expected: &str) -> Option<bool> {
     let body = octets(alloc, body)?;
     let reply = encoded_reply(alloc, status, text, &body)?;

@@ -48,7 +48,7 @@ fn parameters_of(alloc: Global, fields: &[u8]) -> Option<Vec<u8>> {
     Some(parameters)
 }
 
-/// Returns a command's name: the verb, the parameters, and a digest of zeros.
+/// Returns a command's name: `/repo`, the verb, the parameters, and a digest of zeros.
 fn command_name(alloc: Global, verb: &str, parameters: &[u8]) -> Option<NameBuf> {
     let mut name = NameBuf::from_uri(alloc, "/repo").ok()?;
     put_command(&mut name, verb, parameters)?;
@@ -87,7 +87,7 @@ fn answered(alloc: Global, repo: &mut Repo, name: Name<'_>, now: u64) -> Option<
 }
 
 /// Applies a command, given as its verb, the name that it asks for, the time, and perhaps a
-/// lifetime.
+/// lifetime. Shows the reply.
 fn command(alloc: Global, repo: &mut Repo, verb: &str, words: &str) -> Option<String> {
     let mut words = words.split(' ');
     let asked = words.next()?;
@@ -118,8 +118,7 @@ fn offer_packet(repo: &mut Repo, packet: &[u8]) -> Option<bool> {
     repo.offer(&data).ok()
 }
 
-/// Returns the Content of the Data that answers an Interest. A `!` after the Interest's name means
-/// MustBeFresh.
+/// Returns the Content of the Data that answers an Interest, which is given as for `asking`.
 fn serve(alloc: Global, repo: &Repo, asked: &str) -> Option<String> {
     let packet = asking(alloc, asked)?;
     serve_packet(alloc, repo, &packet)
@@ -140,7 +139,7 @@ fn asking(alloc: Global, asked: &str) -> Option<Vec<u8>> {
     interest_of(alloc, name.view(), can_be_prefix, must_be_fresh)
 }
 
-/// Returns an Interest with this name.
+/// Returns an Interest with this name and these flags.
 fn interest_of(
     alloc: Global,
     name: Name<'_>,
@@ -183,7 +182,7 @@ fn empty_repo(alloc: Global) -> Option<Repo> {
     repo_at(alloc, "/repo")
 }
 
-/// Returns the answers to consecutive calls.
+/// Returns the answers of an empty repository to consecutive calls.
 fn answers(alloc: Global, calls: &str) -> Option<String> {
     shown_on_repo(alloc, calls, answers_of)
 }
@@ -273,7 +272,8 @@ fn same_prefixes(rt: HostRuntime) {
     check_rows(&rt, rt.alloc(), rows, same_prefix);
 }
 
-/// A want is pending before its deadline, but not at its deadline.
+/// An expiry before the deadline of a want leaves the want; an expiry at the deadline removes the
+/// want.
 #[test]
 fn want_deadline(rt: HostRuntime) {
     let rows = "
@@ -312,7 +312,7 @@ fn first_answer(alloc: Global, text: &str) -> Option<String> {
     shown_on_repo(alloc, text, answered_to)
 }
 
-/// Shows the reply to a command on this repository, which is given as for `first_answer`.
+/// Shows this repository's reply to a command, which is given as for `first_answer`.
 fn answered_to(alloc: Global, repo: &mut Repo, text: &str) -> Option<String> {
     let name = name_in(alloc, text)?;
     answered(alloc, repo, name.view(), 1000000)
@@ -343,7 +343,8 @@ fn the_first_of_each_field_counts(rt: HostRuntime) {
     check_rows(&rt, rt.alloc(), rows, first_answer);
 }
 
-/// Fields with a wrong form in commands of every verb, and truncated parameters.
+/// Fields of a wrong form in commands of every verb, commands without a Name, and truncated
+/// parameters. A lifetime of 2 octets is well formed.
 #[test]
 fn fields_of_a_wrong_form(rt: HostRuntime) {
     let rows = "
@@ -363,7 +364,8 @@ fn fields_of_a_wrong_form(rt: HostRuntime) {
     check_rows(&rt, rt.alloc(), rows, first_answer);
 }
 
-/// A command has a verb, a parameters element of type 201, and a digest as its last component.
+/// A command's name is the prefix, a verb, a component with a parameters element of type 201, and a
+/// digest. Other names are answered with 400.
 #[test]
 fn names_of_another_shape(rt: HostRuntime) {
     let rows = "
@@ -454,8 +456,8 @@ fn status_and_count(repo: &mut Repo, name: Name<'_>, now: u64) -> Option<(u16, u
     Some((reply.status, reply.count))
 }
 
-/// Returns whether 64 wants fit, a new want is then refused, and a want that is equal to one of the
-/// 64 is accepted.
+/// Returns whether 64 wants fit, a new want is then refused, a want that is equal to one of the 64
+/// is accepted, and a new want is accepted after the wants have expired.
 fn limits_wants(alloc: Global, repo: &mut Repo) -> Option<bool> {
     for number in 0..64 {
         if status_of(alloc, repo, "insert", number)? != 100 {

@@ -1,4 +1,5 @@
--- Changes of one row, stated as changes of the list for which freshness bounds are updated.
+-- Changes of one row of the list are changes (`Change`) after which the freshness bounds are
+-- updated.
 use Rattle.std.proofs.Common.{◌≡◌, ◌≢◌, ◌⊎◌, inl, inr, ℕ, ◌+◌, ◌<◌, ◌≤◌, List, length, get_or, sym, ap, subst, ◌∙◌, arith}
 use Rattle.std.specs.Prelude.{Option, Some}
 use Rattle.std.specs.List.{remove}

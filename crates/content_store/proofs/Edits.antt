@@ -24,7 +24,8 @@ unfolding shown
 shown_same h f [] k = refl
 shown_same h f (p ∷ ps) k = λ i. with_slot p (k.0 i) (shown_same h f ps k.1 i)
 
--- if two slabs have the same rows, the list of slab indexes shows the same rows of both slabs
+-- if two slabs have the same rows, the list of slab indexes shows the same rows of both slabs, and
+-- is valid for both
 pub same_rows : (h f : ℕ → Option Row) (ps : List ℕ) → ((q : ℕ) → f q ≡ h q) → IsRows h ps → (shown f ps ≡ shown h ps) × IsRows f ps
 same_rows h f ps e rows =
     let same = shown_same h f ps (all_map (λ q. IsSome (h q)) (λ q. f q ≡ h q) (λ q s. e q) ps rows.there) in (
@@ -44,7 +45,8 @@ shown_insert h (q ∷ ps) (suc at) p row a is =
     ap (λ o. with_slot q o (shown h (insert ps at p))) r.1 ∙ ap (λ l. (q, r.0) ∷ l) (shown_insert h ps at p row a.1 is)
     ∙ sym (ap (λ o. insert (with_slot q o (shown h ps)) (suc at) (p, row)) r.1)
 
--- a lookup of a slab index finds the row at that index
+-- if a lookup of a slab index in the shown rows finds a row, this row is the slab's row at the
+-- index
 pub lookup_shown : (h : ℕ → Option Row) (ps : List ℕ) (p : ℕ) (row : Row) → lookup (nat_eq p) (shown h ps) ≡ Some row → h p ≡ Some row
 unfolding shown
 lookup_shown h [] p row e = absurd cc
@@ -86,7 +88,8 @@ own_place h ps p at row rows found lower =
     order_of : (m n : ℕ) → (m < n) ⊎ ((m ≡ n) ⊎ (n < m))
     order_of m n = grind arith
 
--- a slab index without a row is not in the list
+-- if the slab has a row at each slab index of the list, a slab index without a row is not in the
+-- list
 pub vacant : (h : ℕ → Option Row) (ps : List ℕ) (p : ℕ) → AllByRecursion (λ q. IsSome (h q)) ps → h p ≡ None → AllByRecursion (λ q. q ≢ p) ps
 vacant h [] p a none = tt
 vacant h (q ∷ ps) p a none = ((λ e. (let r = some_is (h q) a.0 in let n = ap h e ∙ none in let b = sym r.1 ∙ n in cc)), vacant h ps p a.1 none)
@@ -154,7 +157,7 @@ shown_remove h (q ∷ ps) (suc k) p a distinct lt is =
       (here, rest.1),
     )
 
--- names are still in ascending order after one row is removed
+-- full names are still in ascending order after one row is removed
 pub rising_removed : (rows : List Placed) (k : ℕ) → k < length rows → Rising rows → Rising (remove rows k)
 rising_removed rows k lt rising i j d before within =
     let count = length-remove rows k lt in
@@ -198,8 +201,8 @@ forgotten h f ps new k p rows lt at others is =
       ap (shown f) is ∙ same ∙ shown_without h ps k rows.there,
     )
 
--- if a row in the slab is replaced by another row with the same name, the list shows the new row in
--- its place
+-- if a row in the slab is replaced by another row, the list shows the new row in the place of the
+-- old row
 shown_valued : (h f : ℕ → Option Row) (ps : List ℕ) (p : ℕ) (new : Row) → AllByRecursion (λ q. IsSome (h q)) ps → IsDistinct nat_eq (keys_of (shown h ps)) → f p ≡ Some new
     → ((q : ℕ) → q ≢ p → f q ≡ h q) → shown f ps ≡ set_value (nat_eq p) (shown h ps) new
 unfolding shown

@@ -22,7 +22,8 @@ use Rattle.content_store.proofs.Changes.{cached_fewer, length_held, sound_fewer}
 use Rattle.content_store.proofs.Edits.{forgotten}
 use Rattle.content_store.proofs.Taken.{one_taken}
 
--- The Data that have been removed so far.
+-- The state of an erase after `gone` Data were removed: they were those with the least full names
+-- that begin with `name`, and the rows and the LRU order are sound (`Sound`).
 pub record TakenSoFar (name : List Field) (rows : List Placed) (used : LruCache ℕ ℕ) (rows' : List Placed) (used' : LruCache ℕ ℕ) (next gone : ℕ) : Type 0 where
   pub sound : Sound rows' used'.entries next
   pub fewer : length used'.entries ≤ length used.entries
@@ -69,7 +70,8 @@ lower_removed name rows at lt lower =
           lower.above (k + 1) d (omega arith) (omega arith) (ap (λ (r : Placed). name_cmp (name_at r) name) (sym (get_or-remove_above rows at d k ge lt)) ∙ less);
     }
 
--- if the row at the position of a name does not begin with the name, no row does
+-- if there is no row at the position of `name`, or the full name of this row does not begin with
+-- `name`, no cached full name begins with `name`
 pub none_left : (name : List Field) (rows : List Placed) (used : List (ℕ × ℕ)) (next at : ℕ) → Sound rows used next → IsLower name rows at
     → ((d : Placed) → at < length rows → IsPrefix name (name_at (get_or rows at d)) → ⊥) → All (λ d. IsPrefix name (full_name_of d) → ⊥) (cached_in rows used)
 none_left name rows used next at sound lower never =

@@ -98,13 +98,14 @@ without_none name [] h = refl
 without_none name (c ∷ cs) h =
     ap (λ b. cond (not b) (c ∷ without name cs) (without name cs)) (differ (full_name_of c) name h.0) ∙ ap (λ (t : List CachedData). c ∷ t) (without_none name cs h.1)
 
--- a full name that no row has is the full name of no cached Data
+-- if there is no row at the position of `name`, or the full name of this row is not `name`, no
+-- cached Data has the full name `name`
 pub none_named : (rows : List Placed) (at : ℕ) (name : List Field) → Rising rows → IsLower name rows at → ((d : Placed) → at < length rows → name_at (get_or rows at d) ≢ name)
     → (used : List (ℕ × ℕ)) (next : ℕ) → Sound rows used next → All (λ d. full_name_of d ≢ name) (cached_in rows used)
 none_named rows at name rising lower other used next sound =
     each (λ d. full_name_of d ≢ name) rows used next sound (λ d. full_name_of d ≢ name) (not_at rows at name rising lower other)
 
--- the cached Data with the full name of the row at a position is that row's Data
+-- a cached Data with the full name of the row at position `at` is the Data of this row
 pub is_there : (rows : List Placed) (used : List (ℕ × ℕ)) (next at : ℕ) (r : Placed) → Sound rows used next → at < length rows → get_or rows at r ≡ r
     → (c : CachedData) → Contains (cached_in rows used) c → full_name_of c ≡ name_at r → c ≡ r.1.entry
 is_there rows used next at r sound lt is c held =

@@ -118,8 +118,8 @@ then_less Greater cs = refl
 digest_field : (d : List ℕ) → length d ≡ 32 → octets_of ((1, d) ∷ []) ≡ digest_octets d
 digest_field d len = let o = full_octets [] d [] ((tt, refl), (omega arith, tt)) len in o.0
 
--- a digest component compares with `rest` followed by a digest component as it does with `rest`
--- alone; if it equals `rest`, it is less
+-- a digest component compares with `rest` followed by a digest component as it compares with `rest`
+-- alone, or is less if it equals `rest`
 digest_before : (rest : List Field) (d e : List ℕ) → AllByRecursion IsField rest → 0 < length (octets_of rest) → length d ≡ 32 → length e ≡ 32
     → slice_cmp nat_cmp (digest_octets d) (octets_of rest ++ digest_octets e) ≡ ordering_then (slice_cmp nat_cmp (digest_octets d) (octets_of rest)) Less
 digest_before [] d e h some dl el = absurd (omega arith)
@@ -149,7 +149,8 @@ module _ (u v front rest d e : List ℕ) (name other : List Field) (h : IsNameVa
       ∙ (λ k. slice_cmp nat_cmp (o.0 k) ((p.0 ∙ ap (λ (t : List ℕ). t ++ digest_octets e) is ∙ append_assoc front rest (digest_octets e)) k))
       ∙ cmp_split u front (digest_octets d) (rest ++ digest_octets e) (sym len)
 
-  -- the case in which one name is a prefix of the other
+  -- if the octets `u` equal `front`, a digest component compares with `rest` followed by a digest
+  -- component as with `rest` alone, or is less if it equals `rest`
   behind : u ≡ front → slice_cmp nat_cmp (digest_octets d) (rest ++ digest_octets e) ≡ ordering_then (slice_cmp nat_cmp (digest_octets d) rest) Less
   behind same =
       let p = begins_with name other rest h.0.0 g.0.0 (sym g.0.1 ∙ is ∙ ap (λ (t : List ℕ). t ++ rest) (sym same ∙ h.0.1)) in
@@ -256,7 +257,8 @@ module _ (u v : List ℕ) (n m : List Field) (d : List ℕ) (flag : Bool) (h : I
 
 -- ---- heads
 
--- if the first `n` octets of two lists differ, they decide the comparison of the lists
+-- if the first `n` octets of `u` and `v` differ, `u ++ x` compares with `v ++ y` as these first
+-- octets do
 first_decide : (n : ℕ) (u v x y : List ℕ) (o : Ordering) → n ≤ length u → n ≤ length v → o ≡ slice_cmp nat_cmp (take n u) (take n v) → (o ≡ Equal → ⊥) → o ≡ slice_cmp nat_cmp (u ++ x) (v ++ y)
 first_decide n u v x y o lu lv e never =
     let parts = λ (w z : List ℕ). ap (λ (t : List ℕ). t ++ z) (sym (take-append-drop n w)) ∙ append_assoc (take n w) (drop n w) z in

@@ -1,5 +1,5 @@
--- The first row that can serve an Interest has the least full name; what is cached is a valid store
--- state.
+-- The first row that can serve an Interest has the least full name. The cached Data and the
+-- capacity are a valid state of a store.
 use Rattle.std.proofs.Common.{◌≡◌, ◌≢◌, ◌⊎◌, inl, inr, ℕ, suc, ◌<◌, ◌≤◌, Bool, true, false, cond, eqb, List, [], ◌∷◌, length, get_or, refl, sym, ap, subst, ◌∙◌, arith, All, Contains}
 use borrow.Author.Tests.{eqb-false}
 use Rattle.std.specs.Prelude.{Option, None, Some, nat_eq}

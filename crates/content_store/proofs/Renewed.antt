@@ -86,7 +86,8 @@ module _ (rows : List Placed) (used : List (ℕ × ℕ)) (next p : ℕ) (row new
     each_data = all_valued (λ r. IsCachedData r.1.entry) p new rows data' sound.each_data;
   }
 
-  -- a renewed entry becomes the most recently used
+  -- after a row's entry is renewed and its serial number is promoted, the new entry is the first
+  -- cached Data, followed by the other Data in their order
   pub cached_renewed : cached_in (set_value (nat_eq p) rows new) (promoted (nat_eq row.serial) used) ≡ new.entry ∷ without (full_name_of new.entry) (cached_in rows used)
   cached_renewed =
       let now = (lookup_valued p p new row rows at).0 refl in
@@ -172,7 +173,8 @@ held_new rows used capacity next r u low high = (
   (λ i. cached_in (r i) (u i).entries) ∙ none_cached,
 )
 
--- if the full name is cached, its Data is renewed or nothing changes
+-- If the Data of a cached full name is renewed (`r` is true), or nothing changes (`r` is false),
+-- the fields of the store stay valid. After a renewal, the new Data is the most recently used.
 pub held_same : (r : Bool) (rows rows' : List Placed) (used used' : LruCache ℕ ℕ) (capacity next at : ℕ) (entry : CachedData) → IsHeld rows used capacity next → IsCachedData entry → at < length rows
     → ((d : Placed) → name_at (get_or rows at d) ≡ full_name_of entry) → (r ≡ true → Renews rows used at entry rows' used') → (r ≡ false → (rows' ≡ rows) × (used' ≡ used))
     → IsHeld rows' used' capacity next × (r ≡ true → cached_in rows' used'.entries ≡ take capacity (entry ∷ without (full_name_of entry) (cached_in rows used.entries)))

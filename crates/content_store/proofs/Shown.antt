@@ -50,7 +50,8 @@ less_is Greater e = absurd cc
 pub lt_is : (o : Ordering) → o ≡ Less → is_lt o ≡ true
 lt_is o e = ap is_lt e
 
--- A binary search: all rows before `low` come before the name, and no row from `high` on does.
+-- The state of a binary search: the rows before position `low` come before the name, and no row
+-- from position `high` on comes before the name.
 pub record LowerSoFar (name : List Field) (rows : List Placed) (low high : ℕ) : Type 0 where
   pub ordered : low ≤ high
   pub below : (k : ℕ) (d : Placed) → k < low → name_cmp (name_at (get_or rows k d)) name ≡ Less
@@ -82,7 +83,8 @@ module _ (name : List Field) (rows : List Placed) (rising : Rising rows) (mid : 
   pub high_moves : (low high : ℕ) → LowerSoFar name rows low high → low ≤ mid → (name_cmp (name_at r) name ≡ Less → ⊥) → LowerSoFar name rows low mid
   high_moves low high so le never = record { ordered = le; below = so.below; above = none_below never }
 
--- one step of a binary search at least halves the range, so one step less suffices for the rest
+-- if a range is not empty and is shorter than `2 ^ left`, then `left` is not 0, and a range of at
+-- most half the length is shorter than `2 ^ (left - 1)`
 pub halved : (left low high next : ℕ) → high - low < 2 ^ left → low < high → next ≤ (high - low) / 2
     → (n : ℕ) × (left ≡ n + 1) × (next < 2 ^ n)
 halved zero low high next h lt le = absurd (omega arith)
@@ -100,7 +102,8 @@ key_at [] k d x lt = absurd (omega arith)
 key_at (r ∷ rows) zero d x lt = refl
 key_at (r ∷ rows) (suc k) d x lt = key_at rows k d x (omega arith)
 
--- the rows that the list shows are valid: two slab indexes whose rows have the same name are equal
+-- the rows that the list shows are valid: their full names are in ascending order, and each slab
+-- index occurs once
 pub valid_shown : (h : ℕ → Option Row) (ps : List ℕ) → IsRows h ps → IsValidRows (shown h ps)
 valid_shown h ps rows = record {
   rising = rows.rising;

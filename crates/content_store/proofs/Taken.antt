@@ -48,8 +48,8 @@ others_greater name ys c least =
       | inr (inr greater) ↦ absurd (not_less greater)
     ]
 
--- if one more Data is removed, the one with the least full name that begins with the name, then
--- `TakesLeast` still holds, with one more removed Data
+-- if `TakesLeast` is true for `n` removed Data, it is true for n + 1 removed Data after the Data
+-- with the least full name that begins with `name` is removed too
 pub one_taken : (name : List Field) (xs ys : List CachedData) (n : ℕ) (c : CachedData) → TakesLeast name xs ys n → IsLeast (λ d. IsPrefix name (full_name_of d)) ys c
     → length (without (full_name_of c) ys) + 1 ≡ length ys → TakesLeast name xs (without (full_name_of c) ys) (n + 1)
 one_taken name xs ys n c h least fewer =
@@ -72,8 +72,10 @@ one_taken name xs ys n c h least fewer =
           ];
     }
 
--- if the `n` least full names that begin with the name were removed, and `n` is `most` or no such
--- full name remains, this is an erase; without a count, `most` is 2^64 - 1
+-- Let `most` be the count, or 2^64 - 1 if there is no count. If the Data with the n least full
+-- names that begin with `name` were removed, where n is at most `most`, and n is `most` or no full
+-- name that begins with `name` remains, then `Erases` is true. A premise is that at most 65,536
+-- Data were cached.
 pub erases : (name : List Field) (count : Option ℕ) (xs ys : List CachedData) (n most : ℕ) → most ≡ unwrap_or count 18446744073709551615 → TakesLeast name xs ys n → n ≤ most
     → (n ≡ most) ⊎ All (λ d. IsPrefix name (full_name_of d) → ⊥) ys → length xs ≤ 65536 → Erases name count xs ys n
 erases name None xs ys n most is taken le ended few = (

@@ -69,8 +69,8 @@ none_after n rows at rising lt low never k d ge within p =
 not_greater : (a b : List Field) → name_cmp a b ≡ Less → name_cmp a b ≡ Greater → ⊥
 not_greater a b less greater = (let clash = sym less ∙ greater in cc)
 
--- if the full name of a row is not less than a name and not near it (see `is_near`), the full name
--- of no later row is near it
+-- if the full name of a row is neither less than a name nor near this name (see `is_near`), no
+-- later row has a full name that is near this name
 pub far_after : (n : List Field) (flag : Bool) (rows : List Placed) (at : ℕ) → Rising rows → at < length rows → ((d : Placed) → name_cmp (name_at (get_or rows at d)) n ≡ Less → ⊥)
     → ((d : Placed) → is_near n flag (name_at (get_or rows at d)) ≡ true → ⊥) → (k : ℕ) (d : Placed) → at ≤ k → k < length rows → is_near n flag (name_at (get_or rows k d)) ≡ true → ⊥
 far_after n flag rows at rising lt low never k d ge within near =
@@ -81,8 +81,8 @@ far_after n flag rows at rising lt low never k d ge within near =
           (not_greater (name_at (get_or rows at d)) (name_at (get_or rows k d)) (rising at k d after within)))
     ]
 
--- the full name of a Data that can serve an Interest begins with the Interest's name, and is near
--- it (see `is_near`)
+-- The next two lemmas: the full name of a Data that can serve an Interest begins with the
+-- Interest's name, and is near this name (see `is_near`).
 pub under_served : (key : PlainKey) (now : ℕ) (c : CachedData) → CanServe key now c → IsPrefix key.name (full_name_of c)
 under_served key now c h =
     elim h.0 [

@@ -81,7 +81,7 @@ lookup_other s t (u ∷ us) ne = split (eqb s u.0) refl (lookup_other s t us ne)
         sym (ap (λ b. cond b (Some u.1) (lookup (nat_eq t) us)) other)
     split false e rest = ap (λ o. cond (eqb t u.0) (Some u.1) o) rest
 
--- after a key is removed, the remaining keys differ from it
+-- if the keys are distinct, the keys that remain after a key is removed differ from this key
 pub others_left : {X : Type 0} (s : ℕ) (us : List (ℕ × X)) → IsDistinct nat_eq (keys_of us) → AllByRecursion (λ t. nat_eq s t ≡ false) (keys_of (remove_entry (nat_eq s) us))
 others_left s [] h = tt
 others_left s (u ∷ us) h = split (eqb s u.0) refl (others_left s us (IsDistinct-tail nat_eq u.0 (keys_of us) h))
@@ -183,7 +183,8 @@ one_row rows rising p q a b pa qb same =
 pub held_at_is : (o : Option Row) (row : Row) (d : CachedData) → o ≡ Some row → option_map (λ (r : Row). r.entry) o ≡ Some d → d ≡ row.entry
 held_at_is o row d is at = (let e = sym (ap (λ x. option_map (λ (r : Row). r.entry) x) is) ∙ at in cc)
 
--- only the row's own serial number has the slab index of a Data with the row's full name
+-- if the Data at the slab index of a serial number in `used` has the full name of `row`, this
+-- serial number is the serial number of `row`
 pub alone_in : (rows : List Placed) (used : List (ℕ × ℕ)) (next : ℕ) → Sound rows used next → (p : ℕ) (row : Row) → lookup (nat_eq p) rows ≡ Some row
     → AllByRecursion (Alone (held_in rows) row.serial (full_name_of row.entry)) used
 alone_in rows used next sound p row at =

@@ -22,7 +22,8 @@ Bounds rows b =
 abbrev pub AreBounds : List Placed → List Block → Type 0
 AreBounds rows blocks = All (Bounds rows) blocks
 
--- the effect of a change on the list
+-- `rows'` is the list `rows` after the change; a row that was added or renewed is not fresh from
+-- the moment `until` on
 abbrev pub Follows : Change → List Placed → List Placed → Type 0
 Follows (Added at until) rows rows' =
     (row : Placed) × (at ≤ length rows) × (fresh_until (held_at row) ≤ until)
@@ -35,11 +36,12 @@ Follows (Renewed at until) rows rows' =
 Follows (Removed start end) rows rows' =
     (start ≤ end) × (end ≤ length rows) × (rows' ≡ without_range start end rows)
 
--- the freshness bounds are still true after the blocks change, if they were true before
+-- if the freshness bounds of `blocks` are true, the freshness bounds of `blocks'` are true too
 abbrev pub Keeps : List Placed → List Block → List Block → Type 0
 Keeps rows blocks blocks' = AreBounds rows blocks → AreBounds rows blocks'
 
--- the freshness bounds of the new blocks are true after the change of the list
+-- if the freshness bounds of `blocks` are true before a change of the list, the freshness bounds of
+-- `blocks'` are true after this change
 abbrev pub Carries : Change → List Placed → List Block → List Block → Type 0
 Carries change rows' blocks blocks' =
     (rows : List Placed) → Follows change rows rows' → AreBounds rows blocks

@@ -37,7 +37,7 @@ pub record IsRows (h : ℕ → Option Row) (order : List ℕ) : Type 0 where
   pub there : AllByRecursion (λ p. IsSome (h p)) order
   pub rising : Rising (shown h order)
 
--- The position of a name, or the position at which to insert it.
+-- `at` is the position of the name or, if no row has this name, the position at which to insert it.
 pub record IsLower (name : List Field) (rows : List Placed) (at : ℕ) : Type 0 where
   pub within : at ≤ length rows
   pub below : (k : ℕ) (d : Placed) → k < at

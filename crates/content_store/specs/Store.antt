@@ -65,8 +65,8 @@ pub record IsStore (s : StoreState) : Type 0 where
   pub each_once : EachOnce s.cached
   pub each_data : All IsCachedData s.cached
 
--- a Data is fresh while `now` is less than its arrival plus its FreshnessPeriod, a sum that is at
--- most 2^64 - 1
+-- a Data is fresh while `now` is less than its arrival plus its FreshnessPeriod, or less than 2^64
+-- - 1 if this sum is greater
 abbrev pub IsFreshData : CachedData → ℕ → Type 0
 IsFreshData c now = now < min (c.arrival + c.freshness) (2 ^ 64 - 1)
 
@@ -119,7 +119,8 @@ Finds key now before (Some octets) after =
     × (after ≡ with_used before c)
 
 -- `stays` marks the Data that remain, in their order. The full names of all removed Data begin with
--- `name`. They are less than each remaining full name that begins with `name`.
+-- `name`. The removed full names are less than each remaining full name that begins with `name`.
+-- `gone` is the number of removed Data.
 pub record TakesLeast (name : List Field) (before after : List CachedData) (gone : ℕ) : Type 0 where
   pub stays : CachedData → Bool
   pub left : after ≡ filter stays before
@@ -128,8 +129,9 @@ pub record TakesLeast (name : List Field) (before after : List CachedData) (gone
   pub least : All (λ c. stays c ≡ false → All (λ d. IsPrefix name (full_name_of d)
       → Less (full_name_of c) (full_name_of d)) after) before
 
--- The effect of an erase: it removes at most `count` Data. It removes fewer than `count` only if no
--- Data remains whose full name begins with `name`.
+-- The effect of an erase: it removes the Data with the least full names that begin with `name`. If
+-- there is a count, it removes at most `count` Data. If it removes fewer, or if there is no count,
+-- no Data remains whose full name begins with `name`.
 abbrev pub Erases : List Field → Option ℕ → List CachedData → List CachedData → ℕ → Type 0
 Erases name count before after gone =
     TakesLeast name before after gone × IfSome count (λ n. gone ≤ n)

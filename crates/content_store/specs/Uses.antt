@@ -15,8 +15,8 @@ abbrev pub with_held : Option CachedData → List CachedData → List CachedData
 with_held None rest = rest
 with_held (Some c) rest = c ∷ rest
 
--- the list of pairs of a serial number and a slab index, with each pair replaced by the Data that
--- `g` returns for its slab index, or removed if `g` returns None
+-- for each pair of a serial number and a slab index, in order, the Data that `g` returns for the
+-- slab index; a pair for which `g` returns None is left out
 unfoldable pub cached_by : (ℕ → Option CachedData) → List (ℕ × ℕ) → List CachedData
 cached_by g [] = []
 cached_by g (u ∷ us) = with_held (g u.1) (cached_by g us)
@@ -61,7 +61,8 @@ abbrev pub evicted : Option (ℕ × ℕ) → List Placed → List Placed
 evicted None rows = rows
 evicted (Some e) rows = remove_entry (nat_eq e.1) rows
 
--- A row is inserted before position `at`, and the row that the LRU cache evicts is removed.
+-- A row is inserted before position `at`, and the row that the LRU cache evicts, if any, is
+-- removed.
 pub record PutsNew (rows : List Placed) (used : LruCache ℕ ℕ) (at : ℕ) (row : Row)
     (rows' : List Placed) (used' : LruCache ℕ ℕ) : Type 0 where
   pub place : ℕ
@@ -80,12 +81,12 @@ pub record Renews (rows : List Placed) (used : LruCache ℕ ℕ) (at : ℕ) (ent
   pub uses : UsesAt rows used at used'
   pub valid : IsValidRows rows'
 
--- the list without the positions from `start` up to `end`
+-- the list without the items at the positions from `start` to `end - 1`
 abbrev pub without_range : {X : Type 0} → ℕ → ℕ → List X → List X
 without_range start end xs = take start xs ++ drop end xs
 
--- The Data whose full names begin with a name are removed, at most `most` and the least full names
--- first.
+-- Of the Data whose full names begin with `name`, at most `most` are removed, those with the least
+-- full names first. If fewer than `most` are removed, none of these Data remains.
 pub record TakesUnder (name : List Field) (most : ℕ) (rows : List Placed) (used : LruCache ℕ ℕ)
     (rows' : List Placed) (used' : LruCache ℕ ℕ) (next gone : ℕ) : Type 0 where
   pub sound : Sound rows' used'.entries next

@@ -15,7 +15,8 @@ fn asked(alloc: Global, command: &str) -> Result<Request, Fault> {
     request_of(alloc, words.as_slice())
 }
 
-/// Returns the exit status and the text that a command ends with, unless it runs a node.
+/// Returns the exit status and the text that a command ends with, or `None` if the command runs a
+/// node or shortens a journal.
 fn ending(alloc: Global, command: &str) -> Option<(u8, String)> {
     match asked(alloc, command) {
         Ok(Request::Script(_) | Request::Udp(_, _) | Request::Shorten(_)) => None,
@@ -34,6 +35,7 @@ fn ends_with(alloc: Global, command: &str, status: u8, part: &str) -> bool {
 }
 
 /// Checks rows. Each row is a command, ` => `, and a part of the text that the command ends with.
+/// Each command must end with the exit status `status`.
 fn check_parts(rt: &(impl Abort + AllocGlobal), status: u8, rows: &str) {
     assert!(rt; rows.contains(" => "), "there are no rows");
     for row in rows.lines() {
@@ -337,8 +339,8 @@ fn refused_key_comment(alloc: Global, count: u64) -> Option<String> {
     refused(alloc, read_key_file(alloc, "k", repeat(b';').take(count)))
 }
 
-/// A file may have as many octets as its limit, but not more. A file that is too long may end
-/// inside a character.
+/// A file may have as many octets as its limit, but not more. The octets that are read of a file
+/// that is too long may end inside a character.
 #[test]
 fn large_files(rt: HostRuntime) {
     let alloc = rt.alloc();
@@ -359,7 +361,8 @@ fn is_told(alloc: Global, fault: Fault, wanted: &str) -> bool {
     format!(in alloc; "{} {fault}", fault.exit_status()).is_ok_and(|told| told.as_str() == wanted)
 }
 
-/// Returns whether the fault of a file that may not be read contains the file and the cause.
+/// Returns whether the text of the fault of a file that may not be read names the file and the
+/// cause.
 fn unread_is_told(alloc: Global) -> Option<bool> {
     let fault = Fault::Unread {
         file: "rule file",

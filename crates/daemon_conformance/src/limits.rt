@@ -35,7 +35,7 @@ fn fails_in_the_middle(alloc: Global) -> bool {
     read_within(alloc, repeat(b'x').take(3).chain(Broken), LIMIT).is_err()
 }
 
-/// A reader may have as many octets as the limit, but no more.
+/// A reader may have as many octets as the limit, but no more. A read error is reported.
 #[test]
 fn readers(rt: HostRuntime) {
     assert!(rt; read_of(rt.alloc(), 0) == Some(0));

@@ -146,7 +146,8 @@ fn log_without_plain_forwarding(rt: HostRuntime) {
     assert!(rt; held.get() == 0);
 }
 
-/// If the log shows all events, the Interest has a line after the line of its face.
+/// If the log shows all events, an Interest that is answered by a Nack has a line after the line
+/// of its face.
 #[test]
 fn log_of_all(rt: HostRuntime) {
     let held = Cell::new(0);

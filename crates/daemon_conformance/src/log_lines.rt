@@ -113,7 +113,7 @@ fn shown_notes(alloc: Global) -> Option<Vec<u8>> {
     Some(text)
 }
 
-/// Appends these four lines.
+/// Appends the four lines of `shown_notes`.
 fn put_notes(alloc: Global, text: &mut Vec<u8>) -> Option<()> {
     put_closed_idle(alloc, text, 253_402_207_200_999, 1).ok()?;
     put_closed_idle(alloc, text, 253_402_207_201_000, 2).ok()?;

@@ -89,7 +89,8 @@ fn restarts(
     Some(take_restored(rt, node, journal, ports, source, options).is_ok())
 }
 
-/// Returns whether `restarts` is true of this journal, and turns it into the journal `after`.
+/// Returns whether `restarts` is true of the journal `before`, and turns this journal into
+/// `after`.
 fn leaves(
     rt: &(impl AllocGlobal + Eprint + Net + Print),
     node: &mut Node,

@@ -25,8 +25,8 @@ fn has_text(made: Result<Option<ShorterJournal>, ShortenFault>, text: &str) -> b
     matches!(made, Ok(Some(shorter)) if shorter.text.as_slice() == text.as_bytes())
 }
 
-/// Returns whether the shorter journal has this text, with these numbers of lines of the longer
-/// one and of lines that are kept.
+/// Returns whether the shorter journal has this text, and tells that the longer journal has
+/// `lines` lines, of which `kept` lines are kept.
 fn becomes(alloc: Global, journal: &str, lines: usize, kept: usize, text: &str) -> bool {
     matches!(made(alloc, "/repo", journal), Ok(Some(shorter)) if shorter.lines == lines
         && shorter.kept == kept
@@ -201,8 +201,9 @@ fn unmarked(alloc: Global, lines: &str) -> Option<String> {
     Some(text)
 }
 
-/// Checks that the shorter journal has exactly the lines with a mark, and that it cannot be
-/// shortened further. The contract of `shortened` states that it restores the same tables.
+/// Checks that the shorter journal has exactly the lines with a mark, and that this journal cannot
+/// be shortened further. The contract of `shortened` states that the shorter journal restores the
+/// same tables.
 fn keeps_marked(rt: &(impl Abort + AllocGlobal), lines: &str) {
     let alloc = rt.alloc();
     let journal = unmarked(alloc, lines).expect(rt, "memory");

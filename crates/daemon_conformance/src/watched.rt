@@ -67,8 +67,9 @@ fn closes<P: Ports>(ports: &mut P, closed: u64, at: u64) -> bool {
     matches!(ports.next(&mut [0; 16]), Ok(Arrival::FaceDown { face, now }) if face == closed && now == at)
 }
 
-/// Returns whether the source is first checked when one second has passed since the start. Its
-/// rules must come before the packet that arrives then, and the packet must follow unchanged.
+/// Returns whether the source is first checked when one second has passed since the start. The new
+/// rules must come before the packet that arrives at that time, and the packet must follow
+/// unchanged.
 fn rules_come_first(alloc: Global) -> Option<bool> {
     let renewal = no_rules(alloc)?;
     let source = Once {

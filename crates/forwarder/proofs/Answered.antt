@@ -1,4 +1,4 @@
--- How each kind of packet is answered once time has advanced to its moment.
+-- How each kind of packet is answered once time has advanced to the packet's moment.
 use Rattle.std.proofs.Common.{◌≡◌, ℕ, true, false, not, List, [], refl, sym, ap, subst, ◌∙◌}
 use Rattle.std.specs.Prelude.{Result, Ok, Err, IfOk, IsErr, IsOk, nat_lt}
 use Rattle.std.proofs.lemmas.Bool.{false≢true}
@@ -34,15 +34,16 @@ use Rattle.forwarder.specs.Node.{NodeState, ChangesCacheOnly}
 use Rattle.forwarder.specs.State.{IsLater, state_of}
 use Rattle.forwarder.proofs.Handled.{where_true, where_false}
 
--- ---- what a packet leaves unchanged
+-- ---- whether memory ran out, and what advancing time leaves unchanged
 
--- `HandlesPacket` is true if memory ran out and only the cache changed
+-- if memory ran out, nothing but the cache changed, and nothing was sent, then `HandlesPacket` is
+-- true
 pub refused_packet : {old new : State} {before after : List Send} {face : ℕ} {token : Token} {moment : ℕ} {packet : PlainFrame} (r : Result code.Verdict Memory) → IsErr r
     → ChangesCacheOnly (state_of old) (state_of new) × (after ≡ before) → HandlesPacket old new before after face token moment packet r
 refused_packet (Ok verdict) refused kept = absurd (false≢true refused)
 refused_packet (Err memory) refused kept = record { handled = tt; memory = kept }
 
--- `HandlesPacket` is true if memory did not run out and the packet was handled
+-- if memory did not run out and the packet was handled, then `HandlesPacket` is true
 pub sure_packet : {old new : State} {before after : List Send} {face : ℕ} {token : Token} {moment : ℕ} {packet : PlainFrame} (r : Result code.Verdict Memory) → IsOk r
     → IfOk r (IsHandled old new before after face token moment packet) → HandlesPacket old new before after face token moment packet r
 sure_packet (Ok verdict) done handled = record { handled = handled; memory = tt }
@@ -55,8 +56,7 @@ unharmed old new policy pending cache = record {
   cache = subst (MayForget old.cache) (sym cache) (All-contains_itself old.cache.cached, refl);
 }
 
--- advancing time does not change whether a name is out of scope, and a Data that was not wanted
--- remains unwanted
+-- advancing time does not change whether a name is out of scope
 pub later_scope : (old was : NodeState) (face now : ℕ) (name : List Field) → IsLater old now was
     → is_out_of_scope was.policy face name ≡ is_out_of_scope old.policy face name
 later_scope old was face now name later = ap (λ (p : Policy). is_out_of_scope p face name) later.policy

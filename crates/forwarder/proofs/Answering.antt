@@ -1,5 +1,5 @@
--- An Interest for Data is answered: by a Nack if it loops, from the cache or the repository, or by
--- forwarding it.
+-- How an Interest for Data is answered: by a Nack if the Interest loops, and otherwise from the
+-- cache, from the repository, or as the strategy chooses.
 use Rattle.std.proofs.Common.{◌≡◌, ℕ, ◌≤◌, Bool, true, false, cond, List, [], ◌∷◌, length, Option, None, Some, Result, Ok, Err, inl, inr, refl, sym, ap, subst, ◌∙◌}
 use Rattle.std.specs.Prelude.{◌⊎◌, IfOk, max, not, ◌&&◌, IfSome}
 use Rattle.std.specs.List.{All}
@@ -100,7 +100,7 @@ later_sound old was moment sound later = step_sound old was _ _ sound (tick_step
 
 -- ---- the Data that can answer an Interest when time has advanced to its moment
 
--- if `c` is the least cached Data that can serve the key, then some cached Data can serve it
+-- if `c` is the least cached Data that can serve the key, then some cached Data can serve the key
 pub nothing_served : (key : PlainKey) (now : ℕ) (cached : List CachedData) (c : CachedData) → IsLeast (CanServe key now) cached c → All (λ d. ¬ CanServe key now d) cached → ⊥
 nothing_served key now cached c least none = All-contains (λ d. ¬ CanServe key now d) cached c none least.is_cached least.has
 
@@ -180,7 +180,8 @@ module _ (old was : NodeState) (moment face : ℕ) (token : Token) (whole : List
     loop_answered loop = data_answered was _ (where_true _ _ is_loop loop refl) refl (λ key. refl) later.living refl
 
     module _ (once : is_loop ≡ false) (after : StoreState) where
-      -- a passed Interest for Data looks up its key in the cache
+      -- if the lookup of the Interest's key gives `given` and leaves the cache `after`, then
+      -- `after` is as `CacheAfter` requires for an Interest that is passed
       looked_up : (given : Option (List ℕ)) → Finds (key_of i) was.policy.now was.cache given after
           → CacheAfter was.policy.now was.pending (packet_use was.policy.now face (AnInterest whole i) Passed) was.cache after
       looked_up given found =
@@ -207,8 +208,8 @@ module _ (old was : NodeState) (moment face : ℕ) (token : Token) (whole : List
             (looked_up None none)
 
         module _ (unheld : served i.name i.can_be_prefix was.policy.held.objects ≡ None) where
-          -- If the lookup found no Data, the cache after it is as `CacheAfter` requires, whether
-          -- the Interest is passed or is dropped because the PIT is full.
+          -- If the lookup found no Data, the cache after the lookup is as `CacheAfter` requires,
+          -- whether the Interest is passed or is dropped because the PIT is full.
           by_verdict : (new : NodeState) (v : Verdict) → (v ≡ Passed) ⊎ (v ≡ Dropped PitFull) → new.cache ≡ after
               → CacheAfter was.policy.now was.pending (packet_use was.policy.now face (AnInterest whole i) v) was.cache new.cache
           by_verdict new v (inl e) same =

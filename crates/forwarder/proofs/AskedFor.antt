@@ -1,4 +1,4 @@
--- Each Data that is sent was asked for by the face that it is sent to.
+-- If a Data is sent to a face, this face asked for the Data.
 use Rattle.std.proofs.Common.{◌≡◌, ℕ, Bool, true, false, cond, List, [], ◌∷◌, refl, sym, ap, subst, ◌∙◌, Result, Ok, Err, inl, inr}
 use Rattle.std.specs.Prelude.{◌≢◌, IfSome, Option, Some, None, Contains, IsSome, IsTrue, max}
 use Rattle.std.specs.FinMap as map
@@ -112,7 +112,7 @@ one_sent face a b e =
 never_passed : (sends : List Send) → dropped NoSegment ≡ passed sends → ⊥
 never_passed sends e = (let verdict : Dropped NoSegment ≡ Passed = ap (λ (x : Answer). x.verdict) e in cc verdict)
 
--- the octets of the node's own answer begin with the type of a Data
+-- the octets of the node's own answer to an Interest begin with the type of a Data
 own_begins : (p : Policy) (face : ℕ) (whole : List ℕ) (i : PlainInterest) (packet : List ℕ) → IsOwnAnswer p face whole i packet → begins 6 packet ≡ true
 own_begins p face whole i packet (inl reply) = ap (begins 6) reply.1.2 ∙ begins_data _
 own_begins p face whole i packet (inr list) = by_version (is_present p list.0.version) refl
@@ -146,7 +146,7 @@ module _ (first : Policy) (past : Run) (event : PlainEvent) (answer : Answer) (r
   abbrev seen : Seen
   seen = seen_after past q reply.waiting
 
-  -- if this packet is a Data, the face asked for it
+  -- if the packet is a Data, the face asked for this Data
   abbrev Asked : PlainFrame → Type 0
   Asked (AData whole d) = WasAskedFor first past reply.was event face whole d
   Asked (AnInterest whole i) = Unit {0}
@@ -159,7 +159,8 @@ module _ (first : Policy) (past : Run) (event : PlainEvent) (answer : Answer) (r
   linked : AllFit seen.records
   linked = waiting_fits past now reply.waiting reply.is_waiting
 
-  -- the token of an Interest from the face is a valid token
+  -- the token that `IsTokenFor` gives for a Data and the face is a valid token, or there is no
+  -- token
   given_token : (name : List Field) (digest : List ℕ) (token : Token) → IsTokenFor seen.records name digest face token → IfSome token IsToken
   given_token name digest token (inl none) = subst (λ (t : Token). IfSome t IsToken) (sym none.1) tt
   given_token name digest token (inr some) = subst (λ (t : Token). IfSome t IsToken) (sym some.3) (linked some.0 face some.1 some.2.asks.1).is_token
@@ -188,7 +189,7 @@ module _ (first : Policy) (past : Run) (event : PlainEvent) (answer : Answer) (r
     own_token = token_fits r.octets (token_at r.octets) refl
 
     -- if the Data was allowed in an earlier event and answers the Interest of this event, then the
-    -- octets are read as this Data, and the face asked for it
+    -- octets that are sent are read as this Data, and the face asked for this Data
     earlier : (whole : List ℕ) (d : PlainData) → r.packet ≡ whole → AllowedIn first past (AData whole d)
         → IsTrue (answers d.name (sha256 whole) r.interest.name r.interest.can_be_prefix) → (frame_at octets ≡ Ok (AData whole d)) × Asked (AData whole d)
     earlier whole d same allowed answered =

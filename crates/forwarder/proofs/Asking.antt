@@ -44,8 +44,8 @@ pub list_is_name : (kind : ListKind) → IsNameValue (octets_of (list_name kind)
 list_is_name RouteList = under_management (codes "fib") (omega arith)
 list_is_name StrategyList = under_management (codes "strategy-choice") (omega arith)
 
--- if the octets of one name begin with the octets of another name, the components of the first
--- begin with the components of the second
+-- the components of the name `b` begin with the components of the name `a` exactly if the octets
+-- of `b` begin with the octets of `a`
 pub begins_is : (octets name : List ℕ) (a b : List Field) (r : Bool) → IsNameValue octets a → IsNameValue name b → r ≡ starts_with nat_eq name octets → r ≡ begins_with a b
 begins_is octets name a b r h g e = same_from_decides r (begins_with a b) (is_prefix-shown octets name a b r h g e) (prefix_is a b)
 

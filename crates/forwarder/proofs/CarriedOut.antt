@@ -43,8 +43,9 @@ use Rattle.forwarder.specs.Node.{NodeState}
 use Rattle.forwarder.specs.CommandStep.{IsCommanded}
 
 module _ (was new : NodeState) (face : ℕ) (token : Token) (status : ℕ) (i : PlainInterest) (content : List ℕ) where
-  -- If the status, the reply and the new node are those of the command `read`, which the name
-  -- encodes, then a command on the tables was carried out.
+  -- Let `read` be the command, or the status of a fault, that the Interest's name is read as. If
+  -- the status, the reply and the new node are those for `read`, then a command on the tables was
+  -- carried out.
   pub tables_done : (read : Result PlainCommand ℕ) → command_at i.name ≡ read
       → status ≡ tables_status was.policy face read
       → content ≡ tables_reply was.policy face read
@@ -89,8 +90,8 @@ has_room len n limit cap none few most = omega arith
 pub at_most : (n limit cap : ℕ) → n ≤ limit → limit ≤ cap → n ≤ cap
 at_most n limit cap few most = omega arith
 
--- if tables change only in the FIB, and the preparation of the FIB is kept, a command that was
--- prepared is still prepared
+-- if only the FIB of the tables changes, and `prepared` of the FIB is unchanged, then a command
+-- that was prepared is still prepared
 pub still_ready : (old new : Tables) (c : PlainCommand) → new ≡ record old { fib = new.fib } → new.fib.prepared ≡ old.fib.prepared → IsPrepared old c → IsPrepared new c
 still_ready old new c same prepared ready =
     subst (λ (t : Tables). IsPrepared t c) (sym same) (ready.0, by_action c.action ready.1)
@@ -104,8 +105,9 @@ still_ready old new c same prepared ready =
     by_action UnsetStrategy h = tt
     by_action EraseCache h = tt
 
--- If the routes and strategies are those that a command with this status leaves, then the policy
--- with the next version of the lists is `after_tables`.
+-- Let `routes` and `choices` be the routes and strategies that a command with this status leaves.
+-- The policy with `routes`, `choices` and the next version of the lists is the policy that
+-- `after_tables` gives.
 pub after_applied : (p : Policy) (c : PlainCommand) (face status : ℕ) (routes : Routes) (choices : Choices)
     → status ≡ tables_status p face (Ok c)
     → routes ≡ if_done status (routes_after c face p.now p.routes) p.routes
@@ -119,8 +121,9 @@ after_applied p c face status routes choices is to_routes to_choices =
 same_store : (old new : StoreState) → new.cached ≡ old.cached → new.capacity ≡ old.capacity → new ≡ old
 same_store old new cached capacity = λ j. record { cached = cached j; capacity = capacity j }
 
--- If the cached Data are those that a command leaves, the cache is as `CacheAfter` requires for the
--- command's status. An erase is never refused, so its status is always 200.
+-- If the cached Data are those that a command leaves, and the capacity is unchanged, the cache is
+-- as `CacheAfter` requires for the command's status. The status of an erase is always 200, since
+-- an erase is never refused.
 pub cache_applied : (now : ℕ) (waiting : Pending) (c : PlainCommand) (face status : ℕ) (up : List ℕ) (routes : Routes) (choices : Choices) (old new : StoreState)
     → status ≡ status_of c face up routes choices
     → CachedAfter c old.cached new.cached → new.capacity ≡ old.capacity
@@ -164,7 +167,8 @@ content_fits s c reply is =
     by_text (Some text) e h = known_is_bounded reply.status reply.count text e
     by_text None e h = cc h
 
--- the faces that an Interest of the node is sent to do not depend on the repository
+-- the sends by which the node fetches a Data do not depend on the prefix and the state of the
+-- repository
 pub same_fetches : (p : Policy) (start : List Field) (held : Held) (nonce : List ℕ) (want : Option Want)
     → fetch_sends (record p { repo = start; held = held }) nonce want ≡ fetch_sends p nonce want
 same_fetches p start held nonce None = refl
@@ -175,13 +179,13 @@ pub with_repository : (n : NodeState) (start : List Field) (held : Held) → sta
     → record n { policy = record n.policy { repo = start; held = held } } ≡ n
 with_repository n start held s h = λ j. record n { policy = record n.policy { repo = s j; held = h j } }
 
--- a sum that does not overflow is the exact sum
+-- if a checked addition succeeds, its result is the exact sum
 pub sum_is : (o : Option ℕ) (r : Result ℕ Memory) (n sum : ℕ) (P : Type 0) → SomeIff o P sum → o ≡ result_ok r → r ≡ Ok n → n ≡ sum
 sum_is o r n sum P fits same given =
     (subst (λ (o : Option ℕ). SomeIff o P sum) (same ∙ ap (λ (r : Result ℕ Memory). result_ok r) given) fits).1
 
--- if space is reserved for a reply and a packet, it is enough for the reply; once the reply is
--- written, the space that is left is enough for the packet
+-- The next two lemmas: space that is reserved for a reply and a packet is enough for the reply,
+-- and after the reply is written, the remaining space is enough for the packet.
 pub has_reply_room : (total room len space : ℕ) → total ≡ room + 8800 → len ≤ room → total ≤ space → len ≤ space
 has_reply_room total room len space is few most = omega arith
 
@@ -191,7 +195,7 @@ has_packet_room total room len space left is few most rest = omega arith
 pub has_places : (places left : ℕ) → 1 + MAX_FACES ≤ places → places ≤ left + 1 → MAX_FACES ≤ left
 has_places places left most rest = omega arith
 
--- an Interest of the node that can be encoded fits in a space of 8,800 octets
+-- an Interest of the node that can be encoded fits in any space of at least 8,800 octets
 pub written_fits : (w : InterestWriter) (space : ℕ) → interest_refusal w ≡ None → 8800 ≤ space → length (interest_text w) ≤ space
 written_fits w space none most = by (is_bad_name (components w.name)) (nat_lt 64 (length (interest_name w))) (nat_lt 8800 (length (interest_text w))) refl none
   where
@@ -202,8 +206,8 @@ written_fits w space none most = by (is_bad_name (components w.name)) (nat_lt 64
     by false false true is none = absurd cc
     by false false false is none = grind (arith, nat_tests, is, most)
 
--- If `reply` is the repository's reply to a command, and the new node has the command's effect,
--- then the command was carried out.
+-- If `reply` is the repository's reply to a command, and the new node has the effect of this
+-- command, then the command was carried out.
 pub repository_done : (was new : NodeState) (face : ℕ) (token : Token) (i : PlainInterest) (reply : RepoReply) → reply ≡ repository_reply was.policy i
     → new.policy ≡ with_record (after_repository was.policy i) (recorded_of i) → new.pending ≡ was.pending → new.cache ≡ was.cache
     → IsCommanded was face token i ForRepository reply.status (replied face token i (repository_content reply) ∷ fetch_sends was.policy i.nonce reply.fetch) new

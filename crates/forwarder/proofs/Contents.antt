@@ -32,7 +32,7 @@ use Rattle.forwarder.specs.Event.{Token, to_each}
 use Rattle.forwarder.specs.NextHops.{sent_on}
 use Rattle.forwarder.specs.DataSends.{carries_data, holds_data, is_data, is_data_frame}
 
--- whether the first octet is `kind`
+-- whether there is a first octet, and it is `kind`
 abbrev pub begins : ℕ → List ℕ → Bool
 begins kind [] = false
 begins kind (octet ∷ octets) = octet == kind
@@ -47,8 +47,9 @@ begins_data value = refl
 
 -- ---- an Interest and a Data
 
--- the element of type `kind` and the octets after it; `len` has the length of the element's value,
--- and the octets from the value on
+-- The element of type `kind` and the octets after this element, or the fault Truncated if the
+-- value is cut off. `len` is a pair: the length of the value, and the octets that begin with the
+-- value.
 abbrev sized : ℕ → ℕ × List ℕ → Result (Field × List ℕ) TlvFault
 sized kind len = cond (ltb (length len.1) len.0) (Err Truncated) (Ok ((kind, take len.0 len.1), drop len.0 len.1))
 
@@ -88,7 +89,8 @@ five text false (Ok len) = by_size (ltb (length len.1) len.0) (take len.0 len.1)
     by_size false value [] = by_read (interest_of text value)
     by_size false value (octet ∷ rest) = (refl, refl)
 
--- an element with the type of an Interest does not hold a Data
+-- `holds_data` is false for the result of reading a text as exactly one element of the type of an
+-- Interest
 five_holds : (r : Result (ℕ × List ℕ) TlvFault) → holds_data (only (r >>= sized 5)) ≡ false
 five_holds (Err f) = refl
 five_holds (Ok len) = by_size (ltb (length len.1) len.0) (take len.0 len.1) (drop len.0 len.1)
@@ -112,15 +114,16 @@ six text false (Ok len) = by_size (ltb (length len.1) len.0) (take len.0 len.1) 
     by_size false value [] = by_read (data_of text value)
     by_size false value (octet ∷ rest) = refl
 
--- octets that are not read as a Data, and do not have the type of a Data, are not a Data
+-- if octets are not read as a Data, and `holds_data` is false for the result of reading them as
+-- one element, then `is_data` is false for the octets
 no_data : (text : List ℕ) → is_data_frame (frame_at text) ≡ false → holds_data (only_element text) ≡ false → is_data text ≡ false
 no_data text read typed = ap (λ (b : Bool). b || holds_data (only_element text)) read ∙ typed
 
--- octets that are read as a Data are a Data
+-- `is_data` is true for octets that are read as a Data
 pub read_is_data : (text whole : List ℕ) (d : PlainData) → frame_at text ≡ Ok (AData whole d) → is_data text ≡ true
 read_is_data text whole d read = ap (λ (r : Result PlainFrame PacketFault). is_data_frame r || holds_data (only_element text)) read
 
--- octets that begin as an Interest are neither a Nack nor a Data
+-- octets that begin with the type of an Interest are neither a Nack nor a Data
 pub interest_is_neither : (text : List ℕ) → begins 5 text ≡ true → (is_nack text ≡ false) × (is_data text ≡ false)
 interest_is_neither [] is = cc is
 interest_is_neither (octet ∷ octets) is =
@@ -133,7 +136,7 @@ interest_is_neither (octet ∷ octets) is =
       no_data text (ap is_data_frame frame ∙ neither.1) (ap (λ (r : Result (Field × List ℕ) TlvFault). holds_data (only r)) read ∙ five_holds (number_at octets)),
     )
 
--- octets that begin as a Data are not a Nack
+-- octets that begin with the type of a Data are not a Nack
 pub data_is_no_nack : (text : List ℕ) → begins 6 text ≡ true → is_nack text ≡ false
 data_is_no_nack [] is = cc is
 data_is_no_nack (octet ∷ octets) is =
@@ -157,7 +160,8 @@ six_whole text false (Ok len) whole d e = by_size (ltb (length len.1) len.0) (ta
     by_size false value [] e = by_read (data_of text value) e
     by_size false value (octet ∷ rest) e = cc e
 
--- octets that begin as a Data, and are read as a Data, are exactly the received octets of that Data
+-- octets that begin with the type of a Data, and are read as a Data, are exactly the received
+-- octets of that Data
 data_is_whole : (text whole : List ℕ) (d : PlainData) → begins 6 text ≡ true → frame_at text ≡ Ok (AData whole d) → text ≡ whole
 data_is_whole [] whole d is read = cc is
 data_is_whole (octet ∷ octets) whole d is read =
@@ -168,7 +172,7 @@ data_is_whole (octet ∷ octets) whole d is read =
 
 -- ---- an Interest that is sent on
 
--- the HopLimit is stored after the first octet
+-- the index that `hop_place` gives for a non-empty text is above 0
 pub hop_place_is_later : (text : List ℕ) → 0 < length text → 0 < hop_place text
 hop_place_is_later text some = by_frame (frame_at text)
   where
@@ -197,7 +201,7 @@ begins_some : (kind : ℕ) (text : List ℕ) → begins kind text ≡ true → 0
 begins_some kind [] is = cc is
 begins_some kind (x ∷ text) is = omega arith
 
--- a forwarded Interest still begins with the type of an Interest
+-- octets that begin with the type of an Interest still begin with this type when they are sent on
 pub sent_on_begins : (whole : List ℕ) (limit : Option ℕ) → begins 5 whole ≡ true → begins 5 (sent_on whole limit) ≡ true
 sent_on_begins whole None is = is
 sent_on_begins whole (Some n) is = begins_still 5 whole (hop_place whole) (n - 1) (hop_place_is_later whole (begins_some 5 whole is)) ∙ is
@@ -224,7 +228,8 @@ link_is : (value : List ℕ) → link_at value ≡ link_from no_headers_yet (ele
 unfolding link_at
 link_is value = refl
 
--- the elements of a value are read one after the other
+-- if a value begins with an element, then this element is read first, and the elements of the rest
+-- are read after it
 next_element : (f : Field) (rest : List ℕ) → IsField f → elements_of (element f ++ rest) ≡ Ok f ∷ elements_of rest
 next_element f rest is = elements_of-ok (element f ++ rest) f rest (element_again f rest is)
 
@@ -247,7 +252,8 @@ is_one token is = rw (le-leb 1 (length token) is.0, le-leb (length token) 32 is.
 token_taken : (token : List ℕ) → IsToken token → take_header no_headers_yet (98, token) ≡ Ok (record no_headers_yet { token = Some token })
 token_taken token is = ap (λ (b : Bool). cond (not b) (Err LpField) (Ok (record no_headers_yet { token = Some token }))) (is_one token is)
 
--- a Nack around an Interest does not hold a Data, whether the Nack has a token or not
+-- The next items: a Nack around `packet`, which has at most 8,800 octets, is no Data, whether the
+-- Nack has a token or not.
 module _ (reason : ℕ) (packet : List ℕ) (short : length packet ≤ 8800) where
   abbrev last_part : List ℕ
   last_part = element (80, packet) ++ []
@@ -263,7 +269,7 @@ module _ (reason : ℕ) (packet : List ℕ) (short : length packet ≤ 8800) whe
       let few = length-reason_value reason in
       omega (arith, few, length-append (element (800, reason_value reason)) last_part, length-append (element (80, packet)) [], length-one 800 (reason_value reason), length-one 80 packet)
 
-  -- a link packet with a Nack header carries no Data
+  -- a link packet with a Nack header and without a token carries no Data
   carries_none : carries_data (elements_of nack_part) ≡ false
   carries_none = ap carries_data (next_element (800, reason_value reason) last_part nack_field_is)
 
@@ -274,7 +280,7 @@ module _ (reason : ℕ) (packet : List ℕ) (short : length packet ≤ 8800) whe
       ∙ ap (λ (l : List (Result Field TlvFault)). Ok (800, reason_value reason) ∷ l)
       (next_element (80, packet) [] fragment ∙ ap (λ (l : List (Result Field TlvFault)). Ok (80, packet) ∷ l) elements_of-nil)
 
-  -- a link packet with a Nack header is not read as a Data, whether the packet has a token or not
+  -- the result of reading a link packet is not a Data
   abbrev NoDataIn : Result PlainFramed PacketFault → Type 0
   NoDataIn r = is_data_frame (r >>= λ f. Ok f.frame) ≡ false
 
@@ -298,7 +304,7 @@ module _ (reason : ℕ) (packet : List ℕ) (short : length packet ≤ 8800) whe
       by_nack (Err f) = refl
       by_nack (Ok n) = by_element n (only_element packet)
 
-  -- a link packet that is short enough is read element by element
+  -- a link packet whose value has at most 8,950 octets is read element by element
   read_by : (value : List ℕ) → length value ≤ 8950 → only_element (element (100, value)) ≡ Ok (100, value)
       → frame_at (element (100, value)) ≡ (link_from no_headers_yet (elements_of value) >>= λ f. Ok f.frame)
   read_by value few one =
@@ -340,7 +346,8 @@ pub nack_is_no_data : (token : Token) (reason : ℕ) (interest : List ℕ) → I
 nack_is_no_data None reason interest is short = bare_nack reason interest short
 nack_is_no_data (Some token) reason interest is short = token_nack reason interest short token is
 
--- a Nack around an Interest is read as a Nack
+-- a Nack around an Interest is read as a Nack, if its reason is below 2^64 and its token, if any,
+-- is valid
 pub nack_is_nack : (token : Token) (reason : ℕ) (interest : List ℕ) (i : PlainInterest) → IfSome token IsToken → IfSome token AreOctets → IsInterest interest i → reason < 2 ^ 64
     → is_nack (lp_text token (Some reason) interest) ≡ true
 nack_is_nack token reason interest i is fits read small =
@@ -441,8 +448,8 @@ never_long text whole d read = by_long (nat_lt 9000 (length text)) refl
     by_long false e = ltb-false 9000 (length text) e
     by_long true e = (let none = frame_is text ∙ ap (λ (b : Bool). framed text b (element_at text)) e in cc (none, read))
 
--- if a packet that begins as a Data is sent back, with a token or without one, and is read as a
--- Data, then the packet is exactly the received octets of that Data
+-- if a packet that begins with the type of a Data is sent back, with a token or without one, and
+-- is then read as a Data, then the packet is exactly the received octets of that Data
 pub back_holds : (token : Token) (packet whole : List ℕ) (d : PlainData) → IfSome token IsToken → begins 6 packet ≡ true → frame_at (lp_text token None packet) ≡ Ok (AData whole d)
     → packet ≡ whole
 back_holds None packet whole d is begun read = data_is_whole packet whole d begun read

@@ -84,7 +84,8 @@ module _ (s : NodeState) (now : ℕ) (whole : List ℕ) (d : PlainData) (askers 
 
   -- ---- what is sent
 
-  -- the Data is sent to each waiting face except `face`, each time with that face's token
+  -- if the faces in `some` are the waiting faces except `face`, each with its token, then the
+  -- sends of the Data to the faces in `some` satisfy `IsSentToAskers`
   pub sent_to_askers : (face : ℕ) → IsRising askers → (some : Askers) → faces_of some ≡ filter (λ f. not (eqb f face)) askers
       → All (λ a. IsTokenFor (records_at s.pending) d.name (sha256 whole) a.0 a.1) some → IsSentToAskers (seen_by s) face whole d (sent_to some whole)
   sent_to_askers face rising some are tokens = (

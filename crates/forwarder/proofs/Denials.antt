@@ -98,7 +98,7 @@ mild_closing false = refl
 
 -- ---- a denied packet has no effect
 
--- this decision on the packet leaves the policy unchanged
+-- the decision `said` on the packet leaves the policy unchanged
 abbrev IsIdle : Policy → ℕ → PlainFrame → Decision → Type 0
 IsIdle p face packet said = after_decision p face packet said ≡ p
 

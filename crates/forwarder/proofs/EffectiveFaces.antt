@@ -28,7 +28,7 @@ module _ {K X : Type 0} {R : K → K → Ordering} (order : IsTotalOrder R) wher
   found_at (e ∷ es) (suc i) d lt =
       here_or_later (eq_by_cmp R (get_or es i d).0 e.0) e.1 (map.find R (get_or es i d).0 es) (found_at es i d (omega (arith, lt)))
 
-  -- if each key that has a value has a property, the key of each entry has that property
+  -- if a property is true of each key that has a value, then it is true of the key of each entry
   pub all_entries : (P : K → Type 0) (m : FinMap R X) (d : K × X) → ((k : K) → IsSome (map.get m k) → P k) → All (λ e. P e.0) (map.entries m)
   all_entries P m d holds =
       All-from_get_or (λ (e : K × X). P e.0) (map.entries m) d
@@ -91,7 +91,8 @@ module _ (routes : Routes) where
           | false ↦ all
         ])
 
-  -- each face in the next hops and the routes of one entry has a next hop or a route
+  -- The next lemmas: each face among the next hops of an entry, or among its routes, has a next
+  -- hop or a route.
   module _ (name : List Field) (e : Entry) (there : entry_at routes name ≡ e) where
     hops_lead : AllLead e.hops
     hops_lead face some = (name, inl (subst (λ (x : Entry). IsSome (map.get x.hops face)) (sym there) some))
@@ -140,6 +141,7 @@ module _ (routes : Routes) where
         | false ↦ rest
       ]
 
-  -- each face in these costs is the face of a next hop or of a route
+  -- each face in the costs at the longest prefix with an entry is the face of a next hop or of a
+  -- route
   pub longest_leads : (name : List Field) → AllLead (longest_costs routes name (length name))
   longest_leads name = longest_lead name (length name)

@@ -45,8 +45,8 @@ use Rattle.forwarder.proofs.Origins.{AllFit, FitsLink, token_fits}
 use Rattle.forwarder.proofs.NackSteps.{all_entries}
 use Rattle.forwarder.proofs.Requests.{for_list}
 
--- if a send of these octets to any face has a property, all sends of these octets have that
--- property
+-- if the send of `octets` to each face has a property, then all sends of `to_each faces octets`
+-- have this property
 all_to_each : (P : Send → Type 0) (octets : List ℕ) (faces : List ℕ) → ((face : ℕ) → P (face, octets)) → All P (to_each faces octets)
 all_to_each P octets [] each = All-nil P
 all_to_each P octets (face ∷ faces) each = All-cons P (face, octets) (to_each faces octets) (each face) (all_to_each P octets faces each)
@@ -177,7 +177,8 @@ module _ (seen : Seen) (face now : ℕ) (octets whole : List ℕ) (i : PlainInte
 
 -- ---- a Data, a Nack, and all events
 
--- if the send to each face in `askers` has a property, all sends in the list have it
+-- if the send of the Data to each face in `askers` has a property, then all sends of the list that
+-- `sent_to` gives have this property
 all_sent : (P : Send → Type 0) (T : ℕ × Token → Type 0) (whole : List ℕ) (askers : Askers) → All T askers
     → ((a : ℕ × Token) → IsTrue (has_face a.0 (faces_of askers)) → T a → P (sent_back a.0 a.1 whole)) → All P (sent_to askers whole)
 all_sent P T whole [] all each = All-nil P

@@ -56,7 +56,8 @@ all_above : (y x : ℕ) (faces : List ℕ) → y < x → AllByRecursion (λ m. x
 all_above y x [] lt all = tt
 all_above y x (z ∷ faces) lt all = (omega (arith, lt, all.0), all_above y x faces lt all.1)
 
--- if each face of `some` is greater than `y` and is in `y ∷ faces`, then it is in `faces`
+-- if each face of `some` is greater than `y` and is in `y ∷ faces`, then each face of `some` is
+-- in `faces`
 in_rest : (y : ℕ) (some faces : List ℕ) → AllByRecursion (λ m. y < m) some → AllByRecursion (λ f. has_face f (y ∷ faces) ≡ true) some
     → AllByRecursion (λ f. has_face f faces ≡ true) some
 in_rest y [] faces above all = tt
@@ -96,7 +97,7 @@ module _ (faces : List FaceEntry) (few : length faces ≤ MAX_FACES) (rising : I
       one (inl has) = records f has
       one (inr is) = subst (λ (g : ℕ). is_open g faces ≡ true) (sym is) here
 
-  -- if each face with a record is open, there is room for a record of one more open face
+  -- if each face with a record is open, the PIT has room for a record of any open face
   pub room_within : (face : ℕ) → is_open face faces ≡ true → HasRoomFor pending face
   room_within face here some rises all =
       let most = rising_within some (numbers faces) rises rising (each_open face some here all) in
@@ -110,7 +111,7 @@ room_for_open s face sound here = room_within s.policy.faces sound.few sound.ris
 settled_alive : (r : Records) → is_alive r ≡ true → is_alive (settled r) ≡ true
 settled_alive r alive = subst (λ (b : Bool). is_alive (cond b r no_records) ≡ true) (sym alive) alive
 
--- records that are alive stay alive when the Interest is sent
+-- records that are alive stay alive when an Interest is sent to a face
 pub sent_alive : (key : PlainKey) (face : ℕ) (nonce : List ℕ) (now : ℕ) (k : PlainKey) (r : Records) → is_alive r ≡ true
     → is_alive (records_after (SentTo key face nonce now) k r) ≡ true
 sent_alive key face nonce now k r alive =
@@ -269,8 +270,8 @@ arrives_as {k} {key} face token whole nonce {d} {deadline} old new same until ar
     subst (λ (n : ℕ). Follows (Arrives key face (record { interest = whole; nonce = nonce; deadline = n; token = token })) old new) until
     (subst (λ (q : PlainKey). Follows (Arrives q face (record { interest = whole; nonce = nonce; deadline = d; token = token })) old new) same arrives)
 
--- if no Nack is sent and no send goes to the face of an Interest, its causes are its arrival and
--- one `SentTo` for each send
+-- the causes of an Interest are its arrival and one `SentTo` for each send, if no Nack is sent and
+-- no send goes to the face of the Interest
 kept_causes : (now face : ℕ) (token : Token) (whole : List ℕ) (i : PlainInterest) (sends : List Send) → is_nacked sends ≡ false → is_answered face sends ≡ false
     → interest_causes now face token whole i sends
     ≡ Arrives (key_of i) face (in_record_for now token whole i) ∷ map (λ (sent : Send). SentTo (key_of i) sent.0 i.nonce now) sends
@@ -292,7 +293,7 @@ sent_on_causes now face token whole i faces old mid new spelled apart arrives se
     ∙ ap (λ (causes : List Cause). after_causes causes key (records_after arrived key (records_at old key))) (sym (sent_to_each (key_of i) i.nonce now faces octets))
     ∙ ap (λ (causes : List Cause). after_causes causes key (records_at old key)) (sym is)
 
--- if a key has an in-record, or fewer than 4,096 keys have records, an Interest of this key is not
+-- if a key is alive, or fewer than 4,096 keys have records, then an Interest of this key is not
 -- dropped because the PIT is full
 pub takes_key : (alive : Bool) (n : ℕ) → ((alive ≡ false) × (4096 ≤ n) → ⊥) → (not alive && leb 4096 n) ≡ false
 takes_key true n never = refl

@@ -1,4 +1,4 @@
--- What a step leaves unchanged, and how a run is extended by a step.
+-- A step leaves a sound node sound, and extends the runs that the node agrees with.
 use Rattle.std.proofs.Common.{◌≡◌, ℕ, List, [], length, drop, Result, Ok, Err, refl, sym, ap, subst, ◌∙◌}
 use Rattle.std.specs.Prelude.{IfOk, OnErr}
 use Rattle.std.proofs.lemmas.List.{append-nil, drop_at}
@@ -17,7 +17,7 @@ use Rattle.forwarder.proofs.Handled.{StepsBy}
 use Rattle.forwarder.proofs.Soundness.{step_sound}
 use Rattle.forwarder.proofs.Standing.{step_goes_on}
 
--- a node is sound after a step that ran out of memory, if it was sound before
+-- a node that was sound is still sound after a step that ran out of memory
 unharmed_sound : (old new : NodeState) → IsSound old → ChangesCacheOnly old new → IsSound new
 unharmed_sound old new sound unharmed =
     subst (λ (p : Policy). IsSound (record { policy = p; pending = new.pending; cache = new.cache })) (sym unharmed.policy)

@@ -41,7 +41,8 @@ module _ (old was new : NodeState) (face now : ℕ) (octets : List ℕ) (answer 
   abbrev p : Policy
   p = at_moment old.policy now
 
-  -- the octets came on an open face and were read as `packet`, and the packet was answered
+  -- The next items: if the octets came on an open face and were read as `packet`, and the packet
+  -- was answered, then the answer is one step of the node.
   module _ (is_here : is_open face old.policy.faces ≡ true) (packet : PlainFrame) (read : frame_at octets ≡ Ok packet)
       (answered : IsAnswered was face (token_at octets) packet answer new) where
     replies_read : RepliesToPacket (seen_in p was.pending old.cache) face (token_at octets) (frame_at octets) answer
@@ -154,7 +155,7 @@ module _ (old new : NodeState) (face now : ℕ) (octets : List ℕ) (later : IsL
 
 -- ---- the work of a handler is one step
 
--- a step whose sends are appended to the earlier sends
+-- the node makes a step with this verdict, whose sends, appended to `before`, give `after`
 abbrev pub StepsBy : NodeState → NodeState → List Send → List Send → PlainEvent → code.Verdict → Type 0
 StepsBy old new before after event verdict =
     (sends : List Send) × (after ≡ before ++ sends) × IsStep old event (record { verdict = verdict_of verdict; sends = sends }) new

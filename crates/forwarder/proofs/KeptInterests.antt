@@ -43,7 +43,7 @@ use Rattle.forwarder.proofs.Requests.{for_list}
 
 -- ---- causes
 
--- one cause for each send, which says that the Interest was sent to that face
+-- for each send, the cause that says that the Interest was sent to the face of the send
 abbrev sendings : PlainKey → List ℕ → ℕ → List Send → List Cause
 sendings key nonce now sends = map (λ (sent : Send). SentTo key sent.0 nonce now) sends
 
@@ -64,7 +64,7 @@ kept_causes now event answer key face ask kept =
     ∙ ap (λ (a : InRecord). Arrives key face a ∷ rest) (sym kept.is_record)
 
 module _ (now : ℕ) (event : PlainEvent) (answer : Answer) (key : PlainKey) (face : ℕ) (ask : InRecord) where
-  -- if `cause` is the arrival of this in-record, the Interest is kept
+  -- if `cause` is the arrival of the in-record `ask`, then the Interest becomes pending
   abbrev IsKeptBy : Cause → Type 0
   IsKeptBy cause = cause ≡ Arrives key face ask → IsKept now event answer key face ask
 
@@ -174,7 +174,8 @@ kept_waits past event answer key face ask kept =
     ∙ after_sendings (key_of i) i.nonce now answer.sends (Arrives key face ask ∷ earlier) key face
     ∙ both (same_key key key) (eqb face face) (Some ask) (in_record_of_causes earlier key face) (same_self key) (eq-eqb face face refl)
 
--- after one cause, an in-record was either there before, or comes from that cause
+-- if a key has an in-record after one cause, then the cause is the arrival of this in-record, or
+-- the in-record was there before the cause
 one_cause : (cause : Cause) (key : PlainKey) (face : ℕ) (ask : InRecord) (was : Option InRecord) → in_record_after cause key face was ≡ Some ask → (cause ≡ Arrives key face ask) ⊎ (was ≡ Some ask)
 one_cause (Expires now) key face ask None e = inr e
 one_cause (Expires now) key face ask (Some a) e = by_time (ltb now a.deadline) e
@@ -231,7 +232,7 @@ module _ (key : PlainKey) (face : ℕ) (ask : InRecord) (Q : Type 0) where
       by_rest (inl q) = inl q
       by_rest (inr e) = by_cause (one_cause cause key face ask (in_record_of_causes earlier key face) e)
 
--- an in-record that remains when time has advanced to a moment was there before
+-- an in-record that remains once time has advanced to a moment was there before time advanced
 pub waited_before : (past : Run) (now : ℕ) (key : PlainKey) (face : ℕ) (ask : InRecord) → fin.get (records_after (Expires now) key (records_of past key)).in_records face ≡ Some ask
     → fin.get (records_of past key).in_records face ≡ Some ask
 waited_before past now key face ask e =
@@ -296,7 +297,7 @@ module _ (seen : Seen) (event : PlainEvent) (answer : Answer) (face : ℕ) (whol
   on_command (decided.Denied rule reason) e = never _ (ap (λ (a : Answer). a.verdict) e) (λ f. cc f)
   on_command decided.NoRule e = never _ (ap (λ (a : Answer). a.verdict) e) (λ f. cc f)
 
-  -- the face that asks is not chosen
+  -- the face that asks is not among the faces that the strategy chooses
   not_asker : (faces : List ℕ) → choice_for seen.policy i.name (moments (seen.records (key_of i)).out_records) (ask_from seen.policy face i) ≡ choices.Send faces → has_face face faces ≡ false
   not_asker faces chosen = by_face (has_face face faces) refl
     where

@@ -1,6 +1,7 @@
 -- The time of a policy is the greatest moment of the run, its rules and keys are those of the
--- latest event that brought new rules and keys, and its prefix never changes. Advancing time to two
--- moments, one after the other, has the effect of advancing time to the later moment.
+-- latest event that brought new rules and keys, and the repository's prefix never changes.
+-- Advancing time to two moments, one after the other, has the effect of advancing time to the
+-- later moment.
 use Rattle.std.proofs.Common.{◌≡◌, ◌⊎◌, inl, inr, ℕ, ◌+◌, ◌-◌, ◌^◌, ◌≤◌, Bool, true, false, cond, arith, List, [], ◌∷◌, ◌++◌, refl, sym, ap, subst, ◌∙◌, Result, Ok, Err}
 use Rattle.std.proofs.lemmas.Bool.Decides.{nat_tests}
 use Rattle.std.specs.Prelude.{Option, Some, None, max, min, nat_lt, if◌then◌else◌}
@@ -34,7 +35,7 @@ use Rattle.forwarder.specs.Effects.{IsEffect, IsAfter, after_packet, after_decis
 use Rattle.forwarder.specs.Runs.{Run, Start, Then, AreLastRules, BringsKeysApart, BringsNoRules, HasNoNewRules, IsPolicyOf, KeysAreApart, events_back, now_of}
 use Rattle.forwarder.proofs.LeftRoutes.{due_twice, left_twice}
 
--- the parts of a policy that only a moment, or new rules and keys, can change
+-- the time, the rules, the keys and the repository's prefix of a policy
 abbrev Lasting : Type 0
 Lasting = ℕ × (List PlainRule × (List NamedKey × List Field))
 
@@ -80,7 +81,7 @@ said_keeps p face packet (Allowed rule) = packet_keeps p face packet
 said_keeps p face packet (Denied rule reason) = refl
 said_keeps p face packet NoRule = refl
 
--- the keys that are in force after an event
+-- the keys that are in force after an event, if `keys` are those in force before the event
 abbrev keys_after : PlainEvent → List NamedKey → List NamedKey
 keys_after (Packet face now octets) keys = keys
 keys_after (FaceUp face scope now) keys = keys
@@ -88,8 +89,8 @@ keys_after (FaceDown face now) keys = keys
 keys_after (Tick now) keys = keys
 keys_after (NewRules rules new now) keys = new
 
--- the parts in `Lasting` after an event; the rules and keys are those that the event brings, if it
--- brings any
+-- The parts in `Lasting` after an event, if `p` is the policy once time has advanced to the
+-- event's moment. The rules and keys are those that the event brings, if it brings any.
 abbrev lasting_after : PlainEvent → Policy → Lasting
 lasting_after event p = (p.now, (rules_after event p.rules, (keys_after event p.keys, p.repo)))
 

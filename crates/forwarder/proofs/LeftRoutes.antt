@@ -41,7 +41,7 @@ registered_twice m n le g =
     ∙ still_due m n le (map.get g k)
     ∙ sym (get-revise route_cmp-antisymmetric (until_due n) g k))
 
--- what is left of an entry at the moment `n` is the same if a vacant entry is removed first
+-- removing an entry that is vacant does not change what is left of the entry at the moment `n`
 vacant_goes : (n : ℕ) (e : Entry) → option_and_then (entry_left_at n) (unless_vacant e) ≡ entry_left_at n e
 vacant_goes n e =
     elim (is_vacant e) as (λ b. is_vacant e ≡ b → option_and_then (entry_left_at n) (cond b None (Some e)) ≡ entry_left_at n e) [
@@ -60,7 +60,8 @@ entry_twice m n le (Some e) =
     vacant_goes n (record e { registered = revise (until_due m) e.registered })
     ∙ ap (λ (g : Registered). unless_vacant (record e { registered = g })) (registered_twice m n le e.registered)
 
--- the routes that remain at the later of two moments do not depend on the earlier moment
+-- removing the routes that expire by `m`, and then the routes that expire by the later moment `n`,
+-- leaves the routes that remain at `n`
 pub left_twice : (m n : ℕ) (routes : Routes) → m ≤ n → left_at n (left_at m routes) ≡ left_at n routes
 left_twice m n routes le =
     same_map name_cmp-total name_cmp-antisymmetric _ _ (λ (k : List Field).
@@ -98,7 +99,7 @@ entry_falls now e =
     let few = len-revise (until_due now) e.registered in
     elim (is_vacant left) as (λ b. size_of (λ (x : Entry). map.len x.registered) (cond b None (Some left)) ≤ map.len e.registered) [ true ↦ omega arith | false ↦ few ]
 
--- advancing time adds no routes
+-- advancing time does not increase the number of routes
 pub count-left : (now : ℕ) (routes : Routes) → route_count (left_at now routes) ≤ route_count routes
 count-left now routes =
     subst (λ es. total (λ (e : Entry). map.len e.registered) es ≤ route_count routes) (sym (entries-revise name_cmp (entry_left_at now) routes))

@@ -1,4 +1,4 @@
--- The greatest length of a link packet.
+-- By how many octets, at most, a link packet is longer than the packet in it.
 use Rattle.std.proofs.Common.{◌≡◌, ℕ, ◌+◌, ◌≤◌, List, [], ◌∷◌, length, Option, None, Some, arith}
 use Rattle.std.specs.Prelude.{IfSome}
 use Rattle.std.proofs.lemmas.List.{length-append}
@@ -18,7 +18,7 @@ more h fields = length-append (element h) (octets fields)
 token_fits : (token : List ℕ) → IsToken token → length (element (98, token)) ≤ 34
 token_fits token is = omega (arith, is, length-element 98 token, length-spelling_one 98 (omega arith), length-spelling_one (length token) (omega (arith, is)))
 
--- the header of a Nack has at most 16 octets, since its reason takes 8 octets at most
+-- the header of a Nack has at most 16 octets, since a reason takes at most 8 octets
 nack_fits : (reason : ℕ) → length (element (800, octets ((801, shortest_nni reason) ∷ []))) ≤ 16
 nack_fits reason =
     let inner = octets ((801, shortest_nni reason) ∷ []) in

@@ -87,8 +87,8 @@ list_answered old was moment face token whole i asked tok later is =
       cache = list_cached was face token whole i asked (for_list was.policy face i asked request);
     }
 
--- A list is encoded before time advances to the moment of the request, but from the time, routes,
--- strategies and version that the policy has once time has advanced.
+-- The time, routes, strategies and version that are computed before time advances to a request's
+-- moment are those of the policy `p` once time has advanced.
 pub then_listed : (old p : Policy) (moment now due number : ℕ) → p ≡ at_moment old moment → now ≡ max old.now moment → due ≡ due_count now old.routes
     → number ≡ min (old.table_number + due) (2 ^ 64 - 1)
     → (p.now ≡ now) × (p.routes ≡ left_at now old.routes) × (p.choices ≡ old.choices) × (p.table_number ≡ number)
@@ -100,8 +100,8 @@ then_listed old p moment now due number is at ends counted = (
       ∙ sym (counted ∙ ap (λ (n : ℕ). min (old.table_number + n) (2 ^ 64 - 1)) ends),
 )
 
--- if an Interest asks for a list, then the answer that `list_answer` gives answers it, and the node
--- does not change once time has advanced
+-- if an Interest asks for a list, then the answer that `list_answer` gives is the answer to this
+-- Interest, and it leaves the node unchanged once time has advanced
 pub list_handled : (old was : NodeState) (moment face : ℕ) (token : Token) (whole : List ℕ) (i : PlainInterest) (asked : ListAsked) (answer : Answer) → IfSome token IsToken → IsLater old moment was
     → request_of old.policy face i ≡ ForList asked → list_answer was.policy face token asked ≡ answer → IsAnswered was face token (AnInterest whole i) answer was
 list_handled old was moment face token whole i asked answer tok later is given =

@@ -293,14 +293,14 @@ module _ (key : PlainKey) (face : ℕ) (nonce : List ℕ) (reason : ℕ) where
   abbrev came : Cause
   came = NackCame key face nonce reason
 
-  -- a received Nack leaves the in-records unchanged
+  -- if records are alive, a received Nack leaves their in-records unchanged
   pub nacked_asks : (r : Records) → is_alive r ≡ true → (records_after came key r).in_records ≡ r.in_records
   nacked_asks r alive =
       let same : (changed came key r).in_records ≡ r.in_records =
       elim (same_key key key) as (λ b. (cond b (record { in_records = r.in_records; out_records = with_reason face nonce reason r.out_records (get r.out_records face) }) r).in_records ≡ r.in_records) [ true ↦ refl | false ↦ refl ] in
       ap (λ b. (cond b (changed came key r) no_records).in_records) (ap (λ (m : InRecords). ltb 0 (fin.len m)) same ∙ alive) ∙ same
 
-  -- a Nack with a Nonce that was not sent to this face changes nothing
+  -- a Nack with a Nonce that was not sent to the face leaves the out-records unchanged
   not_kept : (asked : OutRecords) → was_sent (get asked face) nonce ≡ false → with_reason face nonce reason asked (get asked face) ≡ asked
   not_kept asked other = go (get asked face) refl other
     where
@@ -334,8 +334,9 @@ some_nacks asks reason alive = go (entries asks) (sym (ap (ltb 0) (len-entries a
     go [] some = no some
     go (e ∷ es) some = refl
 
--- if Nacks are sent back to the faces with in-records, and the records of the key are then removed,
--- the records follow the causes of the received Nack
+-- if the records of a key are alive, a received Nack is recorded in them, and they are then
+-- removed, then all records follow the causes of a Nack that is answered by Nacks to all faces
+-- with in-records
 pub removed_causes : (face reason least : ℕ) (i : PlainInterest) (old mid new : Pending) → is_alive (records_at old (key_of i)) ≡ true
     → Follows (NackCame (key_of i) face i.nonce reason) old mid → Follows (Removed (key_of i)) mid new
     → FollowAll (nack_causes face reason i (nacks_to (in_records_at old (key_of i)) least)) old new

@@ -1,4 +1,4 @@
--- A denial gives the rule that denies the packet.
+-- A denial names the rule that denies the packet, or says that no rule applies to the packet.
 use Rattle.std.proofs.Common.{◌≡◌, ℕ, Bool, true, false, List, [], refl, ap, subst, Result, Ok, Err, inl, inr}
 use Rattle.std.specs.Prelude.{◌⊎◌, Option, Some, None, not, if◌then◌else◌}
 use Rattle.ndn_packets.specs.FrameReading.{frame_at, token_at}
@@ -27,7 +27,8 @@ use Rattle.forwarder.specs.Runs.{is_denied}
 use Rattle.forwarder.proofs.RunSteps.{seen_with}
 use Rattle.forwarder.proofs.Denials.{Mild, mild_closing, mild_data, mild_is, mild_list, mild_nack, mild_opening}
 
--- the verdict states this decision
+-- the verdict agrees with the decision: it is no denial if the decision allows the packet, and
+-- otherwise it states the rule and the reason, or that there is no rule
 abbrev Tells : Decision → Verdict → Type 0
 Tells (decided.Allowed n) v = is_denied v ≡ false
 Tells (decided.Denied n reason) v = (kind : Kind) × (v ≡ Denied kind n.0 reason)
@@ -37,7 +38,7 @@ module _ (p : Policy) (records : PlainKey → Records) (full : Bool) (G : PlainK
   abbrev seen : Seen
   seen = seen_with p records full G
 
-  -- the answer is not a denial, or it states the decision on this packet
+  -- the answer is not a denial, or it states the decision on the packet `asked`
   abbrev ToldOf : ℕ → Token → Option PlainFrame → Type 0
   ToldOf face token asked = Mild answer ⊎ ((packet : PlainFrame) × (said : Decision) × (asked ≡ Some packet) × IsDecidedAs p packet said × Tells said answer.verdict × (Mild answer ⊎ IsDenial p face token packet said answer))
 

@@ -1,4 +1,4 @@
--- What a replay guard holds, and that a command is allowed only once.
+-- What a replay guard records, and that a command is allowed only once.
 use Rattle.std.proofs.Common.{◌≡◌, ℕ, ◌<◌, Bool, true, false, List, [], ◌∷◌, refl, sym, ap, subst, ◌∙◌, Result, Ok, Err, inl, inr, arith}
 use Rattle.std.specs.Prelude.{◌⊎◌, Option, Some, None, IsSome, IfSome, if◌then◌else◌}
 use Rattle.std.specs.FinMap as map
@@ -83,8 +83,8 @@ packet_guard p face (AData whole d) = inl refl
 packet_guard p face (ANack reason whole i) = inl refl
 packet_guard p face Idle = inl refl
 
--- a decision on a packet leaves the guard unchanged, or allows the packet, which is recorded as a
--- command
+-- a decision on a packet leaves the guard unchanged, or it allows the packet, and the packet is
+-- recorded as a command
 said_guard : (p : Policy) (face : ℕ) (packet : PlainFrame) (said : Decision) → ((after_decision p face packet said).guard ≡ p.guard)
     ⊎ (Records p packet (after_decision p face packet said).guard × ((rule : RuleNo) × (said ≡ decided.Allowed rule)))
 said_guard p face packet (decided.Allowed rule) = by_packet (packet_guard p face packet)
@@ -122,7 +122,7 @@ seen_now table r time number k = (added table r r.signer time number k).1 refl
 
 -- ---- runs
 
--- the guard is unchanged by an event, or an allowed command was recorded
+-- an event leaves the guard unchanged, or brings an allowed command, which is recorded
 abbrev GuardAfter : Policy → PlainEvent → Policy → Type 0
 GuardAfter was event new =
     (new.guard ≡ was.guard)
@@ -219,7 +219,8 @@ IsRecordIn first run r = (whole : List ℕ) × (i : PlainInterest) × AllowedIn 
 longer_record : (first : Policy) (before : Run) (event : PlainEvent) (answer : Answer) (r : Recorded) → IsRecordIn first before r → IsRecordIn first (Then before event answer) r
 longer_record first before event answer r (whole, i, a, is) = (whole, i, inl a, is)
 
--- a guard that was empty at first is the table of allowed commands of the run
+-- if the guard was empty at first, then the guard after the run is the table of some records,
+-- each of which is the record of an allowed command of the run
 pub guard_is_of_allowed : (first p : Policy) (run : Run) → first.guard ≡ map.empty → IsPolicyOf first run p
     → (records : List Recorded) × (p.guard ≡ table_of records) × All (IsRecordIn first run) records
 guard_is_of_allowed first p Start none h = ([], ap (λ (q : Policy). q.guard) h ∙ none, All-nil (IsRecordIn first Start))
@@ -237,7 +238,7 @@ guard_is_of_allowed first p (Then before event answer) none (was, w, after) =
           (All-weaker (IsRecordIn first before) (IsRecordIn first (Then before event answer)) (longer_record first before event answer) records all),
     )
 
--- `r` is newer than each allowed command of its signer
+-- `r` is newer than each allowed command of the same signer in the run
 abbrev IsNewest : Policy → Run → Recorded → Type 0
 IsNewest first run r = (whole : List ℕ) (i : PlainInterest) (s : Recorded) → AllowedIn first run (AnInterest whole i) → recorded_of i ≡ Some s → s.signer ≡ r.signer
     → (s.time < r.time) × NumberRises s.number r.number
@@ -250,8 +251,8 @@ newer_than_all first run r newest (s ∷ records) all =
       newer_than_all first run r newest records (All-tail (IsRecordIn first run) s records all),
     )
 
--- a command whose time is near the time of the event, and that is newer than each allowed command
--- of its signer, is fresh
+-- if the guard was empty at first, then a command is fresh if its time is near the time of the
+-- event, and it is newer than each earlier allowed command of its signer
 pub newest_is_fresh : (first was : Policy) (run : Run) (now : ℕ) (i : PlainInterest) (r : Recorded) → first.guard ≡ map.empty → IsPolicyOf first run was → recorded_of i ≡ Some r
     → AreNear r.time (at_moment was now).now → IsNewest first run r → IsFreshCommand (at_moment was now) i
 newest_is_fresh first was run now i r none h is near newest =

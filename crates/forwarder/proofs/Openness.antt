@@ -105,7 +105,8 @@ more_here f (y ∷ ys) (suc i) x e =
 one_more : (i : ℕ) → suc i ≡ i + 1
 one_more i = omega arith
 
--- if the face at index `i` is not `f`, the loop over the faces keeps it
+-- if `rest` are the first `i` faces without `f`, and the face at index `i` is not `f`, then adding
+-- this face to `rest` gives the first `i + 1` faces without `f`
 pub kept_here : (f : ℕ) (xs : List ℕ) (i x : ℕ) (rest new : List ℕ) → IsRising xs → slice_get xs i ≡ Some x → i < MAX_FACES → rest ≡ but_for f (take i xs) → eqb x f ≡ false → new ≡ (adding x rest).1 → new ≡ but_for f (take (i + 1) xs)
 kept_here f xs i x rest new rising at lt was apart is =
     let few : length (but_for f (take i xs)) < MAX_FACES = omega (arith, length_filter (λ g. not (eqb g f)) (take i xs), length_here xs i, lt) in
@@ -113,7 +114,8 @@ kept_here f xs i x rest new rising at lt was apart is =
     ∙ ap (λ b. but_for f (take i xs) ++ cond (not b) (x ∷ []) []) (sym apart) ∙ sym (more_here f xs i x at)
     ∙ ap (λ m. but_for f (take m xs)) (one_more i)
 
--- if the face at index `i` is `f`, the loop over the faces leaves it out
+-- if `rest` are the first `i` faces without `f`, and the face at index `i` is `f`, then `rest` are
+-- also the first `i + 1` faces without `f`
 pub left_out : (f : ℕ) (xs : List ℕ) (i x : ℕ) (rest : List ℕ) → slice_get xs i ≡ Some x → rest ≡ but_for f (take i xs) → eqb x f ≡ true → rest ≡ but_for f (take (i + 1) xs)
 left_out f xs i x rest at was same =
     was ∙ sym (append-nil (but_for f (take i xs))) ∙ ap (λ b. but_for f (take i xs) ++ cond (not b) (x ∷ []) []) (sym same) ∙ sym (more_here f xs i x at)
@@ -262,14 +264,14 @@ module _ (f : ℕ) (all local : List ℕ) (are : AreOpen all local) (out : has_f
   pub few_local : length all < MAX_FACES → length local < MAX_FACES
   few_local lt = omega (arith, ap length are, length_filter (λ g. has_face g local) all, lt)
 
-  -- after a face with the scope Far opens, each Local face is still open
+  -- `AreOpen` remains true when a face with the scope Far opens
   pub far_opens : AreOpen (numbers_of.with_face f all) local
   far_opens = are ∙ sym (filter-with_out (λ g. has_face g local) f all not_local)
 
   pub far_entries : entries_of (numbers_of.with_face f all) local ≡ with_face f Far (entries_of all local)
   far_entries = entries_with f Far all local local out (λ g e. refl) (ap (λ b. cond b Local Far) not_local)
 
-  -- adding the face `f` to the Local faces leaves the other Local faces the same
+  -- adding the face `f` to the Local faces changes nothing for faces other than `f`
   same_elsewhere : SameElsewhere f local (numbers_of.with_face f local)
   same_elsewhere g e = has-with_face g f local ∙ ap (λ b. b || has_face g local) (apart g e)
     where
@@ -289,7 +291,8 @@ module _ (f : ℕ) (all local : List ℕ) (are : AreOpen all local) (out : has_f
   pub local_entries : entries_of (numbers_of.with_face f all) (numbers_of.with_face f local) ≡ with_face f Local (entries_of all local)
   local_entries = entries_with f Local all local (numbers_of.with_face f local) out same_elsewhere (ap (λ b. cond b Local Far) is_local_now)
 
--- a face that is not in the list can be added if the list has fewer than 64 faces
+-- if a list has fewer than 64 faces and does not contain the face `f`, then `adding` inserts `f`
+-- into the list
 pub added_new : (f : ℕ) (xs : List ℕ) → has_face f xs ≡ false → length xs < MAX_FACES → (adding f xs).1 ≡ numbers_of.with_face f xs
 added_new f xs out lt = rw (out, lt-leb MAX_FACES (length xs) lt) refl
 

@@ -39,7 +39,7 @@ kept_fits now event answer key face r kept =
           (token_fits passed.octets (token_in event) (sym (ap token_in passed.brings)));
     }
 
--- each in-record of a run fits in a link packet
+-- the Interest of each in-record of a run fits in a packet, and its token is valid
 pub run_fits : (past : Run) → AllFit (records_of past)
 run_fits Start key face r is = (let none : map.get (records_of Start key).in_records face ≡ None = get-empty nat_cmp face in cc (none, is))
 run_fits (Then past event answer) key face r is =
@@ -48,7 +48,8 @@ run_fits (Then past event answer) key face r is =
       | inr was ↦ run_fits past key face r was
     ]
 
--- each in-record that is still pending when time has advanced to a moment fits in a link packet
+-- if an in-record is still pending once time has advanced to a moment, its Interest fits in a
+-- packet, and its token is valid
 pub waiting_fits : (past : Run) (now : ℕ) (waiting : Pending) → IsWaiting past now waiting → AllFit (records_at waiting)
 waiting_fits past now waiting is key face r has =
     run_fits past key face r (waited_before past now key face r (sym (ap (λ (rs : Records). map.get rs.in_records face) (is.records key)) ∙ has))

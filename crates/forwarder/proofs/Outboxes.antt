@@ -68,7 +68,8 @@ AreWithin-added octets more sends faces h =
     AreWithin-append (octets ++ more) sends _ (AreWithin-more octets more sends h)
     (AreWithin-placed (octets ++ more) (length octets) (length (octets ++ more)) faces (omega (arith, length-append octets more)) (omega arith))
 
--- if there is a face, the sends of these octets are together at least as long as the octets
+-- if there is at least one face, the sends of a range of octets to the faces are together at least
+-- as long as this range
 sum_by-placed : (start end : ℕ) (faces : List ℕ) → 0 < length faces → end - start ≤ sum_by size_of (map (placed start end) faces)
 sum_by-placed start end [] some = absurd (omega arith)
 sum_by-placed start end (f ∷ faces) some =
@@ -81,8 +82,9 @@ no_more-added octets more sends faces h some =
     let sum = sum_by-append size_of sends (map (placed (length octets) (length (octets ++ more))) faces) in
     omega (arith, h, added, sum, length-append octets more)
 
--- `AreOctetsOf` remains true when octets are appended and sent to at least one face; this is stated
--- for the values that the code computes
+-- `AreOctetsOf` remains true when octets are appended and sent to at least one face; `all` are
+-- the octets afterwards, in which the appended octets are those from `start` to `end`, and
+-- `after` are the sends afterwards
 octets_after : (octets more all : List ℕ) (sends after : List Sent) (faces : List ℕ) (start end : ℕ)
     → start ≡ length octets → end ≡ length all → all ≡ octets ++ more → after ≡ sends ++ map (placed start end) faces
     → AreOctetsOf octets sends → 0 < length faces → AreOctetsOf all after
@@ -96,8 +98,8 @@ sends_after : (octets more all : List ℕ) (sends after : List Sent) (faces : Li
     → AreWithin octets sends → sends_of all after ≡ sends_of octets sends ++ map {A = ℕ} {B = Send} (λ f. (f, more)) faces
 sends_after octets more all sends after faces start end s e a n h = rw (n, s, e, a) (sends_of-added octets more sends faces h)
 
--- `AreOctetsOf` remains true if the earlier sends are kept, and the sends to `faces`, at least one,
--- follow them
+-- `AreOctetsOf` remains true when octets are appended, and sends of these octets to at least one
+-- face are appended to the unchanged earlier sends
 pub octets_placed : {octets all : List ℕ} (more : List ℕ) (faces : List ℕ) {sends kept after : List Sent} {start end : ℕ}
     → start ≡ length octets → end ≡ length all → all ≡ octets ++ more → kept ≡ sends → after ≡ kept ++ map (placed start end) faces
     → AreOctetsOf octets sends → 0 < length faces → AreOctetsOf all after
@@ -111,8 +113,8 @@ sends_placed {octets} {all} more faces {sends} {kept} {after} {start} {end} s e 
     sends_after octets more all sends after faces start end s e a (n ∙ ap (λ (old : List Sent). old ++ map (placed start end) faces) k) h.within
     ∙ ap (λ (old : List Send). old ++ to_each faces more) view
 
--- the values of `f` for the first `i + 1` numbers are those for the first `i` numbers, and then the
--- value for the number at index `i`
+-- the values of `f` for the first `i + 1` numbers are those for the first `i` numbers, followed by
+-- the value for the number at index `i`
 pub map-take_next : {X : Type 0} (f : ℕ → X) (xs : List ℕ) (i : ℕ) (x : ℕ) → slice_get xs i ≡ Some x → map f (take (suc i) xs) ≡ map f (take i xs) ++ f x ∷ []
 map-take_next f [] i x h = cc h
 map-take_next f (y ∷ ys) zero x h = let same : y ≡ x = cc h in ap (λ (z : ℕ). f z ∷ []) same
@@ -130,7 +132,7 @@ pub ok_done : {E P : Type 0} (r : Result (Unit {0}) E) → is_ok r ≡ true → 
 ok_done (Ok u) e p = p
 ok_done (Err e) h p = cc h
 
--- if the packet was written, there was no refusal
+-- if the packet was written, there was no reason to refuse the packet
 pub no_refusal : (P : Type 0) {E : Type 0} (refusal : Option E) (r : Result (Unit {0}) E) → is_ok r ≡ true → MatchOption refusal P (λ fault. r ≡ Err fault) → refusal ≡ None
 no_refusal P None r done h = refl
 no_refusal P (Some fault) (Ok u) done h = cc h

@@ -10,8 +10,8 @@ use Rattle.forwarder.specs.Causes.{after_causes, before_earlier, causes_of}
 use Rattle.forwarder.specs.Runs.{Run, Then, now_of, past_causes, records_of}
 use Rattle.forwarder.specs.Verdict.{Answer}
 
--- applying these causes in order to the records after the earlier causes gives the records after
--- all of these causes
+-- applying `causes` in order to the records after the causes in `earlier` gives the records after
+-- all causes of both lists
 all_causes : (causes earlier : List Cause) (key : PlainKey) → after_causes causes key (records_of_causes earlier key) ≡ records_of_causes (before_earlier causes earlier) key
 all_causes [] earlier key = refl
 all_causes (cause ∷ causes) earlier key = all_causes causes (cause ∷ earlier) key

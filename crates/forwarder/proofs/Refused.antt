@@ -32,7 +32,7 @@ use Rattle.forwarder.specs.State.{IsLater, policy_of, state_of}
 use Rattle.forwarder.proofs.Answered.{unharmed}
 use Rattle.forwarder.proofs.Uses.{commanded_use}
 
--- the decision on a command at this moment is `said`
+-- the decision on a command is `said` when time has advanced to the moment `now`
 abbrev pub SaysAt : Policy → ℕ → List ℕ → PlainInterest → Decision → Type 0
 SaysAt old now whole i said =
     (p : Policy) → p.rules ≡ old.rules → p.keys ≡ old.keys → p.guard ≡ old.guard → p.now ≡ max old.now now → IsDecidedAs p (AnInterest whole i) said
@@ -61,7 +61,7 @@ other_command named.ForData other e = absurd cc
 pub with_guard : (n : NodeState) (guard : Table) → guard ≡ n.policy.guard → record n { policy = record n.policy { guard = guard } } ≡ n
 with_guard n guard g = λ j. record n { policy = record n.policy { guard = g j } }
 
--- if the node is unchanged, `ChangesCacheOnly` is true of it
+-- if neither the node nor the sends change, then `ChangesCacheOnly` is true of the node
 pub kept_unharmed : (old new : NodeState) (before after : List Send) → (new ≡ old) × (after ≡ before) → ChangesCacheOnly old new × (after ≡ before)
 kept_unharmed old new before after (same, sent) =
     (unharmed old new (ap (λ (n : NodeState). n.policy) same) (ap (λ (n : NodeState). n.pending) same) (ap (λ (n : NodeState). n.cache) same), sent)
@@ -86,8 +86,8 @@ module _ (was new : NodeState) (face : ℕ) (token : Token) (whole : List ℕ) (
   no_causes (decided.Denied rule reason) now = refl
   no_causes decided.NoRule now = refl
 
-  -- If the decision on a command is `said`, and the answer and the new node are those that `said`
-  -- gives, then the command was answered.
+  -- If the decision on a command is `said`, and the answer and the new node are those for this
+  -- decision, then the command was answered.
   command_answered : (said : Decision) (answer : Answer) → command_answer was.policy face token i said ≡ answer → IsDecidedAs was.policy (AnInterest whole i) said
       → new.policy ≡ after_decision was.policy face (AnInterest whole i) said → new.pending ≡ was.pending
       → CacheAfter was.policy.now was.pending (packet_use was.policy.now face (AnInterest whole i) answer.verdict) was.cache new.cache → IsAnswered was face token (AnInterest whole i) answer new

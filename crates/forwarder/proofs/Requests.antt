@@ -1,4 +1,4 @@
--- What the request of an Interest says about its name.
+-- What the request of an Interest says about the name of the Interest.
 use Rattle.std.proofs.Common.{◌≡◌, ℕ, ◌-◌, zero, suc, Bool, true, false, List, [], ◌∷◌, length, take, refl, sym, ap, ◌∙◌, Ok, Err}
 use Rattle.std.specs.Prelude.{Option, Some, None, codes, bytes_eq, is_some, nat_lt, slice_get, ◌==◌, ◌&&◌, if◌then◌else◌}
 use Rattle.std.proofs.lemmas.Slice.Eq.{bytes_eq-Decides}

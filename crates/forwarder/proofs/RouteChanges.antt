@@ -51,7 +51,8 @@ valued : (routes : Routes) (n name : List Field) (o : Option Entry) → map.get 
 valued routes n name None = get-remove name_cmp-total routes n name
 valued routes n name (Some e) = get-insert name_cmp-total routes n e name
 
--- the value of `read` for the entry of a name, after the entry of `n` was set to `e`
+-- The next lemmas: what `read` gives for the entry of `name` after the entry of `n` was set to
+-- `e`.
 module _ {V : Type 0} (read : Entry → V) (routes : Routes) (n : List Field) (e : Entry) (name : List Field) where
   by_name : (b : Bool) (o : Option Entry) → unwrap_or o no_entry ≡ e → read (unwrap_or (cond b o (map.get routes name)) no_entry) ≡ cond b (read e) (read (entry_at routes name))
   by_name true o is = ap read is
@@ -75,9 +76,9 @@ module _ {V : Type 0} (read : Entry → V) (routes : Routes) (n : List Field) (e
       by true t = here ∙ ap (λ (m : List Field). cond b y (read (entry_at routes m))) (sym (same_name name n t))
       by false t = refl
 
-  -- If `read` gives `y` for the new entry `e` when `b` is true, and the old value otherwise, then
-  -- for the changed routes it gives `y` for the name `n` when `b` is true, and the old value in all
-  -- other cases.
+  -- Let `read` give `y` for the new entry `e` if `b` is true, and the value for the old entry of
+  -- `n` otherwise. Then, for the changed routes, `read` gives `y` if `name` is `n` and `b` is
+  -- true, and the old value for `name` otherwise.
   pub changed_with : (b : Bool) (y : V) → read e ≡ cond b y (read (entry_at routes n))
       → read (entry_at (map.insert routes n e) name) ≡ cond (eq_by_cmp name_cmp name n && b) y (read (entry_at routes name))
   changed_with b y = changed_there (read (entry_at (map.insert routes n e) name)) b y read_with
@@ -90,8 +91,8 @@ module _ {V : Type 0} (read : Entry → V) (routes : Routes) (n : List Field) (e
   either_way true x = refl
   either_way false x = refl
 
-  -- if `read` gives the same value for the new entry `e` as for the old entry, its values for the
-  -- changed routes are the old values
+  -- if `read` gives the same value for the new entry `e` as for the old entry of `n`, then it
+  -- gives the old values for the changed routes
   pub unread_with : read e ≡ read (entry_at routes n) → read (entry_at (map.insert routes n e) name) ≡ read (entry_at routes name)
   unread_with same = changed_with false (read (entry_at routes name)) same ∙ either_way (eq_by_cmp name_cmp name n) (read (entry_at routes name))
 
@@ -100,8 +101,9 @@ module _ {V : Type 0} (read : Entry → V) (routes : Routes) (n : List Field) (e
 
 -- ---- changes to all entries at once
 
--- If next hops and routes are changed in every entry, and vacant entries are then removed, looking
--- up a name gives its old entry with these changes.
+-- Let two functions that leave empty maps empty change the next hops and the routes in every
+-- entry, and let vacant entries then be removed. Looking up a name then gives its old entry with
+-- these changes.
 revised_at : (hops : ByFace → ByFace) (registered : Registered → Registered) → hops map.empty ≡ map.empty → registered map.empty ≡ map.empty
     → (o : Option Entry)
     → unwrap_or (option_and_then (λ (e : Entry). unless_vacant (record { hops = hops e.hops; registered = registered e.registered })) o) no_entry

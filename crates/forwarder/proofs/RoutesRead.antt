@@ -70,7 +70,8 @@ module _ {V : Type 0} (see : Routes → V) (q : Policy) (command : Result PlainC
   same true x y e = sym e
   same false x y e = refl
 
-  -- a command on the tables changes the value if the command's status is 200
+  -- a command on the tables changes the value by `command` if the command's status is 200, and
+  -- leaves the value unchanged otherwise
   on_tables : (from : ℕ) (r : Result PlainCommand ℕ) → see (after_tables q from r).routes ≡ cond (tables_status q from r == OK) (command r from was) was
   on_tables from (Err status) = same (status == OK) was (command (Err status) from was) (unread status from was)
   on_tables from (Ok c) = by_status (tables_status q from (Ok c) == OK)
@@ -79,7 +80,8 @@ module _ {V : Type 0} (see : Routes → V) (q : Policy) (command : Result PlainC
       by_status true = done from c
       by_status false = refl
 
-  -- a command that takes effect changes the value; no other Interest changes the value
+  -- `after` changes the value, by the command in an Interest's name, if the verdict is Allowed
+  -- with status 200, and leaves the value unchanged for every other verdict on an Interest
   command_read : (from : ℕ) (whole : List ℕ) (i : PlainInterest) (v : Verdict) (x : V)
       → cond (is_done v) (command (command_at i.name) from x) x ≡ after (packet_outcome from (AnInterest whole i) v) x
   command_read from whole i Passed x = refl
@@ -124,7 +126,8 @@ module _ {V : Type 0} (see : Routes → V) (q : Policy) (command : Result PlainC
       no_effect : new ≡ q → (v : Verdict) → is_done v ≡ false → IsRead v
       no_effect e v not = ap (λ (p : Policy). see p.routes) e ∙ ap (λ (b : Bool). cond b (command (command_at i.name) from was) was) (sym not)
 
-      -- an Interest whose name is not a command on the tables does not change the value
+      -- if an Interest's name does not begin with /localhost/nfd, and the routes are unchanged,
+      -- then `IsRead` is true for each verdict
       other_name : begins_with management i.name ≡ false → new.routes ≡ q.routes → (v : Verdict) → IsRead v
       other_name other e v = ap see e ∙ by_read (command_at i.name) refl (is_done v)
         where

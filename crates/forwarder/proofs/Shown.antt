@@ -11,8 +11,8 @@ filter-map view p (x ∷ xs) =
       | false ↦ filter-map view p xs
     ]
 
--- applying `view` to a list that was filtered by `view` and `p` is the same as filtering the list
--- of views by `p`
+-- applying `view` to the elements whose view passes the test `p` is the same as filtering the list
+-- of all views by `p`
 pub shown_filter : {A B : Type 0} (view : A → B) (p : B → Bool) (xs ys : List A) → ys ≡ filter (λ x. p (view x)) xs → map view ys ≡ filter p (map view xs)
 shown_filter view p xs ys e = ap (map view) e ∙ sym (filter-map view p xs)
 
@@ -20,7 +20,8 @@ pub list_any-map : {A B : Type 0} (view : A → B) (p : B → Bool) (xs : List A
 list_any-map view p [] = refl
 list_any-map view p (x ∷ xs) = ap (λ b. p (view x) || b) (list_any-map view p xs)
 
--- whether some element of a filtered list passes a test
+-- some element of the list filtered by `q` passes the test `p` exactly if some element of the list
+-- passes both tests
 pub list_any-filter : {A : Type 0} (p q : A → Bool) (xs : List A) → list_any p (filter q xs) ≡ list_any (λ x. q x && p x) xs
 list_any-filter p q [] = refl
 list_any-filter p q (x ∷ xs) =

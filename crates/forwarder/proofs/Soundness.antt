@@ -176,7 +176,7 @@ module _ (seen : Seen) (P : ℕ → Type 0) (face : ℕ) (token : Token) (asker 
   back : (octets : List ℕ) (answer : Answer) → answer ≡ passed ((face, octets) ∷ []) → PassesTo P answer
   back octets answer is e = subst (λ (a : Answer). SendsTo P a.sends) (sym is) (asker, tt)
 
--- a segment of a list is sent only to the face that requests the segment
+-- an answer to an Interest for a list, if it is passed, is sent only to the face that asks
 list_passes : (seen : Seen) (P : ℕ → Type 0) (face : ℕ) (token : Token) (asker : P face) (asked : ListAsked) (answer : Answer)
     → answer ≡ list_answer seen.policy face token asked → PassesTo P answer
 list_passes seen P face token asker asked answer is =
@@ -246,7 +246,7 @@ module _ (seen : Seen) (P : ℕ → Type 0) (face : ℕ) (token : Token) (asker 
   request_passes ForRepository answer (said, is_said, is) = command_passes P seen.policy face token i said answer is
   request_passes ForData answer is = data_passes (loops (seen.records (key_of i)) face i.nonce) answer is
 
--- ---- what follows from events alone
+-- ---- what time and packets change in the open faces and the faces with routes
 
 -- the open faces are the same, and if all faces with routes were open, all faces with routes are
 -- still open
@@ -341,7 +341,7 @@ none_open face (entry ∷ faces) is =
       | false ↦ λ e. none_open face faces e
     ] is
 
--- a face that can open is not open, and fewer than 64 faces are open
+-- if a face can open, then it is not open, and fewer than 64 faces are open
 opens : (p : Policy) (face : ℕ) → can_open p face ≡ true → (is_open face p.faces ≡ false) × (length p.faces < MAX_FACES)
 opens p face is =
     elim (eqb face 0) as (λ b. cond b false (cond (is_open face p.faces) false (cond (leb MAX_FACES (length p.faces)) false true)) ≡ true → (is_open face p.faces ≡ false) × (length p.faces < MAX_FACES)) [
@@ -362,7 +362,8 @@ module _ (old new : NodeState) (sound : IsSound old) where
       → (f : ℕ) → HasRecord waiting f → is_open f old.policy.faces ≡ true
   waits_open now waiting expiry f has = sound.records f (had_records (Expires now) old.pending waiting (λ f none. none) expiry f has)
 
-  -- if the open faces are unchanged, and each face with a record is open, the node is sound
+  -- if `KeepsOpen` is true of the old and the new policy, and each face with a record in the new
+  -- node was open, then the new node is sound
   same_faces : KeepsOpen old.policy new.policy → ((f : ℕ) → HasRecord new.pending f → is_open f old.policy.faces ≡ true) → IsSound new
   same_faces (is, up) records = record {
     few = subst (λ (faces : List FaceEntry). length faces ≤ MAX_FACES) (sym is) sound.few;

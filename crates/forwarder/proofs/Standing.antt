@@ -20,7 +20,8 @@ pub new_stands : (first : Policy) (capacity : ℕ) → Stands first Start (recor
 new_stands first capacity =
     record { policy = refl; pending = λ key. ap (λ (o : Option Records). unwrap_or o no_records) (get-empty key_cmp key); cache = All-nil (MayHold Start) }
 
--- a step extends a run
+-- a step of a node that agrees with a valid run extends the run to a longer valid run, with which
+-- the new node agrees
 pub step_goes_on : (first : Policy) (past : Run) (old new : NodeState) (event : PlainEvent) (answer : Answer) → first.now ≡ 0 → IsRun first past → Stands first past old → IsStep old event answer new
     → IsRun first (Then past event answer) × Stands first (Then past event answer) new
 step_goes_on first past old new event answer begins is_run stands step = (

@@ -25,7 +25,7 @@ use Rattle.forwarder.proofs.Stored.{record_stored, tables_stored, undecided_stor
 abbrev StoresData : Policy → Type 0
 StoresData p = AreObjects p.held.objects
 
--- if the packet is a Data, its octets were read as that Data
+-- if the packet is a Data, its octets are an encoding of that Data
 abbrev pub IsReadAsData : PlainFrame → Type 0
 IsReadAsData (AnInterest whole i) = ⊤
 IsReadAsData (AData whole d) = IsData whole d

@@ -69,11 +69,11 @@ nack_use now face reason whole i (Dropped why) = refl
 pub list_use : (now face : ℕ) (whole : List ℕ) (i : PlainInterest) (asked : ListAsked) → list_asked i ≡ Some asked → packet_use now face (AnInterest whole i) Passed ≡ Untouched
 list_use now face whole i asked is = ap (λ (o : Option ListAsked). cond (is_some o) Untouched (LooksUp (key_of i))) is
 
--- an Interest for Data that is passed looks up the cache
+-- a passed Interest for Data looks up its key in the cache
 pub data_use : (now face : ℕ) (whole : List ℕ) (i : PlainInterest) → list_asked i ≡ None → packet_use now face (AnInterest whole i) Passed ≡ LooksUp (key_of i)
 data_use now face whole i none = ap (λ (o : Option ListAsked). cond (is_some o) Untouched (LooksUp (key_of i))) none
 
--- a name that is not a command on the tables erases nothing
+-- a command whose name does not begin with /localhost/nfd erases nothing from the cache
 other_use : (i : PlainInterest) (status : ℕ) → begins_with management i.name ≡ false → Untouched ≡ command_use (command_at i.name) status
 other_use i status other = by_read (command_at i.name) refl
   where
@@ -81,8 +81,8 @@ other_use i status other = by_read (command_at i.name) refl
     by_read (Err refused) k = refl
     by_read (Ok c) k = absurd (no_command i.name c other k)
 
--- the use of the cache by an allowed command is the same, whether it is read off its request or off
--- its name
+-- the use of the cache by an allowed command is the same, whether the use is read off the
+-- command's request or off its name
 pub commanded_use : (p : Policy) (face status : ℕ) (i : PlainInterest) → is_command (request_of p face i) ≡ true
     → request_use i status (request_of p face i) ≡ command_use (command_at i.name) status
 commanded_use p face status i =
@@ -91,7 +91,8 @@ commanded_use p face status i =
 
 -- ---- which events insert a Data
 
--- if an outcome inserts `c`, a Data was allowed
+-- if an outcome inserts `c`, then the outcome is that a Data was allowed, and `c` is this Data
+-- with the time of its arrival
 inserts_by : (now : ℕ) (o : Outcome) (c : CachedData) → cache_use now o ≡ Inserts c → (whole : List ℕ) × (d : PlainData) × (o ≡ DataCame whole d) × (c ≡ held_from now whole d)
 inserts_by now Nothing c e = cc e
 inserts_by now (InterestPassed face whole i) c e = by_list (is_some (list_asked i)) e

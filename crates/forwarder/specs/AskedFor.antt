@@ -1,5 +1,5 @@
--- Why a Data is sent to a face: the face sent an Interest, and the Data answers this Interest or is
--- the node's own answer to it.
+-- Why a Data is sent to a face: the face sent an Interest, and the Data answers this Interest or
+-- is the node's own answer to this Interest.
 use Rattle.std.specs.Prelude.{◌≡◌, ◌⊎◌, ℕ, List, Some, IsTrue, Ok, max}
 use Rattle.std.specs.FinMap as map
 use Rattle.sha2.specs.Sha256.{sha256}
@@ -15,7 +15,8 @@ use Rattle.forwarder.specs.Allowed.{AllowedIn, Allows}
 use Rattle.forwarder.specs.Runs.{Run, now_of, records_of}
 use Rattle.forwarder.specs.DataSends.{IsReplyToCommand, IsSegmentAskedFor}
 
--- an Interest of the face is still pending when time has advanced to `now`, and the Data answers it
+-- an Interest of the face is still pending when time has advanced to `now`, and the Data answers
+-- this Interest
 pub record IsPendingFor (past : Run) (now face : ℕ) (whole : List ℕ) (d : PlainData) : Type 0 where
   pub key : PlainKey
   pub in_record : InRecord
@@ -47,7 +48,8 @@ AnswersNow first past p face asked i whole d =
 
 -- After a run that leaves the policy `was`, the face asked for this Data. Either the event brings
 -- and allows the Data, which answers a pending Interest of the face; or the event brings an
--- Interest on this face, and the Data answers that Interest or is the node's own answer to it.
+-- Interest on this face, and the Data was allowed in an earlier event and answers that Interest,
+-- or the Data is the node's own answer to that Interest.
 abbrev pub WasAskedFor : Policy → Run → Policy → PlainEvent → ℕ → List ℕ → PlainData → Type 0
 WasAskedFor first past was event face whole d =
     (Allows was event (AData whole d)

@@ -17,14 +17,14 @@ use Rattle.forwarder.specs.Request.{list_asked}
 
 pub data CacheUse : Type 0 where
   Untouched : CacheUse
-  -- an Interest of this key asks for Data, and the cache is looked up
+  -- an Interest of this key asks for Data, and the key is looked up in the cache
   LooksUp : (key : PlainKey) → CacheUse
   -- an allowed Data is offered to the cache, which may store it if some face waits for it
   Inserts : (c : CachedData) → CacheUse
   -- an allowed command erases the Data under a name, at most `count` of them if `count` is given
   Erases : (name : List Field) (count : Option ℕ) → CacheUse
 
--- a Data in the cache, which arrived at the moment `now`
+-- a Data as it is cached, if it arrived at the moment `now`
 abbrev pub held_from : ℕ → List ℕ → PlainData → CachedData
 held_from now whole d = record {
   name = d.name;
@@ -44,7 +44,7 @@ command_use (Ok c) status = elim c.action [
   | _ ↦ Untouched
 ]
 
--- how an event of this outcome uses the cache, at the moment `now`
+-- how an event with this outcome uses the cache, at the moment `now`
 abbrev pub cache_use : ℕ → Outcome → CacheUse
 cache_use now Nothing = Untouched
 cache_use now (InterestPassed face whole i) =
@@ -60,7 +60,8 @@ IsAwaited waiting c =
     (key : PlainKey) × IsTrue (answers c.name c.digest key.name key.can_be_prefix)
     × (is_alive (records_at waiting key) ≡ true)
 
--- some cached Data may have been dropped or reordered; no Data was added
+-- some cached Data may have been dropped or reordered; no Data was added, and the capacity is the
+-- same
 abbrev pub MayForget : StoreState → StoreState → Type 0
 MayForget old new =
     All (λ c. Contains old.cached c) new.cached × (new.capacity ≡ old.capacity)
@@ -80,8 +81,9 @@ CacheAfter now waiting (Erases name count) old new =
     ((gone : ℕ) × IsErased name count old.cached new.cached gone)
     × (new.capacity ≡ old.capacity)
 
--- The use is an erase without Count that removes every cached Data with the full name of `c`. An
--- erase with Count is left out: the event does not determine which Data it removes.
+-- The use is an erase without Count, of a name that is a prefix of the full name of `c`, so it
+-- removes `c`. An erase with Count is left out: the event does not determine which Data it
+-- removes.
 abbrev pub TakesAway : CacheUse → CachedData → Type 0
 TakesAway Untouched c = ⊥
 TakesAway (LooksUp key) c = ⊥

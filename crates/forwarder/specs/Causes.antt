@@ -33,7 +33,7 @@ in_record_for now token whole i = record {
 abbrev pub is_answered : ℕ → List Send → Bool
 is_answered face sends = list_any (λ sent. sent.0 == face) sends
 
--- whether these octets are read as a Nack
+-- whether octets were read as a Nack
 abbrev pub is_nack_frame : Result PlainFrame PacketFault → Bool
 is_nack_frame (Err fault) = false
 is_nack_frame (Ok (AnInterest whole i)) = false
@@ -47,13 +47,13 @@ is_nack octets = is_nack_frame (frame_at octets)
 abbrev pub is_nacked : List Send → Bool
 is_nacked sends = list_any (λ sent. is_nack sent.1) sends
 
--- an Interest with this Nonce was sent to each of these faces
+-- for each of these faces, the cause that an Interest with this Nonce was sent to the face
 abbrev pub sent_causes : PlainKey → List ℕ → ℕ → List ℕ → List Cause
 sent_causes key nonce now faces = map (λ face. SentTo key face nonce now) faces
 
--- A passed Interest becomes pending if nothing was sent back to its face, and is recorded as sent
--- to each face that it went to. If a Nack was sent back, the face no longer has a pending Interest
--- under this key.
+-- If nothing was sent back to the face of a passed Interest, the Interest becomes pending, and is
+-- recorded as sent to each face that it went to. If a Data was sent back, no record changes. If a
+-- Nack was sent back, the face no longer has a pending Interest under this key.
 abbrev pub interest_causes : ℕ → ℕ → Token → List ℕ → PlainInterest → List Send → List Cause
 interest_causes now face token whole i sends =
     let key = key_of i in
@@ -69,7 +69,8 @@ nack_causes face reason i sends =
     NackCame (key_of i) face i.nonce reason
     ∷ (if is_nil sends then [] else Removed (key_of i) ∷ [])
 
--- An allowed Data satisfies all pending Interests that it answers, whether the Data is sent or not.
+-- The causes of an event with this outcome, in order. An allowed Data satisfies all pending
+-- Interests that it answers, whether the Data is sent or not.
 abbrev pub causes_by : ℕ → Token → List Send → Outcome → List Cause
 causes_by now token sends Nothing = []
 causes_by now token sends (InterestPassed face whole i) =
@@ -80,7 +81,7 @@ causes_by now token sends (NackPassed face reason i) = nack_causes face reason i
 causes_by now token sends (FaceClosed face) = Closed face ∷ []
 
 -- the causes of an event and its answer, in order; they apply at the moment `now`, after the
--- records that expire by then are removed
+-- records that expire by `now` are removed
 abbrev pub causes_of : ℕ → PlainEvent → Answer → List Cause
 causes_of now event answer =
     causes_by now (token_in event) answer.sends (outcome_of event answer.verdict)

@@ -58,7 +58,8 @@ tables_reply p face c =
     let status = tables_status p face c in
     response status (unwrap_or (text_of status) []) (tables_body p face c)
 
--- the routes and strategies after the command, with the next version of the lists
+-- the policy after the command: its routes and strategies are those that the command leaves, and
+-- the lists have their next version
 abbrev pub after_tables : Policy → ℕ → Result PlainCommand ℕ → Policy
 after_tables p face (Err status) = with_next_version p
 after_tables p face (Ok c) =
@@ -99,8 +100,9 @@ abbrev pub to_chosen : Choice → List ℕ → List Send
 to_chosen choices.NoRoute text = []
 to_chosen (choices.Send faces) text = to_each faces text
 
--- The node's Interest is sent to the faces that the strategy chooses. For the strategy, the
--- Interest came from no face and was not sent before.
+-- The sends of the node's Interest to the faces that the strategy chooses; there are none if the
+-- Interest cannot be encoded. For the strategy, the Interest came from no face and was not sent
+-- before.
 abbrev pub fetch_sends : Policy → List ℕ → Option Want → List Send
 fetch_sends p nonce None = []
 fetch_sends p nonce (Some want) =
@@ -131,7 +133,7 @@ allowed_reply p face i ForRepository =
     }
 allowed_reply p face i ForData = record { status = 0; content = []; fetches = [] }
 
--- the Content of a reply of status 403
+-- the Content of a reply with status 403, or no octets if the request is not a command
 abbrev pub refused_content : Request → List ℕ → List ℕ
 refused_content (Refused reason) text = []
 refused_content (ForList asked) text = []
@@ -139,7 +141,7 @@ refused_content ForTables text = response NOT_AUTHORIZED text []
 refused_content ForRepository text = repo_response NOT_AUTHORIZED text 0
 refused_content ForData text = []
 
--- the id of the rule that denies a command, and the text that gives the reason and this id
+-- the id of the rule at this index, or no octets if there is no such rule
 abbrev pub id_of : List PlainRule → ℕ → List ℕ
 id_of rules rule = unwrap_or (option_map (λ r. r.id) (slice_get rules rule)) []
 
@@ -176,8 +178,8 @@ command_answer p face token i decided.NoRule = record {
 }
 
 -- How a packet that is denied, or to which no rule applies, is answered. A command gets a reply
--- with status 403, which gives the reason and the rule. A Data gets no answer. No other packet is
--- denied.
+-- with status 403, which gives the reason and the rule, or says that no rule applies. A Data gets
+-- no answer. No other packet is denied.
 abbrev pub IsDenial : Policy → ℕ → Token → PlainFrame → Decision → Answer → Type 0
 IsDenial p face token (AnInterest whole i) (decided.Allowed rule) answer = ⊥
 IsDenial p face token (AnInterest whole i) (decided.Denied rule reason) answer =
@@ -197,7 +199,7 @@ abbrev pub with_record : Policy → Option Recorded → Policy
 with_record p None = p
 with_record p (Some r) = record p { guard = with_recorded p.guard r }
 
--- the policy after an allowed command
+-- the policy after the effect of an allowed command, which is not yet recorded in the guard
 abbrev pub after_request : Policy → ℕ → PlainInterest → Request → Policy
 after_request p face i (Refused reason) = p
 after_request p face i (ForList asked) = p

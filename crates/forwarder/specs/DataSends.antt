@@ -26,9 +26,9 @@ use Rattle.forwarder.specs.Request.{ListAsked, is_command, list_asked, request_o
 use Rattle.forwarder.specs.Replies.{Seen, Waits}
 use Rattle.forwarder.specs.Verdict.{Answer, passed}
 
--- The event brings a Data that is allowed, and its received octets are sent to another face that
--- has a pending Interest for it, under some key that the Data answers. They are sent with the token
--- of that face's latest Interest that the Data answers.
+-- The event brings a Data that is allowed. The received octets of the Data are sent to another
+-- face, which has a pending Interest that the Data answers. They are sent with the token of that
+-- face's latest Interest that the Data answers.
 pub record IsForwardedData (seen : Seen) (event : PlainEvent) (sent : Send) : Type 0 where
   pub face : ℕ
   pub now : ℕ
@@ -81,7 +81,7 @@ pub record IsReply (seen : Seen) (event : PlainEvent) (sent : Send) : Type 0 whe
   pub at_hand : IsAtHand seen sent.0 whole interest packet
   pub answered : sent ≡ sent_back sent.0 (token_at octets) packet
 
--- whether these octets are read as a Data
+-- whether octets were read as a Data
 abbrev pub is_data_frame : Result PlainFrame PacketFault → Bool
 is_data_frame (Err fault) = false
 is_data_frame (Ok (AnInterest whole i)) = false
@@ -89,13 +89,13 @@ is_data_frame (Ok (AData whole d)) = true
 is_data_frame (Ok (ANack reason whole i)) = false
 is_data_frame (Ok Idle) = false
 
--- whether the type of the element is that of a Data
+-- whether one element was read, and its type is that of a Data
 abbrev pub is_data_element : Result Field PacketFault → Bool
 is_data_element (Err fault) = false
 is_data_element (Ok e) = e.0 == DATA
 
 -- whether a link packet with these elements carries a Data: the element in its Fragment has the
--- type of a Data, and no Nack comes before the Fragment
+-- type of a Data, and neither a Nack nor a malformed element comes before the Fragment
 abbrev pub carries_data : List (Result Field TlvFault) → Bool
 carries_data [] = false
 carries_data (Err fault ∷ elements) = false

@@ -36,7 +36,7 @@ segment_answer face token name None = dropped NoSegment
 segment_answer face token name (Some part) =
     passed (sent_back face token (segment_data name part.0 part.1) ∷ [])
 
--- the requested version is the current one, or no version is requested
+-- whether the requested version is the current one, or no version is requested
 abbrev pub is_present : Policy → Option ℕ → Bool
 is_present p None = true
 is_present p (Some version) = version == p.table_number

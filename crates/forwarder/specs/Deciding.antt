@@ -23,7 +23,8 @@ key_named Other = None
 abbrev pub signer_in : PlainSignatureInfo → Signer
 signer_in info = if info.kind == DIGEST_SHA256 then None else key_named info.locator
 
--- what is recorded of a command: its signer, its SignatureTime and its SignatureSeqNum
+-- what is recorded of a command with a SignatureTime: its signer, its SignatureTime and its
+-- SignatureSeqNum; nothing is recorded of a command without a SignatureTime
 abbrev pub recorded_with : PlainSignatureInfo → Option ℕ → Option Recorded
 recorded_with info None = None
 recorded_with info (Some time) =
@@ -39,8 +40,8 @@ recorded_of i = elim i.signature [
 abbrev pub recorded_by : Signed → Recorded
 recorded_by s = record { signer = signer_of s.signer; time = s.time; number = s.seq }
 
--- if a command has a SignatureTime, this time is near `p.now`, and the command is newer than all
--- recorded commands of its signer
+-- if a command has a SignatureTime, then this time is near `p.now`, and the command is newer than
+-- all recorded commands of its signer
 abbrev pub IsFreshCommand : Policy → PlainInterest → Type 0
 IsFreshCommand p i =
     IfSome (recorded_of i) (λ r. IsFresh p.guard r.signer r.time r.number p.now)

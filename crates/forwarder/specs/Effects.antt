@@ -30,7 +30,7 @@ abbrev pub with_open : Policy → ℕ → Scope → Policy
 with_open p face scope =
     if can_open p face then record p { faces = with_face face scope p.faces } else p
 
--- a face closes: its next hops and routes are removed, and the lists get their next version
+-- an open face closes: its next hops and routes are removed, and the lists get their next version
 abbrev pub with_closed : Policy → ℕ → Policy
 with_closed p face =
     if is_open face p.faces then with_next_version (record p {
@@ -81,15 +81,16 @@ undecided_effect p (FaceDown face now) = with_closed p face
 undecided_effect p (Tick now) = p
 undecided_effect p (NewRules rules keys now) = with_rules p rules keys
 
--- what an event changes once time has advanced to its moment
+-- what an event changes once time has advanced to the event's moment
 abbrev pub IsEffect : Policy → PlainEvent → Policy → Option PlainFrame → Type 0
 IsEffect p event new None = new ≡ undecided_effect p event
 IsEffect p event new (Some packet) =
     (decision : Decision) × IsDecidedAs p packet decision
     × (new ≡ after_decision p (face_in event) packet decision)
 
--- Time advances to the moment of the event, and then the event has its effect. The new policy is a
--- function of the old policy and the event, since each packet has only one decision.
+-- Time advances to the moment of the event, and then the event has its effect. If no two keys of
+-- the old policy have the same name, each packet has only one decision, so the new policy is a
+-- function of the old policy and the event.
 abbrev pub IsAfter : Policy → PlainEvent → Policy → Type 0
 IsAfter old event new =
     let p = at_moment old (moment event) in

@@ -40,7 +40,7 @@ IsPacketEffect p face packet new false = new ≡ p
 abbrev pub seen_by : NodeState → Seen
 seen_by s = seen_in s.policy s.pending s.cache
 
--- how a packet and its answer change the records and use the cache
+-- the causes of a packet and its answer, in order
 abbrev pub packet_causes : ℕ → ℕ → Token → PlainFrame → Answer → List Cause
 packet_causes now face token packet answer =
     causes_by now token answer.sends (packet_outcome face packet answer.verdict)
@@ -74,7 +74,7 @@ IsHandled old new before after face token moment packet verdict =
 abbrev pub token_of : Option (Bor (List ℕ)) → Token
 token_of token = option_map (λ t. t.now) token
 
--- an Interest or a Data as a packet
+-- an Interest as a packet
 abbrev pub interest_packet : Interest → PlainFrame
 interest_packet i = AnInterest i.whole.now (plain_interest i)
 
@@ -90,7 +90,8 @@ pub record AwaitsPacket (s : State) (face : ℕ) (token : Token) : Type 0 where
   pub octets : IfSome token AreOctets
   pub objects : AreObjects s.repo.held.objects
 
--- a packet was handled, or memory ran out and nothing but the cache changed
+-- either a packet was handled; or memory ran out, nothing but the cache changed, and nothing was
+-- sent
 pub record HandlesPacket (old new : State) (before after : List Send) (face : ℕ) (token : Token)
     (moment : ℕ) (packet : PlainFrame) (result : Result code.Verdict Memory) : Type 0 where
   pub handled : IfOk result (IsHandled old new before after face token moment packet)

@@ -11,13 +11,13 @@ use Rattle.mgmt_core.specs.Tables.{face_of}
 use Rattle.forwarder.specs.Outcome.{Outcome, Nothing, InterestPassed, CommandAllowed, DataCame, NackPassed, FaceClosed, outcome_of}
 use Rattle.forwarder.specs.Runs.{Run, Start, Then}
 
--- a command that came from the face `from` is about this next hop; without a FaceId, a command is
--- about the face that it came from
+-- whether a command that came from the face `from` is about this next hop; without a FaceId, or
+-- with the FaceId 0, a command is about the face that it came from
 abbrev pub names_hop : PlainCommand → ℕ → List Field → ℕ → Bool
 names_hop c from name face = eq_by_cmp name_cmp name c.name && (face == face_of c from)
 
--- the cost of a next hop after a command that took effect: add-nexthop for this next hop sets its
--- cost, and remove-nexthop for this next hop removes it
+-- the cost of a next hop after a command that took effect: add-nexthop for this next hop sets the
+-- cost, and remove-nexthop for this next hop removes the next hop
 abbrev pub cost_after_command : Result PlainCommand ℕ → ℕ → List Field → ℕ → Option ℕ → Option ℕ
 cost_after_command (Err status) from name face was = was
 cost_after_command (Ok c) from name face was =
@@ -28,8 +28,8 @@ cost_after_command (Ok c) from name face was =
     ]
 
 -- The cost of a next hop after an outcome, where None means that there is no such next hop. An
--- allowed command changes the cost if the command's status is 200. When a face closes, its next
--- hops are removed.
+-- allowed command can change the cost only if the command's status is 200. When a face closes, its
+-- next hops are removed.
 abbrev pub cost_after : Outcome → List Field → ℕ → Option ℕ → Option ℕ
 cost_after Nothing name face was = was
 cost_after (InterestPassed from whole i) name face was = was
@@ -39,7 +39,8 @@ cost_after (DataCame whole d) name face was = was
 cost_after (NackPassed from reason i) name face was = was
 cost_after (FaceClosed closed) name face was = if face == closed then None else was
 
--- the cost that the last command on this next hop set, if nothing has removed the next hop since
+-- the cost that the last add-nexthop for this next hop set, or None if there was no such command
+-- or if the next hop was removed since
 abbrev pub cost_of : Run → List Field → ℕ → Option ℕ
 cost_of Start name face = None
 cost_of (Then before event answer) name face =

@@ -36,9 +36,9 @@ pub record IsKept (now : ℕ) (event : PlainEvent) (answer : Answer) (key : Plai
   pub is_key : key ≡ key_of interest
   pub is_record : in_record ≡ in_record_for now (token_in event) whole interest
 
--- the Interest is forwarded only to other faces, without its token and unchanged except for its
--- HopLimit; it is forwarded to no face if the strategy still waits for the faces that the Interest
--- was sent to before
+-- The Interest is forwarded only to faces other than its own, without its token and unchanged
+-- except for its HopLimit. The Interest may also be forwarded to no face, since the strategy may
+-- still wait for the faces that the Interest was sent to before.
 abbrev pub IsSentOn : ℕ → List ℕ → PlainInterest → List Send → Type 0
 IsSentOn face whole i sends =
     (faces : List ℕ) × (has_face face faces ≡ false)

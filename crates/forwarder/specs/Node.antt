@@ -47,7 +47,7 @@ seen_in p waiting cache = record {
 
 -- One step, from received octets to sent octets: time passes, then the event is answered and has
 -- its effect. The decision on a packet is stated in `replies` and in `policy`; both decisions are
--- the same if no two keys of the book have the same name. What the cache gives is stated in
+-- the same if no two keys of the old policy have the same name. What the cache gives is stated in
 -- `replies` and in `cache`; both give the same Data if the cache satisfies `IsStore`.
 pub record IsStep (old : NodeState) (event : PlainEvent) (answer : Answer)
     (new : NodeState) : Type 0 where
@@ -65,7 +65,8 @@ pub record IsStep (old : NodeState) (event : PlainEvent) (answer : Answer)
       (cache_use (at_moment old.policy (moment event)).now (outcome_of event answer.verdict))
       old.cache new.cache
 
--- a step that ran out of memory changed nothing except which Data are cached
+-- a step that ran out of memory changed nothing, except that cached Data may have been dropped or
+-- reordered
 pub record ChangesCacheOnly (old new : NodeState) : Type 0 where
   pub policy : new.policy ≡ old.policy
   pub pending : new.pending ≡ old.pending

@@ -48,8 +48,8 @@ first_policy rules keys repo = record {
   held = record { objects = map.empty; wants = map.empty };
 }
 
--- Time advances to a moment, and the routes and wants that expire by then are removed. Each route
--- that expires gives the lists their next version.
+-- Time advances to a moment, unless the moment is earlier than the time. The routes and wants that
+-- expire by the new time are removed. Each route that expires gives the lists their next version.
 abbrev pub at_moment : Policy → ℕ → Policy
 at_moment p moment =
     let now = max p.now moment in
@@ -69,7 +69,7 @@ with_rules p rules keys = record p { rules = rules; keys = keys }
 abbrev pub with_next_version : Policy → Policy
 with_next_version p = record p { table_number = min (p.table_number + 1) (2 ^ 64 - 1) }
 
--- the numbers of all open faces, and the numbers of the Local faces
+-- the numbers of all open faces
 abbrev pub open_faces : Policy → List ℕ
 open_faces p = numbers p.faces
 
@@ -80,7 +80,7 @@ is_local_scope Far = false
 abbrev pub local_faces : Policy → List ℕ
 local_faces p = numbers (filter (λ entry. is_local_scope entry.1) p.faces)
 
--- whether an open face leads to another machine
+-- whether a face is open and leads to another machine, given its scope if it is open
 abbrev pub is_far_scope : Option Scope → Bool
 is_far_scope None = false
 is_far_scope (Some scope) = not (is_local_scope scope)

@@ -45,7 +45,7 @@ pub record Seen : Type 1 where
 
 -- ---- Interests for Data, pipeline by pipeline
 
--- Interest Loop: a Nack is sent back
+-- Interest Loop: the Interest is dropped, and a Nack with the reason Duplicate is sent back
 abbrev pub interest_loop : ℕ → Token → List ℕ → Answer
 interest_loop face token whole = record {
   verdict = Dropped Loop;
@@ -56,14 +56,15 @@ interest_loop face token whole = record {
 abbrev pub content_store_hit : ℕ → Token → List ℕ → Answer
 content_store_hit face token octets = passed (sent_back face token octets ∷ [])
 
--- Outgoing Interest: the Interest is sent to each of these faces without a token, or the Interest
--- is dropped if its key has no in-record and the PIT is full
+-- Outgoing Interest: the Interest is sent to each of these faces without a token; but if its key
+-- has no in-record and the PIT is full, the Interest is dropped
 abbrev pub outgoing_interest : Seen → PlainKey → List ℕ → PlainInterest → List ℕ → Answer
 outgoing_interest seen key whole i faces =
     if not (is_alive (seen.records key)) && seen.is_full then dropped PitFull
     else passed (to_each faces (sent_on whole i.hop_limit))
 
--- Interest Reject: a Nack is sent back, since no next hop may get the Interest
+-- Interest Reject: a Nack with the reason NoRoute is sent back, since no next hop may get the
+-- Interest
 abbrev pub interest_reject : ℕ → Token → List ℕ → Answer
 interest_reject face token whole = passed (nacked_back face token NO_ROUTE whole ∷ [])
 
@@ -139,9 +140,9 @@ abbrev pub sent_to : Askers → List ℕ → List Send
 sent_to askers whole =
     map_list {A = ℕ × Token} {B = Send} (λ a. sent_back a.0 a.1 whole) askers
 
--- The received octets are sent once to each face with a pending Interest for the Data, except the
--- face that the Data came from, in rising order of the faces, with the token of each face's latest
--- Interest that the Data answers.
+-- The received octets are sent once to each face with a pending Interest that the Data answers,
+-- except the face that the Data came from, in rising order of the faces. Each face gets the token
+-- of its latest Interest that the Data answers.
 abbrev pub IsSentToAskers : Seen → ℕ → List ℕ → PlainData → List Send → Type 0
 IsSentToAskers seen face whole d sends =
     (askers : Askers) × IsRising (faces_of askers)
@@ -205,7 +206,7 @@ opening_answer p face =
     if nat_le MAX_FACES (length p.faces) then dropped FacesFull else
     passed []))
 
--- how an event may be answered, given what is seen once time has advanced to its moment
+-- how an event may be answered, given what is seen once time has advanced to the event's moment
 abbrev pub Replies : Seen → PlainEvent → Answer → Type 0
 Replies seen (Packet face now octets) answer =
     IfTrueElse (is_open face seen.policy.faces)

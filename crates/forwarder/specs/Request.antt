@@ -20,8 +20,8 @@ pub use Rattle.forwarder.specs.declared.request.ListAsked.{ListAsked}
 abbrev pub generic : List ℕ → Field
 generic text = (GENERIC, text)
 
--- the prefix /localhost, whose names stay on this machine, and the prefix /localhost/nfd of the
--- names of commands and lists
+-- The next two names: the prefix /localhost, whose names stay on this machine, and the prefix
+-- /localhost/nfd of the names of commands and lists.
 abbrev pub localhost : List Field
 localhost = generic (codes "localhost") ∷ []
 
@@ -31,7 +31,7 @@ management = generic (codes "localhost") ∷ generic (codes "nfd") ∷ []
 abbrev pub is_local_name : List Field → Bool
 is_local_name name = begins_with localhost name
 
--- whether a name under /localhost came from another machine
+-- whether the name is under /localhost, and the face leads to another machine
 abbrev pub is_out_of_scope : Policy → ℕ → List Field → Bool
 is_out_of_scope p face name = is_local_name name && is_far p face
 
@@ -94,7 +94,7 @@ pub data Request : Type 0 where
   ForRepository : Request
   ForData : Request
 
--- the request of an Interest, given its name
+-- the request of an Interest, given the segment of a list that the Interest asks for, if any
 abbrev pub named_request : Policy → PlainInterest → Option ListAsked → Request
 named_request p i (Some asked) = ForList asked
 named_request p i None =

@@ -14,13 +14,13 @@ use Rattle.forwarder.specs.Hops.{names_hop}
 use Rattle.forwarder.specs.Outcome.{Outcome, Nothing, InterestPassed, CommandAllowed, DataCame, NackPassed, FaceClosed, outcome_of}
 use Rattle.forwarder.specs.Runs.{Run, Start, Then, now_of}
 
--- a command that came from the face `from` is about this route
+-- whether a command that came from the face `from` is about this route
 abbrev pub names_route : PlainCommand → ℕ → List Field → ℕ → ℕ → Bool
 names_route c from name face origin = names_hop c from name face && (origin == c.origin)
 
 -- The route after a command that took effect at the moment `now`. A register for this route sets
--- its cost, its flags and, if the command has a period, its deadline: `now` plus that period, at
--- most the greatest u64. An unregister for this route removes it.
+-- the route's cost, its flags and, if the command has a period, its deadline: `now` plus that
+-- period, at most the greatest u64. An unregister for this route removes the route.
 abbrev pub route_after_command : Result PlainCommand ℕ → ℕ → ℕ → List Field → ℕ → ℕ
     → Option Route → Option Route
 route_after_command (Err status) now from name face origin was = was
@@ -36,8 +36,8 @@ route_after_command (Ok c) now from name face origin was =
     ]
 
 -- The route after an outcome at the moment `now`, where None means that there is no such route. An
--- allowed command changes the route if the command's status is 200. When a face closes, its routes
--- are removed.
+-- allowed command can change the route only if the command's status is 200. When a face closes,
+-- its routes are removed.
 abbrev pub route_after : Outcome → ℕ → List Field → ℕ → ℕ → Option Route → Option Route
 route_after Nothing now name face origin was = was
 route_after (InterestPassed from whole i) now name face origin was = was
@@ -48,9 +48,9 @@ route_after (DataCame whole d) now name face origin was = was
 route_after (NackPassed from reason i) now name face origin was = was
 route_after (FaceClosed closed) now name face origin was = if face == closed then None else was
 
--- The route that the last register of this name, face and origin gave, if nothing has ended it
--- since: no unregister, no closing of its face, and no later event of any kind at or after the
--- route's deadline.
+-- The route that the last register of this name, face and origin gave, if nothing has ended the
+-- route since: no unregister, no closing of its face, and no later event of any kind at or after
+-- the route's deadline.
 abbrev pub route_of : Run → List Field → ℕ → ℕ → Option Route
 route_of Start name face origin = None
 route_of (Then before event answer) name face origin =

@@ -83,8 +83,8 @@ pub record AreLastRules (past : Run) (rules : List PlainRule) (keys : List Named
 
 -- ---- pending Interests (NFD Developer's Guide, "Pending Interest Table")
 
--- all causes that began or ended records in a run, with the latest cause first; each event first
--- causes expiry at its moment, and then has its own causes
+-- All causes that change records in a run, with the latest cause first. Each event first causes
+-- expiry at the greatest moment so far, and then has its own causes.
 abbrev pub past_causes : Run → List Cause
 past_causes Start = []
 past_causes (Then before event answer) =
@@ -103,8 +103,8 @@ pub record IsWaiting (past : Run) (now : ℕ) (waiting : Pending) : Type 0 where
 
 -- ---- what the cache may hold (NFD Developer's Guide, "Content Store")
 
--- The Data came, it was allowed, some face waited for it, and no erase has removed it since. The
--- cache may have dropped it.
+-- The Data came, it was allowed, some face waited for it, and no erase without Count has removed
+-- it since. The cache may have dropped the Data.
 abbrev pub MayHold : Run → CachedData → Type 0
 MayHold Start c = ⊥
 MayHold (Then before event answer) c =

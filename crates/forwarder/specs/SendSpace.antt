@@ -21,8 +21,9 @@ unless_refused (Some fault) sends = []
 abbrev pub fetched : List ℕ → InterestWriter → List Send
 fetched faces w = unless_refused (interest_refusal w) (to_each faces (interest_text w))
 
--- The number of octets to reserve for sending a Data to the faces that asked for it: with tokens, a
--- link packet for each face; without tokens, one copy of the Data.
+-- The number of octets to reserve for sending a Data to the faces that asked for it: with tokens,
+-- `MAX_FACES` times the greatest length of a link packet with the Data; without tokens, the
+-- length of the Data.
 abbrev pub room_for_data : List ℕ → Bool → ℕ
 room_for_data whole with_tokens =
     if with_tokens then MAX_FACES * (length whole + LINK_EXTRA) else length whole

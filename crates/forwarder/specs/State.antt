@@ -32,14 +32,15 @@ state_of s = record {
   cache = s.tables.store;
 }
 
--- Each face with a record, a next hop or a route is open, and at most 64 faces are open.
+-- Each face with a record, a next hop or a route is open. At most 64 faces are open, and they are
+-- in rising order.
 pub record IsSound (s : NodeState) : Type 0 where
   pub few : length s.policy.faces ≤ MAX_FACES
   pub rising : IsRising (numbers s.policy.faces)
   pub records : (face : ℕ) → HasRecord s.pending face → is_open face s.policy.faces ≡ true
   pub routes : AllAreUp s.policy.routes (open_faces s.policy)
 
--- time advanced to the moment, and everything that expires by then was removed
+-- time advanced to the moment, and everything that expires by that moment was removed
 pub record IsLater (old : NodeState) (moment : ℕ) (new : NodeState) : Type 0 where
   pub policy : new.policy ≡ at_moment old.policy moment
   pub expiry : Follows (Expires (max old.policy.now moment)) old.pending new.pending

@@ -29,7 +29,7 @@ pub data DropReason : Type 0 where
   FaceOpen : DropReason
   FacesFull : DropReason
 
--- Rules are given by their indexes in the list of rules.
+-- The verdict on an event. Rules are given by their indexes in the list of rules.
 pub data Verdict : Type 0 where
   Passed : Verdict
   -- a command that was allowed, with the status of the reply
@@ -39,7 +39,7 @@ pub data Verdict : Type 0 where
   NoRule : (kind : Kind) → Verdict
   Dropped : (reason : DropReason) → Verdict
 
--- a reason or a verdict of the code as plain data
+-- a reason of the code as plain data
 abbrev pub reason_of : code_reason.DropReason → DropReason
 reason_of why.NoFace = NoFace
 reason_of (why.Malformed fault) = Malformed fault

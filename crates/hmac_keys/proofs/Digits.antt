@@ -15,8 +15,8 @@ use Rattle.ndn_names.proofs.TextReading.{hex_length}
 digit_again : (c : ℕ) → digit_value c < 16 → hex_digit_value c ≡ Some (digit_value c)
 digit_again c h = grind arith
 
--- the digits 0 to 9 have a value below 16; the next lemmas say the same of the letters A to F and a
--- to f, and that no other character has such a value
+-- the characters 0 to 9 have a digit value below 16; the next two lemmas prove this for the letters
+-- A to F and a to f
 decimal_digit : (c : ℕ) → 48 ≤ c → c < 58 → digit_value c < 16
 decimal_digit c a b = grind arith
 
@@ -39,7 +39,7 @@ digit_found c v e = elim (cases_lt (digit_value c) 16) [
   | inr large ↦ let none : None ≡ Some v = sym (no_digit c large) ∙ e in absurd cc
 ]
 
--- if `digit_or_error` returns the value `v`, its argument `o` is this value
+-- if `digit_or_error` returns the value `v`, its argument `o` is `Some v`
 some_digit : (c i v : ℕ) (o : Option ℕ) → digit_or_error c i o ≡ Ok v → o ≡ Some v
 some_digit c i v None e = absurd cc
 some_digit c i v (Some w) e = let same : w ≡ v = cc in ap Some same

@@ -17,7 +17,7 @@ use Rattle.hmac_keys.proofs.Books.{one_name, named_twice, one_too_many, key_adde
 
 -- ---- the first line of a text and the remaining text
 
--- the lines of the text are `line` and the lines of `after`, or `line` alone
+-- the lines of the text are `line` and the lines of `after`, or only `line`, if `after` is empty
 abbrev pub BeginsWith : List ℕ → List ℕ → List ℕ → Type 0
 BeginsWith text line after = (lines_of text ≡ line ∷ lines_of after) ⊎ ((lines_of text ≡ line ∷ []) × (after ≡ []))
 
@@ -41,13 +41,14 @@ line_failed n keys rest line after fault begins (inl failed) = inl (line_told n 
 
 -- ---- the keys in the lines
 
--- if two steps in sequence succeed, the first step succeeds, and the second step succeeds with the
--- result of the first
+-- if two steps in sequence succeed, the first step succeeds, and the second step, applied to its
+-- result, returns the result of the sequence
 ok_of : {A B : Type 0} (r : Result A KeyFault) (f : A → Result B KeyFault) (y : B) → on_result f (λ fault. Err fault) r ≡ Ok y → (x : A) × (r ≡ Ok x) × (f x ≡ Ok y)
 ok_of (Ok x) f y e = (x, refl, e)
 ok_of (Err fault) f y e = absurd cc
 
--- All keys that are read are the earlier keys, followed by the keys in the lines.
+-- The keys `all` are the earlier keys `keys`, followed by the keys in the lines. All these keys
+-- have different names, and they are at most 256.
 record AreRead (lines : List (List ℕ)) (keys all : List NamedKey) : Type 0 where
   new : List NamedKey
   whole : all ≡ keys ++ new
@@ -55,7 +56,8 @@ record AreRead (lines : List (List ℕ)) (keys all : List NamedKey) : Type 0 whe
   apart : AreApart all
   few : length all ≤ 256
 
--- The line adds a key.
+-- The line adds its key to `keys`, which gives `more`: no earlier key has the name of this key,
+-- and the number of earlier keys is not 256.
 pub record IsAdded (n : ℕ) (keys : List NamedKey) (line : List ℕ) (more : List NamedKey) : Type 0 where
   pub key : NamedKey
   pub read : key_in line ≡ Some key
@@ -80,8 +82,8 @@ key_is_added n keys more line kept e = from_key (key_in line) refl (sym (rw kept
 pub line_skipped : (n : ℕ) (keys : List NamedKey) (line : List ℕ) → is_skipped line ≡ true → after_line n keys line ≡ Ok keys
 line_skipped n keys line skipped = rw skipped refl
 
--- if one more line in front of the lines is skipped, the keys in the lines are the same; if it has
--- a key, this key comes first
+-- the next two lemmas: if one more line in front of the lines is skipped, the keys in the lines are
+-- the same; if this line has a key, this key comes before the keys in the lines
 skipped_before : (line : List ℕ) (lines : List (List ℕ)) (keys all : List NamedKey) → is_skipped line ≡ true → AreRead lines keys all → AreRead (line ∷ lines) keys all
 skipped_before line lines keys all skipped rest =
     record { new = rest.new; whole = rest.whole; are = inl (skipped, rest.are); apart = rest.apart; few = rest.few }

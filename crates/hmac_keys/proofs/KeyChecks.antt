@@ -99,7 +99,8 @@ whole_has_none line name kept e = rw (kept, e) refl
 pub skipped_has_none : (line : List ℕ) (name : List Field) → is_skipped line ≡ true → false ≡ line_has_name name line
 skipped_has_none line name skipped = rw skipped refl
 
--- a name in the first `left` lines is in the first line, or in the `left - 1` lines after it
+-- a name is in the first `left` lines exactly if it is in the first line or in the `left - 1` lines
+-- after the first line
 pub have_first : (name : List Field) (left : ℕ) (rest line after : List ℕ) → BeginsWith rest line after → 0 < left
     → lines_have_name name (take left (lines_of rest)) ≡ (line_has_name name line || lines_have_name name (take (left - 1) (lines_of after)))
 unfolding lines_of
@@ -151,8 +152,8 @@ one_more n all line key b kept e is f room = after_key n all line key kept e ∙
 
 -- ---- all lines
 
--- The first `before` lines of the text have been read as this many keys, and `rest` is the text
--- after them.
+-- The first `before` lines of the text have been read without a fault, and have `keys` keys, at
+-- most 256. `rest` is the text after these lines.
 pub record HasChecked (before keys : ℕ) (text rest : List ℕ) : Type 0 where
   pub all : List NamedKey
   pub count : keys ≡ length all
@@ -174,7 +175,8 @@ cut_here (suc n) [] line others e = absurd cc
 cut_here (suc n) (first ∷ lines) line others e =
     let here = cut_here n lines line others e in (ap (λ (ls : List (List ℕ)). first ∷ ls) here.0, here.1)
 
--- a line has the name of the key that it adds
+-- after a line has been read without a fault, a name is among the names of the keys exactly if it
+-- was among them before, or the line has this name
 line_name : (n : ℕ) (all more : List NamedKey) (line : List ℕ) → after_line n all line ≡ Ok more → (name : List Field) → has_name name more ≡ (has_name name all || line_has_name name line)
 line_name n all more line e name = elim (cases_Bool (is_skipped line)) [
   | inl skipped ↦

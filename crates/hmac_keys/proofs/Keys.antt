@@ -76,7 +76,7 @@ octets_found digits octets e = found (decode_of digits) (decode_found digits) e
 octets_again : (digits octets : List ℕ) → IsHex digits octets → 1 ≤ length octets → length octets ≤ 256 → octets_of digits ≡ Some octets
 octets_again digits octets h some few = rw (decode_again digits octets h, le-leb 1 (length octets) some, le-leb (length octets) 256 few) refl
 
--- a space is not a digit
+-- a text of hexadecimal digits contains no space
 digits_lack_space : (digits octets : List ℕ) → IsHex digits octets → Lacks 32 digits
 digits_lack_space digits [] h = subst (Lacks 32) (sym h) tt
 digits_lack_space digits (o ∷ octets) h = subst (Lacks 32) (sym h.3) (no_digit h.0 h.4.0, (no_digit h.1 h.4.1, digits_lack_space h.2 octets h.5))
@@ -84,8 +84,8 @@ digits_lack_space digits (o ∷ octets) h = subst (Lacks 32) (sym h.3) (no_digit
     no_digit : (digit : ℕ) → digit_value digit < 16 → digit ≢ 32
     no_digit digit lt is = let h : digit_value 32 < 16 = subst (λ (d : ℕ). digit_value d < 16) is lt in omega arith
 
--- if two steps in sequence return a value, the first step returns a value, and the second step
--- returns a value when it is given the value of the first
+-- if two steps in sequence return a value, the first step returns a value, and the second step,
+-- applied to this value, returns the value of the sequence
 pub some_of : {A B : Type 0} (r : Option A) (f : A → Option B) (y : B) → on_option f None r ≡ Some y → (x : A) × (r ≡ Some x) × (f x ≡ Some y)
 some_of None f y e = absurd cc
 some_of (Some x) f y e = (x, refl, e)

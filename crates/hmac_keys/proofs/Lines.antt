@@ -26,7 +26,8 @@ unfolding lines_of
 last_line [] h = refl
 last_line (o ∷ line) h = rw (ne_eqb o 10 h.0) (ap (in_front o) (last_line line h.1))
 
--- the first line of a text is the text before its first LF, or the whole text
+-- if a text is split at its first LF, its lines are the text before this LF, followed by the lines
+-- of the text after it
 pub lines_parts : (text : List ℕ) (line after : Bor (List ℕ)) → IsSplitOnceResult 10 text (Some (line, after)) → lines_of text ≡ line.now ∷ lines_of after.now
 lines_parts text line after split =
     let p = split_parts 10 text (Some (line, after)) split (omega arith) in
@@ -47,11 +48,13 @@ unfolding at_last_space
 space_again [] digits h = rw (no_space digits h) refl
 space_again (o ∷ uri) digits h = rw (space_again uri digits h) refl
 
--- a line with the octet `o` added in front, cut at its last space
+-- the texts before and after the last space of `o ∷ line`, or `None` if there is no space; `rest`
+-- is this result for `line`
 abbrev with_octet : ℕ → List ℕ → Option (List ℕ × List ℕ) → Option (List ℕ × List ℕ)
 with_octet o line rest = on_option (λ x. Some (o ∷ x.0, x.1)) (cond (eqb o 32) (Some ([], line)) None) rest
 
--- a line consists of the two parts that were found, with a space between them
+-- if a line consists of the two parts `x` with a space between them, and `Some x` equals `Some y`,
+-- the line consists of the two parts `y` with a space between them
 parts_are : (line : List ℕ) (x y : List ℕ × List ℕ) → Some x ≡ Some y → line ≡ x.0 ++ 32 ∷ x.1 → line ≡ y.0 ++ 32 ∷ y.1
 parts_are line x y e h = let same : x ≡ y = cc in subst (λ (p : List ℕ × List ℕ). line ≡ p.0 ++ 32 ∷ p.1) same h
 
@@ -68,7 +71,8 @@ space_found (o ∷ line) parts e = further (at_last_space line) (λ x. space_fou
     further (Some x) h e = parts_are (o ∷ line) (o ∷ x.0, x.1) parts e (ap (λ (rest : List ℕ). o ∷ rest) (h x refl))
     further None h e = here o line parts (eqb o 32) (eqb-true o 32) e
 
--- the result of `rsplit_once` at a space
+-- the result of `rsplit_once` at a space: the texts before and after the last space, or `None` if
+-- there is no space
 abbrev pub IsSpaceSplit : List ℕ → Option (Bor (List ℕ) × Bor (List ℕ)) → Type 0
 IsSpaceSplit line r = MatchOption r (RFindsChar 32 line None) (λ x. SplitsAroundMatch (RFindsChar 32) line x.0.now x.1.now)
 

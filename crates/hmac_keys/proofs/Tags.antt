@@ -17,7 +17,7 @@ pub pads : (block : List ℕ) → xor_each 0x6A (xor_each 0x36 block) ≡ xor_ea
 pads [] = refl
 pads (octet ∷ block) = λ i. xor_assoc octet 0x36 0x6A i ∷ pads block i
 
--- the octets that have been compared are equal exactly if no difference was found
+-- the first `i` octets of `xs` and of `ys` are equal exactly if `difference` is 0
 abbrev pub HasCompared : List ℕ → List ℕ → ℕ → ℕ → Type 0
 HasCompared xs ys difference i = (difference ≡ 0) ↔ (take i xs ≡ take i ys)
 

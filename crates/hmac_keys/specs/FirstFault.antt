@@ -22,13 +22,13 @@ HasBadLine lines n =
     (line : List ℕ) × (keys : List NamedKey) × IsReached lines n line keys
     × ((key : NamedKey) → IsKeyLine line key → ⊥)
 
--- line n has a key with the name of an earlier key
+-- line n is the first faulty line: its key has the name of an earlier key
 abbrev pub HasNameTwice : List (List ℕ) → ℕ → Type 0
 HasNameTwice lines n =
     (line : List ℕ) × (keys : List NamedKey) × IsReached lines n line keys
     × ((key : NamedKey) × IsKeyLine line key × ((octets : List ℕ) × IsAmong (key.0, octets) keys))
 
--- some line has a key with a new name, and 256 keys come before it
+-- the first faulty line has a key with a new name, and 256 keys come before this key
 abbrev pub HasTooMany : List (List ℕ) → Type 0
 HasTooMany lines =
     (n : ℕ) × (line : List ℕ) × (keys : List NamedKey) × IsReached lines n line keys

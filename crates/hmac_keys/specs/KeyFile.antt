@@ -4,11 +4,12 @@ use Rattle.std.specs.List.{AllByRecursion}
 use Rattle.ndn_tlv.specs.Element.{Field}
 use Rattle.ndn_names.specs.ReadsAs.{ReadsAs, IsHex}
 
--- a key with its name
+-- a key: its name and its octets
 abbrev pub NamedKey : Type 0
 NamedKey = List Field × List ℕ
 
--- the lines with the octet `o` added at the front of the first one
+-- the lines with the octet `o` added at the front of the first line, or a line of `o` alone if
+-- there are no lines
 abbrev pub in_front : ℕ → List (List ℕ) → List (List ℕ)
 in_front o [] = (o ∷ []) ∷ []
 in_front o (line ∷ lines) = (o ∷ line) ∷ lines
@@ -35,7 +36,7 @@ pub record IsKeyLine (line : List ℕ) (key : NamedKey) : Type 0 where
   pub some : 1 ≤ length key.1
   pub few : length key.1 ≤ 256
 
--- the keys of these lines, in order
+-- the keys of the lines that are not skipped, in order
 abbrev pub AreKeysOf : List (List ℕ) → List NamedKey → Type 0
 AreKeysOf [] keys = keys ≡ []
 AreKeysOf (line ∷ lines) keys =

@@ -22,11 +22,11 @@ abbrev pub not_empty : List Field → Option (List Field)
 not_empty [] = None
 not_empty (c ∷ name) = Some (c ∷ name)
 
--- the name that a URI reads as, if it is not empty
+-- the name that a URI reads as, if this name is not empty
 abbrev pub name_of : List ℕ → Option (List Field)
 name_of uri = on_result not_empty (λ _. None) (name_in uri)
 
--- the 1 to 256 octets that hexadecimal digits encode, or None if the text does not encode that many
+-- the 1 to 256 octets that hexadecimal digits encode, or `None` for any other text
 abbrev pub octets_of : List ℕ → Option (List ℕ)
 octets_of digits =
     on_result
@@ -46,19 +46,20 @@ abbrev pub has_name : List Field → List NamedKey → Bool
 has_name name [] = false
 has_name name (key ∷ keys) = is_eq (name_cmp key.0 name) || has_name name keys
 
--- the keys after the key of line n is added
+-- the keys after the key of line n is added, or a fault if it cannot be added
 abbrev pub with_key : ℕ → List NamedKey → NamedKey → Result (List NamedKey) KeyFault
 with_key n keys key =
     if has_name key.0 keys then Err (TwiceNamed n) else (
     if length keys == 256 then Err TooMany else
     Ok (keys ++ key ∷ []))
 
--- the keys after line n is read
+-- the keys after line n is read, or the fault of line n
 abbrev pub after_line : ℕ → List NamedKey → List ℕ → Result (List NamedKey) KeyFault
 after_line n keys line =
     if is_skipped line then Ok keys else on_option (with_key n keys) (Err (BadLine n)) (key_in line)
 
--- the keys after these lines are read, where n is the number of the first line
+-- the keys after these lines are read, or the first fault, where n is the number of the first
+-- line
 unfoldable pub keys_from : ℕ → List NamedKey → List (List ℕ) → Result (List NamedKey) KeyFault
 keys_from n keys [] = Ok keys
 keys_from n keys (line ∷ lines) =
@@ -71,7 +72,7 @@ keys_in text = keys_from 1 [] (lines_of text)
 abbrev pub IsFaultOf : Result (List NamedKey) KeyFault → KeyFault → Type 0
 IsFaultOf read fault = (read ≡ Err fault) ⊎ (fault ≡ Memory)
 
--- `fault` is the fault that `read` returns, or it is `Memory`, and `read` succeeds
+-- either `fault` is the fault that `read` returns, or `fault` is `Memory` and `read` succeeds
 abbrev pub IsFaultBeforeMemory : Result (List NamedKey) KeyFault → KeyFault → Type 0
 IsFaultBeforeMemory read fault =
     (read ≡ Err fault) ⊎ ((fault ≡ Memory) × ((keys : List NamedKey) × (read ≡ Ok keys)))
@@ -83,7 +84,7 @@ abbrev pub AreKeys : List ℕ → List NamedKey → Type 0
 AreKeys octets keys = IsUtf8 octets × KeysOf octets keys
 
 -- `why` is the fault of the text, or `Memory` if the text has no fault; if the octets are not
--- UTF-8, it is a bad line with the number 0
+-- UTF-8, `why` is `BadLine 0`
 abbrev pub IsFaultOfOctets : List ℕ → KeyFault → Type 0
 IsFaultOfOctets octets why =
     (IsUtf8 octets × IsFaultBeforeMemory (keys_in octets) why)

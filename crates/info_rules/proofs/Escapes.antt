@@ -14,7 +14,7 @@ pub lacks_from_places : (octet : ℕ) (text : List ℕ) → ((i : ℕ) → i < l
 lacks_from_places octet [] h = tt
 lacks_from_places octet (o ∷ text) h = (h 0 (omega arith), lacks_from_places octet text (λ i lt. h (suc i) (omega arith)))
 
--- an octet other than a backslash is kept
+-- `unescaped` leaves an octet other than a backslash unchanged
 plain_octet : (o : ℕ) (word : List ℕ) → o ≢ 92 → unescaped (o ∷ word) ≡ o ∷ unescaped word
 unfolding unescaped
 plain_octet o [] other = refl
@@ -24,8 +24,8 @@ pub plain_front : (front word : List ℕ) → Lacks 92 front → unescaped (fron
 plain_front [] word h = refl
 plain_front (o ∷ front) word h = plain_octet o (front ++ word) h.0 ∙ ap (λ (w : List ℕ). o ∷ w) (plain_front front word h.1)
 
--- a backslash is dropped before an octet that it escapes, and kept before another octet or at the
--- end
+-- the next lemmas: `unescaped` removes a backslash before an octet that it escapes, and leaves a
+-- backslash before another octet or at the end of the word unchanged
 pub escaped_octet : (next : ℕ) (word : List ℕ) → is_escaped next ≡ true → unescaped (92 ∷ (next ∷ word)) ≡ next ∷ unescaped word
 unfolding unescaped
 escaped_octet next word h = rw h refl

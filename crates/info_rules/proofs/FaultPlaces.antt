@@ -92,8 +92,8 @@ one_on : (On : ℕ → Type 0) (line : ℕ) (token : Option Token) (tokens : Lis
 one_on On line None tokens here all = all
 one_on On line (Some token) tokens here all = (here, all)
 
--- if the last of some whole lines is at most `n`, all tokens that end in them are on lines up to
--- `n`
+-- if the last of some whole lines is line `n` or a line before it, all tokens that end in these
+-- lines are on lines up to `n`
 within_lines : (n : ℕ) (mode : Mode) (line : ℕ) (inner : List ℕ) → line_at line inner ≤ n → AllOn (λ l. l ≤ n) (ended mode line (inner ++ 10 ∷ []))
 unfolding ended line_at
 within_lines n mode line [] h = one_on (λ l. l ≤ n) line (ended_by mode 10) [] h tt
@@ -176,8 +176,8 @@ fitting_err draft line Close fault e = by_depth (eqb draft.depth 0) e
     by_depth false e = absurd cc
 fitting_err draft line Broken fault e = cc
 
--- `On` is true of the line of the fault, whether or not this is the fault of a block inside eight
--- others
+-- if `On` is true of the line of a block inside eight others and of the line of the fault of
+-- `read`, `On` is true of the line of the fault that is returned
 unless_deep : {A : Type 0} (On : ℕ → Type 0) (deep : Option ℕ) (line : ℕ) (read : Result A RulesFault) (fault : RulesFault) → DeepOn On deep → (read ≡ Err fault → On fault.line) → unless_fault (deep_before deep line) read ≡ Err fault → On fault.line
 unless_deep On None line read fault h behind e = behind e
 unless_deep On (Some deep) line read fault h behind e = by_test (eqb deep line) e
@@ -236,7 +236,8 @@ ending_err On line tokens draft fault all here deep e = by_read (with_tokens dra
 
 -- ---- the lines before the fault
 
--- the state after reading `n` whole lines
+-- the octets `front` are `n` whole lines: their tokens are on these lines, and after them reading
+-- is between tokens, at the beginning of the next line
 record AreRead (n : ℕ) (front : List ℕ) : Type 0 where
   within : AllOn (λ l. l ≤ n) (ended Between 1 front)
   mode : mode_at Between front ≡ Between
@@ -306,7 +307,7 @@ no_closer : (line : ℕ) → tokens_from Between line (closers zero) ≡ []
 unfolding closers tokens_from
 no_closer line = refl
 
--- closing braces that close all open blocks of the draft
+-- reading `tokens` closes all open blocks of the draft, and no block is inside eight others
 record AreClosed (draft : PlainDraft) (tokens : List (ℕ × Token)) : Type 0 where
   final : PlainDraft
   read : with_tokens draft tokens ≡ Ok final

@@ -38,7 +38,8 @@ key_split prefix name h =
     let following : drop (length prefix) name ≡ key_component ∷ h.0 = ap (drop (length prefix)) h.1 ∙ drop_front prefix (key_component ∷ h.0) in
     (omega arith, tt, long, all_pass (take (length prefix) name), subst (λ (cs : List Field). IsSplit late_atoms cs (1 ∷ length h.0 ∷ [])) (sym following) (late_split h.0 h.2 h.3))
 
--- a split of components by the atoms after `(<>*)`: KEY, then one to three more components
+-- a split of components by the atoms after `(<>*)`: one component KEY, then one to three more
+-- components
 pub record Late (cs : List Field) (counts : List ℕ) : Type 0 where
   pub rest : List Field
   pub begins : cs ≡ key_component ∷ rest
@@ -68,7 +69,8 @@ late_of (c ∷ rest) (suc zero ∷ b ∷ more) s =
     key (inl e) = sym e
     key (inr x) = absurd x
 
--- a split of a name by the whole pattern
+-- a split of a name by the whole pattern: `front` components, then KEY, then one to three more
+-- components
 pub record Whole (name : List Field) (counts : List ℕ) : Type 0 where
   pub front : ℕ
   pub rest : List Field

@@ -85,7 +85,7 @@ id_of key rule is e =
     let same : given.text ≡ rule.id = is_text given.text read.0.0.0 given.means ∙ ap (λ (r : PlainRule). r.id) read.2 in
     rw (is, given.is_first, given.value) (ap Some same)
 
--- a rule without the fault `TwiceNamed` for `id` has another id
+-- if a rule that is read does not have the fault `TwiceNamed` for `id`, its id differs from `id`
 other_id : (id : List ℕ) (key : Block) (rule : PlainRule) → is_word (codes "rule") key ≡ true → rule_in key ≡ Ok rule → same_id_faults id key ≡ [] → rule.id ≢ id
 unfolding same_id_faults
 other_id id key rule is e none same = by_key (id_key key) (id_of key rule is e) none

@@ -16,7 +16,7 @@ heads x y s t e = cc
 tails : (x y : ℕ) (s t : List ℕ) → x ∷ s ≡ y ∷ t → s ≡ t
 tails x y s t e = cc
 
--- at the first difference of two lists, it is impossible that each list has the lesser element
+-- it is impossible that each of two lists has the lesser element at their first difference
 clash : (p q s t after before : List ℕ) (x y u v : ℕ) → p ++ x ∷ s ≡ q ++ v ∷ after → p ++ y ∷ t ≡ q ++ u ∷ before → x < y → u < v → ⊥
 clash [] [] s t after before x y u v e f low high = absurd (omega (arith, low, high, heads x v s after e, heads y u t before f))
 clash [] (b ∷ q) s t after before x y u v e f low high =

@@ -206,7 +206,8 @@ value_is key text e = by_block key.0.has_block refl e
     by_block true is e = absurd cc
     by_block false is e = (e, is)
 
--- the value that was read belongs to the only key that is `word`
+-- if the value `x` is read, and at most one key is `word`, exactly one key is `word`, and its text
+-- is read as `x`
 pub has : {A : Type 0} (kind : RulesFaultKind) (read : List ℕ → Option A) (word : List ℕ) (keys : List Block) (x : A) → value_in kind read word keys ≡ Ok (Some x) → others_of (named word keys) ≡ []
     → (text : List ℕ) × HasValue word keys text × (read text ≡ Some x)
 has kind read word keys x e once =

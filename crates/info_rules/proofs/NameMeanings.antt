@@ -122,7 +122,7 @@ is_itself forms.Related = refl
 is_itself forms.Matching = refl
 is_itself forms.Hyper = refl
 
--- the form and the line of a key, if the key belongs to another form
+-- the form and the line of a key, if the key belongs to a form, and this form is not `other`
 abbrev other_by : Tested → Option Form → ℕ → Option Form → Option (Form × ℕ)
 other_by tested other line o = on_option (λ (form : Form). cond (is_other other form) (Some (form, line)) None) None o
 
@@ -149,8 +149,8 @@ no_other_again tested form [] may = refl
 no_other_again tested form (key ∷ keys) (inl none, may) = rw none (no_other_again tested form keys may)
 no_other_again tested form (key ∷ keys) (inr some, may) = rw (some, is_itself form) (no_other_again tested form keys may)
 
--- if a key `word` belongs to this form, and no key belongs to another form, the first key that
--- belongs to a form belongs to this form
+-- if some key is `word`, each key `word` belongs to `form`, and no key belongs to another form,
+-- then `first_other` returns `form`
 first_there : (tested : Tested) (form : Form) (word : List ℕ) (keys rest : List Block) (found : Block) → AllMayStand tested form keys → ((key : Block) → key.0.key ≡ word → form_of tested key ≡ Some form) → named word keys ≡ found ∷ rest
     → (line : ℕ) × (first_other tested None keys ≡ Some (form, line))
 first_there tested form word [] rest found may means e = absurd cc
@@ -202,7 +202,7 @@ by_name forms.Related keys name only e = only
 by_name forms.Matching keys name only e = absurd (not_given kinds.BadValue (λ text. ok_of (name_in text)) (codes "name") keys name (lacks (words_by forms.Matching) (codes "name") keys refl only) e)
 by_name forms.Hyper keys name only e = absurd (not_given kinds.BadValue (λ text. ok_of (name_in text)) (codes "name") keys name (lacks (words_by forms.Hyper) (codes "name") keys refl only) e)
 
--- each of these words is given at most once
+-- each of the keys `type`, `name`, `relation` and `regex` is given at most once
 pub record StandOnce (keys : List Block) : Type 0 where
   pub type : others_of (named (codes "type") keys) ≡ []
   pub name : others_of (named (codes "name") keys) ≡ []

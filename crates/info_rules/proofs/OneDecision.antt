@@ -149,7 +149,7 @@ passes_none keys checker signed a apart p q = none_is (one_check keys checker si
     none_is : None ≡ Some a → ⊥
     none_is e = cc
 
--- if `P` holds for all checkers, it holds for this checker
+-- if `P` holds for all checkers, it holds for the checker at index `k`
 here : (P : Checker → Type 0) (all : List Checker) (k : ℕ) (x : Checker) → All P all → k < length all → get_or all k x ≡ x → P x
 here P all k x every low is = subst P is (every k x low)
 

@@ -20,8 +20,8 @@ SoFar keys all signed n (Some reason) =
 at_most : (keys : List NamedKey) (signed : PlainSigned) (less more : Reason) (checker : Checker) → reason_number less ≤ reason_number more → IsAtMost keys signed less checker → IsAtMost keys signed more checker
 at_most keys signed less more checker le h = (h.0, h.1, omega (arith, le, h.2))
 
--- if the reasons of the first `n` checkers are at most `greatest`, and so is the reason of the next
--- checker, then so are the reasons of the first `n + 1` checkers
+-- if the reasons of the first `n` checkers and the reason of the next checker are at most
+-- `greatest`, the reasons of the first `n + 1` checkers are at most `greatest`
 with_reason : (keys : List NamedKey) (all : List Checker) (signed : PlainSigned) (n : ℕ) (checker : Checker) (reason greatest : Reason)
     → n < length all → checker ≡ get_or all n checker → Checks keys checker signed (Some reason) → reason_number reason ≤ reason_number greatest
     → ((k : ℕ) → k < n → (d : Checker) → IsAtMost keys signed greatest (get_or all k d))

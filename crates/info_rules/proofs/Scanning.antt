@@ -116,7 +116,7 @@ begun_by_lf : begun_by 10 ≡ Between
 unfolding begun_by is_separator
 begun_by_lf = refl
 
--- an LF outside of words is no token, and begins the next line
+-- when reading is between tokens, an LF is no token, and begins the next line
 lf_step : (o : ℕ) (text : List ℕ) (line : ℕ) → o ≡ 10 → tokens_from Between (line + 1) text ≡ tokens_from Between line (o ∷ text)
 unfolding tokens_from
 lf_step o text line e = rw (ap begun_by e ∙ begun_by_lf, eq-eqb o 10 e) refl
@@ -159,7 +159,8 @@ some_or_none : (found : Option ℕ) (len : ℕ) → found ≡ Some len → found
 some_or_none None len a b = absurd cc
 some_or_none (Some n) len a b = absurd cc
 
--- the effect of an octet in a quoted text: an LF, the closing quote, or another octet
+-- the next lemmas: the effect of an octet in a quoted text, which is an LF, the closing quote, or
+-- another octet
 quoted_lf : (escaped : Bool) (o : ℕ) (text : List ℕ) → o ≡ 10 → quoted_len escaped (o ∷ text) ≡ None
 unfolding quoted_len
 quoted_lf escaped o text e = rw (eq-eqb o 10 e) refl

@@ -122,7 +122,8 @@ abbrev StartsOff : Option ℕ → Nodes → Type 0
 StartsOff None nodes = Unit {0}
 StartsOff (Some line) nodes = BeginsOff line nodes
 
--- the state in which no entry is pending
+-- No entry is pending. The remaining tokens spell the remaining entries of the open blocks. All
+-- entries are the finished entries, then the remaining entries.
 record IsBetweenEntries (closed : Option ℕ) (depth : ℕ) (ended : List PlainEntry) (tokens : List (ℕ × Token)) (entries : List PlainEntry) : Type 0 where
   levels : Levels
   spelled : tokens ≡ level_tokens levels
@@ -145,7 +146,9 @@ blocked before (Block opened block closed) = true
 abbrev finished : PlainEntry → Option (List ℕ) → Tail → PlainEntry
 finished entry value tail = record entry { value = valued entry.value value; has_block = blocked entry.has_block tail }
 
--- the state after an entry that may still get a value and a block
+-- `entry` may still get a value and a block. The remaining tokens spell this value and this
+-- block, if present, and then the remaining entries of the open blocks. All entries are the
+-- finished entries, `entry`, the entries of its block, and then the remaining entries.
 record IsGoing (entry : PlainEntry) (depth : ℕ) (ended : List PlainEntry) (tokens : List (ℕ × Token)) (entries : List PlainEntry) : Type 0 where
   value : Option (List ℕ)
   tail : Tail
@@ -161,8 +164,8 @@ abbrev Means : Option PlainEntry → PlainDraft → List (ℕ × Token) → List
 Means None draft tokens entries = IsBetweenEntries draft.closed draft.depth draft.ended tokens entries
 Means (Some entry) draft tokens entries = IsGoing entry draft.depth draft.ended tokens entries
 
--- if the remaining tokens spell the remaining entries, all entries are those of the draft, then the
--- remaining ones
+-- if the remaining tokens spell the remaining entries, and all entries are those of the draft,
+-- then the remaining ones, `Means` holds
 further : (draft : PlainDraft) (tokens : List (ℕ × Token)) (entries : List PlainEntry) (levels : Levels) → (pending : Option PlainEntry) → draft.pending ≡ pending → tokens ≡ level_tokens levels
     → (draft.pending ≡ None → StartsOff draft.closed (top levels)) → ((entry : PlainEntry) → draft.pending ≡ Some entry → BeginsOff entry.line (top levels)) → AreLevels draft.depth levels
     → entries ≡ entries_of draft ++ level_outline draft.depth levels → Means pending draft tokens entries

@@ -60,7 +60,7 @@ head_read draft head tokens shallow may = by_value head.value refl
 
 -- ---- entries in sequence
 
--- the first of the entries may begin after this draft
+-- the first of the entries, if there is one, may begin after this draft
 abbrev Starts : PlainDraft → Nodes → Type 0
 Starts draft NoNode = Unit {0}
 Starts draft (Leaf head others) = MayBegin head.line draft.pending draft.closed
@@ -81,7 +81,9 @@ starts_opened draft entry line NoNode = tt
 starts_opened draft entry line (Leaf next others) = tt
 starts_opened draft entry line (Branch next opened block closed others) = tt
 
--- the draft after the tokens of these entries
+-- reading the tokens of the entries `nodes` from `draft` gives the draft `after`; this draft has
+-- the same number of open blocks, no block inside eight others, and the entries of `draft` followed
+-- by `nodes`
 record Passed (draft : PlainDraft) (nodes : Nodes) (tokens : List (ℕ × Token)) : Type 0 where
   after : PlainDraft
   read : with_tokens draft (tokens_of nodes ++ tokens) ≡ with_tokens after tokens

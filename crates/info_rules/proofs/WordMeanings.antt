@@ -27,7 +27,8 @@ use Rattle.info_rules.specs.ValueWords.{kind_in, relation_in, checker_type_in, s
 use Rattle.info_rules.specs.Values.{ok_of, id_in, name_word_in}
 use Rattle.info_rules.specs.Meaning.{IsKind, IsRelation, IsId}
 
--- the words for the types of checkers and of signatures
+-- the next two definitions: the words for the types of checkers, and the words for the types of
+-- signatures
 abbrev pub IsCheckerType : List ℕ → CheckerType → Type 0
 IsCheckerType text Customized = text ≡ codes "customized"
 IsCheckerType text Hierarchical = text ≡ codes "hierarchical"

@@ -52,8 +52,8 @@ abbrev pub has_locator : List Block → Found (Option CheckerType) → Found (Op
 has_locator keys type signature =
     not (needs_locator type signature) || is_there (codes "key-locator") keys
 
--- the requirement on the key's name, if the block has one; of several key locators, the first
--- states the requirement
+-- the requirement on the key's name, if the block has one: that of a hierarchical checker, or that
+-- of the first key locator
 abbrev pub locator_of : Bool → List Block → Found (Option LocatorTest)
 locator_of hierarchical keys =
     if hierarchical then Ok (Some locators.Hierarchical)

@@ -43,8 +43,8 @@ IsAtMost keys signed reason checker =
     (given : Reason) × Checks keys checker signed (Some given)
     × (reason_number given ≤ reason_number reason)
 
--- No checker passes the packet, and this is the greatest of their reasons. If the rule has no
--- checkers, the reason is `KeyLocator`.
+-- No checker passes the packet, and `reason` is the greatest of the checkers' reasons. If the rule
+-- has no checkers, `reason` is `KeyLocator`.
 abbrev pub IsGreatest : List NamedKey → List Checker → PlainSigned → Reason → Type 0
 IsGreatest keys all signed reason =
     ((all ≡ []) × (reason ≡ reasons.KeyLocator))
@@ -55,7 +55,7 @@ IsGreatest keys all signed reason =
 abbrev pub Allow : List NamedKey → List Checker → SeenPacket → Type 0
 Allow keys all packet = (signed : PlainSigned) × IsSigned packet signed × IsPassed keys all signed
 
--- the checkers deny the packet, and this is the greatest of their reasons
+-- the checkers deny the packet, and `reason` is the reason that `IsGreatest` states
 abbrev pub DenyBy : List NamedKey → List Checker → SeenPacket → Reason → Type 0
 DenyBy keys all packet reason =
     (signed : PlainSigned) × IsSigned packet signed × IsGreatest keys all signed reason
@@ -92,7 +92,7 @@ DecideSeen rules keys packet (decisions.Denied n reason) =
     × Deny keys rule.checkers packet reason
 DecideSeen rules keys packet decisions.NoRule = NoneApplies rules packet.kind packet.name
 
--- This is the decision on an Interest or a Data by the first rule that applies, or `NoRule` if no
+-- The decision on an Interest or a Data is that of the first rule that applies, or `NoRule` if no
 -- rule applies. Other frames have no decision.
 abbrev pub Decides : List PlainRule → List NamedKey → PlainFrame → Decision → Type 0
 Decides rules keys (AnInterest whole i) decision =

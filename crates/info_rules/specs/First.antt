@@ -28,6 +28,6 @@ pub record IsFirst (rules : List PlainRule) (kind : Kind) (name : List Field) (n
   pub applies : Applies rule kind name
   pub earlier : NoneApplies (take n rules) kind name
 
--- `n` is the number of the first rule that applies
+-- `n` is the index of the first rule that applies
 abbrev pub First : List PlainRule → Kind → List Field → ℕ → Type 0
 First rules kind name n = (rule : PlainRule) × IsFirst rules kind name n rule

@@ -1,7 +1,7 @@
 -- The forms of a requirement on a name.
 
--- the name that a block states a requirement on: the packet's in a filter, the key's in a key
--- locator
+-- the name that a block states a requirement on: in a filter the name of the packet, in a key
+-- locator the name of the key
 pub data Tested : Type 0 where
   PacketName : Tested
   KeyName : Tested

@@ -47,7 +47,8 @@ hierarchical_pattern = record {
   groups = (0, 1) ∷ [];
 }
 
--- the longest prefix that precedes KEY in the key's name is also a prefix of the packet's name
+-- the longest prefix in the key's name that KEY and one to three more components follow is also a
+-- prefix of the packet's name
 pub record IsHierarchical (key packet : List Field) : Type 0 where
   pub prefix : List Field
   pub is_key : IsKeyOf prefix key
@@ -66,7 +67,8 @@ AreMade hyper key packet =
     (a b : List Field) × Makes hyper.key_pattern hyper.key_template key a
     × Makes hyper.packet_pattern hyper.packet_template packet b
 
--- the requirement expands both templates
+-- the requirement is a hyper-relation, and both of its templates expand to names that are not too
+-- long
 abbrev pub MakesBoth : LocatorTest → List Field → List Field → Type 0
 MakesBoth (tests.Name test) key packet = ⊥
 MakesBoth (tests.Hyper hyper) key packet = AreMade hyper key packet

@@ -136,8 +136,8 @@ TakesAsymmetric keys = HasValue (codes "sig-type") keys (codes "rsa-sha256")
     ⊎ HasValue (codes "sig-type") keys (codes "ecdsa-sha256")
 
 -- A checker of `type customized`. Its key locator states the requirement on the key's name. A
--- digest has no key, so a checker of digests needs no key locator. If it has a key locator, it
--- ignores it.
+-- digest has no key, so a checker of digests needs no key locator, and ignores a key locator that
+-- it has.
 abbrev pub AsksAsTold : List Block → Checker → Type 0
 AsksAsTold keys (checkers.HmacSha256 test) =
     TakesHmac keys × HasBlock IsLocator (codes "key-locator") keys test

@@ -24,7 +24,7 @@ abbrev pub tests_key : Tested → Bool
 tests_key PacketName = false
 tests_key KeyName = true
 
--- the form that the key belongs to
+-- the form that the key belongs to, if it belongs to one
 unfoldable pub form_of : Tested → Block → Option Form
 form_of tested key =
     if is_word (codes "name") key || is_word (codes "relation") key then Some forms.Related else (
@@ -42,7 +42,7 @@ is_form forms.Matching forms.Hyper = false
 is_form forms.Hyper forms.Related = false
 is_form forms.Hyper forms.Matching = false
 
--- `form` differs from `other`
+-- `form` differs from `other`, or there is no `other`
 abbrev pub is_other : Option Form → Form → Bool
 is_other None form = true
 is_other (Some other) form = not (is_form other form)
@@ -57,7 +57,8 @@ other_form_of tested other key =
 abbrev pub first_other : Tested → Option Form → List Block → Option (Form × ℕ)
 first_other tested other keys = first_of (filter_map (other_form_of tested other) keys)
 
--- a `name` needs a `relation`, and a `relation` needs a `name`
+-- a `name` needs a `relation`, and a `relation` needs a `name`: if one of these two keys is absent,
+-- the form `Related` has the fault `Missing`
 abbrev pub half_fault : ℕ → List Block → Form → Option RulesFault
 half_fault line keys forms.Related =
     missing_unless (is_there (codes "name") keys && is_there (codes "relation") keys) line

@@ -34,7 +34,7 @@ unfoldable pub repeated_faults : Block → List Block → List RulesFault
 repeated_faults key later =
     on_option (λ id. flat_map (same_id_faults id) later) [] (id_key key >>= value_of)
 
--- a fault for each rule whose id an earlier rule has too
+-- for each two rules with the same id, the fault of the later rule
 unfoldable pub id_faults : List Block → List RulesFault
 id_faults [] = []
 id_faults (key ∷ keys) = repeated_faults key keys ++ id_faults keys
@@ -45,7 +45,7 @@ shared_faults keys = if nat_lt 256 (length (named (codes "rule") keys)) then [] 
 
 -- ---- the file
 
--- the rules of the keys, one for each `rule`
+-- the rules of the keys, one for each `rule`, or the fault that is reported
 unfoldable pub rules_of_keys : List Block → Found (List PlainRule)
 rules_of_keys keys = beside (after None (walk_faults File keys ++ shared_faults keys))
     (beside (result_err (each anchor_in (named (codes "trust-anchor") keys)))

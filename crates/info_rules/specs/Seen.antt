@@ -48,7 +48,8 @@ pub record PlainSigned : Type 0 where
   pub signature : PlainSignature
   pub covered : List ℕ
 
--- the packet is signed and has a valid shape, and `signed` is what the checkers see of it
+-- the packet is signed, its signature covers octets, and, if the packet is an Interest, it has a
+-- SignatureTime; `signed` is what the checkers see of the packet
 pub record IsSigned (packet : SeenPacket) (signed : PlainSigned) : Type 0 where
   pub first : List ℕ
   pub second : List ℕ

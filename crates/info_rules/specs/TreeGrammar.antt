@@ -31,13 +31,13 @@ tokens_of (Leaf head others) = head_tokens head ++ tokens_of others
 tokens_of (Branch head opened block closed others) =
     head_tokens head ++ (opened, Open) ∷ (tokens_of block ++ (closed, Close) ∷ tokens_of others)
 
--- the first of the entries is not on this line
+-- there are no entries, or the first of the entries is not on this line
 abbrev pub BeginsOff : ℕ → Nodes → Type 0
 BeginsOff line NoNode = ⊤
 BeginsOff line (Leaf head others) = head.line ≢ line
 BeginsOff line (Branch head opened block closed others) = head.line ≢ line
 
--- each entry ends with its line: the next entry of its block is on another line
+-- an entry ends with its line: the next entry of the same block is on another line
 unfoldable pub IsApart : Nodes → Type 0
 IsApart NoNode = ⊤
 IsApart (Leaf head others) = BeginsOff head.line others × IsApart others

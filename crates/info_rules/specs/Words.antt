@@ -87,7 +87,7 @@ quoted_len escaped (o ∷ text) =
     else (if is_closing escaped o then Some 0
     else option_map (λ len. len + 1) (quoted_len (o == 92) text))
 
--- the text from the end of its first line to the end of the text
+-- the text from its first LF on, or the empty text if it has no LF
 unfoldable pub from_line_end : List ℕ → List ℕ
 from_line_end [] = []
 from_line_end (o ∷ text) = if o == 10 then o ∷ text else from_line_end text

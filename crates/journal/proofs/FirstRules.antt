@@ -1,4 +1,5 @@
--- A run that begins with new rules and keys does not depend on the rules and keys before them.
+-- If the first event of a run brings new rules and keys, then the policy after the run does not
+-- depend on the rules and keys before this event.
 use Rattle.std.proofs.Common.{◌≡◌, ℕ, List, [], ◌∷◌, ◌++◌, refl, sym, ap, subst}
 use Rattle.hmac_keys.specs.KeyFile.{NamedKey}
 use Rattle.info_rules.specs.Rule.{PlainRule}

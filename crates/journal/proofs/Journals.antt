@@ -57,8 +57,8 @@ one_journal first (Then before event answer) a b apart h k =
 
 -- ---- the journal's events lead to the policy of the run
 
--- the run `again` of the journal's events leads to a policy that is the same as `p` from the time
--- of `p` on, and `again` has the same journal
+-- the run `again` leads to a policy that is the same as `p` from the time of `p` on, the journal
+-- of `again` is `journal`, and no book of keys in `again` has two keys of the same name
 pub record Keeps (first p : Policy) (again : Run) (journal : List PlainEvent) : Type 0 where
   pub left : Policy
   pub is_policy : IsPolicyOf first again left

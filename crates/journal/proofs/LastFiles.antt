@@ -27,27 +27,27 @@ files_once line a b h k =
     let files = cut_once 32 h.0 a k.0 b h.1 k.1 rest.back in
     files.back
 
--- a line without spaces has no new rules
+-- a line without spaces is not a line of new rules
 pub no_kind : (line : List ℕ) → Lacks 32 line → (files : List ℕ) → IsRulesLine line files → ⊥
 no_kind line lacks files h = Lacks-no_cut 32 (codes "rules") _ (subst (Lacks 32) h.2 lacks)
 
--- a line that begins with another word has no new rules
+-- a line whose first word is not `rules` is not a line of new rules
 pub other_kind : (line kind rest : List ℕ) → line ≡ kind ++ (32 ∷ rest) → Lacks 32 kind → (kind ≡ codes "rules" → ⊥) → (files : List ℕ) → IsRulesLine line files → ⊥
 other_kind line kind rest e lacks other files h =
     let same = cut_once 32 kind rest (codes "rules") _ lacks kind_lacks (sym e ∙ h.2) in
     other same.front
 
--- a line with only one space has no new rules
+-- a line whose first word is `rules`, and which has only one space, is not a line of new rules
 pub no_files : (line rest : List ℕ) → line ≡ codes "rules" ++ (32 ∷ rest) → Lacks 32 rest → (files : List ℕ) → IsRulesLine line files → ⊥
 no_files line rest e lacks files h =
     let same = cut_once 32 (codes "rules") rest (codes "rules") _ kind_lacks kind_lacks (sym e ∙ h.2) in
     Lacks-no_cut 32 h.0 files (subst (Lacks 32) same.back lacks)
 
--- if a comparison found a difference between two words, the words are not equal
+-- if the octet-by-octet comparison found a difference between two words, the words are not equal
 pub differ : (kind word : List ℕ) (found : Bool) → found ≡ not (pointwise eqb kind word) → found ≡ true → kind ≡ word → ⊥
 differ kind word found compared is e = let same = (slice_eq-Decides Decides-eqb kind word (pointwise eqb kind word) refl).1 e in cc (compared, is, same)
 
--- if a comparison found no difference between two words, the words are equal
+-- if the octet-by-octet comparison found no difference between two words, the words are equal
 pub same_kind : (kind word : List ℕ) (found : Bool) → found ≡ not (pointwise eqb kind word) → found ≡ false → kind ≡ word
 same_kind kind word found compared is = (slice_eq-Decides Decides-eqb kind word (pointwise eqb kind word) refl).0 (not_false (pointwise eqb kind word) (sym compared ∙ is))
   where
@@ -96,7 +96,8 @@ no_files_or_last text files h k =
 
 -- ---- the loop
 
--- The lines that were read so far. `last` are the files of the last line of new rules among them.
+-- The lines that were read so far. `last` is the text of the files in the last line of new rules
+-- among these lines, or None if there is no such line.
 pub record ReadSoFar {A : Type 0} (items : A → List ℕ) (unread left : Option (List ℕ)) (last : Option A) : Type 0 where
   pub lines : List (List ℕ)
   pub are_lines : AreLines lines
@@ -136,7 +137,7 @@ read_all items (Some text) between left cut (Some files) h is rest lacks =
 
 -- ---- a comparison
 
--- if no line of new rules was found, no files are the last files of the text
+-- if no line of new rules was found, then `files` are not the last files of the text
 pub are_none : {A : Type 0} (items : A → List ℕ) (unread : Option (List ℕ)) (last : Option A) (files : List ℕ) → last ≡ None
     → IfSome unread (λ text. MatchOption last (HasNoFiles text) (λ found. HasLastFiles text (items found)))
     → IfSome unread (λ text. IsTrue false ↔ HasLastFiles text files)
@@ -144,7 +145,8 @@ are_none items None last files none h = tt
 are_none items (Some text) None files none h = (λ no. absurd cc, λ is. absurd (no_files_or_last text files h is))
 are_none items (Some text) (Some found) files none h = absurd cc
 
--- the last files are the given ones exactly if a comparison of their texts finds no difference
+-- if a line of new rules was found, then `files` are the last files of the text exactly if the
+-- comparison of the found files with `spelled` finds no difference
 pub are_last : {A : Type 0} (items : A → List ℕ) (unread : Option (List ℕ)) (last : Option A) (found : A) (spelled files : List ℕ) (same : Bool) → last ≡ Some found
     → same ≡ pointwise eqb (items found) spelled → spelled ≡ files
     → IfSome unread (λ text. MatchOption last (HasNoFiles text) (λ found. HasLastFiles text (items found)))

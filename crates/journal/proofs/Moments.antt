@@ -7,7 +7,8 @@ use Rattle.forwarder.specs.Policy.{Policy, at_moment}
 use Rattle.forwarder.proofs.LaterMoments.{moments_in_a_row}
 use Rattle.journal.specs.Journal.{AreOneFrom}
 
--- the policy with another time
+-- the policy at the time `now`: without the routes and wants that expire by `now`, and with the
+-- version that the lists then have
 abbrev with_time : Policy → ℕ → Policy
 with_time p now = record p {
   now = now;
@@ -21,7 +22,8 @@ at_greatest p m =
     let same : max p.now (max p.now m) ≡ max p.now m = omega arith in
     ap (with_time p) same
 
--- if two policies are the same from a time on, this remains true after one of them is advanced
+-- if two policies are the same from a time on, and one of them is advanced to a later time, then
+-- they are the same from that later time on
 pub one_later : (was q : Policy) (m : ℕ) → AreOneFrom was.now q was → AreOneFrom (max was.now m) q (at_moment was m)
 one_later was q m one n le =
     let after : was.now ≤ n = omega arith in

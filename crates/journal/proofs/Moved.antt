@@ -68,8 +68,9 @@ module _ (p : Policy) (now : ℕ) where
   moved_choice event chosen None h = h ∙ same_choice event
   moved_choice event chosen (Some packet) h = h
 
--- if two policies become the same at this time, the event has the same effect on both, and it is
--- journalled for both or for neither
+-- Let the policy `q`, advanced to the time `now`, equal the policy `was`, advanced to the event's
+-- moment. Then the event, moved to `now`, has the effect on `q` that the event has on `was`, and
+-- it is journalled for `q` exactly if the event is journalled for `was`.
 module _ (was q : Policy) (now : ℕ) (event : PlainEvent) (met : at_moment q now ≡ at_moment was (moment event)) where
   comes : at_moment was (moment event) ≡ at_moment q (moment (with_moment now event))
   comes = sym met ∙ ap (at_moment q) (sym (moved_moment now event))

@@ -55,7 +55,7 @@ plays_then a b es fs old mid new h k =
     (subst (λ (o : List Outcome). AreOutcomes old (es ++ fs) o new) (sym (map-append Answered h.answers k.answers))
     (AreOutcomes-append old mid new es fs (map Answered h.answers) (map Answered k.answers) h.handled k.handled))
 
--- a line that was handled is not too long
+-- a line that spells an event, or is skipped, is not too long
 short_line : (line : List ℕ) (events : List PlainEvent) → SpellEvents (line ∷ []) events → IsShort line
 short_line line [] h = h.0.0
 short_line line (event ∷ events) (inl h) = h.0.0
@@ -139,7 +139,7 @@ pub none_lacks : (octets : List ℕ) → length octets ≡ 0 → Lacks 10 octets
 none_lacks [] none = tt
 none_lacks (o ∷ octets) none = absurd (omega (arith, none))
 
--- if the event of a line was answered, the line was handled, and it has an event
+-- if the event of a line was answered, the line was handled, and the line has an event
 pub plays_step : (line : List ℕ) (event : PlainEvent) (verdict : Verdict) (held out : List Send) (old new : NodeState) → Lacks 10 line → IsEventLine event line → IsEvent event
     → (sends : List Send) × (out ≡ held ++ sends) × IsStep old event (record { verdict = verdict_of verdict; sends = sends }) new → PlaysLine line old new true
 plays_step line event verdict held out old new lacks is is_event h =
@@ -211,7 +211,8 @@ part_apart first part Start begins apart = subst (KeysAreApart first) (sym begin
 part_apart first part (Then before event answer) (inl same) apart = subst (KeysAreApart first) (sym same) apart
 part_apart first part (Then before event answer) (inr begins) apart = part_apart first part before begins apart.0
 
--- the whole lines of a text are the text of their events
+-- if `left` is the text of `events` with an unfinished line after it, then the whole lines of
+-- `left` are the text of `events`
 whole_text : (events : List PlainEvent) (lines : List (List ℕ)) (left cut : List ℕ) → AreLines lines → Lacks 10 cut → left ≡ joined lines ++ cut → IsCutTextOf events left
     → IsTextOf events (take (length (joined lines)) left)
 whole_text events lines left cut are lacks had h =

@@ -44,7 +44,8 @@ texts_join (event ∷ journal) added text more h k =
 
 -- ---- a prefix of a text
 
--- a prefix ends within the first line or after it
+-- the prefix `left` of a text has the whole first line, and `more` after it; `lost` are the octets
+-- of the text after `left`
 pub record HoldsLine (line rest left lost : List ℕ) : Type 0 where
   pub more : List ℕ
   pub front : left ≡ line ++ (10 ∷ more)
@@ -64,7 +65,7 @@ front_of (x ∷ line) rest (o ∷ left) lost lacks e =
       | (inr g) ↦ inr (record { more = g.more; front = (let f = g.front in cc (first, f)); back = g.back })
     ]
 
--- the events in the whole lines of a prefix
+-- `left` is the text of the first events of the journal, with an unfinished line after it
 pub record LeftOf (journal : List PlainEvent) (left : List ℕ) : Type 0 where
   pub events : List PlainEvent
   pub others : List PlainEvent

@@ -20,7 +20,8 @@ pub record Steps (old : NodeState) (event : PlainEvent) (wanted : Bool) (verdict
       (with_moment (max old.policy.now (moment event)) event) [])
       added
 
--- the event of the entry is journalled
+-- whether the event of the entry is journalled, given whether it brings a wanted Data, and its
+-- verdict
 abbrev pub is_journalled_entry : Entry → Bool → Verdict → Bool
 is_journalled_entry e wanted verdict = is_journalled_where (is_change_entry e) wanted verdict
 

@@ -15,22 +15,23 @@ use Rattle.forwarder.specs.Runs.{Run, Start, Then, IsPolicyOf}
 
 -- ---- the journalled events
 
--- An allowed command is journalled, whatever its status. An allowed Data is journalled if the
--- repository wants it.
+-- Whether an allowed packet is journalled. A command is journalled, whatever its status. A Data is
+-- journalled if the repository wants it.
 abbrev pub is_journalled_packet : Policy → PlainFrame → Bool
 is_journalled_packet p (AnInterest whole i) = true
 is_journalled_packet p (AData whole d) = is_wanted d.name (sha256 whole) p.held.wants
 is_journalled_packet p (ANack reason whole i) = false
 is_journalled_packet p Idle = false
 
--- Packets that are not allowed are not journalled.
+-- Whether a packet is journalled, given the decision on the packet. A packet that is not allowed
+-- is not journalled.
 abbrev pub is_journalled_as : Policy → PlainFrame → Decision → Bool
 is_journalled_as p packet (Allowed rule) = is_journalled_packet p packet
 is_journalled_as p packet (Denied rule reason) = false
 is_journalled_as p packet NoRule = false
 
--- These events without a packet to decide are journalled: a face that opens, an open face that
--- closes, and new rules.
+-- Whether an event without a packet to decide is journalled. These events are: a face that can
+-- open, an open face that closes, and new rules.
 abbrev pub is_journalled_undecided : Policy → PlainEvent → Bool
 is_journalled_undecided p (Packet face now octets) = false
 is_journalled_undecided p (FaceUp face scope now) = can_open p face
@@ -68,8 +69,8 @@ abbrev pub with_event : Bool → PlainEvent → List PlainEvent → List PlainEv
 with_event true event journal = journal ++ (event ∷ [])
 with_event false event journal = journal
 
--- The journal after an event, where `was` is the policy before it. The event is stored with the
--- latest time so far: a clock may be set back, but the times of a journal never decrease.
+-- The journal after an event, where `was` is the policy before the event. The event is stored with
+-- the latest time so far: a clock may be set back, but the times of a journal never decrease.
 abbrev pub IsJournalAfter : Policy → PlainEvent → List PlainEvent → List PlainEvent → Type 0
 IsJournalAfter was event old new =
     (chosen : Bool) × IsJournalled was event chosen
@@ -101,9 +102,9 @@ IsBeginningOf part Start = part ≡ Start
 IsBeginningOf part (Then before event answer) =
     (part ≡ Then before event answer) ⊎ IsBeginningOf part before
 
--- The events `left` are the journal of a prefix of the run, called `part`. Each shorter prefix of
--- the run whose whole journal is left is a prefix of `part`. Replaying `left` from the first policy
--- leads to the policy of `part`.
+-- The events `left` are the journal of a prefix of the run, called `part`. If `left` begins with
+-- the whole journal of another prefix of the run, then that prefix is a prefix of `part`.
+-- Replaying `left` from the first policy leads to the policy of `part`.
 pub record KeepsBeginning (first : Policy) (past : Run) (left : List PlainEvent) : Type 0 where
   pub part : Run
   pub policy : Policy

@@ -4,7 +4,7 @@ use Rattle.std.specs.Prelude.{Bool, true, false}
 use Rattle.forwarder.specs.Event.{PlainEvent, Packet, FaceUp, FaceDown, Tick, NewRules}
 use Rattle.forwarder.specs.Verdict.{Verdict, Passed, Allowed, DataAllowed, Denied, NoRule, Dropped}
 
--- the event changes faces or rules, so it is journalled if it passed
+-- whether the event may change faces or rules; such an event is journalled if it is passed
 abbrev pub is_change : PlainEvent → Bool
 is_change (Packet face now octets) = false
 is_change (FaceUp face scope now) = true

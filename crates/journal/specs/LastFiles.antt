@@ -5,8 +5,8 @@ use Rattle.node_core.specs.Script.{AreLines, joined}
 use Rattle.node_core.specs.Script.Line.{Lacks}
 use Rattle.node_core.specs.Script.Writing.{hex_word}
 
--- The line has new rules. `files` is the text after its time: the octets of the rule file and of
--- the key file in hexadecimal.
+-- The line has new rules. `files` is the text after the line's time: the octets of the rule file
+-- and of the key file in hexadecimal.
 abbrev pub IsRulesLine : List ℕ → List ℕ → Type 0
 IsRulesLine line files =
     (time : List ℕ) × Lacks 32 time × (line ≡ codes "rules" ++ (32 ∷ (time ++ (32 ∷ files))))
@@ -15,7 +15,7 @@ IsRulesLine line files =
 abbrev pub HaveNoRules : List (List ℕ) → Type 0
 HaveNoRules lines = AllByRecursion (λ line. (files : List ℕ) → IsRulesLine line files → ⊥) lines
 
--- `files` is the text after the time of the last line with new rules
+-- the last line with new rules has the text `files` after its time
 abbrev pub HaveLastRules : List (List ℕ) → List ℕ → Type 0
 HaveLastRules [] files = ⊥
 HaveLastRules (line ∷ lines) files =

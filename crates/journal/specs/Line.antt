@@ -46,7 +46,7 @@ entry_text now (entry.NewRules rules keys) =
     codes "rules " ++ (decimal now ++ (codes " " ++ (hex_word rules.now ++ (codes " "
     ++ (hex_word keys.now ++ codes "\n")))))
 
--- the event of the entry changes faces or rules
+-- whether the event of the entry may change faces or rules
 abbrev pub is_change_entry : Entry → Bool
 is_change_entry (entry.Packet face octets) = false
 is_change_entry (entry.FaceUp face scope) = true

@@ -41,9 +41,9 @@ pub record Replays (old new : NodeState) (unread left : Option (List ℕ))
   pub whole_is : done.whole ≡ length (joined lines)
   pub cut_is : done.cut ≡ length cut
 
--- The events of the earlier lines were answered. Then a line, counted from 1, was bad; or the
--- reader failed; or memory ran out for a line or for the step of its event. Such a step may have
--- dropped Data from the cache.
+-- The events of the earlier lines were answered. Then line `n`, counted from 1, was bad; or the
+-- reader failed; or memory ran out for a line or for the step of its event. A step that runs out
+-- of memory may drop or reorder cached Data.
 abbrev pub StopsReplay : NodeState → NodeState → Option (List ℕ) → Option (List ℕ) → ReplayFault
     → Type 0
 StopsReplay old new unread left (fault.BadLine n) =
@@ -58,11 +58,11 @@ StopsReplay old new unread left fault.Memory =
     × Plays lines events old last × ChangesCacheOnly last new
     × Consumes unread left (joined lines ++ rest)
 
--- What a replay restores, if a crash left these octets of the text of a run's journal: the policy
--- of a prefix of the run. That prefix includes each shorter prefix whose whole text is left. From
--- the prefix's last time on, the node has the policy of the prefix. The node agrees with a run
--- whose journal's text is the whole lines, so lines that are appended after them continue that
--- journal.
+-- What a replay restores, if a crash left the octets `left` of the text of a run's journal. The
+-- whole lines of `left` are the journal of a prefix of the run, as `Survives` states. From the
+-- last time of this prefix on, the node has the policy of the prefix. The node agrees with a run
+-- whose journal's text is exactly these lines, so lines that are appended after them continue
+-- that journal.
 pub record Restores (first : Policy) (past : Run) (left : List ℕ) (done : Replayed)
     (new : NodeState) : Type 0 where
   pub survives : Survives first past left
@@ -74,8 +74,9 @@ pub record Restores (first : Policy) (past : Run) (left : List ℕ) (done : Repl
   pub is_journal : IsJournalOf first again survives.events
   pub is_text : IsTextOf survives.events (take done.whole left)
 
--- `Restores` holds for each run, if the node that replays the journal has the run's first policy
--- and has not handled any event.
+-- `Restores` holds for each run whose journal's text begins with `left`, under two conditions: no
+-- book of keys in the run has two keys of the same name, and the old node has the run's first
+-- policy and has not handled any event.
 abbrev pub RestoresRuns : NodeState → NodeState → List ℕ → Replayed → Type 0
 RestoresRuns old new left done =
     (first p : Policy) (past : Run) (journal : List PlainEvent) (text lost : List ℕ)
@@ -90,14 +91,14 @@ abbrev pub PlaysLine : List ℕ → NodeState → NodeState → Bool → Type 0
 PlaysLine line old new true = (event : PlainEvent) × Plays (line ∷ []) (event ∷ []) old new
 PlaysLine line old new false = Plays (line ∷ []) [] old new
 
--- why a line was not handled
+-- why a line was not handled, and what changed
 abbrev pub StopsLine : List ℕ → ℕ → NodeState → NodeState → ReplayFault → Type 0
 StopsLine line number old new (fault.BadLine n) =
     IsBadLine line × (n ≡ number) × (new ≡ old)
 StopsLine line number old new fault.Read = ⊥
 StopsLine line number old new fault.Memory = ChangesCacheOnly old new
 
--- the fault of a read
+-- the fault that a read may have: the reader failed, or memory ran out
 abbrev pub IsReadFault : ReplayFault → Type 0
 IsReadFault (fault.BadLine n) = ⊥
 IsReadFault fault.Read = ⊤

@@ -21,8 +21,9 @@ IsCutTextOf events text =
     (whole cut : List ℕ) × (text ≡ whole ++ cut) × IsTextOf events whole × Lacks 10 cut
 
 -- The octets that are left of the text of a run's journal are whole lines and then octets without
--- an LF. The events of these lines are the journal of a prefix of the run. That prefix includes
--- each shorter prefix whose whole text is left.
+-- an LF. The events of these lines are the journal of a prefix of the run, called `part`. If
+-- `left` begins with the whole text of the journal of another prefix of the run, then that prefix
+-- is a prefix of `part`.
 pub record Survives (first : Policy) (past : Run) (left : List ℕ) : Type 0 where
   pub events : List PlainEvent
   pub are_lines : IsCutTextOf events left

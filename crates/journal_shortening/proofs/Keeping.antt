@@ -5,14 +5,15 @@ use Rattle.std.proofs.lemmas.List.{append-nil}
 use Rattle.node_core.specs.Script.Line.{Lacks}
 use Rattle.journal_shortening.specs.Needed.{KeepsLines, kept_line}
 
--- The loop invariant: if the remaining flags keep some lines of the remaining text `rest`, then all
--- flags keep of the whole journal the lines that were appended so far, followed by those lines.
+-- The loop invariant. If the flags from index `i` on keep the lines `more` of the remaining text
+-- `rest`, then all flags keep some lines of the journal, and `text` followed by `more` is `old`
+-- followed by these lines.
 abbrev pub SoFar : List Bool → List ℕ → List ℕ → ℕ → List ℕ → List ℕ → Type 0
 SoFar flags journal old i rest text =
     (more : List ℕ) → KeepsLines (drop i flags) rest more
     → (lines : List ℕ) × KeepsLines flags journal lines × (text ++ more ≡ old ++ lines)
 
--- all lines that the flags keep were appended to `old`, which gave `text`
+-- `text` is `old` followed by all lines of the journal that the flags keep
 abbrev pub Done : List Bool → List ℕ → List ℕ → List ℕ → Type 0
 Done flags journal old text =
     (lines : List ℕ) × KeepsLines flags journal lines × (text ≡ old ++ lines)

@@ -15,15 +15,14 @@ pub record AreEmptyParts (repo : List Field) (parts : NodeParts) : Type 0 where
   pub no_keys : parts.keys ≡ []
   pub has_prefix : parts.repo ≡ repo
 
--- an empty node: it has such parts, and has not handled any event
+-- an empty node: its parts satisfy `AreEmptyParts`, and it has not handled any event
 abbrev pub IsEmptyNode : List Field → NodeState → Type 0
 IsEmptyNode repo node =
     (parts : NodeParts) × AreEmptyParts repo parts
     × (node ≡ first_node parts.rules parts.keys parts.repo parts.cache)
 
--- On some empty node whose repository has the prefix `repo`, the journal `other` restores the same
--- tables as the journal `text` restores on a node that is `first` before the replay and `last`
--- after it.
+-- Replaying the journal `text` leads from the node `first` to the node `last`. On some empty node
+-- whose repository has the prefix `repo`, the journal `other` restores the tables of `last`.
 pub record AgreesWithEmptyNode (repo : List Field) (text : List ℕ) (first last : NodeState)
     (other : List ℕ) : Type 0 where
   pub other_first : NodeState

@@ -63,8 +63,8 @@ no_longer (x ∷ xs) (y ∷ ys) rx ry h =
           omega (arith, le)
     ]
 
--- if each face that has a next hop or a route is up, a face that is up does not exceed the table's
--- limit of faces
+-- if at most 64 faces are up, and each face that has a next hop or a route is up, then the table
+-- has room for each face that is up
 pub has_room : (routes : Routes) (face : ℕ) (up : List ℕ) → length up ≤ 64 → IsRising up → has_face face up ≡ true → AllAreUp routes up → HasRoomFor routes face
 has_room routes face up small rising there all faces rises each =
     let le = no_longer faces up rises rising (are_in faces each) in

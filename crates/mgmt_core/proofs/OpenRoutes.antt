@@ -48,7 +48,8 @@ entry_up routes up all n = λ face leads. all face (n, leads)
 entries_up : (routes : Routes) (up : List ℕ) → ((n : List Field) → AreUp (entry_at routes n) up) → AllAreUp routes up
 entries_up routes up each = λ face w. each w.0 face w.1
 
--- the presence of a value after an insertion or a removal
+-- The lemmas of this module: what follows if a map has a value under a key after an insertion or a
+-- removal.
 module _ {X A : Type 0} where
   none_there : (o : Option X) → o ≡ None → IsSome o → A
   none_there o e some = absurd cc
@@ -181,7 +182,8 @@ module _ (up : List ℕ) where
 
 -- ---- closings and expiry
 
--- a change that is applied to each entry
+-- In this module, `change` is applied to each entry; if all faces of an entry are in `up`, all
+-- faces of the changed entry are in `rest`.
 module _ (up rest : List ℕ) (change : Entry → Option Entry) (each : (e : Entry) → AreUp e up → AreUpIn (change e) rest) where
   entry_changed : (o : Option Entry) → AreUpIn o up → AreUpIn (option_and_then change o) rest
   entry_changed None all = no_entry_up rest

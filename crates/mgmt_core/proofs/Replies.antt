@@ -42,11 +42,12 @@ number_fits true asked face = by_face (nat_eq asked 0)
     by_face true = omega (arith, face_fits face, length-append (element (105, shortest_nni face)) [], length-append (element (105, shortest_nni greatest)) [])
     by_face false = omega arith
 
--- the fields that do not depend on the face
+-- the fields of a reply after Name and FaceId, which do not depend on the face
 abbrev other_fields : PlainCommand → List Field
 other_fields c = number ORIGIN (given c ORIGIN (Some c.origin)) ++ given_fields c
 
--- the fields of a reply are its first fields and its other fields
+-- the octets of a reply's fields are the octets of `about_fields`, followed by the octets of
+-- `given_fields`
 pub in_two_parts : (c : PlainCommand) (face : ℕ) → octets (reply_fields c face) ≡ octets (about_fields c face) ++ octets (given_fields c)
 in_two_parts c face =
     let name : List Field = (NAME, octets_of c.name) ∷ [] in

@@ -1,4 +1,4 @@
--- One segment of a text, kept while the text is written.
+-- One segment of a text, the only part that is stored while the text is written.
 use Rattle.std.proofs.Common.{◌≡◌, ℕ, zero, suc, ◌+◌, ◌-◌, ◌≤◌, List, [], ◌∷◌, ◌++◌, length, take, drop, length-append, refl, sym, ap, ◌∙◌, append_assoc, append-nil, arith, inl, inr}
 use Rattle.std.proofs.Math.Seq.{take-append-add}
 use Rattle.std.proofs.lemmas.Bool.{cases_lt}
@@ -26,7 +26,7 @@ take_begun zero xs ys = refl
 take_begun (suc n) [] ys = refl
 take_begun (suc n) (x ∷ xs) ys = ap (λ l. x ∷ l) (take_begun n xs ys)
 
--- the segment of an empty text is empty
+-- the state after an empty text has no octets and an empty segment
 pub nothing_kept : (from : ℕ) → ◌≡◌ {A = Kept} (record { from = from; len = 0; segment = [] }) (kept_of from [])
 nothing_kept from = λ i. record { from = from; len = 0; segment = ap (take 4096) (sym (drop_past from [] (omega arith))) i }
 

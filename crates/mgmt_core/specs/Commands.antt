@@ -1,5 +1,6 @@
 -- The commands, one row for each (NFD Management, "FIB Management", "RIB Management", "Strategy
--- Choice Management", "Content Store Management"). The statuses and their texts are defined here.
+-- Choice Management", "Content Store Management"). This file also defines the texts of the
+-- statuses; `src/types.rt` defines their numbers.
 use Rattle.std.specs.Prelude.{ℕ, List, [], ◌∷◌, Bool, true, false, ◌==◌, ◌&&◌, ◌||◌, Option, codes, find, bytes_eq}
 use Rattle.std.specs.Option.{option_map}
 use Rattle.std.specs.List.{list_any}
@@ -19,7 +20,7 @@ pub data Refusal : Type 0 where
 pub record Row : Type 0 where
   pub part : List ℕ
   pub verb : List ℕ
-  -- the types of the required fields and of the optional fields
+  -- the types of the required fields (`needs`) and of the optional fields (`uses`)
   pub needs : List ℕ
   pub uses : List ℕ
   -- whether the name may be `/`
@@ -106,7 +107,7 @@ parameter_fields =
 abbrev pub has : ℕ → List ℕ → Bool
 has kind kinds = list_any (λ k. kind == k) kinds
 
--- the command needs or uses fields of this type
+-- whether the command has a required or optional field of this type
 abbrev pub takes : ℕ → Row → Bool
 takes kind row = has kind row.needs || has kind row.uses
 

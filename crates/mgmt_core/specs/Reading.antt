@@ -47,7 +47,8 @@ asked c = record {
 
 -- ---- fields
 
--- the element can be read and, if it is a command parameter field, the command takes it
+-- whether the element can be read and, if it is a field of `parameter_fields`, is a field that the
+-- command takes
 abbrev pub fits : Row → Result Field TlvFault → Bool
 fits row (Ok e) = not (has e.0 parameter_fields && not (takes e.0 row))
 fits row (Err fault) = false
@@ -55,7 +56,8 @@ fits row (Err fault) = false
 abbrev pub number_of : List ℕ → Option ℕ
 number_of value = on_result (λ n. Some n) (λ _. None) (nni_at value)
 
--- the value of an optional field; the result is None if the field cannot be decoded
+-- the value of an optional field: Some None if the field is absent, and None if it cannot be
+-- decoded
 abbrev pub optional_of : {X : Type 0} → (List ℕ → Option X) → Option (List ℕ) → Option (Option X)
 optional_of form None = Some None
 optional_of form (Some value) = option_map (λ x. Some x) (form value)
@@ -66,7 +68,8 @@ number_in kind es = optional_of number_of (first_of kind es)
 abbrev pub name_in : Elements → Option (List Field)
 name_in es = first_of NAME es >>= name_of
 
--- a Strategy field contains one Name
+-- the name in the Strategy field: Some None if the field is absent, and None if it does not contain
+-- exactly one Name that can be decoded
 abbrev pub strategy_in : Elements → Option (Option (List Field))
 strategy_in es =
     optional_of (λ value. single NAME (elements_of value) >>= name_of) (first_of STRATEGY es)
@@ -107,7 +110,7 @@ command_of action es =
         count = count;
       }))
 
--- the last component has type `kind`
+-- whether there is a component, and its type is `kind`
 abbrev pub last_is : ℕ → Option Field → Bool
 last_is kind None = false
 last_is kind (Some c) = c.0 == kind
@@ -117,7 +120,7 @@ without_last kind cs =
     let front = length cs - 1 in
     if last_is kind (slice_get cs front) then take front cs else cs
 
--- the value of a GenericNameComponent
+-- the value of the component if it is a GenericNameComponent, otherwise None
 abbrev pub generic_value : Option Field → Option (List ℕ)
 generic_value None = None
 generic_value (Some c) = if c.0 == GENERIC then Some c.1 else None

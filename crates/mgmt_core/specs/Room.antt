@@ -14,7 +14,7 @@ HasRoomForReply room c =
     → (length (octets (reply_fields c face)) ≤ vec_capacity room.fields)
     × (length (reply_body c face) ≤ vec_capacity room.body)
 
--- the table that the command may enlarge is prepared for the command's name
+-- the table that the command may enlarge, if there is one, is prepared for the command's name
 abbrev pub IsCallPrepared : Tables → PlainCommand → Type 0
 IsCallPrepared t c =
     elim c.action [
@@ -24,7 +24,8 @@ IsCallPrepared t c =
       | _ ↦ Unit {0}
     ]
 
--- the command is prepared; removals from the tables keep it prepared
+-- there is memory for the reply to the command, and the table that the command may enlarge is
+-- prepared
 abbrev pub IsPrepared : Tables → PlainCommand → Type 0
 IsPrepared t c = HasRoomForReply t.room c × IsCallPrepared t c
 

@@ -49,7 +49,7 @@ strategy_asked c = c.strategy >>= strategy_named
 
 -- ---- routes
 
--- the face that the command applies to, if it came from this face
+-- the face that the command applies to, if the command came from `face`
 abbrev pub face_of : PlainCommand → ℕ → ℕ
 face_of c face = if c.face == 0 then face else c.face
 
@@ -71,11 +71,12 @@ route_asked c now = record {
 
 -- ---- refusals
 
--- the name is new, and the table has 4,096 names
+-- whether the name is new, and the table already has 4,096 names
 abbrev pub is_full : {X : Type 0} → ByName X → List Field → Bool
 is_full table name = not (map.contains_key table name) && nat_le MAX_ENTRIES (map.len table)
 
--- the name or route is new, and the table that the command enlarges is full
+-- whether the table that the command enlarges has no room: the name is new and the table has 4,096
+-- names, or a `register` is for a new route and the table has 16,384 routes
 abbrev pub is_full_for : PlainCommand → ℕ → Routes → Choices → Bool
 is_full_for c face routes choices =
     elim c.action [

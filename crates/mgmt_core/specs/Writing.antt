@@ -59,7 +59,8 @@ response status text body =
           ++ body,
     )
 
--- the greatest length in octets of a reply's body, and of a whole reply with any status
+-- The next two definitions: limits on the length in octets of a reply's body, and of a whole reply
+-- with any status.
 abbrev pub body_limit : PlainCommand → ℕ
 body_limit c = length (octets_of c.name) + BODY_EXTRA
 
@@ -81,7 +82,8 @@ abbrev pub choice_text : List Field × StrategyId → List ℕ
 choice_text entry =
     element (ENTRY, octets ((NAME, octets_of entry.0) ∷ (STRATEGY, strategy_value entry.1) ∷ []))
 
--- the dataset of routes at `now`, and the dataset of strategies
+-- The next two definitions: the content of the dataset of routes at `now`, and of the dataset of
+-- strategies.
 abbrev pub fib_text : ℕ → Routes → List ℕ
 fib_text now routes = flat_map route_text (listed (left_at now routes))
 
@@ -92,7 +94,8 @@ strategy_text choices = flat_map choice_text (entries choices)
 abbrev pub last_segment : List ℕ → ℕ
 last_segment text = (length text - 1) / SEGMENT_LEN
 
--- the segment with number `k`, and the number of the last segment
+-- the segment with number `k` and the number of the last segment, or None if `k` is greater than
+-- the number of the last segment
 abbrev pub segment_at : List ℕ → ℕ → Option (List ℕ × ℕ)
 segment_at text k =
     if nat_lt (last_segment text) k then None else

@@ -17,7 +17,8 @@ abbrev pub takes : ℕ → ℕ → ℕ → ℕ → Bool
 takes passed after place zero = has_place after place
 takes passed after place (suc k) = has_place passed place && takes passed after (place + 1) k
 
--- `takes` is true of one of the counts from `least` up to, but not including, the last argument
+-- `takes` is true of at least one of the counts from `least` up to, but not including, the last
+-- argument
 abbrev pub takes_some : ℕ → ℕ → ℕ → ℕ → ℕ → Bool
 takes_some passed after place least zero = false
 takes_some passed after place least (suc n) = takes_some passed after place least n || (not (ltb n least) && takes passed after place n)
@@ -37,15 +38,19 @@ and_false : (a : Bool) → a && false ≡ false
 and_false true = refl
 and_false false = refl
 
--- if the count `n` is at least `least`, the positions for `n` are added to those for the lesser
--- counts
+-- Let `begins` be the set of positions at which `takes` is true of the count `n`, and `split` the
+-- set of positions at which `takes_some` is true of `least` and `n`. If `least` is at most `n`,
+-- the union of both sets is the set of positions at which `takes_some` is true of `least` and `n
+-- + 1`.
 pub some_step : (passed after begins split least n : ℕ) → ((p : ℕ) → has_place begins p ≡ takes passed after p n)
     → ((p : ℕ) → has_place split p ≡ takes_some passed after p least n) → least ≤ n
     → (p : ℕ) → has_place (bit_or split begins) p ≡ takes_some passed after p least (n + 1)
 some_step passed after begins split least n are some low p =
     rw (add-one, le-ltb n least low) (in_either split begins p ∙ rw (some p, are p) refl)
 
--- if the count `n` is below `least`, no positions are added for `n`
+-- If `n` is below `least`, and `split` is the set of positions at which `takes_some` is true of
+-- `least` and `n`, then `split` is also the set of positions at which `takes_some` is true of
+-- `least` and `n + 1`.
 pub few_step : (passed after split least n : ℕ) → ((p : ℕ) → has_place split p ≡ takes_some passed after p least n) → n < least
     → (p : ℕ) → has_place split p ≡ takes_some passed after p least (n + 1)
 few_step passed after split least n some few p =
@@ -167,7 +172,8 @@ same_tests true b h k = sym (h refl)
 same_tests false true h k = k refl
 same_tests false false h k = refl
 
--- `takes_some` is true of exactly those positions from which there is a split
+-- `takes_some`, with the bounds of the first atom, is true of exactly those positions from which
+-- the first atom and the later atoms have a split
 pub split_by_counts : (atom : PlainAtom) (atoms : List PlainAtom) (cs : List Field) (bounds : Bounds) (passed after place : ℕ) → bounds ≡ atom.bounds
     → ArePassed atom.test cs passed → AreSplit atoms cs after → length cs ≤ 64 → place ≤ length cs
     → takes_some passed after place bounds.least (at_most bounds.most 64 + 1) ≡ is_some (first_count (atom ∷ atoms) (drop place cs))

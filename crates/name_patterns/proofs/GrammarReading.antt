@@ -39,7 +39,8 @@ atom_found text found e none =
     Some (record { part = record { test = a.0.part; bounds = bounds.0 }; is_inner = a.0.is_inner; rest = bounds.1 })) found a.2 in
     atom_is text a.0 b.0 found b.2 none (λ plain. test_found text a.0 a.1 plain) (repeat_found a.0.rest b.0 b.1)
 
--- an optional repeat at the front of the text is read, if `rest` does not begin with a repeat
+-- if `rest` does not begin with a repeat, `repeat_in` returns the repeat before `rest`, or `once`
+-- if there is no text before `rest`
 repeated_again : (text rest : List ℕ) (bounds : Bounds) → ((text ≡ []) × (bounds ≡ once)) ⊎ IsRepeat text bounds → begins_repeat rest ≡ false
     → repeat_in (text ++ rest) ≡ Some (bounds, rest)
 repeated_again text rest bounds (inl h) free =
@@ -93,7 +94,8 @@ whole_group atoms groups more items after =
     ∙ ap (λ (n : ℕ). groups ++ ((length atoms, n) ∷ groups_from n items)) (length-append atoms more) in
     λ i. record { atoms = all i; groups = places i }
 
--- `text` completes the pattern that begins with these atoms and groups, and no group is open.
+-- `pattern` is `atoms` and `groups`, followed by the atoms and groups that `text` denotes, where no
+-- group is open at the front of `text`. It has at most 32 written atoms and at most 9 groups.
 record IsRest (atoms : List PlainAtom) (written : ℕ) (groups : List (ℕ × ℕ)) (text : List ℕ) (pattern : PlainPattern) : Type 0 where
   middle : List ℕ
   end : List ℕ
@@ -106,7 +108,8 @@ record IsRest (atoms : List PlainAtom) (written : ℕ) (groups : List (ℕ × �
   few_atoms : written + length (flat_map item_atoms items) ≤ 32
   few_groups : length pattern.groups ≤ 9
 
--- `text` completes the pattern inside a group, which begins after `first` atoms
+-- `text` begins inside a group that has `first` atoms before it: the remaining atoms of the group
+-- and its closing parenthesis are followed by text that completes the pattern
 abbrev IsInGroup : ℕ → List PlainAtom → ℕ → List (ℕ × ℕ) → List ℕ → PlainPattern → Type 0
 IsInGroup first atoms written groups text pattern =
     (inner rest : List ℕ) × (more : List PlainAtom) × (text ≡ inner ++ (41 ∷ rest)) × AreAtoms inner more
@@ -116,7 +119,8 @@ abbrev IsLeft : PlainDraft → Option OpenGroup → List ℕ → PlainPattern �
 IsLeft draft None text pattern = IsRest draft.atoms draft.written draft.groups text pattern
 IsLeft draft (Some group) text pattern = IsInGroup group.first draft.atoms draft.written draft.groups text pattern
 
--- an atom, followed by text that completes the pattern after the atom, completes the pattern
+-- if `text` is an atom followed by `rest`, and `rest` completes the pattern after this atom is
+-- added, then `text` completes the pattern
 atom_before : (atoms : List PlainAtom) (written : ℕ) (groups : List (ℕ × ℕ)) (text front rest : List ℕ) (atom : PlainAtom) (pattern : PlainPattern)
     → text ≡ front ++ rest → IsAtom front atom → IsRest (atoms ++ atom ∷ []) (written + 1) groups rest pattern → IsRest atoms written groups text pattern
 atom_before atoms written groups text front rest atom pattern is h r =
@@ -134,7 +138,8 @@ atom_before atoms written groups text front rest atom pattern is h r =
       few_groups = r.few_groups;
     }
 
--- an opening parenthesis, followed by text that completes the group, completes the pattern
+-- if `text` completes the pattern inside a group that begins after all `atoms`, then `(` followed
+-- by `text` completes the pattern
 group_before : (atoms : List PlainAtom) (written : ℕ) (groups : List (ℕ × ℕ)) (text : List ℕ) (pattern : PlainPattern)
     → IsInGroup (length atoms) atoms written groups text pattern → IsRest atoms written groups (40 ∷ text) pattern
 group_before atoms written groups text pattern h =
@@ -156,7 +161,8 @@ group_before atoms written groups text pattern h =
       few_groups = r.few_groups;
     }
 
--- inside a group, an atom followed by text that completes the pattern completes the pattern
+-- inside a group, if `text` is an atom followed by `rest`, and `rest` completes the pattern after
+-- this atom is added, then `text` completes the pattern
 atom_inside : (first : ℕ) (atoms : List PlainAtom) (written : ℕ) (groups : List (ℕ × ℕ)) (text front rest : List ℕ) (atom : PlainAtom) (pattern : PlainPattern)
     → text ≡ front ++ rest → IsAtom front atom → IsInGroup first (atoms ++ atom ∷ []) (written + 1) groups rest pattern → IsInGroup first atoms written groups text pattern
 atom_inside first atoms written groups text front rest atom pattern is h g =
@@ -171,8 +177,8 @@ atom_inside first atoms written groups text front rest atom pattern is h g =
           (append_assoc atoms (atom ∷ []) g.2) counted,
     )
 
--- inside a group, a closing parenthesis followed by text that completes the pattern completes the
--- pattern
+-- if `text` completes the pattern after a group has been closed, then `)` followed by `text`
+-- completes the pattern inside this group
 group_end : (first : ℕ) (atoms : List PlainAtom) (written : ℕ) (groups : List (ℕ × ℕ)) (text : List ℕ) (pattern : PlainPattern)
     → IsRest atoms written (groups ++ (first, length atoms) ∷ []) text pattern → IsInGroup first atoms written groups (41 ∷ text) pattern
 group_end first atoms written groups text pattern r =
@@ -189,13 +195,14 @@ group_end first atoms written groups text pattern r =
 
 -- ---- the text spells the pattern that is read
 
--- the limits of a draft
+-- the draft has at most 32 written atoms and at most 9 groups, including the open group
 abbrev HasRoom : PlainDraft → Option OpenGroup → Type 0
 HasRoom draft None = (draft.written ≤ 32) × (length draft.groups ≤ 9)
 HasRoom draft (Some group) = (draft.written ≤ 32) × (length draft.groups < 9)
 
--- If the remaining text after the first item completes the pattern, so does the whole text. The
--- remaining text is shorter, and the draft is within its limits.
+-- A step from `draft` and `text` leaves a shorter text and a draft within its limits. Each pattern
+-- that the remaining text completes for the new draft is also a pattern that `text` completes for
+-- the old draft.
 record IsStep (draft : PlainDraft) (text : List ℕ) (next : PlainDraft × List ℕ) : Type 0 where
   shorter : length next.1 < length text
   room : HasRoom next.0 next.0.open_group
@@ -269,7 +276,8 @@ item_step draft at (o ∷ text) next room e =
           ]
     ]
 
--- the end of the text, or its last anchor, completes the pattern
+-- if the remaining text is `$`, or is empty and implies an atom, this text completes the pattern
+-- that `whole_of` returns for the draft with the implied atom
 end_found : (draft : PlainDraft) (text end : List ℕ) (after : List PlainAtom) (group : Option OpenGroup) (pattern : PlainPattern) → text ≡ end → IsAnchor (codes "$") end after → HasRoom draft group
     → whole_of (record draft { atoms = draft.atoms ++ after }) group ≡ Ok pattern → IsLeft draft group text pattern
 end_found draft text end after (Some group) pattern is ends room e = absurd cc
@@ -377,7 +385,8 @@ test_other text rest h =
       | inr is ↦ ap (λ (first : ℕ). begins_other (first ∷ (h.1 ++ rest))) is
     ]
 
--- the text of atoms in a group, with the closing parenthesis, does not begin with `^` or a repeat
+-- the text of the atoms of a group, followed by the closing parenthesis, does not begin with `^` or
+-- a repeat
 inside_other : (text rest : List ℕ) (atoms : List PlainAtom) → AreAtoms text atoms → begins_other (text ++ (41 ∷ rest)) ≡ false
 inside_other text rest [] h = ap (λ (t : List ℕ). begins_other (t ++ (41 ∷ rest))) h
 inside_other text rest (atom ∷ atoms) h =
@@ -388,7 +397,7 @@ end_other : (end : List ℕ) (after : List PlainAtom) → IsAnchor (codes "$") e
 end_other end after (inl h) = ap begins_other h.0
 end_other end after (inr h) = ap begins_other h.0
 
--- the text of items, with the end of the pattern, does not begin with `^` or a repeat
+-- the text of items, followed by `$` or nothing, does not begin with `^` or a repeat
 items_other : (text end : List ℕ) (items : List Item) (after : List PlainAtom) → AreItems text items → IsAnchor (codes "$") end after → begins_other (text ++ end) ≡ false
 items_other text end [] after h ends = ap (λ (t : List ℕ). begins_other (t ++ end)) h ∙ end_other end after ends
 items_other text end (Alone atom ∷ items) after h ends =
@@ -409,7 +418,8 @@ not_end o text h =
     let some : eqb (length (o ∷ text)) 0 ≡ false = ne_eqb (length (o ∷ text)) 0 (omega arith) in
     rw (some, ne_eqb o 36 h) refl
 
--- the atom at the front of the text is read and added to the draft
+-- if the text after an atom begins neither with `^` nor with a repeat, and the draft has fewer than
+-- 32 written atoms, `with_atom` reads the atom and adds it to the draft
 one_again : (draft : PlainDraft) (at : ℕ) (front rest : List ℕ) (atom : PlainAtom) → IsAtom front atom → begins_other rest ≡ false → draft.written < 32
     → with_atom draft at (front ++ rest) ≡ Ok (with_one draft atom, rest)
 one_again draft at front rest atom h free few =
@@ -455,7 +465,8 @@ unfolding items_within
 step_close n len atoms written groups group text free =
     rw (not_end 41 text (λ e. absurd (omega arith)), other_repeat text free) refl
 
--- `read` is the result of reading `rest` after the group is closed
+-- `read` is the result of reading `rest` from the draft to which the atoms `more` are added, and in
+-- which the group is then closed
 abbrev IsOn : (len : ℕ) → List PlainAtom → ℕ → List (ℕ × ℕ) → OpenGroup → List PlainAtom → List ℕ → Result PlainPattern PatternFault → Type 0
 IsOn len atoms written groups group more rest read =
     (m : ℕ) × (length rest ≤ m)
@@ -496,7 +507,8 @@ inside_again (suc n) len atoms written groups group inner rest (atom ∷ more) h
           (append_assoc atoms (atom ∷ []) more),
     )
 
--- if no atom is implied at the end, a pattern without further items has just these atoms and groups
+-- if there are no further items, and no atom is implied at the end, the whole pattern consists of
+-- `atoms` and `groups`
 ended : (atoms : List PlainAtom) (groups : List (ℕ × ℕ)) (after : List PlainAtom) → after ≡ [] → record { atoms = atoms; groups = groups } ≡ whole atoms groups [] after
 ended atoms groups after none =
     let every : atoms ≡ atoms ++ after = sym (append-nil atoms) ∙ ap (λ (last : List PlainAtom). atoms ++ last) (sym none) in
@@ -573,7 +585,8 @@ pattern_is pattern before items start after atoms groups is =
     let same = ap (λ (first : List PlainAtom). whole first [] items after) (sym is) in
     same ∙ (λ i. record { atoms = sym atoms i; groups = sym groups i })
 
--- in a text that does not begin with an anchor, the first atom is implied
+-- if a text begins neither with `^` nor with a repeat, it is read from the draft that has only the
+-- implied first atom
 unanchored : (len : ℕ) (text : List ℕ) → begins_other text ≡ false → pattern_after len text ≡ items_in len (with_implied begun) text
 unanchored len [] h = refl
 unanchored len (o ∷ text) h =

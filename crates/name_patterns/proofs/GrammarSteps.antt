@@ -7,7 +7,8 @@ use Rattle.name_patterns.specs.PatternReading.{◌>>=◌}
 
 -- ---- steps that may return nothing
 
--- a sequence of two steps returns a value only if the first step does
+-- if a sequence of two steps returns a value, the first step returns a value, and the second step,
+-- applied to this value, returns the value of the sequence
 pub bind_some : {A B : Type 0} (r : Option A) (f : A → Option B) (y : B) → (r >>= f) ≡ Some y → (x : A) × (r ≡ Some x) × (f x ≡ Some y)
 bind_some None f y e = absurd cc
 bind_some (Some x) f y e = (x, refl, e)
@@ -21,7 +22,7 @@ given_is x y e = cc
 pub given_to : {A : Type 0} (P : A → Type 0) (x y : A) → given x ≡ given y → P x → P y
 given_to P x y e p = subst P (given_is x y e) p
 
--- the result is `Some` only if the test passes
+-- if `cond b r None` is `Some y`, the test `b` passes, and `r` is `Some y`
 pub passed : {A : Type 0} (b : Bool) (r : Option A) (y : A) → cond b r None ≡ Some y → (b ≡ true) × (r ≡ Some y)
 passed true r y e = (refl, e)
 passed false r y e = absurd cc
@@ -32,12 +33,15 @@ failed false r y e = (refl, e)
 
 -- ---- steps that may fail
 
--- a sequence of two steps succeeds only if the first step does
+-- if a sequence of two steps succeeds, the first step succeeds, and the second step, applied to its
+-- result, returns the result of the sequence
 pub ok_is : {A B : Type 0} (r : Result A PatternFault) (f : A → Result B PatternFault) (y : B) → on_result f Err r ≡ Ok y → (x : A) × (r ≡ Ok x) × (f x ≡ Ok y)
 ok_is (Ok x) f y e = (x, refl, e)
 ok_is (Err fault) f y e = absurd cc
 
--- a sequence of two steps succeeds only if the first step does, even if its fault is replaced
+-- A sequence of two steps replaces the fault of the first step by `g`. If the sequence succeeds,
+-- the first step succeeds, and the second step, applied to its result, returns the result of the
+-- sequence.
 pub result_is : {A B : Type 0} (f : A → Result B PatternFault) (g : PatternFault → PatternFault) (r : Result A PatternFault) (y : B) → on_result f (λ fault. Err (g fault)) r ≡ Ok y
     → (x : A) × (r ≡ Ok x) × (f x ≡ Ok y)
 result_is f g (Ok x) y e = (x, refl, e)
@@ -56,8 +60,7 @@ done_is x y e = cc
 pub done_to : {A : Type 0} (P : A → Type 0) (x y : A) → done x ≡ done y → P x → P y
 done_to P x y e p = subst P (done_is x y e) p
 
--- if the result of a check is `Ok`, then its test `b` is false: otherwise the result would be
--- `fault`
+-- if `cond b (Err fault) r` is `Ok y`, the test `b` is false, and `r` is `Ok y`
 pub not_refused : {A : Type 0} (b : Bool) (fault : PatternFault) (r : Result A PatternFault) (y : A) → cond b (Err fault) r ≡ Ok y → (b ≡ false) × (r ≡ Ok y)
 not_refused true fault r y e = absurd cc
 not_refused false fault r y e = (refl, e)

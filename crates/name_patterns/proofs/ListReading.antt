@@ -25,7 +25,8 @@ listed_nothing text = (length text, omega arith, sym (nothing (listed_within (le
     nothing None = refl
     nothing (Some others) = refl
 
--- if `rest` begins with a quoted text, its component comes before those of the remaining texts
+-- if `rest` begins with a quoted text, the list in `rest` is the component of this text, followed
+-- by the components of the texts after it
 listed_more : (n : ℕ) (rest front after : List ℕ) → quoted_in rest ≡ Some (front, after)
     → listed_within (suc n) rest ≡ (text_in front >>= λ c. before_others (c ∷ []) (has_special front) (listed_within n after))
 unfolding listed_within
@@ -42,7 +43,7 @@ listed_one cs is_inner text rest front after c (suc n, few, h) e shorter read =
     moved true b (Some others) = ap (λ (ds : List Field). Some (record { part = ds; is_inner = true; rest = others.rest })) (sym (append_assoc cs (c ∷ []) others.part))
     moved false b (Some others) = ap (λ (ds : List Field). Some (record { part = ds; is_inner = b || others.is_inner; rest = others.rest })) (sym (append_assoc cs (c ∷ []) others.part))
 
--- a text in a list that is not a component makes the whole list faulty
+-- a fault of reading one text of a list as a component is also a fault of reading the whole list
 pub listed_faulty : (at : ℕ) (cs : List Field) (is_inner : Bool) (text rest front after : List ℕ) (fault : PatternFault) → HasListed cs is_inner text rest
     → quoted_in rest ≡ Some (front, after) → length after < length rest → IsFaultOf (read_at at (text_in front)) fault
     → IsFaultOf (read_at at (listed_within (length text) text)) fault
@@ -52,7 +53,7 @@ listed_faulty at cs is_inner text rest front after fault (suc n, few, h) e short
     (fault_on at _ (λ others. Some (record { part = cs ++ others.part; is_inner = is_inner || others.is_inner; rest = others.rest })) fault
     (fault_on at (text_in front) (λ c. before_others (c ∷ []) (has_special front) (listed_within n after)) fault faulty))
 
--- if `rest` does not begin with a quoted text, the list must end there
+-- if `rest` does not begin with a quoted text, `rest` is read as the end of the list
 listed_end : (n : ℕ) (rest : List ℕ) → quoted_in rest ≡ None → listed_within n rest ≡ list_end rest
 unfolding listed_within
 listed_end zero rest e = refl

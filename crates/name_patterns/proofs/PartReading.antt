@@ -13,11 +13,11 @@ pub part_is_single : (groups at : ℕ) (text : List ℕ) → BeginsNot 92 text �
 part_is_single groups at [] other = refl
 part_is_single groups at (o ∷ text) other = rw (first_other 92 o text other) refl
 
--- the parts `front` followed by the other parts
+-- the parts `front` followed by the other parts, or the fault of the other parts
 abbrev pub before_others : List PlainPart → Result (List PlainPart) PatternFault → Result (List PlainPart) PatternFault
 before_others front parts = on_result (λ others. Ok (front ++ others)) Err parts
 
--- the parts of the text are those that have been read, followed by the parts in `rest`
+-- the parts of `text` are the parts `parts`, which have been read, followed by the parts of `rest`
 abbrev pub HasParts : ℕ → List PlainPart → List ℕ → List ℕ → Type 0
 HasParts groups parts text rest =
     (n : ℕ) × (length rest ≤ n) × (template_in groups text ≡ before_others parts (parts_within n groups (length text) rest))

@@ -62,7 +62,8 @@ quoted_again front rest c h =
 pub quoted_front : (front : List ℕ) (c : Field) → IsQuoted front c → (inner : List ℕ) × (front ≡ 60 ∷ inner)
 quoted_front front c h = (h.0 ++ codes ">", h.1)
 
--- if a quoted text without special characters is read as a component, it is in the grammar
+-- if a quoted text without special characters is read as a component, this quoted text denotes the
+-- component in the grammar
 pub single_found : (text : List ℕ) (parts : List ℕ × List ℕ) (c : Field) → quoted_in text ≡ Some parts → text_in parts.0 ≡ Some c → has_special parts.0 ≡ false
     → (front : List ℕ) × (text ≡ front ++ parts.1) × IsQuoted front c
 single_found text parts c e is none =

@@ -103,7 +103,7 @@ range_again text least (Some most) (inr (inr h)) =
     range_cut text h.0 h.1 h.2 (count_lacks 44 (inl (omega arith)) h.0 least h.3)
     ∙ rw (some_digits h.1 most h.4, some_digits h.0 least h.3, count_again h.0 least h.3, count_again h.1 most h.4, le-leb least most h.5) refl
 
--- neither a count nor a range contains a closing brace
+-- the next three lemmas: a count, the text after a comma and a range contain no closing brace
 count_no_brace : (text : List ℕ) (n : ℕ) → IsCount text n → Lacks 125 text
 count_no_brace text n h = count_lacks 125 (inr (omega arith)) text n h
 
@@ -137,7 +137,8 @@ braced_found text found e =
     given_to (IsRepeatAt (123 ∷ text)) (b.0, a.0.1) found b.2
     (123 ∷ (a.0.0 ++ codes "}"), ap (λ (t : List ℕ). 123 ∷ t) whole, inr (inr (inr (inr (a.0.0, refl, range_found a.0.0 b.0 b.1)))))
 
--- a repeat of one character is in the grammar
+-- if the character `sign` is a repeat with these bounds, and is read as this repeat at the front of
+-- a text, this reading is in the grammar
 sign_found : (o sign : ℕ) (text : List ℕ) (bounds : Bounds) (found : Bounds × List ℕ) → o ≡ sign → IsRepeat (sign ∷ []) bounds → Some (bounds, text) ≡ Some found → IsRepeatAt (o ∷ text) found
 sign_found o sign text bounds found is h e =
     given_to (IsRepeatAt (o ∷ text)) (bounds, text) found e (sign ∷ [], ap (λ (first : ℕ). first ∷ text) is, inr h)
@@ -187,7 +188,7 @@ repeat_again front rest bounds (inr (inr (inr h))) =
     ap (λ (t : List ℕ). repeat_in (t ++ rest)) h.1 ∙ ap braced_in (append_assoc h.0 (codes "}") rest)
     ∙ rw (cut_again 125 h.0 rest (range_no_brace h.0 bounds.least bounds.most h.2), range_again h.0 bounds.least bounds.most h.2) refl
 
--- without a repeat at the front of the text, an atom matches one component
+-- if the text does not begin with a repeat, `repeat_in` returns `once` and the whole text
 pub repeat_none : (rest : List ℕ) → begins_repeat rest ≡ false → repeat_in rest ≡ Some (once, rest)
 unfolding repeat_in
 repeat_none [] h = refl

@@ -37,7 +37,8 @@ pub nil_at_end : (cs : List Field) → first_count [] (drop (length cs) cs) ≡ 
 unfolding first_count
 nil_at_end cs = rw (drop-length cs) refl
 
--- the empty list of atoms has a split only from the end of the name
+-- if the end of the name is the only position in the set `places`, this set has the positions from
+-- which the empty list of atoms has a split
 pub last_split : (cs : List Field) (len places : ℕ) → length cs ≡ len → has_place places len ≡ true
     → ((place : ℕ) → place ≢ len → has_place places place ≡ false) → AreSplit [] cs places
 last_split cs len places len_is there other place low =
@@ -59,8 +60,9 @@ at_most_low : (most : Option ℕ) (n : ℕ) → at_most most n ≤ n
 at_most_low None n = omega arith
 at_most_low (Some most) n = omega arith
 
--- the first count of an atom can be computed from the positions from which the later atoms have a
--- split
+-- If the later atoms have a split from exactly the positions in `after`, the first count of an
+-- atom is the greatest count with three properties: it is within the atom's bounds, it is at most
+-- the run of passing components, and it leads to a position in `after`.
 pub count_by_places : (atom : PlainAtom) (atoms : List PlainAtom) (cs : List Field) (bounds : Bounds) (after place run : ℕ)
     → bounds ≡ atom.bounds → AreSplit atoms cs after → run ≡ run_of atom.test (drop place cs) → place ≤ length cs
     → greatest (λ count. has_place after (place + count)) bounds.least (at_most bounds.most run) ≡ first_count (atom ∷ atoms) (drop place cs)
@@ -96,9 +98,9 @@ none_there atoms cs place none low = of_test (first_count atoms (drop place cs))
     of_test None e = refl
     of_test (Some k) e = absurd cc
 
--- if `places` are the positions of the passing components of `cs`, and `next` adds the position of
--- one more component `c` exactly if `c` passes, then `next` are the positions for `cs` followed by
--- `c`
+-- Let `next` be `places` with the position of one more component `c` added exactly if `c` passes.
+-- If `places` are the positions of the passing components of `cs`, `next` are those of `cs`
+-- followed by `c`.
 pub pushed : (test : PlainTest) (cs : List Field) (c : Field) (places next place : ℕ) → ArePassed test cs places → length cs ≡ place → has_place next place ≡ passes test c
     → ((other : ℕ) → other ≢ place → has_place next other ≡ has_place places other) → ArePassed test (cs ++ c ∷ []) next
 pushed test cs c places next place are len there others p =
@@ -125,7 +127,8 @@ drop_map_end : {X Y : Type 0} (f : X → Y) (xs : List X) → drop (length xs) (
 drop_map_end f [] = refl
 drop_map_end f (x ∷ xs) = drop_map_end f xs
 
--- after the last atom there are no later atoms, so `places` are right for the row after it
+-- the positions from which the empty list of atoms has a split are those from which the atoms after
+-- the last one have a split
 pub after_all : {X : Type 0} (f : X → PlainAtom) (xs : List X) (cs : List Field) (places : ℕ) → AreSplit [] cs places → AreSplit (drop (length xs) (map f xs)) cs places
 after_all f xs cs places are = rw (drop_map_end f xs) are
 

@@ -164,7 +164,8 @@ some_greatest can least (suc n) k e =
 
 -- ---- splits
 
--- without a first count there is no split; otherwise `greedy` returns the greatest split
+-- without a first count there is no split, and `greedy` returns `None`; with a first count,
+-- `greedy` returns the greatest split
 abbrev pub IsSearched : List PlainAtom → List Field → Option ℕ → Type 0
 IsSearched atoms cs None = HasNoSplit atoms cs × (greedy atoms cs ≡ None)
 IsSearched atoms cs (Some k) = (counts : List ℕ) × (greedy atoms cs ≡ Some counts) × IsGreatestSplit atoms cs counts
@@ -181,7 +182,8 @@ some_splits atoms cs (Some k) counts h split = refl
 abbrev AreSearched : List PlainAtom → Type 0
 AreSearched atoms = (cs : List Field) → IsSearched atoms cs (first_count atoms cs)
 
--- the first count of a split is within the bounds, and the other atoms have a split after it
+-- the first count of a split is at most the atom's greatest number and at most its run of passing
+-- components, and the other atoms have a split of the components after this count
 taken : (atom : PlainAtom) (atoms : List PlainAtom) (cs : List Field) (count : ℕ) (counts : List ℕ) → AreSearched atoms → IsSplit (atom ∷ atoms) cs (count ∷ counts)
     → (count ≤ at_most atom.bounds.most (run_of atom.test cs)) × (is_some (first_count atoms (drop count cs)) ≡ true)
 taken atom atoms cs count counts following split = (
@@ -198,7 +200,8 @@ no_split atom atoms cs following e (count ∷ counts) split =
     let t = taken atom atoms cs count counts following split in
     no_greatest (λ n. is_some (first_count atoms (drop n cs))) atom.bounds.least (at_most atom.bounds.most (run_of atom.test cs)) e count split.0 t.0 t.1
 
--- every other split is less than the split `k ∷ best`
+-- if `k` is the greatest possible first count, and `best` is the greatest split of the components
+-- after it, every split is equal to `k ∷ best` or less than `k ∷ best`
 not_greater : (atom : PlainAtom) (atoms : List PlainAtom) (cs : List Field) (k : ℕ) (best : List ℕ) → AreSearched atoms
     → IsGreatest (λ n. is_some (first_count atoms (drop n cs))) atom.bounds.least (at_most atom.bounds.most (run_of atom.test cs)) k
     → IsGreatestSplit atoms (drop k cs) best
@@ -227,7 +230,8 @@ unfolding first_count
 first_is atom atoms cs k e =
     some_greatest (λ n. is_some (first_count atoms (drop n cs))) atom.bounds.least (at_most atom.bounds.most (run_of atom.test cs)) k e
 
--- the search is right for an atom in front of `atoms` if it is right for `atoms`
+-- if the results for `atoms` satisfy `IsSearched`, the result for one atom in front of `atoms`
+-- satisfies it too
 step : (atom : PlainAtom) (atoms : List PlainAtom) (cs : List Field) → AreSearched atoms
     → (r : Option ℕ) → first_count (atom ∷ atoms) cs ≡ r → IsSearched (atom ∷ atoms) cs r
 unfolding greedy
@@ -305,7 +309,8 @@ none_first atom atoms cs once_is no_run =
     let most : min 1 0 ≡ 0 = omega arith in
     rw (once_is, no_run, most) (greatest_no_one (λ count. is_some (first_count atoms (drop count cs))))
 
--- if an atom matches exactly one component, and the next component does not pass, there is no split
+-- if an atom matches exactly one component, and no component at the front passes, `greedy`
+-- returns `None`
 pub no_single : (atom : PlainAtom) (atoms : List PlainAtom) (cs : List Field) → atom.bounds ≡ once → run_of atom.test cs ≡ 0 → greedy (atom ∷ atoms) cs ≡ None
 no_single atom atoms cs once_is no_run = greedy_none atom atoms cs (none_first atom atoms cs once_is no_run)
 
@@ -317,7 +322,8 @@ single_first atom atoms c cs once_is is =
     let most : min 1 (1 + run_of atom.test cs) ≡ 1 = omega arith in
     rw (once_is, run, most) (greatest_one (λ count. is_some (first_count atoms (drop count (c ∷ cs)))))
 
--- if an atom matches exactly one component and the first component passes, the atom has the count 1
+-- if an atom matches exactly one component and the first component passes, `greedy` returns the
+-- count 1 for this atom, followed by the counts for the other atoms and components
 pub single_taken : (done : List ℕ) (atom : PlainAtom) (atoms : List PlainAtom) (c : Field) (cs : List Field) → atom.bounds ≡ once → passes atom.test c ≡ true
     → after_counts done (greedy (atom ∷ atoms) (c ∷ cs)) ≡ after_counts (done ++ 1 ∷ []) (greedy atoms cs)
 single_taken done atom atoms c cs once_is is = by_rest (first_count atoms cs) refl

@@ -13,11 +13,12 @@ fault_on at None next fault (inr memory) = inr memory
 fault_on at (Some x) next fault (inl e) = absurd cc
 fault_on at (Some x) next fault (inr memory) = inr memory
 
--- if the first step returns nothing, the fault is `Syntax`
+-- if the first step returns nothing, the fault of the sequence is `Syntax`
 pub fault_at : {A B : Type 0} (at : ℕ) (first : Option A) (next : A → Option B) → first ≡ None → IsFaultOf (read_at at (first >>= next)) (Syntax at)
 fault_at at first next none = rw none (inl refl)
 
--- a sequence of two steps returns a value only if both steps do
+-- if a sequence of two steps returns a value, the first step returns a value, and the second step,
+-- applied to this value, returns the value of the sequence
 pub found_by : {A B : Type 0} (first : Option A) (next : A → Option B) (y : B) → (first >>= next) ≡ Some y → (x : A) × (first ≡ Some x) × (next x ≡ Some y)
 found_by None next y e = absurd cc
 found_by (Some x) next y e = (x, refl, e)

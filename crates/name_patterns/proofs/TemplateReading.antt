@@ -33,7 +33,7 @@ digit_again n text h =
     let is : 48 + n - 48 ≡ n = omega arith in
     rw (le-leb 48 (48 + n) (omega arith), le-leb (48 + n) 57 (omega arith), is) refl
 
--- a part at the front of the text
+-- the text begins with the text of a part, which is not empty, followed by the remaining text
 abbrev IsFront : ℕ → List ℕ → PlainPart × List ℕ → Type 0
 IsFront groups text found = (front : List ℕ) × (text ≡ front ++ found.1) × (0 < length front) × IsPart groups front found.0
 
@@ -49,7 +49,7 @@ group_found groups at text found e =
 group_again : (groups at n : ℕ) (rest : List ℕ) → n ≤ 9 → n ≤ groups → group_in groups at ((48 + n) ∷ rest) ≡ Ok (OfGroup n, rest)
 group_again groups at n rest small few = rw (digit_again n rest small, le-ltb groups n few) refl
 
--- a component between < and >
+-- the text begins with a component between < and >, followed by the remaining text
 abbrev IsSingleAt : List ℕ → FrontPart Field → Type 0
 IsSingleAt text found = (front : List ℕ) × (text ≡ front ++ found.rest) × IsQuoted front found.part
 
@@ -151,7 +151,7 @@ template_stands groups text [] h = tt
 template_stands groups text (OfGroup n ∷ parts) h = (tt, template_stands groups h.1 parts h.4)
 template_stands groups text (Single c ∷ parts) h = (h.3.2.2, template_stands groups h.1 parts h.4)
 
--- the pattern has all groups that a template uses
+-- each group that a template uses has a number of at most `groups`
 pub template_needs : (groups : ℕ) (text : List ℕ) (parts : List PlainPart) → IsTemplate groups text parts → NeedAtMost groups parts
 template_needs groups text [] h = tt
 template_needs groups text (OfGroup n ∷ parts) h = (h.3.2, template_needs groups h.1 parts h.4)

@@ -66,7 +66,8 @@ taken_none atoms cs i place starts done w none = w.rest ∙ rw none refl
 sum_push : (xs : List ℕ) (n : ℕ) → sum (xs ++ n ∷ []) ≡ sum xs + n
 sum_push xs n = sum_by_push (λ x. x) xs n
 
--- if `k` is the next count of the greatest split, it can be added to the counts `done`
+-- if `k` is the next count of the greatest split, `IsTaken` also holds after `k` is added to the
+-- counts `done`
 take_step : (atoms : List PlainAtom) (cs : List Field) (i place : ℕ) (starts done : List ℕ) (k : ℕ) → IsTaken atoms cs i place starts done
     → i + 1 < length starts → place + k ≤ length cs
     → after_counts done (greedy (drop i atoms) (drop place cs)) ≡ after_counts (done ++ k ∷ []) (greedy (drop (i + 1) atoms) (drop (place + k) cs))
@@ -90,7 +91,8 @@ take_step atoms cs i place starts done k w room low e =
       ];
     }
 
--- the first count of the next atom can be added to the counts `done`
+-- if `k` is the first count of the next atom, `IsTaken` also holds after `k` is added to the counts
+-- `done`
 pub walk_step : (atoms : List PlainAtom) (cs : List Field) (i place : ℕ) (starts done : List ℕ) (k : ℕ) → IsTaken atoms cs i place starts done → i < length atoms
     → i + 1 < length starts → first_count (drop i atoms) (drop place cs) ≡ Some k
     → IsTaken atoms cs (i + 1) (place + k) (slice_set starts (i + 1) (place + k)) (done ++ k ∷ [])
@@ -120,8 +122,8 @@ drop_next (y ∷ xs) (suc i) x rest e =
     let next : suc i + 1 ≡ suc (i + 1) = omega arith in
     (rw next more.0, omega (arith, more.1))
 
--- if an atom matches exactly one component and the next component passes, the count 1 can be added
--- to the counts `done`
+-- if an atom matches exactly one component and the next component passes, `IsTaken` also holds
+-- after the count 1 is added to the counts `done`
 pub single_step : (atoms : List PlainAtom) (cs : List Field) (i : ℕ) (starts done : List ℕ) (atom : PlainAtom) (c : Field) → IsTaken atoms cs i i starts done
     → drop i atoms ≡ atom ∷ drop (i + 1) atoms → drop i cs ≡ c ∷ drop (i + 1) cs → i + 1 < length starts → i + 1 ≤ length cs
     → atom.bounds ≡ once → passes atom.test c ≡ true → IsTaken atoms cs (i + 1) (i + 1) (slice_set starts (i + 1) (i + 1)) (done ++ 1 ∷ [])

@@ -3,7 +3,7 @@ use Rattle.std.specs.Prelude.{◌≡◌, ◌⊎◌, Option, None, Some, Result, 
 use Rattle.name_patterns.specs.declared.fault.PatternFault.{PatternFault}
 use Rattle.name_patterns.specs.declared.fault.PatternFault.TheVariants.{Syntax, Memory}
 
--- the fault of a reading, or `Memory`
+-- `fault` is the fault of the reading, or `Memory`
 abbrev pub IsFaultOf : {A : Type 0} → Result A PatternFault → PatternFault → Type 0
 IsFaultOf read fault = (read ≡ Err fault) ⊎ (fault ≡ Memory)
 

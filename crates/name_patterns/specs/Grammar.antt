@@ -27,8 +27,9 @@ AreQuoted text [] = text ≡ []
 AreQuoted text (c ∷ cs) =
     (front rest : List ℕ) × (text ≡ front ++ rest) × IsQuoted front c × AreQuoted rest cs
 
--- The text of a test: <> for any component, a quoted text for the component with that text, a list
--- for any component in the list, and a list that begins with ^ for any component not in the list.
+-- The text of a test. `<>` denotes any component. A quoted text denotes the component with this
+-- text. One or more quoted texts in brackets denote any of their components, or, if `^` follows the
+-- opening bracket, any other component.
 abbrev pub IsTestText : List ℕ → PlainTest → Type 0
 IsTestText text Anything = text ≡ codes "<>"
 IsTestText text (OneOf cs) =
@@ -97,7 +98,8 @@ groups_from n [] = []
 groups_from n (Alone atom ∷ items) = groups_from (n + 1) items
 groups_from n (Group atoms ∷ items) = (n, n + length atoms) ∷ groups_from (n + length atoms) items
 
--- an anchor at one end of the text, or the atom that is implied if the anchor is missing
+-- either the text is the anchor `sign`, and no atom is implied, or the text is empty, and the atom
+-- `anything` is implied
 abbrev pub IsAnchor : List ℕ → List ℕ → List PlainAtom → Type 0
 IsAnchor sign text atoms = ((text ≡ sign) × (atoms ≡ [])) ⊎ ((text ≡ []) × (atoms ≡ anything ∷ []))
 

@@ -29,8 +29,9 @@ greatest can_take least (suc n) =
     if nat_lt (suc n) least then None else (
     if can_take (suc n) then Some (suc n) else greatest can_take least n)
 
--- The count of the first atom in the greatest split: the greatest count within its bounds after
--- which the other atoms have a split. Without atoms, the count is 0 if there are no components.
+-- The count of the first atom in the greatest split: the greatest number of passing components
+-- within the atom's bounds after which the other atoms have a split. Without atoms, the count is
+-- 0 if there are no components.
 unfoldable pub first_count : List PlainAtom → List Field → Option ℕ
 first_count [] [] = Some 0
 first_count [] (c ∷ cs) = None
@@ -64,8 +65,9 @@ AreSplit atoms cs places =
     (place : ℕ) → place ≤ length cs
     → has_place places place ≡ is_some (first_count atoms (drop place cs))
 
--- The row of the first of these atoms. `row.passed` are the positions of the components that pass
--- its test, all below 64. `row.split` are the positions from which the atoms have a split.
+-- The row of the first of these atoms, or of the end if there are no atoms. `row.split` are the
+-- positions from which the atoms have a split. `row.passed` are the positions, all below 64, of the
+-- components that pass the first atom's test.
 abbrev pub IsRow : List PlainAtom → List Field → Row → Type 0
 IsRow [] cs row = AreSplit [] cs row.split
 IsRow (atom ∷ atoms) cs row = ArePassed atom.test cs row.passed × (row.passed < 2 ^ 64)
@@ -86,7 +88,8 @@ abbrev pub after_counts : List ℕ → Option (List ℕ) → Option (List ℕ)
 after_counts done later = option_map (λ counts. done ++ counts) later
 
 -- The counts `done` are those of the first `i` atoms in the greatest split, if there is a split.
--- These atoms match the first `place` components.
+-- These atoms match the first `place` components. `starts` has the positions before each of these
+-- atoms and after the last one.
 pub record IsTaken (atoms : List PlainAtom) (cs : List Field) (i place : ℕ)
     (starts done : List ℕ) : Type 0 where
   pub len : length done ≡ i

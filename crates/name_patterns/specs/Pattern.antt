@@ -36,7 +36,7 @@ pub record PlainPattern : Type 0 where
   pub atoms : List PlainAtom
   pub groups : List (ℕ × ℕ)
 
--- two positions in a list of length `len`, the first of which is not after the second
+-- two positions in a list of length `len`; the first position is not after the second
 abbrev pub LiesIn : ℕ → ℕ × ℕ → Type 0
 LiesIn len places = (places.0 ≤ places.1) × (places.1 ≤ len)
 

@@ -39,7 +39,7 @@ abbrev pub quoted_in : List ℕ → Option (List ℕ × List ℕ)
 quoted_in [] = None
 quoted_in (o ∷ text) = if o == 60 then cut_at 62 text else None
 
--- the end of a list: no more texts before the closing bracket
+-- the end of a list: a closing bracket, with no other text before it
 abbrev pub list_end : List ℕ → Option (FrontPart (List Field))
 list_end [] = None
 list_end (o ∷ text) =
@@ -60,7 +60,7 @@ listed_within (suc n) text = option_map_or
       }))
     (quoted_in text) (list_end text)
 
--- one or more texts, up to the bracket that closes the list
+-- the test of a list of one or more texts, up to the bracket that closes the list
 abbrev pub list_in : (List Field → PlainTest) → List ℕ → Option (FrontPart PlainTest)
 list_in test text = do
   listed ← listed_within (length text) text
@@ -238,8 +238,8 @@ at_end draft (o ∷ text) = whole_of draft draft.open_group
 abbrev pub is_end : List ℕ → Bool
 is_end text = (length text == 0) || bytes_eq text (codes "$")
 
--- the pattern of a text of length `len`, of which `text` is still to be read; the first argument
--- limits the number of further items
+-- the pattern of a text of length `len`, where `text` is the text that is still to be read; the
+-- first argument limits the number of further items
 unfoldable pub items_within : ℕ → ℕ → PlainDraft → List ℕ → Result PlainPattern PatternFault
 items_within zero len draft text = at_end draft text
 items_within (suc n) len draft text =
@@ -255,7 +255,8 @@ items_in len draft text = items_within (length text) len draft text
 abbrev pub begun : PlainDraft
 begun = record { atoms = []; written = 0; groups = []; open_group = None }
 
--- the pattern of a text of length `len`, read from its first anchor on
+-- the pattern of a text of length `len`; if the text does not begin with `^`, the first atom is
+-- implied
 abbrev pub pattern_after : ℕ → List ℕ → Result PlainPattern PatternFault
 pattern_after len [] = items_in len (with_implied begun) []
 pattern_after len (o ∷ text) =

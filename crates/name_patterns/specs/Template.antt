@@ -44,7 +44,8 @@ part_len captures (OfGroup n) =
     option_map_or (λ places. places.1 - places.0) (slice_get captures n) 0
 part_len captures (Single c) = 1
 
--- the captures contain the group of the part, at positions within the name
+-- the part is a component, or the captures contain the group of the part, at positions within the
+-- name
 abbrev pub IsThere : List (ℕ × ℕ) → List Field → PlainPart → Type 0
 IsThere captures cs (OfGroup n) = IsSomeAnd (slice_get captures n) (LiesIn (length cs))
 IsThere captures cs (Single c) = ⊤

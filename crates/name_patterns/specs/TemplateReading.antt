@@ -19,14 +19,15 @@ group_in groups at text =
     on_result (λ digit. if nat_lt groups digit.0 then Err (BadGroup at)
     else Ok (OfGroup digit.0, digit.1)) Err (read_at at (digit_in text))
 
--- the component in the text between < and >
+-- the component between < and > at the front of the text
 abbrev pub single_in : List ℕ → Option (FrontPart Field)
 single_in text = do
   quoted ← quoted_in text
   c ← text_in quoted.0
   Some (record { part = c; is_inner = has_special quoted.0; rest = quoted.1 })
 
--- the part between < and > at offset `at`
+-- the part between < and > at offset `at`, or the fault `Inner` if its text contains a special
+-- character
 abbrev pub single_part_in : ℕ → List ℕ → Result (PlainPart × List ℕ) PatternFault
 single_part_in at text =
     on_result (λ found. if found.is_inner then Err (Inner at)
@@ -38,8 +39,8 @@ part_in groups at [] = Err (Syntax at)
 part_in groups at (o ∷ text) =
     if o == 92 then group_in groups at text else single_part_in at (o ∷ text)
 
--- the parts of a template of length `len`, of which `text` is still to be read; the first argument
--- limits the number of further parts
+-- the parts of a template of length `len`, where `text` is the text that is still to be read; the
+-- first argument limits the number of further parts
 unfoldable pub parts_within : ℕ → ℕ → ℕ → List ℕ → Result (List PlainPart) PatternFault
 parts_within zero groups len text = Ok []
 parts_within (suc n) groups len text =

@@ -18,8 +18,8 @@ use Rattle.name_trie.proofs.Closed.{lookup_turned}
 use Rattle.name_trie.proofs.Walks.{walk_none, lookup_none}
 
 module _ {V : Type 0} (own below : V → Option V) where
-  -- how the value of the name `q` is changed by the part of the walk that ends before the node of
-  -- `front`
+  -- how a walk along `front` that has not yet visited the node of `front` has changed the value of
+  -- the name `q`
   abbrev pub before : List Field → List Field → V → Option V
   before q front = changed_along Some below q front
 
@@ -53,7 +53,8 @@ module _ {V : Type 0} (own below : V → Option V) where
   before_itself [] = refl
   before_itself (c ∷ name) = ap (λ f. cond (eq_by_cmp component_cmp c c) f Some) (before_itself name) ∙ sym (same_either (eq_by_cmp component_cmp c c))
 
-  -- if a name leads to no node, its extensions have no values to change
+  -- if the name `front` leads to no node, a walk along `front ++ rest` changes the values as a walk
+  -- along `front` that stops before the end of `front` does
   pub cut_short : (h : Heap V) (o : Option ℕ) (front rest : List Field) → walk h o front ≡ None → (q : List Field)
       → option_and_then (changed_along own below q (front ++ rest)) (lookup h o q) ≡ option_and_then (before q front) (lookup h o q)
   cut_short h o [] rest none q =
@@ -70,7 +71,8 @@ module _ {V : Type 0} (own below : V → Option V) where
 
   module _ (h0 h h' : Heap V) (root : Option ℕ) (sound : Sound h root) (front : List Field) (k : ℕ) (at : walk h root front ≡ Some k)
       (was : (q : List Field) → lookup h root q ≡ option_and_then (before q front) (lookup h0 root q)) where
-    -- the walk has not yet changed the value of the node that it has reached
+    -- the node k, to which the name `front` leads, still has the value that `front` had before the
+    -- walk
     pub still : value h k ≡ lookup h0 root front
     still = ap (option_and_then (value h)) (sym at) ∙ was front ∙ ap (λ f. option_and_then f (lookup h0 root front)) (before_itself front) ∙ whole (lookup h0 root front)
       where
@@ -89,15 +91,17 @@ module _ {V : Type 0} (own below : V → Option V) where
         ] refl
 
 module _ {S V : Type 0} (own below : S → V → S) where
-  -- if no name that begins with `front` has a value, the visitor does not change
+  -- if no name that begins with `front` has a value, a walk from `front` along `rest` does not
+  -- change the visitor
   pub nothing_taken : (s : S) (f : List Field → Option V) (front rest : List Field) → ((p : List Field) → f (front ++ p) ≡ None) → taken_along own below s f front rest ≡ s
   nothing_taken s f front [] none = ap (taken own s) (ap f (sym (append-nil front)) ∙ none [])
   nothing_taken s f front (c ∷ rest) none =
       ap (λ (o : Option V). taken_along own below (taken below s o) f (front ++ c ∷ []) rest) (ap f (sym (append-nil front)) ∙ none [])
       ∙ nothing_taken s f (front ++ c ∷ []) rest (λ p. ap f (append_assoc front (c ∷ []) p) ∙ none (c ∷ p))
 
-  -- a walk over `f` and a walk over `g` leave the visitor in the same state, if the names of at
-  -- most `bound` components have the same values in `f` and `g`
+  -- if the names of at most `bound` components have the same values in `f` and `g`, and the name of
+  -- the walk is one of them, a walk over `f` and a walk over `g` leave the visitor in the same
+  -- state
   pub taken_same : (s : S) (f g : List Field → Option V) (front rest : List Field) (bound : ℕ)
       → ((q : List Field) → length q ≤ bound → f q ≡ g q) → length front + length rest ≤ bound → taken_along own below s f front rest ≡ taken_along own below s g front rest
   taken_same s f g front [] bound same le = ap (taken own s) (same front (omega arith))

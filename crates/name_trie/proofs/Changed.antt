@@ -38,7 +38,7 @@ unless_some k (Some i) j e =
       | false ↦ λ t e. (e, λ is. let same : i ≡ k = (let one : i ≡ j = cc in one ∙ is) in eqb-false i k t same)
     ] refl e
 
--- if a property follows from `j ≡ k` and from `j ≢ k`, it holds
+-- if `P` follows from `j ≡ k`, and also follows from `j ≢ k`, then `P` is true
 pub same_or : (j k : ℕ) (P : Type 0) → (j ≡ k → P) → (j ≢ k → P) → P
 same_or j k P same other =
     elim (eqb j k) as (λ b. eqb j k ≡ b → P) [
@@ -82,7 +82,7 @@ module _ {V : Type 0} (h : Heap V) where
         let rest : p ≡ q = one_climb p q a.0 a.1 (b.1 ∙ ap Some (sym one)) in
         λ i. step i ∷ rest i
 
-    -- at most one name leads to a node
+    -- at most one name leads to each node
     pub one_walk : (p q : List Field) (k : ℕ) → walk h root p ≡ Some k → walk h root q ≡ Some k → p ≡ q
     one_walk p q k e f =
         let turned : reverse p ≡ reverse q = one_climb (reverse p) (reverse q) k
@@ -95,7 +95,7 @@ module _ {V : Type 0} (h : Heap V) where
     live_climb [] k e = (None, sound.top k e)
     live_climb (c ∷ p) k e = (let a = down_some (climb root p) c k e in (Some a.0, sound.back a.0 c k a.2))
 
-    -- a node that a name leads to exists
+    -- if a name leads to the index k, there is a node k
     pub live : (p : List Field) (k : ℕ) → walk h root p ≡ Some k → (u : Option ℕ) × (up h k ≡ Some u)
     live p k e = live_climb (reverse p) k (sym (climb_is root (reverse p)) ∙ ap (walk h root) (reverse-reverse p) ∙ e)
 
@@ -130,11 +130,11 @@ module _ {V : Type 0} (k : ℕ) (h : Heap V) (root : Option ℕ) (h' : Heap V) (
   pub walks_lacking : (q : List Field) → walk h' root' q ≡ unless k (walk h root q)
   walks_lacking q = ap (λ o. walk h' o q) lacks.roots ∙ walk_lacks root q
 
-  -- removing a node without a value changes no lookup
+  -- removing a node that has neither a value nor children changes no lookup
   pub lookups_lacking : SameLookups h root h' root'
   lookups_lacking q = ap (option_and_then (value h')) (walks_lacking q) ∙ value_lacks (walk h root q)
 
-  -- every walk that ends at a node other than k still ends there
+  -- a walk that ends at a node other than k still ends at this node after k is removed
   pub walks_kept : (q : List Field) (j : ℕ) → j ≢ k → walk h root q ≡ Some j → walk h' root' q ≡ Some j
   walks_kept q j ne e = walks_lacking q ∙ ap (unless k) e ∙ unless_is_other k j ne
 
@@ -395,7 +395,7 @@ same_heap h h' e = λ i j. e j i
 pub some_along : {X : Type 0} (o p : Option X) → o ≡ p → IsSome p → IsSome o
 some_along {X} o p e some = subst (λ (r : Option X). IsSome r) (sym e) some
 
--- a walk that ends at a node begins at a node
+-- a walk that ends at a node also begins at a node
 pub begins : {V : Type 0} (h : Heap V) (o : Option ℕ) (q : List Field) → IsSome (walk h o q) → IsSome o
 begins h None q some = some_along None (walk h None q) (sym (walk_none h q)) some
 begins h (Some k) q some = refl

@@ -17,7 +17,7 @@ use Rattle.name_trie.proofs.Counts.{len_fewer, len_set, not_empty as not_zero}
 use Rattle.name_trie.proofs.Changed.{same_or, one_walk, set_turns, there_by_up}
 use Rattle.name_trie.proofs.Walks.{get-table, get-table_long, same_table, put_table, remove_table, by_length}
 
--- a node that has a value exists
+-- if the optional node `o` has a value, `o` is a node
 pub up_of : {V : Type 0} (o : Option (Node V)) (x : V) → option_and_then (λ n. n.value) o ≡ Some x → (u : Option ℕ) × (option_map (λ n. n.parent) o ≡ Some u)
 up_of None x e = absurd cc
 up_of (Some n) x e = (n.parent, refl)
@@ -69,7 +69,7 @@ module _ {V : Type 0} (k : ℕ) (v : Option V) (h h' : Heap V) (turns : Turns k 
               cc)
         ] refl
 
-    -- if the node has no value before or after the change, no lookup changes
+    -- if the node has neither a value before the change nor a value after it, no lookup changes
     pub unturned : value h k ≡ None → v ≡ None → (q : List Field) → lookup h' root q ≡ lookup h root q
     unturned was now q =
         ap (option_and_then (value h')) (walk_same root q) ∙ stays (walk h root q)
@@ -113,7 +113,8 @@ module _ {V : Type 0} (k : ℕ) (v : Option V) (h h' : Heap V) (turns : Turns k 
         bare = sym (turns.others j ne) ∙ bare.bare;
       }
 
--- setting a node's value is a special case of changing it
+-- This module restates lemmas about a change of a node's value (`Turns`) for the case that the
+-- value is set (`Sets`).
 module _ {V : Type 0} (k : ℕ) (v : Option V) (h h' : Heap V) (sets : Sets k v h h') (root : Option ℕ) where
   pub walk_set : (q : List Field) → walk h' root q ≡ walk h root q
   walk_set = walk_turned k v h h' (set_turns k v h h' sets) root
@@ -125,9 +126,9 @@ module _ {V : Type 0} (k : ℕ) (v : Option V) (h h' : Heap V) (sets : Sets k v 
     pub lookup_set : (name : List Field) → walk h root name ≡ Some k → (q : List Field) → lookup h' root q ≡ cond (eq_by_cmp name_cmp q name) v (lookup h root q)
     lookup_set = lookup_turned k v h h' (set_turns k v h h' sets) root sound
 
--- if a lookup of `name` in `h'` gives `v`, and all other lookups give the same in `h'` as in `h`,
--- the table of `h'` is the table of `h` with the value `v` for `name`, or without a value for
--- `name` if `v` is None
+-- For a name of at most 64 components: if a lookup of `name` in `h'` gives `v`, and all other
+-- lookups give the same in `h'` as in `h`, then the table of `h'` is the table of `h` with the
+-- value `v` for `name`, or without a value for `name` if `v` is None.
 pub with_value_table : {V : Type 0} (h h' : Heap V) (root root' : Option ℕ) (name : List Field) (v : Option V) → length name ≤ 64
     → ((q : List Field) → lookup h' root' q ≡ cond (eq_by_cmp name_cmp q name) v (lookup h root q))
     → table_of h' root' ≡ with_value (table_of h root) name v

@@ -89,7 +89,7 @@ module _ {N F K X : Type 0} {R : N → N → Ordering} {S : F → F → Ordering
         or_none None = refl
         or_none (Some x) = refl
 
-    -- the value under a key is the value in the row of the key's name
+    -- in the flattened map, the value of a key is the value of its inner key in the row of its name
     pub get-flatten : (t : FinMap R (FinMap S X)) (k : K) → get (flatten Q key t) k ≡ option_and_then (λ r. get r (rest k)) (get t (name k))
     unfolding flatten
     get-flatten t k =
@@ -106,7 +106,7 @@ module _ {N F K X : Type 0} {R : N → N → Ordering} {S : F → F → Ordering
       length-append (row e.0 (entries e.1)) (flat key es)
       ∙ (λ i. (length-map_row e.0 (entries e.1) ∙ sym (len-entries e.1)) i + length_flat es i)
 
-  -- the number of keys is the total number of entries in the rows
+  -- the number of keys of the flattened map is the total number of entries in the rows
   pub len-flatten : (t : FinMap R (FinMap S X)) → len (flatten Q key t) ≡ total (λ r. len r) (entries t)
   unfolding flatten
   len-flatten t =

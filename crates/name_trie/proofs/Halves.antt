@@ -1,4 +1,5 @@
--- If a row is less than a key, so are all rows before it.
+-- In sorted rows, if a row is not greater than a key, all rows before this row are less than the
+-- key.
 use Rattle.std.proofs.Common.{◌≡◌, ℕ, zero, suc, ◌+◌, ◌<◌, ◌≤◌, true, false, List, [], ◌∷◌, length, get_or, take, refl, sym, ap, subst, ◌∙◌, arith, ltb}
 use lib.Dec.{T}
 use Rattle.std.specs.declared.cmp.Ordering.{Ordering}
@@ -28,7 +29,7 @@ module _ {K X : Type 0} {R : K → K → Ordering} (total : IsTotalOrder R) wher
   upto k (e ∷ rows) (suc at) row lt is sorted gt =
       (lower total k e.0 row.0 (below_at e.0 rows at row (omega arith) is (first_of _ _ sorted)) gt, upto k rows at row (omega arith) is (second_of _ _ sorted) gt)
 
-  -- if a row has the key, all rows before it are less than the key
+  -- if the row at index `at` of sorted rows has the key, all rows before it are less than the key
   before : (k : K) (rows : List (K × X)) (at : ℕ) (row : K × X) → at < length rows → row ≡ get_or rows at row → T (is_sorted R rows) → R k row.0 ≡ Equal → AllLower R k (take at rows)
   before k [] at row lt is sorted tie = absurd (omega arith)
   before k (e ∷ rows) zero row lt is sorted tie = tt
@@ -51,8 +52,9 @@ row_at (e ∷ rows) zero lt = (e, refl)
 row_at (e ∷ rows) (suc at) lt = row_at rows at (omega arith)
 
 module _ {K X : Type 0} {R : K → K → Ordering} (total : IsTotalOrder R) where
-  -- if the rows before index `at` are less than the key and the row there is greater, the key is
-  -- inserted at `at`
+  -- Let the rows be sorted, let the rows before index `at` be less than the key, and let the row at
+  -- `at`, if there is one, be greater than the key. Then no row has the key, and `put` inserts a
+  -- new row at index `at`.
   pub gap_is : (k : K) (rows : List (K × X)) (at : ℕ) → at ≤ length rows → AllLower R k (take at rows)
       → ((row : K × X) → at < length rows → row ≡ get_or rows at row → R k row.0 ≡ Less) → T (is_sorted R rows)
       → (at ≤ length rows) × ((v : X) → put R k v rows ≡ insert rows at (k, v)) × (find R k rows ≡ None)

@@ -24,7 +24,8 @@ small (suc n) octets are =
     let less : head n octets * 256 + slice_index octets n < 256 * 256 ^ n = mul-add-lt (head n octets) 256 (slice_index octets n) (256 ^ n) (small n octets are) (are n) in
     subst (λ (m : ℕ). head n octets * 256 + slice_index octets n < m) (sym (pow-succ' 256 n)) less
 
--- the head of fewer than eight octets is less than 2^56, so one more octet can be appended
+-- the head of fewer than 8 octets is less than 2^56, so that appending one more octet does not
+-- exceed 64 bits
 pub room : (n : ℕ) (octets : List ℕ) → AreOctets octets → n < 8 → head n octets < 2 ^ 56
 room n octets are lt =
     let most : 256 ^ n ≤ 256 ^ 7 = pow-le-pow_right {n = 256} (omega arith) {i = n} {j = 7} (omega arith) in
@@ -34,13 +35,15 @@ pub next : (n : ℕ) (octets : List ℕ) → head (n + 1) octets ≡ head n octe
 unfolding head
 next n octets = rw add-one refl
 
+-- if there are at most n octets, the head of n + 1 octets is the head of n octets times 256, since
 -- positions after the last octet count as zeros
 pub past : (n : ℕ) (octets : List ℕ) → length octets ≤ n → head (n + 1) octets ≡ head n octets * 256
 past n octets le =
     let none : slice_index octets n ≡ 0 = get_or_past octets n 0 le in
     omega (arith, next n octets, none)
 
--- the first eight octets, read as a big-endian number, are the head
+-- if the first 8 octets of `eight` are the first 8 octets of `octets`, `eight` as a big-endian
+-- number is the head of `octets`
 pub big_endian : (octets eight : List ℕ) → ((i : ℕ) → i < 8 → slice_index eight i ≡ slice_index octets i) → from_be_bytes w64 eight ≡ head 8 octets
 unfolding head
 big_endian octets eight same =
@@ -90,7 +93,8 @@ less (suc n) a b are bare lt =
     ] in
     by (nat_cmp (head n a) (head n b)) refl
 
--- comparing the heads first does not change the result
+-- comparing two lists of octets first by their heads and then octet by octet gives the same result
+-- as comparing them octet by octet
 pub by_head : (n : ℕ) (a b : List ℕ) → AreOctets a → AreOctets b → ordering_then (nat_cmp (head n a) (head n b)) (slice_cmp nat_cmp a b) ≡ slice_cmp nat_cmp a b
 by_head n a b are bare =
     let by : (o : Ordering) → o ≡ nat_cmp (head n a) (head n b) → ordering_then o (slice_cmp nat_cmp a b) ≡ slice_cmp nat_cmp a b = λ o.
@@ -101,7 +105,7 @@ by_head n a b are bare =
     ] in
     by (nat_cmp (head n a) (head n b)) refl
 
--- two components of equal length, at most eight octets, are ordered by their heads alone
+-- two lists of octets of the same length, at most 8, compare as their heads do
 pub by_head_alone : (a b : List ℕ) → AreOctets a → AreOctets b → length a ≡ length b → length a ≤ 8 → nat_cmp (head 8 a) (head 8 b) ≡ slice_cmp nat_cmp a b
 by_head_alone a b are bare len short =
     let by : (o : Ordering) → o ≡ nat_cmp (head 8 a) (head 8 b) → o ≡ slice_cmp nat_cmp a b = λ o.

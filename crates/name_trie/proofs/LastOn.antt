@@ -1,4 +1,4 @@
--- The last value on a walk is the value of the longest prefix.
+-- The last value on a walk is the value of the longest prefix that has a value.
 use Rattle.std.proofs.Common.{◌≡◌, ℕ, zero, suc, ◌≤◌, List, [], ◌∷◌, length, take, refl, sym, ap, ◌∙◌, arith}
 use Rattle.std.proofs.lemmas.List.{length-take-le}
 use Rattle.std.specs.Prelude.{Option, None, Some}
@@ -18,7 +18,8 @@ module _ {X : Type 0} where
   or_nothing (Some x) = refl
 
 module _ {V : Type 0} (h : Heap V) where
-  -- `longest_within`, computed by walks
+  -- the value of the longest prefix of `name` that has a value, among the prefixes of at most n
+  -- components; walks from `o` find the values
   abbrev within : Option ℕ → List Field → ℕ → Option V
   within o name zero = lookup h o []
   within o name (suc n) = option_or (lookup h o (take (suc n) name)) (within o name n)

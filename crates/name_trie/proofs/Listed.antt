@@ -40,7 +40,7 @@ module _ {V : Type 0} where
       ap (λ (n : List Field). (n, r.1) ∷ named front (map (λ r. (c ∷ r.0, r.1)) rs)) (sym (append_assoc front (c ∷ []) r.0))
       ∙ ap (λ l. ((front ++ c ∷ []) ++ r.0, r.1) ∷ l) (named_under front c rs)
 
-  -- if a child `e` is added after the children `xs`, the rows below it come after the rows below
+  -- if a child `e` is added after the children `xs`, the rows below `e` come after the rows below
   -- `xs`
   pub below_more : (front : List Field) (f : Option ℕ → List (List Field × V)) (xs : List (Field × ℕ)) (e : Field × ℕ)
       → named front (below f (xs ++ e ∷ [])) ≡ named front (below f xs) ++ named (front ++ e.0 ∷ []) (f (Some e.1))

@@ -17,7 +17,7 @@ module _ {V : Type 0} where
   values_named front [] = refl
   values_named front (r ∷ rs) = ap (λ vs. r.1 ∷ vs) (values_named front rs)
 
-  -- if a child `e` is added after the children `xs`, the values below it come after the values
+  -- if a child `e` is added after the children `xs`, the values below `e` come after the values
   -- below `xs`
   values_more : (f : Option ℕ → List (List Field × V)) (xs : List (Field × ℕ)) (e : Field × ℕ)
       → map (λ r. r.1) (below f (xs ++ e ∷ [])) ≡ map (λ r. r.1) (below f xs) ++ map (λ r. r.1) (f (Some e.1))

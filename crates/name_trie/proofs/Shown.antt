@@ -63,7 +63,7 @@ pub here_is : {W V : Type 0} (past : W → V → W) (before : W) (v : Option V) 
 here_is past before None o is = ap (λ o. unwrap_or o before) is
 here_is past before (Some v) o is = ap (λ o. unwrap_or o before) is
 
--- if a row is among the entries of a node's links, a lookup of its component finds its child
+-- if a row is in the list of a node's links, a lookup of the row's component finds the row's child
 pub linked_row : (m : Links) (items : List (Field × ℕ)) (i : ℕ) (row : Field × ℕ) → i < length items → row ≡ get_or items i row → items ≡ entries m → get m row.0 ≡ Some row.1
 linked_row m items i row lt is all =
     let at_place : row ≡ get_or (entries m) i row = is ∙ ap (λ l. get_or l i row) all in
@@ -88,7 +88,7 @@ module _ {S W V : Type 0} (show : S → List ℕ → W → S) where
   shown_first s front known past before None es is = refl
   shown_first s front known past before (Some v) es is = λ i. shown_after show front known (show s (append-nil front i) (is i)) es
 
-  -- a node's name is shown before the names below it
+  -- if a node has a value, its name is shown before the names below the node
   pub shown_node : (s : S) (front : List ℕ) (past : W → V → W) (before : W) (h : Heap V) (n k : ℕ) (node : Node V) (here : Option W) → n ≢ zero → h k ≡ Some node → here ≡ option_map (past before) node.value
       → shown_after show front (known_at past before (lookup h (Some k))) s (rows h n (Some k))
       ≡ shown_after show front (known_at past before (lookup h (Some k))) (shown_if show s front here) (below (rows h (n - 1)) (entries node.children))

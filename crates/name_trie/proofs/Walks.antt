@@ -137,7 +137,7 @@ module _ {V : Type 0} (h : Heap V) where
   unfolding table_of
   get-table_long root q le = get-from_entries name_cmp-total (rows h 65 root) q ∙ rows_long 65 root q le
 
-  -- a name that leads to no value has no value in the table
+  -- if a name leads to no value, the table has no value for the name
   pub get_nothing : (root : Option ℕ) (q : List Field) → lookup h root q ≡ None → get (table_of h root) q ≡ None
   get_nothing root q none =
       elim (ltb (length q) 65) as (λ t. ltb (length q) 65 ≡ t → get (table_of h root) q ≡ None) [
@@ -153,7 +153,8 @@ module _ {V : Type 0} (h h' : Heap V) (root root' : Option ℕ) where
         | false ↦ λ t. long (omega (arith, ltb-false (length q) 65 t))
       ] refl
 
-  -- if `f` changes the value that a name leads to, `f` changes the name's value in the table
+  -- if `f` turns the value that a name leads to in `h` into the value in `h'`, then `f` turns the
+  -- name's value in the table of `h` into its value in the table of `h'`
   pub get_changed : (f : V → Option V) (q : List Field) → lookup h' root' q ≡ option_and_then f (lookup h root q) → get (table_of h' root') q ≡ option_and_then f (get (table_of h root) q)
   get_changed f q is = by_length _ _ q
       (λ le. get-table h' root' q le ∙ is ∙ sym (ap (option_and_then f) (get-table h root q le)))

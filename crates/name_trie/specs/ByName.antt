@@ -6,7 +6,7 @@ use Rattle.std.specs.FinMap.{FinMap, entries, from_sorted, get, insert, remove}
 use Rattle.ndn_tlv.specs.Element.{Field}
 use Rattle.ndn_names.specs.Order.{name_cmp}
 
--- the entries, with an entry for `k` in front if `k` has a value
+-- the entries `es`, with the entry (k, x) in front if the optional value is Some x
 abbrev pub with_entry : {K X : Type 0} → K → Option X → List (K × X) → List (K × X)
 with_entry k None es = es
 with_entry k (Some x) es = (k, x) ∷ es
@@ -22,17 +22,18 @@ unfoldable pub revise : {K X Y : Type 0} {R : K → K → Ordering} → (X → O
     → FinMap R Y
 revise change m = from_sorted (revised change (entries m))
 
--- maps from names to values, in canonical order
+-- maps from names to values, with the names in canonical order
 abbrev pub ByName : Type 0 → Type 0
 ByName X = FinMap name_cmp X
 
--- the value that a longest prefix match finds among prefixes of at most n components
+-- the value of the longest prefix of `name` that has a value, among the prefixes of at most n
+-- components
 abbrev pub longest_within : {X : Type 0} → ByName X → List Field → ℕ → Option X
 longest_within table name zero = get table []
 longest_within table name (suc n) =
     option_or (get table (take (suc n) name)) (longest_within table name n)
 
--- the value that a longest prefix match of a name finds
+-- the value of the longest prefix of `name` that has a value
 abbrev pub longest : {X : Type 0} → ByName X → List Field → Option X
 longest table name = longest_within table name (length name)
 

@@ -22,7 +22,7 @@ module _ {V : Type 0} where
     pub above : h' at ≡ Some (record node { children = insert node.children c k })
     pub others : (j : ℕ) → j ≢ k → j ≢ at → h' j ≡ h j
 
-  -- A bare node k is added as the root.
+  -- A bare node k that has no parent is added.
   pub record Starts (k : ℕ) (h h' : Heap V) : Type 0 where
     pub fresh : h k ≡ None
     pub leaf : h' k ≡ Some (bare None)
@@ -34,7 +34,8 @@ module _ {V : Type 0} where
     pub leaf : (c : Field) → child h k c ≡ None
     pub bare : value h k ≡ None
 
-  -- The node k, whose parent is o, is removed, and so are the links from o to k.
+  -- The node k, whose optional parent is o, is removed. If o is a node, the links from o to k are
+  -- removed too.
   pub record Cuts (k : ℕ) (o : Option ℕ) (h h' : Heap V) : Type 0 where
     pub was : up h k ≡ Some o
     pub gone : h' k ≡ None
@@ -70,11 +71,11 @@ module _ {V : Type 0} where
   KeepsWalks h root h' root' =
       (q : List Field) (k : ℕ) → walk h root q ≡ Some k → walk h' root' q ≡ Some k
 
--- a name of fewer than 64 components leads to the node
+-- some name of fewer than 64 components leads to the node `at`
 abbrev pub HasRoomBelow : {V : Type 0} → Heap V → Option ℕ → ℕ → Type 0
 HasRoomBelow h root at = (front : List Field) × (length front < 64) × (walk h root front ≡ Some at)
 
--- the reserved name leads to the reserved node, which is not removed
+-- if a name and a node are reserved, the name leads to the node
 abbrev pub IsHeld : {V : Type 0} → Heap V → Option ℕ → Option (List Field × ℕ) → Type 0
 IsHeld h root None = Unit {0}
 IsHeld h root (Some p) = walk h root p.0 ≡ Some p.1
@@ -86,6 +87,6 @@ pub record Turns {V : Type 0} (k : ℕ) (v : Option V) (h h' : Heap V) : Type 0 
   pub here : value h' k ≡ v
   pub others : (a : ℕ) → a ≢ k → value h' a ≡ value h a
 
--- every node except the reserved one has a value or children
+-- each node except the reserved node `kept` has a value or children
 abbrev pub IsTidy : {V : Type 0} → Heap V → Option ℕ → Type 0
 IsTidy h kept = (j : ℕ) → IsBare h j → kept ≡ Some j

@@ -7,17 +7,17 @@ use Rattle.name_trie.specs.ByName.{revise}
 abbrev pub nonempty : {K X : Type 0} {R : K → K → Ordering} → FinMap R X → Option (FinMap R X)
 nonempty m = if nat_eq (len m) 0 then None else Some m
 
--- the map after each value is changed or removed, or `None` if no value is left
+-- the map after `change` changes or removes each value, or `None` if no value is left
 abbrev pub each : {K X : Type 0} {R : K → K → Ordering} → (X → Option X) → FinMap R X
     → Option (FinMap R X)
 each change m = nonempty (revise change m)
 
--- the least of n and the deadlines of these values
+-- the least of n and of the deadlines of the values in the list
 abbrev pub least_from : {K X : Type 0} → (X → ℕ) → ℕ → List (K × X) → ℕ
 least_from timer n [] = n
 least_from timer n (e ∷ es) = least_from timer (min n (timer e.1)) es
 
--- the least deadline of these values, or 0 if there are none
+-- the least deadline of the values in the list, or 0 if the list is empty
 abbrev pub least : {K X : Type 0} → (X → ℕ) → List (K × X) → ℕ
 least timer [] = 0
 least timer (e ∷ es) = least_from timer (timer e.1) es

@@ -20,7 +20,8 @@ abbrev pub shown_each : {S X : Type 0} → (S → List ℕ → X → S) → S �
 shown_each {S} {X} show s es =
     fold {A = List Field × X} {B = S} (λ s e. show s (octets_of e.0) e.1) s es
 
--- the same result as `shown_known`, but with the octets `front` before each name
+-- the visitor s after it is shown each name in order, with the octets `front` before the name and
+-- with the state at the name
 abbrev pub shown_after : {S W V : Type 0} → (S → List ℕ → W → S) → List ℕ → (List Field → W) → S
     → List (List Field × V) → S
 shown_after {S} {W} {V} show front known s es =

@@ -32,7 +32,7 @@ abbrev pub started : ℕ → Option ℕ → TimerSet → TimerSet
 started k None timers = timers
 started k (Some d) timers = set.insert timers (timer_for k d)
 
--- while a call is prepared, memory is reserved for one more timer
+-- while a call is prepared, memory is reserved for at least one more timer
 abbrev pub HasTimerRoom : Bool → Waiting → Type 0
 HasTimerRoom false w = Unit {0}
 HasTimerRoom true w = set.len w.timers < w.capacity
@@ -43,7 +43,8 @@ HasTimerRoom true w = set.len w.timers < w.capacity
 abbrev pub size_at : {V : Type 0} → (V → ℕ) → Heap V → ℕ → ℕ
 size_at size h k = size_of size (value h k)
 
--- `len` becomes `len'` when the size `was` in the sum is replaced by `is`; both wrap at 2^64
+-- `len` becomes `len'` when the size `was` in the sum is replaced by `is`; `len` and `len'` wrap at
+-- 2^64
 abbrev pub Recounts : (was is len len' : ℕ) → Type 0
 Recounts was is len len' =
     (sum sum' : ℕ) → sum' + was ≡ sum + is → len ≡ sum % 2 ^ 64 → len' ≡ sum' % 2 ^ 64

@@ -65,8 +65,8 @@ last_on h None q best = best
 last_on h (Some k) [] best = option_or (value h k) best
 last_on h (Some k) (c ∷ cs) best = last_on h (child h k c) cs (option_or (value h k) best)
 
--- Each node except the root is the child of exactly one node, under exactly one component. For each
--- node, some name of at most 64 components leads to it.
+-- If a node has a link to a child, the node is the child's parent, and has no other link to this
+-- child. The root has no parent. For each node, some name of at most 64 components leads to it.
 pub record Sound {V : Type 0} (h : Heap V) (root : Option ℕ) : Type 0 where
   pub back : (a : ℕ) (c : Field) (k : ℕ) → child h a c ≡ Some k → up h k ≡ Some (Some a)
   pub once : (a : ℕ) (c d : Field) (k : ℕ) → child h a c ≡ Some k → child h a d ≡ Some k → c ≡ d

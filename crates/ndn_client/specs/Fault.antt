@@ -15,8 +15,9 @@ key_status (TwiceNamed line) = 1
 key_status TooMany = 1
 key_status KeyMemory = 3
 
--- the exit status: that of the job's fault; or 1 for a fault in the key file or a request that was
--- not done, 2 for an argument that is not UTF-8, 3 for a system error
+-- the exit status: that of the job's fault; or 1 if no key file was given, the key file has a
+-- fault, or a request was not done; 2 if an argument is not UTF-8; 3 if the system failed, memory
+-- ran out, or no answer came to the packet of `send`
 abbrev pub status_of : Fault → ℕ
 status_of (fault.Tool why) = tool_status why
 status_of fault.NoKeyFile = 1
@@ -32,7 +33,8 @@ status_of (fault.Unbound port) = 3
 status_of (fault.Silent why) = 3
 status_of (fault.NotDone why) = 1
 
--- the message for standard error, including its LF
+-- the message for standard error, including its LF, or None if the command-line parser makes the
+-- message
 abbrev pub text_of : Fault → Option (List ℕ)
 text_of (fault.Tool why) = tool_text why
 text_of fault.NoKeyFile = Some (codes "key not found\ngive --keys\n")

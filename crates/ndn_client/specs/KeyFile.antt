@@ -12,7 +12,7 @@ abbrev pub IsFileFault : List ℕ → Fault → Type 0
 IsFileFault octets (Keys why) = IsFaultOfOctets octets why
 IsFileFault octets why = ⊥
 
--- the keys in these octets, which are no more than a key file may have
+-- `keys` are the keys in the octets, and the octets are no more than a key file may have
 abbrev pub AreKeysOfFile : List ℕ → List NamedKey → Type 0
 AreKeysOfFile octets keys = (length octets ≤ MAX_KEY_FILE) × AreKeys octets keys
 
@@ -22,13 +22,13 @@ IsUnread path (Unread place kind) = string_bytes place ≡ path
 IsUnread path (Tool why) = why ≡ Memory
 IsUnread path why = ⊥
 
--- the fault of an unreadable file has this cause
+-- if the fault is that the file cannot be read, then `kind` is the cause
 abbrev pub HasCause : ErrorKind → Fault → Type 0
 HasCause kind (Unread path cause) = cause ≡ kind
 HasCause kind why = ⊤
 
--- the octets are more than a key file may have, or are refused as a key file, or the file cannot be
--- read
+-- the octets are more than a key file may have, or are refused as a key file, or the file cannot
+-- be read, or memory ran out
 abbrev pub IsKeyFileFault : List ℕ → List ℕ → Fault → Type 0
 IsKeyFileFault path octets why =
     ((MAX_KEY_FILE < length octets) × (why ≡ LargeKeys))

@@ -236,6 +236,6 @@ tool = record {
 abbrev pub HasApp : App → Command → Type 0
 HasApp app command = (app_of command ≡ app) × ((out-Command command).has_globals ≡ false)
 
--- the argument is parsed by this rule
+-- the argument is parsed by this rule, and subcommands do not share the argument
 abbrev pub HasRule : Rule → Arg → Type 0
 HasRule rule arg = (rule_of arg ≡ rule) × (arg.global ≡ false)

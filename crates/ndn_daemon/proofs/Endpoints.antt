@@ -60,6 +60,6 @@ pub no_endpoint : (text : List ℕ) → ((n : ℕ) → IsPort text n → ⊥) �
 no_endpoint text no_port no_socket a (inl h) = no_port (socket_port a) h.0
 no_endpoint text no_port no_socket a (inr h) = no_socket a h.0 h.1
 
--- if a text spells an address with port 0, then it spells no address with another port
+-- if a text spells an address with port 0, then it spells no address with a port above 0
 pub port_zero : (text : List ℕ) (a : SocketAddr) → IsSocketText text a → socket_port a ≡ 0 → (b : SocketAddr) → IsSocketText text b → 0 < socket_port b → ⊥
 port_zero text a h zero b k some = let same : socket_port a ≡ socket_port b = ap socket_port (IsSocketText_unique text a b h k) in absurd (omega (arith, same, zero, some))

@@ -41,8 +41,8 @@ Writes-cut a b c text gathered h k = subst (AppendsFront a c) (sym h.1) (Appends
 pub AppendsFront-longer : (a b : Option (List ℕ)) (text more : List ℕ) → AppendsFront a b text → AppendsFront a b (text ++ more)
 AppendsFront-longer a b text more h = (h.0, h.1 ++ more, ap (λ (l : List ℕ). l ++ more) h.2 ∙ append_assoc h.0 h.1 more, h.3)
 
--- if `number` turns were taken, and the next turn stops with the fault `why`, then the turns stop
--- with this fault
+-- If `number` turns were taken, all of their text but `gathered` was written, and the next turn
+-- stops with the fault `why`, then the turns stop with this fault.
 pub stops_turns : (old mid new : NodeState) (before between after : Shown) (turns number : ℕ) (a b c : Option (List ℕ)) (text gathered : List ℕ) (why : Fault)
     → Tells old mid before between number text → Writes a b text gathered → number < turns → StopsTurn mid new between after b c gathered why → StopsTurns old new before after turns a c why
 stops_turns old mid new before between after turns number a b c text gathered Unreceived told writes less h = (
@@ -65,7 +65,7 @@ stops_turns old mid new before between after turns number a b c text gathered (J
     (mid, between, number, text, told, h.0, less, Writes-cut a b c text gathered writes h.1)
 stops_turns old mid new before between after turns number a b c text gathered why told writes less h = absurd h
 
--- if `A` holds after a success, and `A` implies `B`, then `B` holds after a success
+-- if `A` holds when `r` is a success, and `A` implies `B`, then `B` holds when `r` is a success
 pub done_then : {A B : Type 0} (r : Result (Unit {0}) Fault) → OnOk r A → (A → B) → OnOk r B
 done_then (Ok done) h then = then h
 done_then (Err why) h then = tt

@@ -53,7 +53,8 @@ pub same_endpoint : (text : Option (List ℕ)) (a b : SocketAddr) → Has text I
 same_endpoint None a b first second = absurd first
 same_endpoint (Some text) a b first second = one_endpoint text a b first second
 
--- peers that are allowed in one reading of the texts are allowed in every reading
+-- Let the texts spell the list `a` and the list `b`, and `text` spell the endpoint `n` and the
+-- endpoint `m`. If `a` may be the peers of `n`, then `b` may be the peers of `m`.
 pub same_suit : (texts : List (List ℕ)) (text : Option (List ℕ)) (a b held : List SocketAddr) (n m : SocketAddr) → AreEndpoints texts a → AreEndpoints texts b → held ≡ b → Has text IsEndpoint n
     → Has text IsEndpoint m → MayBePeersOf n a → MayBePeersOf m held
 same_suit texts text a b held n m first second holds heard spelled may =

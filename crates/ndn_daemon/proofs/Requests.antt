@@ -59,7 +59,8 @@ is_word word other same h found = (slice_eq-Decides Decides-eqb word other same 
 differ_udp : (name : List ℕ) → name ≡ codes "udp" → name ≡ codes "journal" → ⊥
 differ_udp name udp journal = cc (udp, journal)
 
--- a request of the subcommand `udp` or `journal` has the options of this subcommand
+-- The next two lemmas: a request of the subcommand `udp`, or `journal`, has the options of this
+-- subcommand.
 
 pub udp_part : (name : List ℕ) (rows : List Row) → name ≡ codes "udp"
     → (r : Request) → IsRequest name rows r → (options : UdpOptions) × IsUdpOptions rows options

@@ -51,8 +51,8 @@ Tells-more old mid new before between after number more text done_as h k =
           ∙ sym (ap (λ (es : List PlainEvent). script_text rules es s.0.outcomes) s.1 ∙ ap (script_text rules (h.serves.arrivals ++ (k.event ∷ []))) s.2);
     }
 
--- if `text` is the text of the first `number` events, then with the event of one more turn the text
--- is `text` followed by the text of this turn
+-- If `text` is the text of the first `number` events, and one more turn brings an event, then
+-- `text` followed by the text of this turn is the text of the first `number + 1` events.
 pub Tells-turn : (old mid new : NodeState) (before between after : Shown) (number : ℕ) (text : List ℕ) (sends : List Send) (rules : List PlainRule) (turn : Turn) → (turn ≡ End → ⊥) → (turn ≡ Unwritten → ⊥)
     → Tells old mid before between number text → IsTurn mid new between after sends turn → rules ≡ new.policy.rules
     → Tells old new before after (number + 1) (text ++ turn_text (number + 1) rules turn sends)
@@ -88,9 +88,8 @@ no_fault (Err why) P h = let no : ⊥ = cc in absurd no
 pub turns_served : (old new : NodeState) (before after : Shown) (turns : ℕ) (held holds : Option (List ℕ)) → TakesTurns old new before after turns held holds → ServesTurns old new before after turns
 turns_served old new before after turns held holds t = (t.0, t.3.refused, t.3.failed, t.1, t.3.serves, t.4)
 
--- If a success means that turns were taken and left the ports in the state `after`, then a success
--- means that turns were taken and left the ports in some state. `served_until` states the same for
--- turns that were served.
+-- The next two lemmas: if a success means that turns were taken, or served, and left the ports in
+-- the state `after`, then a success means that these turns left the ports in some state.
 pub taken_until : (old new : NodeState) (before after : Shown) (turns : ℕ) (held holds : Option (List ℕ)) (r : Result (Unit {0}) Fault)
     → OnOk r (TakesTurns old new before after turns held holds) → OnOk r ((last : Shown) × TakesTurns old new before last turns held holds)
 taken_until old new before after turns held holds (Ok done) h = (after, h)
@@ -101,8 +100,9 @@ pub served_until : (old new : NodeState) (before after : Shown) (turns : ℕ) (r
 served_until old new before after turns (Ok done) h = (after, h)
 served_until old new before after turns (Err why) h = tt
 
--- if a journal was replayed, and turns were then served at ports whose journal has the octets that
--- the replay kept, then later turns were taken
+-- If a journal was replayed, and a success means that turns were then served at ports whose
+-- journal has the octets that the replay kept, then a success means that `TakesLaterTurns` is
+-- true.
 pub later_turns : (unread kept : Option (List ℕ)) (turns : ℕ) (old begun new : NodeState) (before : Shown) (r : Result (Unit {0}) Fault) → (done : Replayed) × ReplaysJournal unread kept old begun done
     → before.journal ≡ kept → OnOk r ((after : Shown) × ServesTurns begun new before after turns) → OnOk r (TakesLaterTurns unread turns old new)
 later_turns unread kept turns old begun new before (Ok done) replayed same h = record {

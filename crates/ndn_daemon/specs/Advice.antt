@@ -25,7 +25,7 @@ advice_on_rules line rules.AnyAnchor =
     codes "a trust anchor of type any would allow packets without a rule: write rules in its place"
 advice_on_rules line rules.Memory = codes "out of memory"
 
--- the fault is that memory ran out
+-- whether the fault is that memory ran out
 abbrev pub is_memory : RulesFaultKind → Bool
 is_memory rules.Memory = true
 is_memory kind = false

@@ -8,7 +8,7 @@ use Rattle.ndn_log.specs.Line.{IsLogged}
 use Rattle.ndn_log.specs.declared.entry.Came.{Came}
 use Rattle.ndn_log.specs.declared.entry.Came.TheVariants.{Packet, Opened, Closed, Tick, NewRules}
 
--- a plain event is left out, unless all events are shown
+-- whether an event is left out: a plain event is left out, unless all events are shown
 abbrev pub is_left_out : Bool → Came → Result Verdict Memory → Bool
 is_left_out shows_all came outcome = not shows_all && is_plain came outcome
 

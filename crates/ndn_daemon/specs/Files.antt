@@ -34,7 +34,7 @@ HasCause kind (Unread file path cause) = cause ≡ kind
 HasCause kind why = ⊤
 
 -- the fault of a rule file: it has too many octets, or its octets have a fault, or it cannot be
--- read
+-- read, or memory ran out
 abbrev pub IsRuleFileFault : List ℕ → List ℕ → Fault → Type 0
 IsRuleFileFault path octets why =
     ((65536 < length octets) × (why ≡ Rules (record { line = 0; kind = TooLarge })))
@@ -45,7 +45,8 @@ IsRuleFileFault path octets why =
 abbrev pub AreKeysOfFile : List ℕ → List NamedKey → Type 0
 AreKeysOfFile octets keys = (length octets ≤ MAX_KEY_FILE) × AreKeys octets keys
 
--- the fault of a key file: it has too many octets, or its octets have a fault, or it cannot be read
+-- the fault of a key file: it has too many octets, or its octets have a fault, or it cannot be
+-- read, or memory ran out
 abbrev pub IsKeyFileFault : List ℕ → List ℕ → Fault → Type 0
 IsKeyFileFault path octets why =
     ((MAX_KEY_FILE < length octets) × (why ≡ LargeKeys))

@@ -20,7 +20,9 @@ use Rattle.ndn_daemon.specs.declared.fault.Fault.{Fault}
 use Rattle.ndn_daemon.specs.declared.fault.Fault.TheVariants.{Script, Unbound, Unreceived, Journal}
 use Rattle.ndn_daemon.specs.declared.fault.JournalFault.TheVariants as journal
 
--- the line with the verdict, in the format of scripts, and one line for each packet that is sent
+-- The line with the verdict, or with the word `memory` if memory ran out, in the format of
+-- scripts, and one line for each packet that is sent. There is no text if no event came or if the
+-- event could not be journalled.
 abbrev pub turn_text : ℕ → List PlainRule → Turn → List Send → List ℕ
 turn_text number rules (Done verdict failed) sends =
     numbered_line number (verdict_text rules (verdict_of verdict)) ++ flat_map send_text sends

@@ -74,8 +74,8 @@ pub record IsUdpOptions (rows : List Row) (options : UdpOptions) : Type 0 where
   pub quiet : IsFlag (flag_at rows (codes "quiet")) options.quiet
 
 -- The ports for these options, if the last time of their clock is `told`. No peer's face is opened
--- yet, the other faces close after the idle time, and strangers are accepted with `--open` or on a
--- loopback address.
+-- yet, and the other faces close after the idle time. Strangers are accepted exactly if `--open`
+-- is given or the address to listen on is a loopback address.
 pub record ArePortsOf (options : UdpOptions) (told : ℕ) (ports : UdpState) : Type 0 where
   pub is_open : IsTrue ports.accepts_strangers ↔ (IsTrue options.«open» ⊎ IsLoopback options.listen)
   pub is : ports ≡ record (closes_after (options.idle * 1000)

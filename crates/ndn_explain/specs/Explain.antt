@@ -16,7 +16,8 @@ use Rattle.ndn_explain.specs.Segment.{segment_lines}
 use Rattle.ndn_explain.specs.declared.tag_check.TagCheck.{TagCheck}
 use Rattle.ndn_explain.specs.TagCheck.{check_lines}
 
--- the URI of the key's name, or a word for another kind of KeyLocator
+-- the URI of the key's name, or a word for another kind of KeyLocator, or None if there is no
+-- KeyLocator
 abbrev pub locator_text : PlainLocator → Option (List ℕ)
 locator_text Missing = None
 locator_text (KeyName name) = Some (uri_of name)
@@ -61,7 +62,8 @@ meaning (AData whole d) = data_meaning whole d
 meaning (ANack reason whole i) = command_lines i.name
 meaning Idle = []
 
--- the name of the reason of a Nack (NDNLPv2, "Network Nack")
+-- a space and the name of a Nack's reason, or nothing for a reason without a name (NDNLPv2,
+-- "Network Nack")
 abbrev pub reason_word : ℕ → List ℕ
 reason_word reason =
     if reason == CONGESTION then codes " Congestion" else (

@@ -21,8 +21,8 @@ abbrev pub is_send : List ℕ → Bool
 is_send [] = false
 is_send (o ∷ line) = o == 62
 
--- The text before a packet in a line, and the packet's digits. In a line that begins with `>`, the
--- digits follow the last space. Any other line is read as digits only.
+-- The text before a packet in a line, and the packet's digits. In a line that begins with `>` and
+-- has a space, the digits follow the last space. Any other line is read as digits only.
 abbrev pub parts_of : List ℕ → List ℕ × List ℕ
 parts_of text =
     if is_send text then on_option (λ parts. parts) ([], text) (at_last_space text)
@@ -41,8 +41,8 @@ IsExplainedPacket keys octets said =
     ⊎ ((why : PacketFault) × FaultOf octets why
     × (said ≡ named_line (codes "malformed") (packet_name why)))
 
--- the text printed for a line: the explanation of its octets or, if it has no octets, the line
--- itself
+-- the text printed for a line: if the line has a packet, the text before the packet and then the
+-- explanation of the packet; otherwise the line itself
 abbrev pub IsExplainedPart : Option (List NamedKey) → List ℕ → List ℕ
     → Result (List ℕ) FromHexError → List ℕ → Type 0
 IsExplainedPart keys text head (Err why) said = said ≡ repeated text

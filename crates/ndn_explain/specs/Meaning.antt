@@ -29,7 +29,7 @@ number_text value = on_result decimal (λ _. bad_text value) (nni_at value)
 abbrev pub name_text : List ℕ → List ℕ
 name_text value = on_result uri_of (λ _. bad_text value) (name_at value)
 
--- the text of a Strategy, which must be one Name
+-- the URI of the Name in a Strategy, or the text for a malformed value if there is no such Name
 abbrev pub held_name : List ℕ → Option (List ℕ) → List ℕ
 held_name value None = bad_text value
 held_name value (Some name) = name_text name
@@ -44,7 +44,8 @@ words_of_flags true false = codes "child-inherit"
 words_of_flags false true = codes "capture"
 words_of_flags true true = codes "child-inherit capture"
 
--- the value 1 is child-inherit and the value 2 is capture; other bits have no effect
+-- the words for the flags of a route: the value 1 is child-inherit, the value 2 is capture, and
+-- other bits have no effect
 abbrev pub flags_word : ℕ → List ℕ
 flags_word flags = words_of_flags (flags % 2 == 1) (flags / 2 % 2 == 1)
 
@@ -134,8 +135,8 @@ command_lines name = asked_lines name (parameters_in name)
 
 -- ---- replies
 
--- an octet is printable if it is from 32 to 126; a text with any other octet is shown in
--- hexadecimal
+-- whether the octet is printable, that is, from 32 to 126; a text with any other octet is shown
+-- in hexadecimal
 abbrev pub is_printable : ℕ → Bool
 is_printable octet = nat_le 32 octet && nat_le octet 126
 
@@ -143,7 +144,7 @@ abbrev pub status_text : Option (List ℕ) → List ℕ
 status_text None = codes "-"
 status_text (Some text) = if list_all is_printable text then text else hex_or_dash text
 
--- the words of a status: its code and its text
+-- the line of a status: its code and its text; no line without a code
 abbrev pub status_words : Option (List ℕ) → Option (List ℕ) → List ℕ
 status_words None text = []
 status_words (Some code) text =

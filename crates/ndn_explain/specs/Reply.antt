@@ -15,8 +15,8 @@ data_field kind octets =
     option_and_then (λ fields. first_of kind (elements_of fields))
     (single DATA (elements_of octets))
 
--- the Content `content`, if the octets are exactly the reply that a node writes with this name and
--- this Content
+-- the Content in the octets, if the octets are exactly the reply that a node writes with this name
+-- and this Content
 abbrev pub written_content : List Field → List ℕ → Option (List ℕ)
 written_content name octets =
     option_and_then

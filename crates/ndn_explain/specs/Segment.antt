@@ -18,7 +18,7 @@ abbrev pub number_of : Option Field → Option ℕ
 number_of None = None
 number_of (Some c) = if c.0 == SEGMENT then number_in c.1 else None
 
--- the number in the last component of a name, if that is a segment component
+-- the number in the last component of a name, if the last component is a segment component
 abbrev pub segment_of : List Field → Option ℕ
 segment_of name = number_of (slice_get name (length name - 1))
 

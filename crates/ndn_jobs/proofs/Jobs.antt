@@ -128,7 +128,8 @@ module _ (now : ℕ) (words name : List ℕ) (rows : List Row) where
   a_peek (Send job) h = absurd h
   a_peek (Ask job) h = (job, h)
 
-  -- the cases in which the verb is `list`, and in which it is not
+  -- The next two lemmas: if the verb is `list`, the job of the subcommand asks for a list;
+  -- otherwise the job makes a command from its short form.
 
   pub a_list : is_list rows ≡ true → (job : Job) → IsListedJob now words name rows job → (x : AskJob) × IsListJob now words name rows x
   a_list said (Help error) h = absurd h

@@ -6,8 +6,9 @@ use Rattle.ndn_jobs.specs.declared.fault.ToolFault.TheVariants as fault
 use Rattle.ndn_jobs.specs.Value.{IsUsage, IsWrong, IsRefused, ReadsInMemory}
 use Rattle.ndn_jobs.specs.Options.{Has, MayHave}
 
--- If each value that satisfies `Whole` gives a value that satisfies `Part`, a fault that is right
--- for `Part` is right for `Whole`: if the part spells no value, the whole spells none.
+-- Let each value that satisfies `Whole` give a value that satisfies `Part`. If no value satisfies
+-- `Part`, then no value satisfies `Whole`, so a fault that is correct for `Part` is correct for
+-- `Whole`.
 
 module _ {A B : Type 0} (Part : A → Type 0) (Whole : B → Type 0) (part : (y : B) → Whole y → (x : A) × Part x) where
   none_whole : ((x : A) → Part x → ⊥) → (y : B) → Whole y → ⊥
@@ -37,7 +38,7 @@ module _ {A B : Type 0} (Part : A → Type 0) (Whole : B → Type 0) (part : (y 
   wrong_in_memory (fault.Packet why) h = h
   wrong_in_memory fault.Memory h = absurd h
 
--- if the text spells no value, the fault BadValue is right
+-- The next two lemmas: if the text spells no value, a fault `BadValue` is correct.
 
 module _ {A : Type 0} (Spell : A → Type 0) (none : (x : A) → Spell x → ⊥) where
   pub usage_wrong : (why : ToolFault) → IsUsage why → IsWrong Spell why
@@ -60,7 +61,8 @@ module _ {A : Type 0} (Spell : A → Type 0) (none : (x : A) → Spell x → ⊥
 pub lacks : {A : Type 0} (Spells : List ℕ → A → Type 0) (said : Option (List ℕ)) → said ≡ None → (x : A) → Has said Spells x → ⊥
 lacks Spells said e x h = let both : None ≡ Some h.0 = sym e ∙ h.1 in absurd cc
 
--- if the option is given with this value, reading the value is the same as reading the option
+-- The next lemmas: if the option is given with the value `value`, then reading `value` is the same
+-- as reading the option.
 
 module _ {A : Type 0} (Spells : List ℕ → A → Type 0) (said : Option (List ℕ)) (value : List ℕ) (there : Some value ≡ said) where
   same : (w : List ℕ) → said ≡ Some w → w ≡ value

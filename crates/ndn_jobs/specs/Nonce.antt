@@ -1,9 +1,9 @@
--- The Nonce of a command if its options do not give one.
+-- The Nonce of an Interest if the options of its subcommand do not give one.
 use Rattle.std.specs.Prelude.{ℕ, List, ◌++◌, codes, flat_map, take}
 use Rattle.std.specs.Fmt.{decimal}
 use Rattle.sha2.specs.Sha256.{sha256}
 
--- a word with a space before it, and all words as one text
+-- a word with a space before it
 abbrev pub spaced : List ℕ → List ℕ
 spaced word = codes " " ++ word
 

@@ -19,7 +19,8 @@ abbrev pub scope_word : code_scope.Scope → List ℕ
 scope_word Local = codes "local"
 scope_word Far = codes "far"
 
--- the face with its endpoint, and what happened on the face, with the packet that `frame` contains
+-- what happened: for an event on a face, the face with its endpoint, and the packet in `frame`,
+-- or that the face opens or closes; for other events, a tick or new rules
 abbrev pub came_words : Option SocketAddr → Option PlainFrame → Came → List ℕ
 came_words endpoint frame (Packet face octets) =
     face_words face endpoint ++ (codes " " ++ packet_words frame)
@@ -37,7 +38,8 @@ end_words (Closed face) outcome = []
 end_words Tick outcome = []
 end_words NewRules outcome = []
 
--- what happened, and the verdict, which shows rules by their ids in `rules`
+-- what happened, the verdict, which shows rules by their ids in `rules`, and the octets of a
+-- dropped packet
 abbrev pub event_words : List PlainRule → Entry → Result code.Verdict Memory → List ℕ
 event_words rules entry outcome =
     let frame = frame_in (octets_in entry.came) in

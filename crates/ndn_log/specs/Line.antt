@@ -4,7 +4,7 @@ use Rattle.std.specs.List.{list_all}
 use Rattle.ndn_names.specs.Uri.{hexadecimal}
 use Rattle.ndn_log.specs.Time.{IsTimeText}
 
--- printable ASCII, from the space to the tilde
+-- whether the octet is printable ASCII, from the space to the tilde
 abbrev pub is_printable : ℕ → Bool
 is_printable octet = nat_le 32 octet && nat_le octet 126
 

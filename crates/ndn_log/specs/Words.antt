@@ -25,7 +25,8 @@ beginning_words [] = []
 beginning_words (o ∷ octets) =
     codes " beginning " ++ encode_lower (take SHOWN_OCTETS (o ∷ octets))
 
--- a packet of more than 9,000 octets is truncated to 9,001, so there may be more octets
+-- the words for a truncated packet: a packet of more than 9,000 octets is truncated to 9,001
+-- octets, so there may be more octets
 abbrev pub more_words : ℕ → List ℕ
 more_words count = if count == CUT_OCTETS then codes " or more" else []
 

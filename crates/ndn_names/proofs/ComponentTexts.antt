@@ -1,4 +1,4 @@
--- Components in text, whose octets are counted before they are decoded.
+-- The octets that a component's text encodes are counted before they are decoded.
 use Rattle.std.proofs.Common.{◌≡◌, ℕ, suc, ◌+◌, ◌*◌, ◌<◌, ◌≤◌, Bool, true, false, length, get_or, drop, take, arith, List, [], ◌∷◌, ◌++◌, Result, Ok, Err, refl, sym, ap, ◌∙◌, length-append, inl, inr, eq-eqb}
 use Rattle.std.specs.Prelude.{◌&&◌, ◌==◌}
 use Rattle.std.proofs.lemmas.Bool.{cases_eq, ne_eqb}
@@ -57,7 +57,8 @@ paired_nothing text = ([], put_nothing hex_in [] [] text refl, refl)
 pub paired_one : (i octet : ℕ) (text : List ℕ) → 2 * i + 1 < length text → HasPaired i text → pair_in (get_or text (2 * i) 0) (get_or text (2 * i + 1) 0) ≡ Ok octet → HasPaired (i + 1) text
 paired_one i octet text lt h e = (h.0 ++ octet ∷ [], put_pair h.0 text i octet lt h.1 e, omega (arith, length-append h.0 (octet ∷ []), h.2))
 
--- `read` is a component with this type, length and value
+-- `read` succeeds with a component that has the type `kind` and a value of `len` octets, and
+-- `value` succeeds with the value of this component
 abbrev pub HasRead : Result Field NameFault → ℕ → ℕ → Result (List ℕ) NameFault → Type 0
 HasRead read kind len value =
     (field : Field) × (read ≡ Ok field) × ((kind ≡ field.0) × (len ≡ length field.1) × (value ≡ Ok field.1))
@@ -75,7 +76,8 @@ pub plain_said : (kind found len : ℕ) (text octets : List ℕ) (value : Result
     → component_of (kind, take len octets) ≡ Ok (found, take len octets) → value ≡ Ok (take len octets) → HasRead (plain_in kind text) found len value
 plain_said kind found len text octets value read cut is component e = ((found, take len octets), rw (read, cut, component) refl, (refl, is, e))
 
--- if a reading returns `octet` before the octets of the reading `r`, then `r` succeeds
+-- if `before octet r` returns octets, `r` succeeds, and these octets are `octet` followed by the
+-- result of `r`
 pub before_found : (octet : ℕ) (r : Result (List ℕ) NameFault) (octets : List ℕ) → before octet r ≡ Ok octets → (rest : List ℕ) × (r ≡ Ok rest) × (octets ≡ octet ∷ rest)
 before_found octet (Ok rest) octets e = (rest, refl, cc)
 before_found octet (Err fault) octets e = absurd cc

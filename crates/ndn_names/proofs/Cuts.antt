@@ -13,8 +13,8 @@ lacks_from_places : (octet : ℕ) (text : List ℕ) → ((i : ℕ) → i < lengt
 lacks_from_places octet [] h = tt
 lacks_from_places octet (o ∷ text) h = (h 0 (omega arith), lacks_from_places octet text (λ i lt. h (suc i) (omega arith)))
 
--- a piece with an equals sign reads as a component whose type is before the first equals sign, and
--- whose value is after it
+-- `component_in` reads a piece with an equals sign as `typed_in` reads the text before the first
+-- equals sign and the text after it
 pub component_parts : (piece : List ℕ) (front back : Bor (List ℕ)) → IsSplitOnceResult 61 piece (Some (front, back)) → component_in piece ≡ typed_in front.now back.now (kind_of front.now)
 unfolding component_in
 component_parts piece front back split =
@@ -26,7 +26,8 @@ unfolding component_in
 component_whole piece split =
     ap (component_by_cut piece) (cut_lacking 61 piece (lacks_from_places 61 piece (split_parts 61 piece None split (omega arith))))
 
--- the first piece of a text is the text before its first slash, or the whole text
+-- the pieces of a text with a slash are the text before the first slash, followed by the pieces of
+-- the text after this slash
 pub pieces_parts : (text : List ℕ) (front back : Bor (List ℕ)) → IsSplitOnceResult 47 text (Some (front, back)) → pieces_of text ≡ front.now ∷ pieces_of back.now
 pieces_parts text front back split =
     let p = split_parts 47 text (Some (front, back)) split (omega arith) in

@@ -45,7 +45,8 @@ guarded true v next h = h refl
 first_of_zero : get_or (decimal 0) 0 0 ≡ 48
 first_of_zero = rw (decimal_digit 0 (omega arith)) refl
 
--- a text without leading zeros that reads as a number below 65536 reads as a type number
+-- if a text does not begin with the digit 0, and `number_in` reads it as a number below 65536,
+-- `type_in` reads it as the same number
 pub type_read : (type_name : List ℕ) (kind : ℕ) → get_or type_name 0 0 ≢ 48 → number_in type_name ≡ Ok kind → kind < 65536 → type_in type_name ≡ Ok kind
 type_read type_name kind lead e small =
     let p = number_found type_name kind e in

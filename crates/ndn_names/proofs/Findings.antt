@@ -19,8 +19,9 @@ never_empty : (cs : List Field) (c : Field) → cs ++ c ∷ [] ≡ [] → ⊥
 never_empty [] c e = cc
 never_empty (d ∷ cs) c e = cc
 
--- `first` is the first component of type `kind` among those that have been read, and `rest` are the
--- octets still to be read.
+-- `first` is the first component of type `kind` among the components `front`, which have been read.
+-- Its flags tell whether no other component in `front` has this type, and whether it is the last
+-- one in `front` and no octets `rest` are still to be read.
 pub record FirstSoFar (kind : ℕ) (front : List Field) (rest : List ℕ) (first : FirstOfType) : Type 0 where
   pub before : List Field
   pub after : List Field
@@ -33,7 +34,8 @@ abbrev pub FoundSoFar : ℕ → List Field → List ℕ → Option FirstOfType �
 FoundSoFar kind front rest None = NoneOfType kind front
 FoundSoFar kind front rest (Some first) = FirstSoFar kind front rest first
 
--- n components have been read, and `found` is the first of type `kind` among them.
+-- n components of `value` have been read, the octets `rest` are still to be read, and `found` is
+-- the first of the n components that has type `kind`, or `None`.
 pub record IsFinding (kind n : ℕ) (rest value : List ℕ) (found : Option FirstOfType) : Type 0 where
   pub front : List Field
   pub reads : Reads n rest value front
@@ -93,7 +95,7 @@ finding_more kind n rest after value c found is_last first some is last f step h
   first = found_more kind h.front rest after c found is_last first some is last f h.first;
 }
 
--- after all components are read, the search result is the search result for the whole name
+-- after all octets have been read, the search result is correct for the whole name
 pub found_all : (kind : ℕ) (front : List Field) (rest : List ℕ) (found : Option FirstOfType) → rest ≡ [] → FoundSoFar kind front rest found → FindsFirst kind front found
 found_all kind front rest None none h = h
 found_all kind front rest (Some first) none h = record {

@@ -25,13 +25,14 @@ named cs others = do
   ds ← others
   Ok (cs ++ ds)
 
--- the text reads as the components that have been read, followed by the components that `rest`
--- reads as
+-- `count` components `cs`, at most 64, have been read: `text` reads as these components, followed
+-- by the components that `rest` reads as
 abbrev pub HasNamed : ℕ → List Field → List ℕ → List ℕ → Type 0
 HasNamed count cs text rest =
     (count ≡ length cs) × (count ≤ 64) × (components_in 0 (pieces_of text) ≡ named cs (components_in count (pieces_of rest)))
 
--- if 64 components have been read and text remains, the fault is `TooManyComponents`
+-- if 64 components have been read and text remains, reading the whole text returns the fault
+-- `TooManyComponents`
 pub named_full : (count : ℕ) (cs : List Field) (text rest : List ℕ) → HasNamed count cs text rest → count ≡ 64 → rest ≢ [] → components_in 0 (pieces_of text) ≡ Err TooManyComponents
 named_full count cs text rest h full some = h.2 ∙ ap (named cs) (refused (pieces_of rest) (λ none. some (pieces_none rest none)))
   where
@@ -50,8 +51,8 @@ named_one count cs text rest piece after c h room split e =
     moved cs (Ok ds) = ap (λ (t : List Field). Ok t) (sym (append_assoc cs (c ∷ []) ds))
     moved cs (Err fault) = refl
 
--- if the octets of `cs` and then those of `c` are appended, the octets of `cs` followed by `c` are
--- appended
+-- appending the octets of `cs` and then the octets of `c` is the same as appending the octets of
+-- the list `cs` with `c` added at its end
 pub octets_more : (old now next : List ℕ) (cs : List Field) (c : Field) → now ≡ old ++ octets_of cs → next ≡ now ++ element c → next ≡ old ++ octets_of (cs ++ c ∷ [])
 octets_more old now next cs c e put =
     put ∙ ap (λ (t : List ℕ). t ++ element c) e ∙ append_assoc old (octets_of cs) (element c)
@@ -91,7 +92,7 @@ slash_first text rest e other = ap name_in_path e ∙ rw (false_from_ne_true (by
 
 -- ---- what reading the whole text returns
 
--- a fault in the text is reported before `Memory`
+-- the result `r` is the result of `read`, or it is the fault `Memory` and `read` succeeds
 abbrev IsFirst : {A : Type 0} → Result A NameFault → Result A NameFault → Type 0
 IsFirst {A} read r = MatchResult r (λ x. read ≡ Ok x) (IsFaultBeforeMemory read)
 

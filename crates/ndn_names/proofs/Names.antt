@@ -17,8 +17,8 @@ use Rattle.ndn_names.specs.declared.fault.NameFault.TheVariants.{BadComponent, B
 use Rattle.ndn_names.specs.Name.{IsComponent, IsNameValue, octets_of, components_of}
 use Rattle.ndn_names.specs.Reading.{component_of, component_at, component_after, components_after, name_at}
 
--- if two steps in sequence succeed, the first step succeeds, and the second step succeeds with the
--- result of the first
+-- if the step `r` followed by the step `f` returns `y`, then `r` succeeds, and `f` applied to the
+-- result of `r` returns `y`
 pub bind_ok : {A B F : Type 0} (r : Result A F) (f : A → Result B F) (y : B) → (r >>= f) ≡ Ok y → (x : A) × (r ≡ Ok x) × (f x ≡ Ok y)
 bind_ok (Ok x) f y e = (x, refl, e)
 bind_ok (Err d) f y e = absurd cc
@@ -48,7 +48,8 @@ passes false false false long c n e h = refl
 passes false false true true c n e h = refl
 passes false false true false c n e h = let no : false ≡ true = h refl in absurd cc
 
--- if `component_of` returns a component, this is its argument, and it satisfies `IsComponent`
+-- if `component_of` returns a component, this component is the argument, and satisfies
+-- `IsComponent`
 pub component_found : (c d : Field) → component_of c ≡ Ok d → (c ≡ d) × IsComponent d
 component_found c d e =
     let p = passed (eqb c.0 0) (ltb 65535 c.0) (leb c.0 2) (eqb (length c.1) 32) c d e in
@@ -75,8 +76,8 @@ element_found n x c e =
     at_found (Err f) c e = absurd cc
     at_found (Ok d) c e = let p = component_found d c e in (ap read_element p.0, p.1)
 
--- if a list is read as components, all of its elements are valid, and the name has at most 64
--- components
+-- if a list is read as the components that come after n others, the list has no fault, all its
+-- elements are valid components, and together with the n others they are at most 64
 pub components_found : (n : ℕ) (es : List (Result Field TlvFault)) (cs : List Field) → n ≤ 64 → components_after n es ≡ Ok cs → (es ≡ map read_element cs) × (n + length cs ≤ 64) × AllByRecursion IsComponent cs
 components_found n [] cs le e = subst (λ (ds : List Field). ([] ≡ map read_element ds) × (n + length ds ≤ 64) × AllByRecursion IsComponent ds) (done_is [] cs e) (refl, omega arith, tt)
 components_found n (x ∷ es) cs le e =
@@ -132,11 +133,13 @@ components_of-found value cs fits e =
 
 -- ---- reading in a loop
 
--- n components have been read, and `rest` is still to be read
+-- n components of `value` have been read: `value` reads as some components, followed by the
+-- components that `rest` reads as after n others
 abbrev pub IsOn : ℕ → List ℕ → List ℕ → Type 0
 IsOn n rest value = (front : List Field) × (name_at value ≡ (components_after n (elements_of rest) >>= λ cs. Ok (front ++ cs)))
 
--- the components `front` have been read, and `rest` is still to be read
+-- n components of `value` have been read: `value` reads as the components `front`, followed by the
+-- components that `rest` reads as after n others
 abbrev pub Reads : ℕ → List ℕ → List ℕ → List Field → Type 0
 Reads n rest value front = name_at value ≡ (components_after n (elements_of rest) >>= λ cs. Ok (front ++ cs))
 
@@ -253,7 +256,8 @@ push_shown value after c h room is short e =
     let text : after ≡ octets_of (cs ++ c ∷ []) = e ∙ ap (λ (t : List ℕ). t ++ element c) h.0.1 ∙ ap (λ (t : List ℕ). octets_of cs ++ t) (sym (append-nil (element c))) ∙ sym (flat_map-append element cs (c ∷ [])) in
     is_shown after (cs ++ c ∷ []) ((AllByRecursion-push IsField cs c h.0.0 field, text), (omega (arith, length-append cs (c ∷ [])), AllByRecursion-push IsComponent cs c h.1.1 is))
 
--- the components of a name are its first component, followed by those in the remaining octets
+-- the components of a name are its first component `c`, followed by the components of the remaining
+-- octets `after`, which are also the TLV-VALUE of a name
 pub front_shown : (rest after : List ℕ) (c : Field) → IsNameValue rest (components_of rest) → rest ≡ element c ++ after → elements_of rest ≡ read_element c ∷ elements_of after
     → (components_of rest ≡ c ∷ components_of after) × IsNameValue after (components_of after)
 unfolding components_of
@@ -263,7 +267,8 @@ front_shown rest after c h front walk =
     let text : element c ++ after ≡ element c ++ octets_of (components_of after) = sym front ∙ g.0.1 in
     (is, ((g.0.0.1, append_cancel_left (element c) after (octets_of (components_of after)) text), (omega (arith, g.1.0), g.1.1.1)))
 
--- if no component can be read at the front of a name's valid octets, the name has no components
+-- if octets are the TLV-VALUE of a name, and no component can be read at their front, the name has
+-- no components
 pub end_shown : (rest : List ℕ) (e : NameFault) → IsNameValue rest (components_of rest)
     → (rest ≢ [] → (at : Result Field TlvFault) × (others : List (Result Field TlvFault)) × (elements_of rest ≡ at ∷ others) × (component_at at ≡ Err e))
     → components_of rest ≡ []
@@ -298,8 +303,8 @@ is_empty-shown value b (c ∷ cs) h e =
       λ n. absurd cc,
     )
 
--- the octets of a name are those of the components before the i-th, those of the i-th, and those of
--- the components after it
+-- the octets of a name are the octets of the components before index i, then those of the component
+-- at index i, and then those of the components after it
 pub place_of : (cs : List Field) (i : ℕ) (c : Field) → slice_get cs i ≡ Some c → octets_of cs ≡ octets_of (take i cs) ++ (element c ++ octets_of (drop (suc i) cs))
 place_of [] i c e = absurd cc
 place_of (d ∷ cs) zero c e = let same : d ≡ c = cc in ap (λ (f : Field). element f ++ octets_of cs) same

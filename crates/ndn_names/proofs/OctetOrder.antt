@@ -72,7 +72,7 @@ digits u v (b ∷ bs) (c ∷ cs) e p q =
     ∙ ap (λ (o : Ordering). ordering_then o (slice_cmp nat_cmp bs cs)) (digit u v b c p.0 q.0)
     ∙ then_assoc (nat_cmp u v) (nat_cmp b c) (slice_cmp nat_cmp bs cs)
 
--- decoding the big-endian octets of n returns n
+-- the octets of the big-endian encoding of n are below 256, and decoding them returns n
 record IsSpelled (w : Width) (n : ℕ) : Type 0 where
   octets : AllByRecursion (λ b. b < 256) (to_be_bytes w n)
   value : number_after 0 (to_be_bytes w n) ≡ n
@@ -105,22 +105,23 @@ wide_order w m n p q len =
 abbrev Sorts : List ℕ → List ℕ → ℕ → ℕ → Type 0
 Sorts s t m n = (x y : List ℕ) → slice_cmp nat_cmp (s ++ x) (t ++ y) ≡ ordering_then (nat_cmp m n) (slice_cmp nat_cmp x y)
 
--- if the first octets are ordered as the numbers are, so are the encodings
+-- if `m` is less than `n`, and the first octet `a` of the encoding of `m` is less than the first
+-- octet `b` of the encoding of `n`, the encodings have the order of the numbers
 apart_less : (a b : ℕ) (s t : List ℕ) (m n : ℕ) → a < b → m < n → Sorts (a ∷ s) (b ∷ t) m n
 apart_less a b s t m n h k x y = rw (nat_less a b h, nat_less m n k) refl
 
 apart_more : (a b : ℕ) (s t : List ℕ) (m n : ℕ) → b < a → n < m → Sorts (a ∷ s) (b ∷ t) m n
 apart_more a b s t m n h k x y = rw (nat_more a b h, nat_more m n k) refl
 
--- if two encodings have the same first octet and the same length, they are ordered as their numbers
--- are
+-- if two encodings have the same first octet and the same length, the encodings have the order of
+-- the numbers
 alike : (a : ℕ) (w : Width) (m n : ℕ) → IsSpelled w m → IsSpelled w n → length (to_be_bytes w m) ≡ length (to_be_bytes w n) → Sorts (a ∷ to_be_bytes w m) (a ∷ to_be_bytes w n) m n
 alike a w m n p q len x y =
     ap (λ (o : Ordering). ordering_then o (slice_cmp nat_cmp (to_be_bytes w m ++ x) (to_be_bytes w n ++ y))) (tied_itself nat_cmp_total a)
     ∙ cmp_joined (to_be_bytes w m) (to_be_bytes w n) x y len
     ∙ ap (λ (o : Ordering). ordering_then o (slice_cmp nat_cmp x y)) (sym (wide_order w m n p q len))
 
--- the form of the encoding of a number
+-- the form of the shortest encoding of n, with 1, 3, 5 or 9 octets
 data Form (n : ℕ) : Type 0 where
   one : n < 253 → spelling n ≡ n ∷ [] → Form n
   three : 253 ≤ n → n < 2 ^ 16 → spelling n ≡ 253 ∷ to_be_bytes w16 n → Form n

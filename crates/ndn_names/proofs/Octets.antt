@@ -11,7 +11,8 @@ after_these front others = do
   octets ← others
   Ok (front ++ octets)
 
--- `text` reads as the octets that were appended to `old`, followed by what `rest` reads as
+-- `now` is `old` followed by some octets, and `text` reads as these octets, followed by what `rest`
+-- reads as
 abbrev pub HasPut : (List ℕ → Result (List ℕ) NameFault) → List ℕ → List ℕ → List ℕ → List ℕ → Type 0
 HasPut reading old now text rest = (front : List ℕ) × (now ≡ old ++ front) × (reading text ≡ after_these front (reading rest))
 
@@ -31,7 +32,8 @@ put_one reading old now text rest after octet h e =
     moved front (Ok octets) = ap (λ (t : List ℕ). Ok t) (sym (append_assoc front (octet ∷ []) octets))
     moved front (Err fault) = refl
 
--- the text from the i-th pair of digits on begins with the two digits of this pair
+-- from its i-th pair of digits on, the text is the two digits of this pair, followed by the text
+-- from the next pair on
 pair_at : (text : List ℕ) (i : ℕ) → 2 * i + 1 < length text → drop (2 * i) text ≡ get_or text (2 * i) 0 ∷ get_or text (2 * i + 1) 0 ∷ drop (2 * (i + 1)) text
 pair_at text i lt =
     let next : 2 * i + 1 + 1 ≡ 2 * (i + 1) = omega arith in

@@ -22,7 +22,7 @@ then_less Greater p e = absurd cc
 
 -- ---- lists: what Less means
 
--- putting the same element x in front of both lists keeps their order
+-- if the list `a` is less than the list `b`, then `x ∷ a` is less than `x ∷ b`
 later : {X : Type 0} {Below : X → X → Type 0} (x : X) (a b : List X) → IsProperPrefix a b ⊎ DiffersBelow Below a b → IsProperPrefix (x ∷ a) (x ∷ b) ⊎ DiffersBelow Below (x ∷ a) (x ∷ b)
 later {X = X} x a b (inl p) = inl (p.0, p.1, ap (λ (t : List X). x ∷ t) p.2)
 later {X = X} x a b (inr d) = inr (x ∷ d.0, d.1, d.2, d.3, d.4, ap (λ (t : List X). x ∷ t) d.5, ap (λ (t : List X). x ∷ t) d.6, d.7)

@@ -99,7 +99,7 @@ pieces_lack (o ∷ text) =
     front_lacks o [] other h = ((other, tt), tt)
     front_lacks o (piece ∷ pieces) other h = ((other, h.0), h.1)
 
--- a slash and `text` are the pieces, each after a slash, and possibly one more slash at the end
+-- a slash followed by `text` is the path of these pieces, possibly with one more slash at its end
 abbrev IsJoined : List ℕ → List (List ℕ) → Type 0
 IsJoined text pieces = (end : List ℕ) × (47 ∷ text ≡ path_of pieces ++ end) × IsEnd end
 
@@ -123,7 +123,7 @@ joined_again (o ∷ text) =
 
 -- ---- names
 
--- each piece reads as a component
+-- pieces that read as components are not empty and contain no slash
 each_piece : (pieces : List (List ℕ)) (cs : List Field) → ReadsEach pieces cs → AllByRecursion IsPiece pieces
 each_piece [] cs each = tt
 each_piece (piece ∷ pieces) [] each = absurd each

@@ -26,16 +26,16 @@ length-take-le n cs = omega (arith, ap length (take-append-drop n cs), length-ap
 octets_cut : (n : ℕ) (cs : List Field) → octets_of cs ≡ octets_of (take n cs) ++ octets_of (drop n cs)
 octets_cut n cs = ap octets_of (sym (take-append-drop n cs)) ∙ flat_map-append element (take n cs) (drop n cs)
 
--- if the octets are `front` followed by `rest`, cutting off as many octets at the end as `rest` has
--- leaves `front`
+-- if octets are `front` followed by `rest`, then `front` is all of these octets but the last
+-- `length rest`
 front_is : (octets front rest : List ℕ) → octets ≡ front ++ rest → (length rest ≤ length octets) × (take (length octets - length rest) octets ≡ front)
 front_is octets front rest e =
     let lengths : length octets ≡ length front + length rest = ap length e ∙ length-append front rest in
     let place : length octets - length rest ≡ length front = omega arith in
     (omega arith, ap (λ (k : ℕ). take k octets) place ∙ ap (take (length front)) e ∙ take-append_seam front rest)
 
--- if an iterator has not returned the components from index i on, then after one more step it has
--- not returned those from index i + 1 on
+-- if the components that an iterator has not returned yet are those from index i on, then after one
+-- more step they are those from index i + 1 on
 pub left_after : {X : Type 0} (view : X → Field) (r : Option X) (cs left after : List Field) (i : ℕ) → left ≡ drop i cs → i < length cs
     → MatchOption r ((left ≡ []) × (after ≡ [])) (λ x. left ≡ view x ∷ after) → after ≡ drop (i + 1) cs
 left_after view None cs left after i e lt h =
@@ -43,7 +43,8 @@ left_after view None cs left after i e lt h =
 left_after view (Some x) cs left after i e lt h =
     let more = sym h ∙ e ∙ drop_more cs i (0, []) lt in cc
 
--- if `rest` encodes all but the first n components, the octets before `rest` encode the first n
+-- if `rest` encodes all but the first n components of a name, the octets before `rest` are the
+-- TLV-VALUE of the name of these first n components
 pub prefix_shown : (octets rest : List ℕ) (n i : ℕ) → IsNameValue octets (components_of octets) → IsNameValue rest (components_of rest) → components_of rest ≡ drop i (components_of octets) → i ≤ n → n ≤ i
     → (length rest ≤ length octets) × (components_of (take (length octets - length rest) octets) ≡ take n (components_of octets))
     × IsNameValue (take (length octets - length rest) octets) (components_of (take (length octets - length rest) octets))

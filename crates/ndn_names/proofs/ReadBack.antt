@@ -82,7 +82,7 @@ padded_below value h =
 value_reads : (value : List ℕ) → AreBelow256 value → IsValueText (value_text value) value
 value_reads value h = escaped_stand (padded value) (padded_below value h)
 
--- the text of a value contains no equals sign
+-- ---- the text of a value contains no equals sign
 
 abbrev is_without_equals : List ℕ → Bool
 is_without_equals text = list_all (λ o. not (o == 61)) text

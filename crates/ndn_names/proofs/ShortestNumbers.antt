@@ -52,8 +52,8 @@ tested value n is nni =
       | inr le ↦ rw (is, le-leb (least_of (length value)) n le, (bytes_eq-Decides (shortest_nni n) value).1 (shortest_from value n nni le)) refl
     ]
 
--- if a value was read as a number, comparing this number with `least` gives the `shortest_number`
--- of the value
+-- if a value is read as the number n, `shortest_number` of this value is n if n is at least
+-- `least_of` the value's length, and `None` otherwise
 pub shortest_number-is : (value : List ℕ) (r : Result ℕ TlvFault) (n least : ℕ) → r ≡ nni_at value → IfOk r (IsNni value) → Some n ≡ result_ok r → least ≡ least_of (length value)
     → then_some (leb least n) n ≡ shortest_number value
 shortest_number-is value (Ok m) n least e nni is l =

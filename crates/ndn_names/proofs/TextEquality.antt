@@ -18,15 +18,16 @@ use Rattle.ndn_names.proofs.NameReading.{named, HasNamed, named_full}
 
 -- ---- octets
 
--- if the octets `said` begin with `first`, and also with `octet` and then `octets`, `first` is
--- `octet`, and the octets after it begin with `octets`
+-- if `said` is `first` followed by `rest`, and `said` also begins with `octet` followed by
+-- `octets`, then `first` equals `octet`, and `rest` begins with `octets`
 pub said_first : (said rest octets : List ℕ) (first octet : ℕ) → said ≡ first ∷ rest → take (suc (length octets)) said ≡ octet ∷ octets → (first ≡ octet) × (take (length octets) rest ≡ octets)
 said_first said rest octets first octet e h =
     let both : first ∷ take (length octets) rest ≡ octet ∷ octets = sym (ap (take (suc (length octets))) e) ∙ h in
     (cc, cc)
 
--- if a text reads as `first` and what `rest` reads as, and the result begins with `octet` and then
--- `octets`, `first` is `octet`, and what `rest` reads as begins with `octets`
+-- Let `text` read as `first` followed by what `rest` reads as. If `text` reads as octets that
+-- begin with `octet` followed by `octets`, then `first` equals `octet`, and what `rest` reads as
+-- begins with `octets`.
 pub read_first : (reading : List ℕ → Result (List ℕ) NameFault) (text rest octets : List ℕ) (first octet : ℕ) → reading text ≡ before first (reading rest) → (said : List ℕ) → reading text ≡ Ok said
     → take (suc (length octets)) said ≡ octet ∷ octets → (first ≡ octet) × ((others : List ℕ) × (reading rest ≡ Ok others) × (take (length octets) others ≡ octets))
 read_first reading text rest octets first octet e said read h =
@@ -34,8 +35,8 @@ read_first reading text rest octets first octet e said read h =
     let here = said_first said found.0 octets first octet found.2 h in
     (here.0, (found.0, found.1, here.1))
 
--- The texts `a` and `b` encode the last `left` octets of the values `x` and `y`. The values are
--- equal exactly if these last octets are equal.
+-- What the texts `a` and `b` encode begins with `x_left` and `y_left`, which have `left` octets
+-- each. The values `x` and `y` are equal exactly if `x_left` and `y_left` are equal.
 pub record AreLeft (left : ℕ) (a b : ValueText) (x y : List ℕ) : Type 0 where
   pub x_left : List ℕ
   pub y_left : List ℕ
@@ -45,7 +46,8 @@ pub record AreLeft (left : ℕ) (a b : ValueText) (x y : List ℕ) : Type 0 wher
   pub b_says : SaysFirst b y_left
   pub same : (x ≡ y) ↔ (x_left ≡ y_left)
 
--- `first` is the first octet of the text `value`, and `after` is the text of the octets after it
+-- whenever what the text `value` encodes begins with one octet followed by others, this octet is
+-- `first`, and what the text `after` encodes begins with the others
 abbrev pub Begins : ValueText → ℕ → ValueText → Type 0
 Begins value first after = (octet : ℕ) (octets : List ℕ) → SaysFirst value (octet ∷ octets) → (first ≡ octet) × SaysFirst after octets
 
@@ -122,7 +124,8 @@ named_ok : (cs : List Field) (r : Result (List Field) NameFault) (all : List Fie
 named_ok cs (Ok ds) all e = (ds, refl, sym (done_is (cs ++ ds) all e))
 named_ok cs (Err fault) all e = absurd cc
 
--- The name `all` consists of the components `cs`, the component of the next piece, and others.
+-- The name `all` is the components `cs`, then the component `c` that `piece` reads as, and then the
+-- components `ds`.
 pub record HasNext (cs : List Field) (piece : List ℕ) (all : List Field) : Type 0 where
   pub c : Field
   pub ds : List Field
@@ -144,7 +147,7 @@ last_named count cs text rest h none = h.2 ∙ ap (λ (t : List ℕ). named cs (
 pub too_many : (count : ℕ) (cs : List Field) (text rest : List ℕ) → HasNamed count cs text rest → count ≡ 64 → rest ≢ [] → (all : List Field) → components_in 0 (pieces_of text) ≡ Ok all → ⊥
 too_many count cs text rest h full some all e = let both : Err TooManyComponents ≡ Ok all = sym (named_full count cs text rest h full some) ∙ e in absurd cc
 
--- two texts read as the same name
+-- the pieces of both texts read as the same list of components
 abbrev pub AreOne : List ℕ → List ℕ → Type 0
 AreOne a b = (cs : List Field) × (components_in 0 (pieces_of a) ≡ Ok cs) × (components_in 0 (pieces_of b) ≡ Ok cs)
 
@@ -163,7 +166,8 @@ pieces_apart count cs a b a_rest b_rest a_piece b_piece a_after b_after ha hb sa
 some_long : (c : Field) (ds all : List Field) → done (c ∷ ds) ≡ Ok all → 0 < length all
 some_long c ds all e = let whole : length (c ∷ ds) ≡ length all = ap length (done_is (c ∷ ds) all e) in omega arith
 
--- two texts cannot read as the same name if one ends before the other
+-- if two texts begin with the same components `cs`, and after these components text remains only in
+-- the second one, the two texts do not read as the same name
 pub longer : (count : ℕ) (cs : List Field) (a b a_rest b_rest : List ℕ) → HasNamed count cs a a_rest → HasNamed count cs b b_rest → a_rest ≡ [] → b_rest ≢ [] → (all : List Field)
     → components_in 0 (pieces_of a) ≡ Ok all → components_in 0 (pieces_of b) ≡ Ok all → ⊥
 longer count cs a b a_rest b_rest ha hb none some all ea eb = further (pieces_of b_rest) refl

@@ -15,8 +15,7 @@ use Rattle.ndn_names.specs.UriReading.{pair_in, before, hex_in, octets_in, unpad
 
 -- ---- steps
 
--- if a test whose failure returns `BadUri` is followed by a reading, and the result is `Ok`, the
--- test has passed, and the reading has this result
+-- if `cond b r (Err BadUri)` is `Ok y`, the test `b` has passed, and `r` is `Ok y`
 pub test_passed : {A : Type 0} (b : Bool) (r : Result A NameFault) (y : A) → cond b r (Err BadUri) ≡ Ok y → (b ≡ true) × (r ≡ Ok y)
 test_passed true r y e = (refl, e)
 test_passed false r y e = absurd cc
@@ -69,7 +68,8 @@ pub Lacks-parts : (octet : ℕ) (a b : List ℕ) → Lacks octet (a ++ b) → La
 Lacks-parts octet [] b h = (tt, h)
 Lacks-parts octet (o ∷ a) b h = let parts = Lacks-parts octet a b h.1 in ((h.0, parts.0), parts.1)
 
--- an octet other than a percent sign encodes itself
+-- a text that begins with an octet other than a percent sign reads as this octet, followed by what
+-- the rest of the text reads as
 octets_plain : (a : ℕ) (text : List ℕ) → a ≢ 37 → octets_in (a ∷ text) ≡ before a (octets_in text)
 octets_plain a [] sign = rw (ne_eqb a 37 sign) refl
 octets_plain a (b ∷ []) sign = rw (ne_eqb a 37 sign) refl
@@ -81,8 +81,8 @@ plain_found a text octets e sign slash found =
     let b = before_found a (octets_in text) octets (sym (octets_plain a text sign) ∙ e) in
     subst (StandsFor (a ∷ text)) (sym b.2) (a ∷ [], text, refl, inl (refl, sign, slash), found b.0 b.1)
 
--- if a text begins with an escape, and the text after the escape stands for what it reads as, the
--- whole text stands for what it reads as
+-- if a text begins with an escape and reads as `octets`, and the text after the escape stands for
+-- whatever it reads as, the whole text stands for `octets`
 escaped_found : (a b c : ℕ) (text octets : List ℕ) → octets_in (a ∷ b ∷ c ∷ text) ≡ Ok octets → a ≡ 37
     → ((others : List ℕ) → octets_in text ≡ Ok others → StandsFor text others) → StandsFor (a ∷ b ∷ c ∷ text) octets
 escaped_found a b c text octets e is found =

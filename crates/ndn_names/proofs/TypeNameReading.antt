@@ -27,7 +27,7 @@ number_found text n e =
 pub number_again : (text : List ℕ) → IsNumeral 10 text → digits_value 10 text < 2 ^ 64 → number_in text ≡ Ok (digits_value 10 text)
 number_again text h small = rw (own.from text h.1, lt-ltb 0 (length text) h.0, lt-ltb (digits_value 10 text) (2 ^ 64) small) refl
 
--- an octet that is not from 48 to 57 does not occur in digits
+-- an octet that is below 48 or above 57 does not occur in a text of decimal digits
 pub digits-Lacks : (octet : ℕ) → (octet < 48) ⊎ (57 < octet) → (text : List ℕ) → AllDigits 10 text → Lacks octet text
 digits-Lacks octet out [] h = tt
 digits-Lacks octet out (o ∷ text) h =
@@ -57,7 +57,8 @@ type_again kind some narrow =
 
 -- ---- type names for types
 
--- a property holds for the result of a test if it holds for each of the two alternatives
+-- if `cond b (Some x) others` is `Some y`, then `y` has each property that `x` has if `b` is true,
+-- and that the value in `others` has
 tested : {A : Type 0} (b : Bool) (x : A) (others : Option A) (y : A) (P : A → Type 0) → (b ≡ true → P x) → (others ≡ Some y → P y) → cond b (Some x) others ≡ Some y → P y
 tested true x others y P here after e = let same : x ≡ y = cc in subst P same (here refl)
 tested false x others y P here after e = after e
@@ -104,7 +105,7 @@ type_name_kind kind type_name =
     type_name_by_cases kind type_name (λ k w. (1 ≤ k) × (k < 65536))
     (omega arith, omega arith) (omega arith, omega arith) (omega arith, omega arith) (omega arith, omega arith) (omega arith, omega arith) (omega arith, omega arith) (omega arith, omega arith)
 
--- a type name begins with a letter, and so not with a digit
+-- the first octet of a type name is above 57, so a type name does not begin with a digit
 type_name_begins : (kind : ℕ) (type_name : List ℕ) → type_name_of kind ≡ Some type_name → 57 < get_or type_name 0 0
 type_name_begins kind type_name = type_name_by_cases kind type_name (λ k w. 57 < get_or w 0 0) (omega arith) (omega arith) (omega arith) (omega arith) (omega arith) (omega arith) (omega arith)
 

@@ -1,4 +1,4 @@
--- Components in text before they are decoded.
+-- The texts of components, before these texts are decoded.
 use Rattle.std.specs.Prelude.{◌≡◌, ℕ, List, length, take, Result, Ok, Err, ⊤}
 use Rattle.ndn_tlv.specs.Element.{Field}
 use Rattle.ndn_tlv.specs.Number.{shortest_nni}
@@ -10,7 +10,8 @@ use Rattle.ndn_names.specs.declared.fault.NameFault.{NameFault}
 use Rattle.ndn_names.specs.declared.fault.NameFault.TheVariants.{BadUri}
 use Rattle.ndn_names.specs.UriReading.{octets_in, hex_in}
 
--- the value of `len` octets that a text encodes
+-- the value that a text encodes; of the octets that a text with percent escapes encodes, only the
+-- first `len` are the value
 abbrev pub value_in : ℕ → ValueText → Result (List ℕ) NameFault
 value_in len (Plain octets) = Ok octets.now
 value_in len (Escaped text) = do
@@ -19,13 +20,14 @@ value_in len (Escaped text) = do
 value_in len (Hexadecimal text) = hex_in text.now
 value_in len (Number n) = Ok (shortest_nni n)
 
--- `text` is a text of the component `c`
+-- `text` represents the component `c`: the type and the length are those of `c`, and the text
+-- encodes the value of `c`
 abbrev pub IsTextOf : Field → ComponentText → Type 0
 IsTextOf c text =
     (text.kind ≡ c.0) × (text.len ≡ length c.1) × (value_in text.len text.value ≡ Ok c.1)
 
--- the octets that a text encodes one after the other; a number is not such a text, and gives a
--- fault
+-- the octets that a text encodes one after the other, or the fault `BadUri` for a number, which
+-- does not encode single octets
 abbrev pub octets_said : ValueText → Result (List ℕ) NameFault
 octets_said (Plain octets) = Ok octets.now
 octets_said (Escaped text) = octets_in text.now

@@ -8,7 +8,8 @@ use Rattle.ndn_names.specs.declared.first_of_type.FirstOfType.{FirstOfType}
 abbrev pub NoneOfType : ℕ → List Field → Type 0
 NoneOfType kind cs = AllByRecursion (λ c. c.0 ≢ kind) cs
 
--- `first` is the first component of the type among `cs`.
+-- `first` is the first component of type `kind` in `cs`. Its flags tell whether it is the only one
+-- of this type in `cs`, and whether it is the last component of `cs`.
 pub record IsFirstOfType (kind : ℕ) (cs : List Field) (first : FirstOfType) : Type 0 where
   pub front : List Field
   pub back : List Field
@@ -17,13 +18,14 @@ pub record IsFirstOfType (kind : ℕ) (cs : List Field) (first : FirstOfType) : 
   pub only : IsTrue first.is_only ↔ NoneOfType kind back
   pub last : IsTrue first.is_last ↔ (back ≡ [])
 
--- the first component of the type, or `None` if there is none
+-- the search result is the first component of type `kind` in `cs`, or `None` if no component has
+-- this type
 abbrev pub FindsFirst : ℕ → List Field → Option FirstOfType → Type 0
 FindsFirst kind cs None = NoneOfType kind cs
 FindsFirst kind cs (Some first) = IsFirstOfType kind cs first
 
--- the search result after one more component of the type was read; the first component that was
--- found stays the result
+-- `first` is the search result after one more component of the type is read: this component if none
+-- was found before, otherwise the component that was found before, which is then not the only one
 abbrev pub Further : Option FirstOfType → List ℕ → Bool → FirstOfType → Type 0
 Further None value is_last first =
     (first.value.now ≡ value) × (first.is_only ≡ true) × (first.is_last ≡ is_last)

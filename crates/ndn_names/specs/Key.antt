@@ -22,7 +22,7 @@ component_cmp-total =
 pub name_cmp-total : IsTotalOrder name_cmp
 name_cmp-total = lists_total component_cmp-total
 
--- an encoding of names, for types that have a name as their model
+-- a coding of names, from which types that have a name as their model make their own coding
 abbrev pub name_code : Coded (List Field)
 name_code = coded_list (coded× coded_ℕ (coded_list coded_ℕ))
 

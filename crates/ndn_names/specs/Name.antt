@@ -12,7 +12,7 @@ use Rattle.ndn_names.specs.declared.component_type.TheConstants.{PARAMETERS_SHA2
 abbrev pub IsComponent : Field → Type 0
 IsComponent c = (1 ≤ c.0) × (c.0 < 65536) × (c.0 ≤ PARAMETERS_SHA256_DIGEST → length c.1 ≡ 32)
 
--- a name has at most 64 components
+-- a name has at most 64 components, and all of them are valid
 abbrev pub IsName : List Field → Type 0
 IsName cs = (length cs ≤ 64) × AllByRecursion IsComponent cs
 

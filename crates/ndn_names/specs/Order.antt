@@ -5,7 +5,8 @@ use Rattle.std.specs.Ordering.{nat_cmp, on, then_cmp}
 use Rattle.std.specs.Cmp.Lexicographic.{slice_cmp}
 use Rattle.ndn_tlv.specs.Element.{Field}
 
--- at the first position at which the lists differ, the element of `a` is less
+-- after a common prefix of both lists, the next element of `a` is less by `Below` than the next
+-- element of `b`
 abbrev pub DiffersBelow : {X : Type 0} → (X → X → Type 0) → List X → List X → Type 0
 DiffersBelow {X} Below a b =
     (common after_x after_y : List X) × (x y : X) × (a ≡ common ++ x ∷ after_x)
@@ -14,7 +15,7 @@ DiffersBelow {X} Below a b =
 abbrev pub IsProperPrefix : {X : Type 0} → List X → List X → Type 0
 IsProperPrefix {X} a b = (y : X) × (after : List X) × (b ≡ a ++ y ∷ after)
 
--- the order of octets, for two lists of equal length
+-- the order of two lists of octets that have equal length: the first octet that differs decides
 abbrev pub OctetsLess : List ℕ → List ℕ → Type 0
 OctetsLess a b = DiffersBelow ◌<◌ a b
 
@@ -29,7 +30,7 @@ ComponentLess x y =
 abbrev pub Less : List Field → List Field → Type 0
 Less a b = IsProperPrefix a b ⊎ DiffersBelow ComponentLess a b
 
--- the orders of components and of names, as comparison functions
+-- the next two definitions are the orders of components and of names as comparison functions
 abbrev pub component_cmp : Field → Field → Ordering
 component_cmp =
     then_cmp (on (λ c. c.0) nat_cmp)

@@ -7,14 +7,15 @@ use Rattle.ndn_names.specs.declared.component_type.TheConstants.{PARAMETERS_SHA2
 use Rattle.ndn_names.specs.declared.fault.NameFault.{NameFault}
 use Rattle.ndn_names.specs.declared.fault.NameFault.TheVariants.{BadComponent, BadDigestLength, TooManyComponents, Memory}
 
--- a type and octets, checked as a component
+-- the field `c` if it is a valid component, otherwise the fault
 abbrev pub component_of : Field → Result Field NameFault
 component_of c =
     if (c.0 == 0) || nat_lt 65535 c.0 then Err BadComponent else (
     if nat_le c.0 PARAMETERS_SHA256_DIGEST && not (length c.1 == 32) then Err BadDigestLength
     else Ok c)
 
--- an element, or the reason why it cannot be read, checked as a component
+-- the element if it is a valid component, otherwise the fault; an element that cannot be read has
+-- the fault `BadComponent`
 abbrev pub component_at : Result Field TlvFault → Result Field NameFault
 component_at (Err fault) = Err BadComponent
 component_at (Ok c) = component_of c
@@ -30,11 +31,12 @@ IsNoFirst octets fault =
     octets ≢ [] → (at : Result Field TlvFault) × (others : List (Result Field TlvFault))
     × (elements_of octets ≡ at ∷ others) × (component_at at ≡ Err fault)
 
--- `fault` is the fault in `found`, or it is `Memory`, and `found` is the valid component `c`
+-- either `fault` is the fault in `found`, or `fault` is `Memory` and `found` is the component `c`
 abbrev pub IsFaultOrMemory : Result Field NameFault → Field → NameFault → Type 0
 IsFaultOrMemory found c fault = (found ≡ Err fault) ⊎ ((fault ≡ Memory) × (found ≡ Ok c))
 
--- the component that follows n other components, or its fault
+-- the component that follows n other components, or its fault; if n is 64 or more, the fault is
+-- `TooManyComponents`
 abbrev pub component_after : ℕ → Result Field TlvFault → Result Field NameFault
 component_after n e = if nat_lt n 64 then component_at e else Err TooManyComponents
 
@@ -50,6 +52,6 @@ components_after n (e ∷ es) = do
 unfoldable pub name_at : List ℕ → Result (List Field) NameFault
 name_at value = components_after 0 (elements_of value)
 
--- the name that is read, or `None` for any fault
+-- the name with the TLV-VALUE `value`, or `None` if reading this value returns a fault
 abbrev pub name_of : List ℕ → Option (List Field)
 name_of value = on_result (λ cs. Some cs) (λ _. None) (name_at value)

@@ -16,7 +16,7 @@ IsHexPair high low octet =
     (digit_value high < 16) × (digit_value low < 16)
     × (octet ≡ 16 * digit_value high + digit_value low)
 
--- the text has two hexadecimal digits for each of the octets
+-- the text consists of two hexadecimal digits for each of the octets, in order
 abbrev pub IsHex : List ℕ → List ℕ → Type 0
 IsHex text [] = text ≡ []
 IsHex text (o ∷ octets) =
@@ -35,12 +35,12 @@ StandsFor text [] = text ≡ []
 StandsFor text (o ∷ octets) =
     (front rest : List ℕ) × (text ≡ front ++ rest) × IsOctetText front o × StandsFor rest octets
 
--- the text encodes the value, to which three periods are added if it has no octets other than
--- periods
+-- the text encodes the value; if the value is empty or consists of periods only, the text encodes
+-- the value followed by three periods
 abbrev pub IsValueText : List ℕ → List ℕ → Type 0
 IsValueText text value = StandsFor text (padded value)
 
--- a piece without an equals sign: a GenericNameComponent
+-- the piece contains no equals sign, and is the text of the value of a GenericNameComponent
 abbrev pub IsGeneric : List ℕ → Field → Type 0
 IsGeneric piece c = AllByRecursion (λ o. o ≢ 61) piece × (c.0 ≡ GENERIC) × IsValueText piece c.1
 
@@ -50,7 +50,8 @@ IsTyped piece c =
     (text : List ℕ) × (piece ≡ decimal c.0 ++ 61 ∷ text) × (1 ≤ c.0) × (c.0 < 65536)
     × IsValueText text c.1
 
--- the piece is the type name of a digest, an equals sign, and 64 hexadecimal digits
+-- the piece is the type name of a digest, an equals sign, and 64 hexadecimal digits that encode the
+-- value
 abbrev pub IsDigest : List ℕ → Field → Type 0
 IsDigest piece c =
     (type_name text : List ℕ) × (piece ≡ type_name ++ 61 ∷ text)
@@ -58,7 +59,7 @@ IsDigest piece c =
     × (length text ≡ 64) × IsHex text c.1
 
 -- the piece is the type name of a type whose values are numbers, an equals sign, and a number below
--- 2^64 in decimal digits
+-- 2^64 in decimal digits; the value is the shortest NonNegativeInteger encoding of this number
 abbrev pub IsNumbered : List ℕ → Field → Type 0
 IsNumbered piece c =
     (type_name text : List ℕ) × (piece ≡ type_name ++ 61 ∷ text)

@@ -5,7 +5,7 @@ use Rattle.ndn_tlv.specs.Number.{shortest_nni}
 use Rattle.ndn_names.specs.declared.component_type.TheConstants.{IMPLICIT_SHA256_DIGEST, PARAMETERS_SHA256_DIGEST, SEGMENT, BYTE_OFFSET, VERSION, TIMESTAMP, SEQUENCE_NUM}
 use Rattle.ndn_tlv.specs.Reading.{on_result, nni_at}
 
--- the name of a type: first for the two digests, then for the types whose values are numbers
+-- the type name of a component type, or `None` if the type has no name
 abbrev pub type_name_of : ℕ → Option (List ℕ)
 type_name_of kind =
     if kind == IMPLICIT_SHA256_DIGEST then Some (codes "sha256digest") else (
@@ -16,7 +16,7 @@ type_name_of kind =
     if kind == TIMESTAMP then Some (codes "t") else (
     if kind == SEQUENCE_NUM then Some (codes "seq") else None))))))
 
--- the type with this name
+-- the component type with this type name, or `None` if there is none
 abbrev pub kind_of : List ℕ → Option ℕ
 kind_of type_name =
     if bytes_eq type_name (codes "sha256digest") then Some IMPLICIT_SHA256_DIGEST else (
@@ -27,7 +27,7 @@ kind_of type_name =
     if bytes_eq type_name (codes "t") then Some TIMESTAMP else (
     if bytes_eq type_name (codes "seq") then Some SEQUENCE_NUM else None))))))
 
--- the number whose shortest NonNegativeInteger encoding is `value`
+-- the number whose shortest NonNegativeInteger encoding is `value`, or `None` if there is none
 abbrev pub shortest_number : List ℕ → Option ℕ
 shortest_number value =
     on_result (λ n. if bytes_eq (shortest_nni n) value then Some n else None) (λ _. None)

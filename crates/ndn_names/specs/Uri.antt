@@ -22,26 +22,27 @@ escaped o = if is_unreserved o then o ∷ [] else codes "%" ++ hexadecimal true 
 abbrev pub is_periods : List ℕ → Bool
 is_periods value = list_all (λ o. o == 46) value
 
--- the value, with three periods added if it consists of periods only
+-- the value, with three periods added if it is empty or consists of periods only
 abbrev pub padded : List ℕ → List ℕ
 padded value = if is_periods value then value ++ codes "..." else value
 
 abbrev pub value_text : List ℕ → List ℕ
 value_text value = flat_map escaped (padded value)
 
--- the text of a component without a type name: a type number, omitted for a GenericNameComponent,
--- and the value
+-- the text of a component without a type name: the type number and an equals sign, both omitted for
+-- a GenericNameComponent, and the text of the value
 abbrev pub plain_text : Field → List ℕ
 plain_text c =
     if c.0 == GENERIC then value_text c.1 else decimal c.0 ++ (codes "=" ++ value_text c.1)
 
--- the text of a component whose type name stands for a number: the type name and the number, if the
--- value is a shortest NonNegativeInteger encoding
+-- the text of a component of a type whose values are numbers: the type name, an equals sign and the
+-- number, or `plain_text` if the value is not a shortest NonNegativeInteger encoding
 abbrev pub number_text : List ℕ → Field → Option ℕ → List ℕ
 number_text type_name c (Some n) = type_name ++ (codes "=" ++ decimal n)
 number_text type_name c None = plain_text c
 
--- the text of a component, with its type name if it has one; types 1 and 2 are digests
+-- the text of a component, given the type name of its type, if there is one; the value of a
+-- digest, which has type 1 or 2, is written in hexadecimal digits
 abbrev pub text_by_type_name : Field → Option (List ℕ) → List ℕ
 text_by_type_name c None = plain_text c
 text_by_type_name c (Some type_name) =

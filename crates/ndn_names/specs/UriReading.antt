@@ -46,7 +46,8 @@ octets_in (a ∷ b ∷ c ∷ text) =
       before o (octets_in text))
     else before a (octets_in (b ∷ c ∷ text))
 
--- the value whose text encodes these octets: three periods are removed if all octets are periods
+-- the value whose text encodes these octets: if all octets are periods, three of them are removed,
+-- and fewer than three are a fault
 abbrev pub unpadded : List ℕ → Result (List ℕ) NameFault
 unpadded octets =
     if not (is_periods octets) then Ok octets else (
@@ -65,7 +66,7 @@ number_in text =
     if all_ascii_digits text && (nat_lt 0 (length text) && nat_lt (digits_value 10 text) (2 ^ 64))
     then Ok (digits_value 10 text) else Err BadUri
 
--- the type number that a text represents in decimal digits, without leading zeros
+-- the type number from 1 to 65535 that a text represents in decimal digits, without leading zeros
 abbrev pub type_in : List ℕ → Result ℕ NameFault
 type_in type_name = do
   kind ← number_in type_name
@@ -82,8 +83,8 @@ numbered_in kind text = do
   n ← number_in text
   Ok (kind, shortest_nni n)
 
--- the component with `type_name` before its first equals sign and `text` after this sign; the last
--- argument is the type with this type name, if there is one
+-- the component whose text is `type_name`, an equals sign and `text`; the last argument is the
+-- component type that has this type name, if there is one
 abbrev pub typed_in : List ℕ → List ℕ → Option ℕ → Result Field NameFault
 typed_in type_name text (Some kind) =
     if nat_le kind PARAMETERS_SHA256_DIGEST then digest_in kind text else numbered_in kind text
@@ -91,7 +92,8 @@ typed_in type_name text None = do
   kind ← type_in type_name
   plain_in kind text
 
--- the octets before the first octet `c`, and the octets after it
+-- the octets before the first octet `c`, and the octets after it, or `None` if there is no octet
+-- `c`
 abbrev pub cut_at : ℕ → List ℕ → Option (List ℕ × List ℕ)
 cut_at c [] = None
 cut_at c (o ∷ text) = if o == c then Some ([], text) else (more o (cut_at c text))
@@ -112,7 +114,7 @@ component_in piece = component_by_cut piece (cut_at 61 piece)
 abbrev pub piece_in : List ℕ → Result Field NameFault
 piece_in text = if list_any (λ o. o == 47) text then Err BadUri else component_in text
 
--- the components that these pieces read as, after n other components
+-- the components that these pieces read as after n other components, or the first fault
 abbrev pub components_in : ℕ → List (List ℕ) → Result (List Field) NameFault
 components_in n [] = Ok []
 components_in n (piece ∷ pieces) = do
@@ -120,7 +122,8 @@ components_in n (piece ∷ pieces) = do
   cs ← components_in (n + 1) pieces
   Ok (c ∷ cs)
 
--- the pieces with the octet `o` added at the front of the first one
+-- the pieces with the octet `o` added at the front of the first piece, or a piece of `o` alone if
+-- there are no pieces
 abbrev pub at_front : ℕ → List (List ℕ) → List (List ℕ)
 at_front o [] = (o ∷ []) ∷ []
 at_front o (piece ∷ pieces) = (o ∷ piece) ∷ pieces
@@ -134,8 +137,8 @@ pieces_of (o ∷ text) = if o == 47 then [] ∷ pieces_of text else at_front o (
 abbrev pub without_scheme : List ℕ → List ℕ
 without_scheme text = if bytes_eq (take 4 text) (codes "ndn:") then drop 4 text else text
 
--- the name that the text after the first slash of a URI reads as; a text of a single slash reads as
--- the empty name
+-- the name of a URI, read from the text after its first slash; if this text is itself a single
+-- slash, the name is empty
 abbrev pub name_after_slash : List ℕ → Result (List Field) NameFault
 name_after_slash text = components_in 0 (if bytes_eq text (codes "/") then [] else pieces_of text)
 
@@ -147,7 +150,7 @@ name_in_path (o ∷ text) = if o == 47 then name_after_slash text else Err BadUr
 unfoldable pub name_in : List ℕ → Result (List Field) NameFault
 name_in text = name_in_path (without_scheme text)
 
--- `fault` is the fault that `read` returns, or it is `Memory`, and `read` succeeds
+-- either `fault` is the fault that `read` returns, or `fault` is `Memory` and `read` succeeds
 abbrev pub IsFaultBeforeMemory : {A : Type 0} → Result A NameFault → NameFault → Type 0
 IsFaultBeforeMemory {A} read fault =
     (read ≡ Err fault) ⊎ ((fault ≡ Memory) × ((x : A) × (read ≡ Ok x)))
@@ -160,8 +163,8 @@ IsFaultOf read fault = (read ≡ Err fault) ⊎ (fault ≡ Memory)
 abbrev pub Adds : {A : Type 0} → (A → List ℕ) → Result A NameFault → List ℕ → List ℕ → Type 0
 Adds {A} octets_of read old new = (x : A) × (read ≡ Ok x) × (new ≡ old ++ octets_of x)
 
--- `read` has succeeded, and `count` is the number of the octets that it returned, and whether all
--- of them are periods
+-- `read` succeeds, and `count` is a pair: the number of octets that `read` returns, and whether all
+-- of these octets are periods
 abbrev pub AreCounted : Result (List ℕ) NameFault → ℕ × Bool → Type 0
 AreCounted read count =
     (octets : List ℕ) × (read ≡ Ok octets) × (count.0 ≡ length octets)

@@ -45,7 +45,8 @@ full_name_is name asked digest value kind len p longer place last =
     first_is : (x y : Field) → x ∷ [] ≡ y ∷ [] → x ≡ y
     first_is x y e = cc
 
--- a prefix of a full name is the full name itself or a prefix of the name without the digest
+-- a prefix of `name` followed by the component `x` is either all of these components or a prefix
+-- of `name`
 prefix_of_full : (asked name : List Field) (x : Field) → IsPrefix asked (name ++ x ∷ []) → IsPrefix asked name ⊎ (asked ≡ name ++ x ∷ [])
 prefix_of_full [] name x p = inl (name, refl)
 prefix_of_full (c ∷ asked) [] x p = inr (alone p.0 p.1)

@@ -46,7 +46,8 @@ signature_read name text value first second from from_info outer there info h =
     let same : from_info ≡ h.from_info = some_is from_info h.from_info (sym info ∙ info_read name text value first second from outer there h) in
     ap (from_first 46) same ∙ cut_read 46 h.from_info h.to_signature h.from_signature h.signature
 
--- `from` without the octets of `from_signature` at its end is `to_info` followed by `to_signature`
+-- if `from` is `to_info`, then `to_signature`, then `from_signature`, the octets of `from` before
+-- its last `length from_signature` octets are `to_info ++ to_signature`
 pub between : (from to_info from_info to_signature from_signature : List ℕ) → from ≡ to_info ++ from_info → from_info ≡ to_signature ++ from_signature
     → take (length from - length from_signature) from ≡ to_info ++ to_signature
 between from to_info from_info to_signature from_signature info signature =
@@ -77,8 +78,8 @@ data_covered text d h =
           absurd (others_lack 23 _ (earlier_others [] [] 23 _ m.1) signed)
     ]
 
--- the covered octets of a Data are the octets of its value before `from`, if `from` begins at the
--- SignatureValue
+-- if `from` is a Data's value from its SignatureValue on, the octets of the value before `from` are
+-- the octets that the signature of the Data covers
 pub data_covers : (text value covered from : List ℕ) (d : PlainData) → IsData text d → IsElement text 6 value → from_first 23 value ≡ Some from → covered ≡ take (length value - length from) value → CoversData text covered
 data_covers text value covered from d h outer mark is =
     let there = data_covered text d h in
@@ -90,7 +91,9 @@ data_covers text value covered from d h outer mark is =
 
 -- ---- an Interest
 
--- the positions of a signature, and of the octets that it covers, in an Interest
+-- the positions of a signature in the value of an Interest: `from_parameters` begins at the first
+-- ApplicationParameters, `from_info` at the first InterestSignatureInfo after them, and
+-- `from_signature` at the first InterestSignatureValue after that InterestSignatureInfo
 record IsCutAt (value from_parameters from_info from_signature : List ℕ) : Type 0 where
   early : List ℕ
   to_info : List ℕ
@@ -105,8 +108,8 @@ Cuts value = (from_parameters from_info from_signature : List ℕ) × IsCutAt va
 abbrev HasBoth : List Field → Type 0
 HasBoth fields = Has 44 fields × Has 46 fields
 
--- either the octets can be cut for a signature and `fields` has both an InterestSignatureInfo and
--- an InterestSignatureValue, or neither holds
+-- either both or neither of two statements hold: the octets `value` can be cut for a signature,
+-- and `fields` has both an InterestSignatureInfo and an InterestSignatureValue
 abbrev Decided : List ℕ → List Field → Type 0
 Decided value fields = (Cuts value × HasBoth fields) ⊎ ((Cuts value → ⊥) × (HasBoth fields → ⊥))
 
@@ -463,7 +466,8 @@ never_empty : {A : Type 0} (xs : List A) (x : A) → xs ++ x ∷ [] ≡ [] → �
 never_empty [] x e = cc
 never_empty (a ∷ xs) x e = cc
 
--- a digest of parameters at the end of an Interest's name is the correct digest
+-- a digest of parameters at the end of an Interest's name is SHA-256 of the elements from the
+-- ApplicationParameters on
 digest_is : (name elements components : List Field) (digest : List ℕ) (parameters : Option (List ℕ)) → name ≡ components ++ (2, digest) ∷ [] → IsDigested name elements parameters
     → digest ≡ sha256 (flat_map element (from_parameters elements))
 digest_is name elements components digest None is h =
@@ -559,7 +563,7 @@ ends_in_digest (c ∷ d ∷ name) =
     following [] digest n e = cc
     following (f ∷ front) digest n e = let rest : d ∷ name ≡ front ++ (2, digest) ∷ [] = cc in n (front, digest, rest)
 
--- either the signature of an Interest covers octets, or there is nothing that it covers
+-- the signature of an Interest either covers two parts, or covers no parts at all
 pub covers_any : (text : List ℕ) (i : PlainInterest) → IsInterest text i → ((first second : List ℕ) × CoversInterest i.name text first second) ⊎ ((first second : List ℕ) → CoversInterest i.name text first second → ⊥)
 covers_any text i h =
     elim (ends_in_digest i.name) [
@@ -575,7 +579,8 @@ digest_len : (digest : List ℕ) → length digest ≡ 32 → length (element (2
 unfolding spelling
 digest_len digest is = rw is (ap (λ n. suc (suc n)) is)
 
--- the first covered part is the value of the name without its last 34 octets
+-- the value of the name has at least 34 octets, and the first covered part is this value without
+-- its last 34 octets
 pub first_is_front : (octets text first second : List ℕ) (name : List Field) → IsNameValue octets name → CoversInterest name text first second → (34 ≤ length octets) × (first ≡ take (length octets - 34) octets)
 first_is_front octets text first second name h c =
     let digest : length c.digest ≡ 32 = (all_front IsComponent c.components ((2, c.digest) ∷ []) (subst (AllByRecursion IsComponent) c.named h.1.1)).1.0.2 (omega arith) in

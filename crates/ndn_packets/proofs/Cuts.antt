@@ -136,7 +136,8 @@ pub all_front : {A : Type 0} (P : A → Type 0) (front back : List A) → AllByR
 all_front P [] back h = (tt, h)
 all_front P (x ∷ front) back h = let r = all_front P front back h.1 in ((h.0, r.0), r.1)
 
--- if no field in `front` has type `kind` and the next field has, the cut is directly after `front`
+-- if no field in `front` has type `kind`, and the next field has type `kind`, the cut is directly
+-- after `front`
 pub cut_among : (kind : ℕ) (value : List ℕ) (fields front back : List Field) → AllByRecursion IsField fields → fields ≡ front ++ (kind, value) ∷ back → AllByRecursion (λ e. e.0 ≢ kind) front
     → IsCut kind (flat_map element fields) (flat_map element front) (flat_map element ((kind, value) ∷ back))
 cut_among kind value fields front back all is others =

@@ -40,8 +40,8 @@ meta_present (f ∷ fields) some = append-nil (element (20, octets (f ∷ fields
 pub last_is_long : (r n : ℕ) → IsLength r (element (26, element (50, shortest_nni n))) → r ≡ length (octets (optional 26 (Some (element (50, shortest_nni n)))))
 last_is_long r n is = omega (arith, is, last_is_short n, length-append (element (26, element (50, shortest_nni n))) [])
 
--- `old` with the parts of a MetaInfo appended is `old` followed by the MetaInfo, if its value has
--- length `len` and is not empty
+-- if the value of a MetaInfo has length `len` and is not empty, `old` with the parts of this
+-- MetaInfo appended is `old` followed by the whole MetaInfo
 pub meta_put : (old : List ℕ) (freshness last : Option ℕ) (len : ℕ) → len ≡ length (octets (meta_fields freshness last)) → (len ≡ 0 → ⊥)
     → ((old ++ (spelling 20 ++ spelling len)) ++ octets (number 25 freshness)) ++ octets (optional 26 (option_map (λ n. element (50, shortest_nni n)) last))
     ≡ old ++ octets (optional 20 (meta_of (meta_fields freshness last)))

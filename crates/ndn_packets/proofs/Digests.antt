@@ -31,7 +31,8 @@ digests_kind (c ∷ name) =
       | false ↦ λ _. digests_kind name
     ] refl
 
--- `digests` are right: none without parameters, exactly `right` with parameters
+-- without parameters, `digests` is empty; with parameters, `digests` has exactly one digest, and
+-- this digest is `right`
 abbrev AreRight : Option (List ℕ) → List Field → List ℕ → Type 0
 AreRight None digests right = digests ≡ []
 AreRight (Some parameters) digests right = digests ≡ (2, right) ∷ []
@@ -109,8 +110,9 @@ fault_is name (Some p) (Some d) right h =
     more [] some = absurd (some refl)
     more (e ∷ ds) some = refl
 
--- if the reader noted the right octets, its check `fault_by` returns the same fault as
--- `digest_fault`
+-- The check `fault_by` of the reader returns the same result as `digest_fault`, if the reader
+-- noted the first digest of the name. With parameters, the reader must also have noted the octets
+-- that this digest must cover.
 pub fault_read : {A : Type 0} (view : A → List ℕ) (name : List Field) (parameters : Option A) (digest : Option FirstOfType) (from octets : List ℕ) → FindsFirst 2 name digest → OnSome parameters (from ≡ octets)
     → digest_fault (option_map view parameters) (digests_in name) (sha256 octets) ≡ fault_by (option_map view parameters) digest (sha256 from)
 fault_read view name None None from octets h e = fault_is name None None (sha256 octets) h

@@ -33,8 +33,8 @@ in_nothing kind later h = at_front h.0 h.1
     at_front [] e = cc
     at_front (k ∷ front) e = cc
 
--- a type that may come next, but is not the first type of a schema, may come next after the first
--- type as well, and needs no previous field
+-- if a type may come next in a schema but is not the first type of the schema, this type may come
+-- next in the rest of the schema, and does not need the previous field
 past_first : (kind first : ℕ) (later schema : List ℕ) → first ≢ kind → Counts kind later (first ∷ schema) → Counts kind later schema × (needs_previous_field kind ≡ false)
 past_first kind first later schema other h = at_front h.0 h.1 h.2 h.3
   where
@@ -170,8 +170,8 @@ took_first take s t kind None fields others is e = (s, refl, subst (λ (fs : Lis
 took_first take s t kind (Some v) fields others is e =
     bind_ok (take s (kind, v)) (λ u. read_fields take u (map good others)) t (subst (λ (fs : List Field). read_fields take s (map good fs) ≡ Ok t) is e)
 
--- if reading an optional field in state `s` gives `mid`, then reading it and `others` in `s` is
--- reading `others` in `mid`
+-- if reading an optional field in state `s` gives `mid`, then reading this field and `others` in
+-- `s` has the same result as reading `others` in `mid`
 pub took_again : {S : Type 0} (take : S → Field → Result S PacketFault) (s mid : S) (kind : ℕ) (value : Option (List ℕ)) (others : List Field) → Took take s kind value mid
     → read_fields take s (map good (optional kind value ++ others)) ≡ read_fields take mid (map good others)
 took_again take s mid kind None others took = ap (λ u. read_fields take u (map good others)) (sym took)

@@ -103,7 +103,8 @@ packet_fault_again text e fault (inr (inr h)) = rw (ne_eqb e.0 5 h.0, ne_eqb e.0
 
 -- ---- a Fragment
 
--- the packet in a Fragment that is one element; with the reason of a Nack, it must be an Interest
+-- the packet in a Fragment that is one element; with the reason of a Nack, this packet must be an
+-- Interest
 abbrev inside : Option ℕ → List ℕ → Field → Result PlainFrame PacketFault
 inside None text = packet_of text
 inside (Some reason) text = nacked_of reason text
@@ -168,7 +169,7 @@ has_one_more kind (h ∷ headers) e =
       | false ↦ has_one_more kind headers e
     ]
 
--- the flags of state `s` say which of the header fields are present
+-- the flags of state `s` tell which known header fields are in `headers`
 record Met (s : LinkSoFar) (headers : List Field) : Type 0 where
   sequence : s.sequence ≡ has 81 headers
   frag_index : s.frag_index ≡ has 82 headers
@@ -445,7 +446,8 @@ no_fragment_again : (token : Option (List ℕ)) (nack : Option ℕ) (fault : Pac
 no_fragment_again token None fault some e = absurd cc
 no_fragment_again token (Some reason) fault some e = told PlainFramed BadField fault e
 
--- if at most one header field is a PitToken, the PitTokens are those of one optional token
+-- if at most one header field is a PitToken, the PitTokens among the header fields are one optional
+-- token
 token_among : (headers : List Field) → length (headers_of 98 headers) ≤ 1 → (token : Option (List ℕ)) × (headers_of 98 headers ≡ optional 98 token)
 token_among [] few = (None, refl)
 token_among (h ∷ headers) few =
@@ -459,8 +461,8 @@ token_among (h ∷ headers) few =
     none_more [] few = refl
     none_more (f ∷ hs) few = absurd (omega arith)
 
--- if `elements` have the fault `fault` directly after the header fields of state `s`, reading stops
--- there
+-- if `elements` have the fault `fault` directly after the header fields of state `s`, then reading
+-- `elements` in state `s` stops at the first of these elements
 stops_here : (s : LinkSoFar) (elements : List (Result Field TlvFault)) (fault : PacketFault) → ((before : List Field) → Met s before → AfterHeaders before s.nack elements fault) → Stops s elements fault
 stops_here s elements fault h =
     record { headers = []; rest = elements; last = s; all = refl; allowed = λ fits. (tt, no_more s); met = λ before m. subst (Met s) (sym (append-nil before)) m; here = h }
@@ -500,7 +502,7 @@ stops s (Ok x ∷ elements) fault e =
       ]
     ] refl e
 
--- after valid header fields, the fault of the remaining elements is returned
+-- after valid header fields, `link_from` returns the fault of the remaining elements
 after_again : (s : LinkSoFar) (headers : List Field) (rest : List (Result Field TlvFault)) (fault : PacketFault) → Met s headers → AfterHeaders headers s.nack rest fault → link_from s rest ≡ Err fault
 after_again s headers [] fault met h = no_fragment_again s.token s.nack fault h.0 h.1
 after_again s headers (Err f ∷ after) fault met h = told PlainFramed (Tlv f) fault h

@@ -43,7 +43,8 @@ full_octets value digest name h len =
       fields_more name (1, digest) h.0.0 (omega arith, omega arith, digest_len),
     )
 
--- octets that are made of the value of a name and a digest are those of a full name
+-- octets that are made of the value of a name and a digest component are those of the full name
+-- with this name and this digest
 pub made : (value digest full : List ℕ) (name : List Field) → IsNameValue value name → components_of value ≡ name → length digest ≡ 32
     → full ≡ value ++ element (1, digest) → (name_in full ≡ name) × (digest_in full ≡ digest) × IsFullName full
 made value digest full name h shown len is =
@@ -93,8 +94,9 @@ fields_front : (name : List Field) (f : Field) → AllByRecursion IsField (name 
 fields_front [] f h = tt
 fields_front (c ∷ name) f h = (h.0, fields_front name f h.1)
 
--- The octets of a name equal those of a full name exactly if the two names are equal. The same is
--- true of the full name without its digest.
+-- The next two lemmas: the octets of a name equal those of a full name exactly if the name equals
+-- the full name. They equal the octets of the full name before its digest component exactly if the
+-- name equals the full name without its digest.
 pub is_full : (u value : List ℕ) (name : List Field) → IsFullName u → IsNameValue value name → (value ≡ u) ↔ (name ≡ full_name_in u)
 is_full u value name h g = (
   λ e. one_name name (full_name_in u) g.0.0 h.fields (sym g.0.1 ∙ e ∙ h.whole),

@@ -70,8 +70,8 @@ bytes_with limit after small fits (suc zero) = omega arith
 bytes_with limit after small fits (suc (suc zero)) = small
 bytes_with limit after small fits (suc (suc (suc i))) = fits i
 
--- the octet after the type and length of the HopLimit is its value, and setting this octet changes
--- only the value
+-- the next two lemmas: the octet after the type and length of the HopLimit is its value, and
+-- setting this octet changes only the value
 octet_is : (front after : List ℕ) (limit : ℕ) → slice_index (front ++ 34 ∷ 1 ∷ limit ∷ after) (length front + 2) ≡ limit
 octet_is front after limit =
     let len : length (front ++ 34 ∷ 1 ∷ []) ≡ length front + 2 = length-append front (34 ∷ 1 ∷ []) in
@@ -88,7 +88,8 @@ limit_is : (value : Option (List ℕ)) (limit : Option ℕ) (n : ℕ) → IsOcte
 limit_is None limit n is there = absurd (none_is_not_some n (sym is ∙ there))
 limit_is (Some v) limit n is there = ap (λ (t : List ℕ). Some t) (is.1 ∙ ap (λ k. k ∷ []) (some_is is.0 n (sym is.2 ∙ there)))
 
--- the elements before the ApplicationParameters do not affect the octets from the parameters on
+-- if no element in `front` is ApplicationParameters, neither `front` nor the HopLimit after it
+-- affects the elements from the ApplicationParameters on
 parameters_following : (front back : List Field) (value : List ℕ) → Others 36 front → from_parameters (front ++ (34, value) ∷ back) ≡ from_parameters back
 parameters_following [] back value others = refl
 parameters_following (e ∷ front) back value others = rw (ne_eqb e.0 36 others.0) (parameters_following front back value others.1)
@@ -97,7 +98,8 @@ digested_same : (name elements others : List Field) (parameters : Option (List �
 digested_same name elements others None same h = h
 digested_same name elements others (Some p) same h = h ∙ ap (λ (es : List Field). (2, sha256 (flat_map element es)) ∷ []) same
 
--- the position of the HopLimit
+-- in `text`, which is the Interest `i`, the octet of the HopLimit is at index `hop_place text`;
+-- with any other octet there, the text is the Interest `i` with this octet as its HopLimit
 record HopStands (text : List ℕ) (i : PlainInterest) (limit : ℕ) : Type 0 where
   front : List ℕ
   after : List ℕ
@@ -110,7 +112,7 @@ place_is text i limit from h there read =
     ap (place_in text) (frame_again text (AnInterest text i) (None, (h, inl (refl, refl))))
     ∙ rw (eq-eqb (length text) (length text) refl, there, element_alone text h.fields.value 5 h.fields.outer, read) refl
 
--- all fields of the Interest, with this value of the HopLimit
+-- all fields of the Interest, where the HopLimit has the value `value`
 abbrev fields_with : (text : List ℕ) (i : PlainInterest) → IsInterest text i → List ℕ → List Field
 fields_with text i h value =
     flag 33 i.can_be_prefix ++ (flag 18 i.must_be_fresh ++ (optional 30 h.hint ++ ((10, i.nonce) ∷ (optional 12 h.lifetime_value ++ ((34, value) ∷ back_fields i.parameters h.info_value h.signature_value)))))

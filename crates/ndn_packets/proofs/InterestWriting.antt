@@ -25,7 +25,7 @@ octets_following : (name : List Field) (digest : List ℕ) → octets (name ++ (
 octets_following name digest =
     flat_map-append element name ((2, digest) ∷ []) ∙ ap (λ (x : List ℕ). octets name ++ x) (append-nil (element (2, digest)))
 
--- the name with the digest of the fields after it
+-- the name, followed by the digest of the given fields if there are any
 abbrev pub with_digest : List Field → List Field → List Field
 with_digest name fields = name_with (sha256 (octets fields)) name fields
 
@@ -74,8 +74,9 @@ zeroed_holds_digest name later some =
 pub zeroed_is_long : (n : ℕ) (name later : List Field) → IsLength n (octets (with_digest name later)) → length (octets (with_digest name later)) ≤ 8800 → n ≡ length (octets (name_with zeros name later))
 zeroed_is_long n name later is short = omega (arith, is, zeroed_length name later)
 
--- The Name is first written with zeros for the digest. Its type, its length and its components
--- before the digest are no longer than the whole element, and the digest component completes it.
+-- The next two lemmas are about a Name that is first written with zeros for its digest. The type,
+-- the length and the components before the digest are together no longer than the whole element.
+-- Appending them and the digest component appends the whole element.
 pub zeroed_begin : (name later : List Field) (n : ℕ) → n ≡ length (octets (name_with zeros name later)) → length (spelling 7 ++ spelling n) + length (octets name) ≤ length (element (7, octets (name_with zeros name later)))
 zeroed_begin name later n long =
     rw long (omega (

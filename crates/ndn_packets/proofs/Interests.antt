@@ -37,7 +37,7 @@ abbrev so_far : Bool → Bool → Option (List ℕ) → ℕ → Option ℕ → I
 so_far prefix fresh nonce lifetime hop =
     record { can_be_prefix = prefix; must_be_fresh = fresh; nonce = nonce; lifetime = lifetime; hop_limit = hop; parameters = None; info = None; value = None }
 
--- the state with the three fields from the ApplicationParameters on
+-- the state `s` with these values of the three fields from the ApplicationParameters on
 abbrev signed_so_far : InterestSoFar → Option (List ℕ) → Option PlainSignatureInfo → Option (List ℕ) → InterestSoFar
 signed_so_far s parameters info value = record {
   can_be_prefix = s.can_be_prefix;
@@ -54,7 +54,7 @@ is_nil_is : (xs : List ℕ) → is_nil xs ≡ true → xs ≡ []
 is_nil_is [] e = refl
 is_nil_is (x ∷ xs) e = absurd cc
 
--- if a check that returns BadField on failure returns a value, the test holds and the value is `x`
+-- if `cond b (good x) (Err BadField)` is `Ok y`, the test `b` holds, and `x` equals `y`
 tested : {A : Type 0} (b : Bool) (x y : A) → cond b (good x) (Err BadField) ≡ Ok y → (b ≡ true) × (x ≡ y)
 tested true x y e = (refl, ok_is x y e)
 tested false x y e = absurd (err_is_not_ok _ y e)
@@ -76,7 +76,7 @@ hint_taken : (value : Option (List ℕ)) (s t : InterestSoFar) → Took take_int
 hint_taken None s t took = took
 hint_taken (Some v) s t took = sym (ok_is s t took)
 
--- a Nonce, if present, has four octets
+-- a Nonce, if present, has 4 octets
 abbrev IsFour : Option (List ℕ) → Type 0
 IsFour None = Unit {0}
 IsFour (Some nonce) = length nonce ≡ 4
@@ -356,7 +356,7 @@ signature_again None value signature h = (None, refl, sym h)
 signature_again (Some v) None signature h = (Some h.0, (h.0, h.1, refl), sym h.2)
 signature_again (Some v) (Some w) signature h = (Some h.0, (h.0, h.1, refl), sym h.2)
 
--- reading the fields of an Interest in the grammar gives this state
+-- reading the fields of an Interest in the grammar gives the state with their values
 fields_computed : (prefix fresh : Bool) (hint : Option (List ℕ)) (nonce : List ℕ) (lifetime hop parameters info value : Option (List ℕ)) (number limit : Option ℕ) (said : Option PlainSignatureInfo) → length nonce ≡ 4
     → IsNumber lifetime number → IsOctet hop limit → MayBeBytes info → SaysInfo info said
     → read_fields take_interest_field no_fields_yet (map good (fields_with prefix fresh hint nonce lifetime hop parameters info value))

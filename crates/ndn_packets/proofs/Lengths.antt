@@ -1,4 +1,4 @@
--- Lengths of what is written, and octets that stay unchanged when others are appended.
+-- Lengths of what is written, and octets that stay unchanged when other octets are appended.
 use Rattle.std.proofs.Common.{◌≡◌, ℕ, ◌+◌, ◌-◌, ◌^◌, ◌<◌, min, List, [], ◌∷◌, ◌++◌, length, refl, sym, ap, subst, ◌∙◌, append_assoc, arith, inl, inr, Option}
 use Rattle.std.proofs.lemmas.Bool.{cases_lt}
 use Rattle.std.proofs.lemmas.List.{length-append}
@@ -32,7 +32,8 @@ sum_is_long m n front back p q = omega (arith, length-append front back)
 pub name_is_long : (n : ℕ) (value : List ℕ) (name : List Field) → IsNameValue value name → IsLength n value → IsLength n (octets name)
 name_is_long n value name is long = subst (λ (x : List ℕ). IsLength n x) is.0.1 long
 
--- a length is exact if there are fewer than 2^63 octets
+-- if there are fewer than 2^63 octets, a number `n` that satisfies `IsLength` is exactly their
+-- number
 pub in_memory_is_exact : (n : ℕ) (octets : List ℕ) → IsLength n octets → length octets < 2 ^ 63 → n ≡ length octets
 in_memory_is_exact n octets is small = omega arith
 
@@ -63,7 +64,7 @@ info_is_long signed time seq =
     let times = octets (number 40 time) in
     omega (arith, ap length (info_octets signed time seq), length-append ((kind ++ locator) ++ times) (octets (number 42 seq)), length-append (kind ++ locator) times, length-append kind locator)
 
--- the octets after a SignatureInfo is appended in parts
+-- `old`, followed by the parts of a SignatureInfo in the order in which they are appended
 abbrev info_after : List ℕ → ℕ → ℕ → Sign → Option ℕ → Option ℕ → List ℕ
 info_after old kind len signed time seq =
     ((((old ++ (spelling kind ++ spelling len)) ++ element (27, shortest_nni (kind_of signed))) ++ octets (optional 28 (locator_value signed))) ++ octets (number 40 time)) ++ octets (number 42 seq)

@@ -28,15 +28,15 @@ abbrev pub room : Bool → ℕ
 room true = 0
 room false = 1
 
--- the Nacks that may still come, given the reason of the Nack that has been read, if any, and the
--- reason of the link packet's Nack
+-- the list of Nacks that may still come: it is empty if the Nack of the link packet has been read,
+-- otherwise it has just this Nack, if there is one
 abbrev pub NackAmong : Option ℕ → List Field → Option ℕ → Type 0
 NackAmong None nacks None = nacks ≡ []
 NackAmong None nacks (Some reason) = (value : List ℕ) × (nacks ≡ (800, value) ∷ []) × IsNack value reason
 NackAmong (Some met) nacks nack = (nacks ≡ []) × (nack ≡ Some met)
 
--- the tokens that may still come, given the token that has been read, if any, and the token of the
--- link packet
+-- the list of PitTokens that may still come: it is empty if the PitToken of the link packet has
+-- been read, otherwise it has just this PitToken, if there is one
 abbrev pub TokenAmong : Option (List ℕ) → List Field → Option (List ℕ) → Type 0
 TokenAmong None tokens token = tokens ≡ optional 98 token
 TokenAmong (Some met) tokens token = (tokens ≡ []) × (token ≡ Some met)

@@ -44,7 +44,7 @@ keyless_other value kind v outer no_name no_digest =
     let alone = element_alone value v kind outer in
     (λ name key. no_name (only_element value kind v [] alone 7 key.0 key.1).0, λ key. no_digest (only_element value kind v [] alone 29 key.0 key.1).0)
 
--- if the value of an element cannot be read as a name, the element is not a valid Name
+-- if octets cannot be read as a name, the same octets are not the TLV-VALUE of a name
 no_names : (v w : List ℕ) (name : List Field) (f : NameFault) → v ≡ w → name_at v ≡ Err f → IsNameValue w name → ⊥
 no_names v w name f same e is = let read = ap name_at same ∙ name_again w name is in cc
 

@@ -14,7 +14,8 @@ use Rattle.ndn_packets.specs.Covered.{from_first, IsSignedAt}
 use Rattle.ndn_packets.proofs.Steps.{some_is, none_is_not_some}
 use Rattle.ndn_packets.proofs.Cuts.{next_is, next_other}
 
--- an element that is not a field has none of the types that may still come
+-- if an element is not a field, and type `kind` may still come, the first element of type `kind`
+-- comes after this element
 pub skipped : (kind k : ℕ) (schema whole value octets after : List ℕ) → None ≡ schema_after k schema → schema ≡ whole → IsSome (schema_after kind whole) → Ok ((k, value), after) ≡ element_at octets → from_first kind octets ≡ from_first kind after
 skipped kind k schema whole value octets after none same comes read =
     next_other kind octets (k, value) after read
@@ -22,25 +23,26 @@ skipped kind k schema whole value octets after none same comes read =
 
 -- ---- a schema
 
--- each type in `later` needs the previous field
+-- a type that does not need the previous field cannot come next in `later`
 abbrev pub IsTail : List ℕ → Type 0
 IsTail later = (k : ℕ) → needs_previous_field k ≡ false → schema_after k later ≡ None
 
--- The reader notes where the field of type `kind` begins. Types in `later` need the previous field.
--- A type with `P` is not `kind`; if `kind` needs the previous field, no type has `P`.
+-- What the reader needs to note where the field of type `kind` begins. A type that does not need
+-- the previous field cannot come next in `later`. A type that satisfies `P` is not `kind`. If
+-- `kind` needs the previous field, no type satisfies `P`.
 pub record IsMark (P : ℕ → Type 0) (kind : ℕ) (later : List ℕ) : Type 0 where
   pub tail : IsTail later
   pub apart : (k : ℕ) → P k → k ≢ kind
   pub near : needs_previous_field kind ≡ true → (k : ℕ) → P k → ⊥
 
--- `kind` may still come, after types that satisfy `P`
+-- the types in `schema` are types that satisfy `P`, then `kind`, and then the types in `later`
 pub record Ahead (P : ℕ → Type 0) (kind : ℕ) (later schema : List ℕ) : Type 0 where
   pub front : List ℕ
   pub schema_is : schema ≡ front ++ kind ∷ later
   pub others : AllByRecursion P front
 
 module _ (P : ℕ → Type 0) (kind : ℕ) (later : List ℕ) (m : IsMark P kind later) where
-  -- after a field of another type, `kind` may still come
+  -- a field of another type that comes next satisfies `P`, and `kind` may still come after it
   other_met : (k : ℕ) (front after : List ℕ) → AllByRecursion P front → k ≢ kind → schema_after k (front ++ kind ∷ later) ≡ Some after → P k × Ahead P kind later after
   other_met k [] after all other e =
       elim (needs_previous_field k) as (λ b. needs_previous_field k ≡ b → cond b None (schema_after k later) ≡ Some after → P k × Ahead P kind later after) [
@@ -83,14 +85,16 @@ pub record Awaits (P : ℕ → Type 0) (kind : ℕ) (later text : List ℕ) (fie
 placed : (P : ℕ → Type 0) (kind : ℕ) (later text : List ℕ) (before after : FieldReader) (e : Element) → IsMark P kind later → StandsHere before after e → Awaits P kind later text before → from_first kind text ≡ from_first kind after.here.now
 placed P kind later text before after e m here h = h.left ∙ here.place kind (subst (λ (s : List ℕ). IsSome (schema_after kind s)) (sym h.ahead.schema_is) (comes P kind later m h.ahead.front h.ahead.others))
 
--- after a field of another type, the reader still awaits `kind`
+-- if the reader awaits `kind` and returns a field of another type, this type satisfies `P`, and the
+-- reader still awaits `kind`
 pub awaits_still : (P : ℕ → Type 0) (kind : ℕ) (later text : List ℕ) (before after : FieldReader) (e : Element) → IsMark P kind later → StandsHere before after e → e.kind ≢ kind → Awaits P kind later text before
     → P e.kind × Awaits P kind later text after
 awaits_still P kind later text before after e m here other h =
     let met = other_met P kind later m e.kind h.ahead.front after.schema.now h.ahead.others other (ap (schema_after e.kind) (sym h.ahead.schema_is) ∙ here.schema) in
     (met.0, record { ahead = met.1; left = placed P kind later text before after e m here h ∙ next_other kind after.here.now (e.kind, e.value.now) after.rest.now here.here other })
 
--- after the field of type `kind`, the reader has noted where it begins
+-- if the reader awaits `kind` and returns a field of this type, the types in `later` remain, and
+-- the reader has noted where the field begins
 pub awaits_met : (P : ℕ → Type 0) (kind : ℕ) (later text : List ℕ) (before after : FieldReader) (e : Element) → IsMark P kind later → StandsHere before after e → e.kind ≡ kind → Awaits P kind later text before
     → (after.schema.now ≡ later) × (from_first kind text ≡ Some after.here.now)
 awaits_met P kind later text before after e m here is h = (
@@ -98,7 +102,7 @@ awaits_met P kind later text before after e m here is h = (
   placed P kind later text before after e m here h ∙ next_is kind after.here.now (e.kind, e.value.now) after.rest.now here.here is,
 )
 
--- the `P` of a type that needs the previous field: no type may come before it
+-- the property `P` for a `kind` that needs the previous field: no type satisfies `P`
 abbrev pub Never : ℕ → Type 0
 Never k = ⊥
 
@@ -120,7 +124,8 @@ IsEarly k = (k ≢ 23) × (k ≢ 20 → k ≢ 21 → k ≢ 22 → ⊥)
 value_mark : IsMark IsEarly 23 []
 value_mark = record { tail = λ k loose. refl; apart = λ k early. early.0; near = λ near k early. absurd cc }
 
--- the reader of a Data notes the octets from the SignatureValue on
+-- before the SignatureValue, the reader of a Data awaits it; after the SignatureValue, no more
+-- fields may come, and the reader has noted the octets from the SignatureValue on
 abbrev pub DataMark : List ℕ → FieldReader → Option (List ℕ) → List ℕ → Type 0
 DataMark text fields None from = Awaits IsEarly 23 [] text fields
 DataMark text fields (Some value) from = (fields.schema.now ≡ []) × (from_first 23 text ≡ Some from)
@@ -150,7 +155,7 @@ data_value text before after e (Some value) from here a b c h = absurd (nothing_
 
 -- ---- an Interest
 
--- the fields before the ApplicationParameters
+-- a type other than ApplicationParameters that does not need the previous field
 abbrev IsFront : ℕ → Type 0
 IsFront k = (k ≢ 36) × (needs_previous_field k ≡ false)
 
@@ -170,8 +175,9 @@ info_mark = record { tail = λ k loose. none_after k 46 [] refl loose refl; apar
 signature_mark : IsMark Never 46 []
 signature_mark = record { tail = λ k loose. refl; apart = λ k never. absurd never; near = λ near k never. never }
 
--- the reader of an Interest notes the octets from the ApplicationParameters on, and those from the
--- InterestSignatureValue on
+-- the reader of an Interest awaits the next of the last three fields; once the
+-- ApplicationParameters and the InterestSignatureValue are read, the reader has noted the octets
+-- from each of them on
 abbrev pub InterestMark : List ℕ → FieldReader → Option (List ℕ) → Option PlainSignatureInfo → Option (List ℕ) → List ℕ → List ℕ → Type 0
 InterestMark text fields None None None p v = Awaits IsFront 36 (44 ∷ 46 ∷ []) text fields
 InterestMark text fields None None (Some value) p v = ⊥

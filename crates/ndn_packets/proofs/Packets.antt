@@ -156,7 +156,7 @@ again_with text token Idle h = link_again_in text token None None (framed_with t
 pub framed_again : (text : List ℕ) (f : PlainFramed) → IsFramed text f → framed_at text ≡ Ok f
 framed_again text f h = again_with text f.token f.frame h
 
--- `frame_at` and `token_at` return the two parts of what `framed_at` returns
+-- the next lemmas: `frame_at` and `token_at` return the two parts of what `framed_at` returns
 
 pub frame_of_framed : (text : List ℕ) (f : PlainFramed) → framed_at text ≡ Ok f → frame_at text ≡ Ok f.frame
 unfolding frame_at

@@ -40,7 +40,7 @@ not_nothing (k ∷ front) later kind e = cc
 around_counts : (before later : List ℕ) (kind : ℕ) → IsAround before kind later → Counts kind later (before ++ kind ∷ later)
 around_counts before later kind h = (before, refl, lacks_kind kind later before h.apart, h.near)
 
--- the position of another type in the schema: before `kind`, at `kind`, or after it
+-- the next two definitions: the type `k` comes before `kind` in the schema, or after `kind`
 abbrev StandsBefore : List ℕ → ℕ → List ℕ → List ℕ → ℕ → List ℕ → Type 0
 StandsBefore before kind later front k after = (between : List ℕ) × (before ≡ front ++ k ∷ between) × (after ≡ between ++ kind ∷ later)
 
@@ -69,7 +69,8 @@ stands (b ∷ before) later (f ∷ front) after kind k e =
           inr (inr ((h.0.0, h.0.1), (none, λ lacks. h.1.1 lacks.1)))
     ]
 
--- a type before `kind` does not recur from `kind` on, and `kind` follows the types in between
+-- a type `k` in `before` is neither `kind` nor in `later`, and `IsAround` also holds for the types
+-- between `k` and `kind`
 before_is : (before later front between : List ℕ) (kind k : ℕ) → IsAround before kind later → before ≡ front ++ k ∷ between → Lacks k (kind ∷ later) × IsAround between kind later
 before_is before later front between kind k around is =
     let apart = following_all (λ j. Lacks j (kind ∷ later)) front (k ∷ between) (subst (AllByRecursion (λ j. Lacks j (kind ∷ later))) is around.apart) in
@@ -167,7 +168,8 @@ meet ignores before later kind (e ∷ elements) fields around all_need_previous 
 cons_is : (x y : Field) (xs ys : List Field) → x ∷ xs ≡ y ∷ ys → (x ≡ y) × (xs ≡ ys)
 cons_is x y xs ys e = (cc, cc)
 
--- the first element of type `kind` is the field, and another value there changes this field alone
+-- the first element of type `kind` is the field of this type, and another value in this element
+-- changes only this field
 pub record StandsAt (ignores : ℕ → Bool) (schema : List ℕ) (kind : ℕ) (value : List ℕ) (elements early late : List Field) : Type 0 where
   pub front : List Field
   pub back : List Field
@@ -329,7 +331,8 @@ earlier_front schema prefix fresh hint nonce lifetime h =
     (all_both P (flag 18 fresh) _ (earlier_flag schema 18 fresh h.1.0)
     (all_both P (optional 30 hint) _ (earlier_optional schema 30 hint h.1.1.0) (h.1.1.1.0, earlier_optional schema 12 lifetime h.1.1.1.1.0)))
 
--- no type before the HopLimit recurs as the HopLimit or after it
+-- no type that the schema lists before the HopLimit is the type of the HopLimit or of a later
+-- field
 pub hop_apart : AllByRecursion (λ k. Lacks k (34 ∷ 36 ∷ 44 ∷ 46 ∷ [])) (33 ∷ 18 ∷ 30 ∷ 10 ∷ 12 ∷ [])
 unfolding lacks all_lack
 hop_apart = all_lack-true (33 ∷ 18 ∷ 30 ∷ 10 ∷ 12 ∷ []) (34 ∷ 36 ∷ 44 ∷ 46 ∷ []) refl

@@ -118,7 +118,7 @@ frame_alone text own f e h =
 pub interest_alone : (text whole : List ℕ) (i : PlainInterest) → frame_at text ≡ Ok (AnInterest whole i) → frame_at whole ≡ Ok (AnInterest whole i)
 interest_alone text whole i e = (packet_alone whole (AnInterest whole i) (frame_alone text whole (AnInterest whole i) e refl)).2
 
--- an Interest is no longer than a packet may be
+-- an Interest that is read has at most 8,800 octets
 pub interest_short : (text whole : List ℕ) (i : PlainInterest) → frame_at text ≡ Ok (AnInterest whole i) → length whole ≤ 8800
 interest_short text whole i e = (packet_alone whole (AnInterest whole i) (frame_alone text whole (AnInterest whole i) e refl)).1
 

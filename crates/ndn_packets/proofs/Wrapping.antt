@@ -18,7 +18,7 @@ start_whole token packet =
     omega (arith, length-append (element (98, token)) (element (80, packet)), length-element 80 packet, length-append (spelling 80) (spelling (length packet))) in
     rw same (simp (append_assoc, append-nil))
 
--- rotating the octets from `start` on moves the appended octets in front of the packet
+-- rotating the octets from `start` on moves the octets `added` from the end to the position `start`
 turned : (old added : List ℕ) (start n : ℕ) → start ≤ length old → n ≡ length old - start
     → take start (old ++ added) ++ (drop n (drop start (old ++ added)) ++ take n (drop start (old ++ added))) ≡ take start old ++ (added ++ drop start old)
 turned old added start n within is =

@@ -143,7 +143,8 @@ pub in_order : (ignores : ℕ → Bool) (schema : List ℕ) (fields : List Field
 in_order ignores schema [] h = refl
 in_order ignores schema (f ∷ fields) h = inl (h.0, fields, h.1, refl, in_order ignores h.0 fields h.2)
 
--- a property of each type in a schema holds for a type and for the types after this type
+-- if `P` holds for each type in a schema, it holds for the type `kind` in the schema and for the
+-- types after `kind`
 all_following : (P : ℕ → Type 0) (front : List ℕ) (kind : ℕ) (later : List ℕ) → AllByRecursion P (front ++ kind ∷ later) → P kind × AllByRecursion P later
 all_following P [] kind later h = h
 all_following P (k ∷ front) kind later h = all_following P front kind later h.1
@@ -162,6 +163,7 @@ abbrev IsLoose : List ℕ → Type 0
 IsLoose [] = Unit {0}
 IsLoose (k ∷ schema) = needs_previous_field k ≡ false
 
+-- `kind` is not in `schema`, and the first type in `schema` does not need the previous field, so
 -- the type `kind` may come before the types in `schema`
 abbrev pub Precedes : ℕ → List ℕ → Type 0
 Precedes kind schema = AllByRecursion (λ k. k ≢ kind) schema × IsLoose schema
@@ -171,8 +173,8 @@ counts_following first kind later schema p h =
     let other = (all_following (λ k. k ≢ first) h.0 kind later (subst (AllByRecursion (λ k. k ≢ first)) h.1 p.0)).0 in
     (first ∷ h.0, ap (λ (ks : List ℕ). first ∷ ks) h.1, ((λ same. other (sym same)), h.2), λ follows. absurd (both_tests (needs_previous_field kind) (subst IsLoose (h.1 ∙ ap (λ (front : List ℕ). front ++ kind ∷ later) (h.3 follows)) p.1) follows))
 
--- fields in order stay in order if an optional field of an earlier type, or a flag, is put before
--- them
+-- the next two lemmas: fields in order stay in order if an optional field of an earlier type, or a
+-- flag of an earlier type, is put before them
 pub maybe : (schema : List ℕ) (kind : ℕ) (value : Option (List ℕ)) (fields : List Field) → Precedes kind schema → InOrder schema fields → InOrder (kind ∷ schema) (optional kind value ++ fields)
 maybe schema kind (Some v) fields p h = leads schema kind v fields h
 maybe schema kind None [] p h = tt
@@ -267,7 +269,7 @@ info_written signed time seq time_fits seq_fits short =
 -- ---- packets
 
 -- if the elements of a written packet are in the order of the schema and the packet has at most
--- 8,800 octets, it is in the grammar
+-- 8,800 octets, the packet is in the grammar
 unfoldable pub packet_written : (kind : ℕ) (schema : List ℕ) (name_value : List ℕ) (elements fields : List Field) → IsType kind → AllByRecursion IsType schema → InOrder schema elements → elements ≡ fields
     → AreBytes ((7, name_value) ∷ elements) → length (element (kind, octets ((7, name_value) ∷ elements))) ≤ 8800 → IsPacket (element (kind, octets ((7, name_value) ∷ elements))) kind is_even_high schema name_value fields
 packet_written kind schema name_value elements fields is types order same fits short =
@@ -337,7 +339,8 @@ cut_written kind value before following fit first =
       octets_are = flat_map-append element before ((kind, value) ∷ following);
     }
 
--- the elements of a Data after its Name, and its fields
+-- the next two definitions: the elements of a Data after its Name, and the same elements as fields
+-- of the schema
 abbrev data_elements : Sign → List Field → Option (List ℕ) → Option (List ℕ) → List Field
 data_elements signed name meta content = (optional 20 meta ++ (optional 21 content ++ (22, octets (info_fields signed None None)) ∷ [])) ++ (23, data_value signed name meta content) ∷ []
 
@@ -406,7 +409,7 @@ data_covered signed name freshness meta content sign_fits name_fits meta_fits co
       refl,
     )
 
--- if nothing is refused, the first check has passed, and the other checks refuse nothing either
+-- if `cond b (Some fault) others` is `None`, the test `b` is false, and `others` is `None`
 pub not_refused : (b : Bool) (fault : WriteFault) (others : Option WriteFault) → cond b (Some fault) others ≡ None → (b ≡ false) × (others ≡ None)
 not_refused true fault others e = absurd cc
 not_refused false fault others e = (refl, e)

@@ -85,14 +85,15 @@ EndsInDigest name =
     (front : List Field) × (digest : List ℕ)
     × (name ≡ front ++ (PARAMETERS_SHA256_DIGEST, digest) ∷ [])
 
--- The octets of a Data up to the element of its SignatureValue.
+-- `covered` are the octets of a Data's value before an element SignatureValue with the value
+-- `value`.
 abbrev pub EndsBeforeValue : List ℕ → List ℕ → List ℕ → Type 0
 EndsBeforeValue value text covered =
     (after : List ℕ) × IsElement text DATA (covered ++ (element (SIGNATURE_VALUE, value) ++ after))
 
--- The two parts end before the element of the signature's value, in an Interest of this name. The
--- first part is all components before the digest of parameters. The second part begins where the
--- octets covered by that digest begin.
+-- The two parts in an Interest of this name. The first part is all components before the digest of
+-- parameters, which is the last component. The second part begins where the octets that this digest
+-- covers begin, and ends before the element of the signature's value.
 pub record EndsAtSignature (name : List Field) (value text first second : List ℕ) : Type 0 where
   pub components : List Field
   pub early : List ℕ
@@ -115,8 +116,8 @@ abbrev pub HoldsSecond : List Field → List ℕ → Option (List ℕ) → Type 
 HoldsSecond name text None = (first second : List ℕ) → CoversInterest name text first second → ⊥
 HoldsSecond name text (Some second) = (first : List ℕ) × CoversInterest name text first second
 
--- `from_parameters` begins at the ApplicationParameters, and `from_value` at the
--- InterestSignatureValue
+-- `from_parameters` begins at the first ApplicationParameters. `from_value` begins at the first
+-- InterestSignatureValue that follows the first InterestSignatureInfo after these parameters.
 abbrev pub IsSignedAt : List ℕ → List ℕ → List ℕ → Type 0
 IsSignedAt octets from_parameters from_value =
     (from_info : List ℕ)

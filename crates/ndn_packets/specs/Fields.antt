@@ -47,8 +47,8 @@ Counts kind later schema =
     × (needs_previous_field kind ≡ true → front ≡ [])
 
 -- The fields of a schema among elements. An element is a field if the schema lists its type after
--- the types of all earlier fields. If the type needs the previous field, it must directly follow
--- the type of the last field in the schema. Every other element must be one that is ignored.
+-- the types of all earlier fields. If the type needs the previous field, the schema must list it
+-- directly after the type of the last field. Every other element must be one that is ignored.
 abbrev pub Fields : (ℕ → Bool) → List ℕ → List Field → List Field → Type 0
 Fields ignores schema [] fields = fields ≡ []
 Fields ignores schema (e ∷ elements) fields =

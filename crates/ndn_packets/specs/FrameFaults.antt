@@ -27,7 +27,8 @@ OuterFault text fault =
 abbrev pub IsAlone : List ℕ → Field → Type 0
 IsAlone text e = element_at text ≡ Ok (e, [])
 
--- A packet that is too long is reported before any fault in its value.
+-- The fault of a packet: `TooLong` if it has more than 8,800 octets, otherwise the fault that
+-- `Otherwise` states.
 abbrev pub LongOr : List ℕ → PacketFault → Type 0 → Type 0
 LongOr text fault Otherwise =
     ((8800 < length text) × (fault ≡ TooLong)) ⊎ ((length text ≤ 8800) × Otherwise)
@@ -38,7 +39,7 @@ NoInterest text e fault = LongOr text fault (InterestFault (elements_of e.1) fau
 abbrev pub NoData : List ℕ → Field → PacketFault → Type 0
 NoData text e fault = LongOr text fault (DataFault (elements_of e.1) fault)
 
--- the octets are exactly the element `e`, which is no valid packet because of this fault
+-- the octets `text`, which are the element `e`, are no valid packet because of this fault
 abbrev pub NoPacket : List ℕ → Field → PacketFault → Type 0
 NoPacket text e fault =
     ((e.0 ≡ INTEREST) × NoInterest text e fault)
@@ -83,7 +84,8 @@ HeaderValueFault h fault =
     ⊎ ((h.0 ≡ NACK)
     × FirstFault take_nack_field is_even_high nack_schema 0 (elements_of h.1) fault))
 
--- A header field that is not allowed is reported before a fault in its value.
+-- The fault of a header field after the fields in `before`: `LpField` if the field is not allowed,
+-- otherwise a fault in its value.
 abbrev pub HeaderFault : List Field → Field → PacketFault → Type 0
 HeaderFault before h fault =
     (IsRefused before h × (fault ≡ LpField))

@@ -20,7 +20,8 @@ only_element text =
     on_result (λ x. if is_nil x.1 then Ok x.0 else Err BadField) (λ f. Err (Tlv f))
     (element_at text)
 
--- the Interest or the Data of the octets `text`, which are one element with this value
+-- the next two definitions: the Interest, or the Data, of the octets `text`, which are one element
+-- with this value
 abbrev pub interest_of : List ℕ → List ℕ → Result PlainInterest PacketFault
 interest_of text value = if nat_lt 8800 (length text) then Err TooLong else interest_at value
 
@@ -70,8 +71,8 @@ no_headers_yet = record {
 abbrev pub is_token : List ℕ → Bool
 is_token value = nat_le 1 (length value) && nat_le (length value) 32
 
--- whether a header field is refused: a known field may come once only, and a token has 1 to 32
--- octets
+-- whether a header field is refused: a known field may come once only, a token has 1 to 32 octets,
+-- and an unknown field must be one that is ignored
 abbrev pub is_refused_header : LinkSoFar → Field → Bool
 is_refused_header s h =
     if h.0 == SEQUENCE then s.sequence else (

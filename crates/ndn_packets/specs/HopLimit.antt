@@ -38,8 +38,8 @@ hop_place text = place_in text (frame_at text)
 abbrev pub with_octet : List ℕ → ℕ → List ℕ
 with_octet text octet = slice_set text (hop_place text) octet
 
--- The HopLimit's octet is mutably borrowed. After the borrow, this octet has the value that the
--- borrower left, and all other octets are unchanged.
+-- `limit` is a mutable borrow of the HopLimit's octet, if there is a HopLimit. After the borrow,
+-- this octet has the value that the borrower left, and all other octets are unchanged.
 abbrev pub LendsHopLimit : MutBor (List ℕ) → Option (MutBor ℕ) → Fml
 LendsHopLimit octets limit = LendsIf (Array u8 0) u8 octets limit (with_octet octets.now) octets.now
 

@@ -42,7 +42,7 @@ key_cmp =
     then_cmp (on (λ k. k.name) name_cmp)
     (then_cmp (on (λ k. k.can_be_prefix) bool_cmp) (on (λ k. k.must_be_fresh) bool_cmp))
 
--- an encoding of keys, so that finite maps can use them as keys
+-- a coding of keys, so that finite maps can use them as keys
 abbrev pub key_code : Coded PlainKey
 key_code =
     code_by (List Field × (Bool × Bool))
@@ -72,7 +72,7 @@ key_cmp-antisymmetric x y e =
     let fresh : x.must_be_fresh ≡ y.must_be_fresh = bool_tie _ _ b.1 in
     λ i. record { name = names i; can_be_prefix = prefixes i; must_be_fresh = fresh i }
 
--- borrowed keys compare and hash as the same keys in plain data do
+-- borrowed keys compare as the same keys in plain data do
 abbrev pub key_view_cmp : Key → Key → Ordering
 key_view_cmp = on plain_key key_cmp
 

@@ -57,7 +57,8 @@ IsNackOf headers (Some reason) =
 abbrev pub IsTokenOf : List Field → Option (List ℕ) → Type 0
 IsTokenOf headers token = headers_of PIT_TOKEN headers ≡ optional PIT_TOKEN token
 
--- LpPacket: header fields in any order, each known one at most once, then at most one Fragment.
+-- LpPacket: header fields in any order, each known one at most once, then at most one Fragment. An
+-- LpPacket has at most 9,000 octets.
 pub record IsLinkPacket (text : List ℕ) (token : Option (List ℕ)) (nack : Option ℕ)
     (fragment : Option (List ℕ)) : Type 0 where
   pub value : List ℕ
@@ -71,8 +72,9 @@ pub record IsLinkPacket (text : List ℕ) (token : Option (List ℕ)) (nack : Op
   pub short : length text ≤ 9000
   pub octets : (i : ℕ) → slice_index text i < 256
 
--- A frame with an optional PIT token. A bare packet has no token. Otherwise the frame is a link
--- packet around a Data, around an Interest with or without a Nack, or without Fragment and Nack.
+-- A frame with an optional PIT token. An Interest or a Data alone is a frame without a token. Every
+-- other frame is a link packet around a Data, around an Interest, or around an Interest with a
+-- Nack, or a link packet with neither a Fragment nor a Nack.
 abbrev pub IsFrameWith : List ℕ → Option (List ℕ) → PlainFrame → Type 0
 IsFrameWith text token (AnInterest whole i) =
     IsInterest whole i

@@ -63,7 +63,8 @@ pub record InterestEndsWrong (name : List Field) (later : List (Result Field Tlv
   pub faulty : ((taken.nonce ≡ None) × (fault ≡ NoNonce))
       ⊎ ((taken.nonce ≢ None) × DigestFault name plain taken.parameters fault)
 
--- The fault of an Interest after its Name, or the fault that the Name is empty.
+-- The fault of an Interest that begins with a Name: the Name is empty, or the elements after the
+-- Name have this fault.
 abbrev pub AfterInterestName : List Field → List (Result Field TlvFault) → PacketFault → Type 0
 AfterInterestName name later fault =
     ((name ≡ []) × (fault ≡ NoName))

@@ -73,7 +73,7 @@ abbrev pub found_or : {A : Type 0} → PacketFault → Option A → Result A Pac
 found_or fault None = Err fault
 found_or fault (Some x) = Ok x
 
--- Reads a field of a MetaInfo. Only the value of a FreshnessPeriod is kept. A ContentType must be a
+-- Reads a field of a MetaInfo. Only a FreshnessPeriod changes the result. A ContentType must be a
 -- number. The only other type that is possible here is 26 (FinalBlockId).
 abbrev pub take_meta_field : ℕ → Field → Result ℕ PacketFault
 take_meta_field freshness f =
@@ -85,8 +85,8 @@ meta_at value =
     read_fields take_meta_field 0
     (fields_from is_ignored_in_meta_info meta_schema (elements_of value))
 
--- the key that a KeyLocator names, given its first element; any octets after that element make it
--- `Other`
+-- the key that a KeyLocator names, given the first element of its value; if other octets follow
+-- this element, the result is `Other`
 abbrev pub locator_of : Field → List ℕ → PlainLocator
 locator_of e rest =
     if not (is_nil rest) then Other else (

@@ -146,12 +146,13 @@ interest_refusal w =
 
 -- ---- Data
 
--- the value of a MetaInfo, if it has a field
+-- the value of a MetaInfo, if the MetaInfo has at least one field
 abbrev pub meta_of : List Field → Option (List ℕ)
 meta_of [] = None
 meta_of (f ∷ fields) = Some (octets (f ∷ fields))
 
--- the FinalBlockId, if there is a last segment: one component, its segment number
+-- the FinalBlockId, if there is a last segment: its value is one component, the number of the last
+-- segment
 abbrev pub last_fields : Option ℕ → List Field
 last_fields last =
     optional FINAL_BLOCK_ID (option_map (λ n. element (SEGMENT, shortest_nni n)) last)
@@ -187,7 +188,8 @@ meta_asked w = meta_of (meta_fields w.freshness w.last)
 abbrev pub content_asked : DataWriter → Option (List ℕ)
 content_asked w = option_map (λ c. c.now) w.content
 
--- the fields of the requested Data that its signature covers, and all of its fields
+-- the next two definitions: the fields of the requested Data that its signature covers, and all of
+-- its fields
 abbrev pub fields_covered : DataWriter → List Field
 fields_covered w = data_fields w.sign (components w.name) (meta_asked w) (content_asked w)
 
@@ -219,7 +221,7 @@ data_asked w =
 abbrev pub data_refusal : DataWriter → Option WriteFault
 data_refusal w = if nat_lt 8800 (length (data_text w)) then Some TooLong else None
 
--- a reply: a Data without MetaInfo, signed with DigestSha256
+-- the octets of a reply: a Data without MetaInfo, signed with DigestSha256
 abbrev pub reply_text : List Field → List ℕ → List ℕ
 reply_text name content = signed_data sign.Digest name None (Some content)
 
@@ -276,8 +278,8 @@ in_link (h ∷ headers) packet =
 abbrev pub lp_text : Option (List ℕ) → Option ℕ → List ℕ → List ℕ
 lp_text token nack packet = in_link (lp_headers token nack) packet
 
--- The value of a link packet with an optional token and an optional Nack, and the whole link
--- packet. Without a token and a Nack, the packet is still inside a link packet.
+-- The next two definitions: the value of a link packet with an optional token and an optional Nack,
+-- and the whole link packet. Without a token and a Nack, the packet is still inside a link packet.
 abbrev pub link_value : Option (List ℕ) → Option ℕ → List ℕ → List ℕ
 link_value token nack packet =
     (octets (optional PIT_TOKEN token) ++ octets (nack_headers nack)) ++ element (FRAGMENT, packet)
@@ -307,7 +309,7 @@ AreOctets octets = (i : ℕ) → slice_index octets i < 256
 abbrev pub IsU64 : Option ℕ → Type 0
 IsU64 n = IfSome n (λ k. k < 2 ^ 64)
 
--- the name of a key consists of octets
+-- if there is a key, its name consists of octets
 abbrev pub IsSoundSign : Sign → Type 0
 IsSoundSign sign.Digest = ⊤
 IsSoundSign (sign.Hmac name key) = AreOctets (octets (components name))

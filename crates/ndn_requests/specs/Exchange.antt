@@ -105,7 +105,7 @@ IsListed old list turn (Ok (ANack reason whole i)) new progress =
 IsListed old list turn (Ok Idle) new progress = (new ≡ old) × (progress ≡ Ignored)
 IsListed old list turn (Err why) new progress = (new ≡ old) × (progress ≡ Ignored)
 
--- which segment a request asks for
+-- whether a request asks for the first segment of a list, and the Nonce of the request
 abbrev pub turn_of : Result PlainFrame PacketFault → Option Turn
 turn_of (Ok (AnInterest whole i)) = Some (record { is_first = i.can_be_prefix; nonce = i.nonce })
 turn_of (Ok (AData whole d)) = None
@@ -154,8 +154,8 @@ IsNextRefusal why frame = ⊥
 
 -- ---- no answer
 
--- Whether any segment of the list has been received. If one has, and the next segment does not
--- come, the node no longer has this version of the list.
+-- Whether a segment with a Content that is not empty has been received. If one has, and the next
+-- segment does not come, the node no longer has this version of the list.
 abbrev pub has_begun : Exchange → Bool
 has_begun x = not (is_nil x.contents.items)
 

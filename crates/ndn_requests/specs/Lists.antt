@@ -15,8 +15,9 @@ abbrev pub list_name : NodeList → List Field
 list_name Routes = node_path (codes "fib") (codes "list")
 list_name Strategies = node_path (codes "strategy-choice") (codes "list")
 
--- The number of a segment and the number of the last segment. An Interest with CanBePrefix asks for
--- the first segment, and only that segment answers it.
+-- The number of a segment and the number of the last segment, or None if one of them is missing.
+-- If `is_first` is true, the Interest asks for the first segment, and any other segment gives
+-- None too.
 abbrev pub in_turn : Bool → Option ℕ → Option ℕ → Option (ℕ × ℕ)
 in_turn is_first (Some segment) (Some last) =
     if is_first && not (segment == 0) then None else Some (segment, last)

@@ -115,8 +115,8 @@ frame_outcome asked (ANack reason whole i) check =
 frame_outcome asked (AnInterest whole i) check = None
 frame_outcome asked Idle check = None
 
--- the outcome of a command whose reply is too long to be read; the reply is accepted if it is,
--- octet for octet, what a node writes
+-- the outcome of a command whose reply is too long to be read, given the reply's Content; without
+-- a Content there is no outcome, since the octets are not exactly a reply that a node writes
 abbrev pub written_outcome : List Field → Option (List ℕ) → Option Outcome
 written_outcome name None = None
 written_outcome name (Some content) =

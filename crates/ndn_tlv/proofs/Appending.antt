@@ -9,7 +9,8 @@ use Rattle.ndn_tlv.specs.declared.memory.Memory.{Memory}
 use Rattle.ndn_tlv.specs.Writing.{Puts}
 use Rattle.ndn_tlv.proofs.Lengths.{begins_more}
 
--- a call that appends either all of these octets or nothing satisfies `Puts`
+-- a call satisfies `Puts` if it appends all of `octets` when it succeeds and nothing when it fails,
+-- succeeds if the capacity suffices, and does not reduce the capacity
 pub puts_one : (old new : Vec ℕ) (result : Result (Unit {0}) Memory) (octets : List ℕ)
     → OnOk result (new.items ≡ old.items ++ octets) → OnErr result (new.items ≡ old.items)
     → (vec_len old + length octets ≤ vec_capacity old → IsOk result)
@@ -27,8 +28,8 @@ puts_one old new (Err fault) octets ok err room capacity = record {
   capacity = capacity;
 }
 
--- two calls in sequence append the octets of the first call, followed by the octets of the second
--- call
+-- if a call succeeds and satisfies `Puts` for the octets `front`, and the next call satisfies
+-- `Puts` for the octets `back`, the two calls together satisfy `Puts` for `front ++ back`
 pub puts_both : (old mid new : Vec ℕ) (before : Unit {0}) (result : Result (Unit {0}) Memory) (front back : List ℕ)
     → Puts old mid (Ok before) front → Puts mid new result back → Puts old new result (front ++ back)
 puts_both old mid new before (Ok done) front back p q = record {

@@ -81,7 +81,8 @@ element_is : (bytes : List ℕ) → element_at bytes ≡ (type_at bytes >>= valu
 unfolding element_at
 element_is bytes = refl
 
--- if the octets begin with an element, `element_at` returns this element
+-- if the octets begin with a valid element, `element_at` returns this element and the octets
+-- after it
 pub element_again : (f : Field) (rest : List ℕ) → IsField f → element_at (element f ++ rest) ≡ Ok (f, rest)
 unfolding element_at
 element_again f rest ok =
@@ -89,7 +90,8 @@ element_again f rest ok =
     let long : ltb (length (f.1 ++ rest)) (length f.1) ≡ false = le-ltb _ _ (omega (arith, length-append f.1 rest)) in
     ap element_at regrouped ∙ rw (type_again f.0 (spelling (length f.1) ++ (f.1 ++ rest)) ok.0 ok.1, number_again (length f.1) (f.1 ++ rest) ok.2, long, take_at f.1 rest (length f.1) refl, drop_at f.1 rest (length f.1) refl) refl
 
--- if `element_at` returns an element, the octets begin with this element
+-- if `element_at` returns an element, this element is valid, and the octets are the element
+-- followed by the returned rest
 pub element_found : (bytes : List ℕ) (f : Field) (rest : List ℕ) → IsBytes bytes → element_at bytes ≡ Ok (f, rest) → IsField f × (bytes ≡ element f ++ rest)
 element_found bytes f rest fits e =
     let a = bind_ok (type_at bytes) valued (f, rest) (sym (element_is bytes) ∙ e) in
@@ -158,7 +160,7 @@ element_fault bytes f fits e =
 
 -- ---- elements in sequence
 
--- if both alternatives of a conditional have a property, the conditional has it
+-- if both alternatives of a conditional have a property, the conditional has this property
 chosen : {R : Type 0} (c : Bool) (x y : R) (P : R → Type 0) → P x → P y → P (cond c x y)
 chosen true x y P p q = p
 chosen false x y P p q = q
@@ -185,7 +187,7 @@ number_leaves (b ∷ bytes) x e =
     let all = chosen (ltb b 253) (done (b, bytes)) (cond (eqb b 253) (long_number_at w16 253 bytes) (cond (eqb b 254) (long_number_at w32 (2 ^ 16) bytes) (long_number_at w64 (2 ^ 32) bytes))) (Leaves (length bytes)) one more in
     omega (arith, all x e)
 
--- if `element_at` returns an element, fewer octets remain after it
+-- if `element_at` returns an element, fewer octets follow the element than the whole text has
 pub element_leaves : (bytes : List ℕ) (x : Field × List ℕ) → element_at bytes ≡ Ok x → length x.1 < length bytes
 element_leaves bytes x e =
     let a = bind_ok (type_at bytes) valued x (sym (element_is bytes) ∙ e) in
@@ -245,7 +247,7 @@ elements_of-err (b ∷ bytes) f ne e = elements_of-next b bytes ∙ ap (on_resul
 abbrev pub read : Field → Result Field TlvFault
 read f = Ok f
 
--- the concatenation of elements is read as these elements
+-- `elements_of` reads the concatenation of valid elements as these elements
 pub elements_again : (fields : List Field) → AllByRecursion IsField fields → elements_of (flat_map element fields) ≡ map (λ f. read f) fields
 elements_again [] ok = elements_of-nil
 elements_again (f ∷ fields) ok =
@@ -280,7 +282,8 @@ reads_same (f ∷ fs) (g ∷ gs) e =
     let others = reads_same fs gs is.1 in
     cc
 
--- a text that is read without a fault is the concatenation of the elements that are read
+-- if `elements_of` returns elements and no fault, the text is the concatenation of these elements,
+-- and all of them are valid
 pub elements_read : (bytes : List ℕ) (fields : List Field) → IsBytes bytes → elements_of bytes ≡ map (λ f. read f) fields → IsElements bytes fields
 elements_read [] [] fits e = (tt, refl)
 elements_read [] (f ∷ fields) fits e = let no = elements_of-nil in absurd cc
@@ -361,8 +364,8 @@ next_refused (Err f) fault e = let same : f ≡ fault = cc in ap (λ (d : TlvFau
 not_nothing : (b : ℕ) (bytes : List ℕ) → b ∷ bytes ≡ [] → ⊥
 not_nothing b bytes e = cc
 
--- The text is the fields `fields`, followed by octets at which no element can be read because of
--- this fault.
+-- The text is the valid elements `fields`, followed by at least one more octet. `fault` is the
+-- reason why no element can be read after `fields`.
 pub record EndsInFault (text : List ℕ) (fields : List Field) (fault : TlvFault) : Type 0 where
   pub rest : List ℕ
   pub parts : text ≡ flat_map element fields ++ rest

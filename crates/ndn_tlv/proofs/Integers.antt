@@ -15,8 +15,8 @@ integer n = Ok n
 integer_is : (n m : ℕ) → integer n ≡ integer m → n ≡ m
 integer_is n m e = cc
 
--- if a conditional equals `z`, its first alternative equals `z` and the test is true, or its second
--- alternative equals `z` and the test is false
+-- if `cond b x y` equals `z`, either `b` is true and `x` equals `z`, or `b` is false and `y` equals
+-- `z`
 split : {A : Type 0} (b : Bool) (x y z : A) → cond b x y ≡ z → ((b ≡ true) × (x ≡ z)) ⊎ ((b ≡ false) × (y ≡ z))
 split true x y z e = inl (refl, e)
 split false x y z e = inr (refl, e)
@@ -106,7 +106,7 @@ shortest_eight : (n : ℕ) → 2 ^ 32 ≤ n → shortest_nni n ≡ to_be_bytes w
 unfolding shortest_nni
 shortest_eight n low = rw (le-ltb n (2 ^ 8) (omega arith), le-ltb n (2 ^ 16) (omega arith), le-ltb n (2 ^ 32) low) refl
 
--- the shortest encoding of a number is a valid NonNegativeInteger encoding
+-- the shortest encoding of a number below 2^64 is a NonNegativeInteger encoding of this number
 pub nni_of_shortest : (n : ℕ) → n < 2 ^ 64 → IsNni (shortest_nni n) n
 nni_of_shortest n h =
     elim (cases_lt n (2 ^ 8)) [
@@ -150,7 +150,7 @@ shortest_is_least n text (inr (inl p)) = omega (arith, length-shortest_two n p.0
 shortest_is_least n text (inr (inr (inl p))) = omega (arith, length-shortest_four n p.0, ap length p.1)
 shortest_is_least n text (inr (inr (inr p))) = omega (arith, length-shortest_eight n, ap length p.1)
 
--- the shortest encoding of a number is read as the same number
+-- `nni_at` reads the shortest encoding of a number below 2^64 as this number
 pub shortest_again : (n : ℕ) → n < 2 ^ 64 → nni_at (shortest_nni n) ≡ Ok n
 shortest_again n h = nni_again (shortest_nni n) n (nni_of_shortest n h)
 

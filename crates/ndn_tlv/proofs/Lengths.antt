@@ -1,4 +1,4 @@
--- Lengths of elements, and octets that stay unchanged when others are appended.
+-- Lengths of elements, and octets that stay unchanged when other octets are appended.
 use Rattle.std.proofs.Common.{◌≡◌, ℕ, ◌+◌, ◌<◌, ◌≤◌, List, ◌++◌, length, take, sym, ap, ◌∙◌, append_assoc, arith}
 use Rattle.std.proofs.lemmas.List.{length-append, take-take, take_at}
 use Rattle.ndn_tlv.specs.Number.{shortest_nni, spelling}
@@ -27,7 +27,8 @@ number_fits kind n lt =
 pub element_put : (old : List ℕ) (kind len : ℕ) (value : List ℕ) → len ≡ length value → (old ++ (spelling kind ++ spelling len)) ++ value ≡ old ++ element (kind, value)
 element_put old kind len value is = rw is (simp append_assoc)
 
--- the old octets stay unchanged when octets are appended in two steps
+-- if the octets `front` begin with the octets `old`, and `new` begins with `front`, then `new`
+-- begins with `old`
 pub begins_more : (old front new tail : List ℕ) (n m : ℕ) → n ≡ length old → m ≡ length front → front ≡ old ++ tail → take m new ≡ front → take n new ≡ old
 begins_more old front new tail n m at following is begins =
     let short : n ≤ m = omega (arith, ap length is, length-append old tail) in

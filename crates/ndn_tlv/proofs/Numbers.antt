@@ -201,8 +201,8 @@ Spells-spelling n h = (form_of_spelling n h, λ other f. (form_beats other n f).
 pub Spells-from : (text : List ℕ) (n : ℕ) → (n < 2 ^ 64) × (text ≡ spelling n) → Spells text n
 Spells-from text n p = rw p.1 (Spells-spelling n p.0)
 
--- a shortest encoding begins with the number itself, or with 253, 254 or 255, depending on the size
--- of the number
+-- the shortest encoding of a number is, depending on the size of the number, the number itself in
+-- one octet, or an octet 253, 254 or 255 followed by the number in 2, 4 or 8 octets
 pub spelling_head : (n : ℕ) (x : List ℕ) → ((n < 253) × (spelling n ++ x ≡ n ∷ x)) ⊎ (((253 ≤ n) × (n < 2 ^ 16) × (spelling n ++ x ≡ 253 ∷ (to_be_bytes w16 n ++ x))) ⊎ (((2 ^ 16 ≤ n) × (n < 2 ^ 32) × (spelling n ++ x ≡ 254 ∷ (to_be_bytes w32 n ++ x))) ⊎ ((2 ^ 32 ≤ n) × (spelling n ++ x ≡ 255 ∷ (to_be_bytes w64 n ++ x)))))
 spelling_head n x =
     elim (cases_lt n 253) [
@@ -218,8 +218,7 @@ spelling_head n x =
 
 -- ---- reading
 
--- if a test that may return a fault is followed by a step, and both succeed, the test is false and
--- the step succeeds
+-- if `cond b (Err d) r` equals `Ok y`, the condition `b` is false, and `r` equals `Ok y`
 pub guard_ok : {A : Type 0} (b : Bool) (d : TlvFault) (r : Result A TlvFault) (y : A) → cond b (Err d) r ≡ Ok y → (b ≡ false) × (r ≡ Ok y)
 guard_ok true d r y e = absurd cc
 guard_ok false d r y e = (refl, e)
@@ -242,8 +241,8 @@ long_again w limit wide least n rest lt le =
     let long : ltb (length (to_be_bytes w n ++ rest)) (byte_len w) ≡ false = le-ltb _ _ (omega (arith, length-append (to_be_bytes w n) rest)) in
     rw (long, take_at (to_be_bytes w n) rest (byte_len w) len, drop_at (to_be_bytes w n) rest (byte_len w) len, wide.again n lt, le-ltb n least le) refl
 
--- the number that is read from the first octets is below `limit`, and these octets are its
--- big-endian encoding
+-- if there are at least `byte_len w` octets, the number that the first `byte_len w` of them encode
+-- is below `limit`, and these octets are the big-endian encoding of this number
 long_front : (w : Width) (limit : ℕ) (wide : IsWide w limit) (bytes : List ℕ) → IsBytes bytes → byte_len w ≤ length bytes → (from_be_bytes w (take (byte_len w) bytes) < limit) × (bytes ≡ to_be_bytes w (from_be_bytes w (take (byte_len w) bytes)) ++ drop (byte_len w) bytes)
 long_front w limit wide bytes fits long =
     let front = wide.back (take (byte_len w) bytes) (omega (arith, length-take (byte_len w) bytes)) (IsBytes-take (byte_len w) bytes fits) in
@@ -260,8 +259,8 @@ long_found w limit wide least bytes n rest fits e =
     let least_is : least ≤ v = ltb-false _ _ h.0 in
     (subst (λ (m : ℕ). bytes ≡ to_be_bytes w m ++ rest) is.0 (subst (λ (r : List ℕ). bytes ≡ to_be_bytes w v ++ r) is.1 front.1), rw (← is.0) front.0, rw (← is.0) least_is)
 
--- the fault of the octets after a first octet of 253, 254 or 255: `Truncated` if octets are
--- missing, or `NotShortest` if the number is below `least`
+-- why octets that follow a first octet of 253, 254 or 255 cannot be read as a number: `Truncated`
+-- if octets are missing, or `NotShortest` if the number is below `least`
 abbrev LongFault : Width → ℕ → ℕ → List ℕ → TlvFault → Type 0
 LongFault w limit least bytes f =
     ((f ≡ Truncated) × ((missing : List ℕ) × (n : ℕ) × (missing ≢ []) × (n < limit) × (bytes ++ missing ≡ to_be_bytes w n)))
@@ -319,7 +318,8 @@ number_at-nil : number_at [] ≡ Err Truncated
 unfolding number_at
 number_at-nil = refl
 
--- the shortest encoding of a number is read as this number
+-- if octets begin with the shortest encoding of a number below 2^64, `number_at` returns this
+-- number and the octets after it
 pub number_again : (n : ℕ) (rest : List ℕ) → n < 2 ^ 64 → number_at (spelling n ++ rest) ≡ Ok (n, rest)
 number_again n rest h =
     elim (spelling_head n rest) [
@@ -329,7 +329,8 @@ number_again n rest h =
       | inr (inr (inr a)) ↦ ap number_at a.1 ∙ number_at-255 (to_be_bytes w64 n ++ rest) ∙ long_again w64 (2 ^ 64) wide64 (2 ^ 32) n rest h a.0
     ]
 
--- if a number is read, the octets begin with the shortest encoding of this number
+-- if `number_at` returns a number, this number is below 2^64, and the octets are its shortest
+-- encoding, followed by the returned rest
 pub number_found : (bytes : List ℕ) (n : ℕ) (rest : List ℕ) → IsBytes bytes → number_at bytes ≡ Ok (n, rest) → (n < 2 ^ 64) × (bytes ≡ spelling n ++ rest)
 number_found [] n rest fits e = let no = number_at-nil in absurd cc
 number_found (b ∷ bytes) n rest fits e =
@@ -351,7 +352,8 @@ number_found (b ∷ bytes) n rest fits e =
           (t.1, rw (a, spelling_nine n t.2) (ap (λ (x : List ℕ). 255 ∷ x) t.0))
     ]
 
--- octets that begin with an encoding longer than the shortest one satisfy `BeginsTooLong`
+-- octets that begin with an encoding of a number longer than its shortest encoding satisfy
+-- `BeginsTooLong`
 too_long : (bytes text rest : List ℕ) (n : ℕ) → bytes ≡ text ++ rest → IsForm text n → length (spelling n) < length text → BeginsTooLong bytes
 too_long bytes text rest n e form lt = (text, rest, n, e, form, λ s. omega (arith, ap length (Spells-is text n s).1))
 

@@ -1,5 +1,5 @@
--- Finding the fields of a value by their types. Only the first field of each type counts. The first
--- element that cannot be read, and everything after it, is ignored (NFD Management, "Control
+-- Finding fields by their types. `first_of` returns only the first field of a type; it ignores the
+-- first element that cannot be read and everything after this element (NFD Management, "Control
 -- Command").
 use Rattle.std.specs.Prelude.{ℕ, List, [], ◌∷◌, Option, None, Some, Result, Ok, Err, ◌==◌, if◌then◌else◌}
 use Rattle.ndn_tlv.specs.declared.fault.TlvFault.{TlvFault}
@@ -14,7 +14,8 @@ first_of kind [] = None
 first_of kind (Err fault ∷ es) = None
 first_of kind (Ok e ∷ es) = if e.0 == kind then Some e.1 else first_of kind es
 
--- if there is exactly one element and its type is `kind`, the value of this element
+-- the value of the only item in the list, if the list has exactly one item, and this item is an
+-- element of type `kind`
 abbrev pub single : ℕ → Elements → Option (List ℕ)
 single kind [] = None
 single kind (Err fault ∷ es) = None

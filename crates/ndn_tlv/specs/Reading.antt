@@ -13,8 +13,9 @@ abbrev pub ◌>>=◌ : {A B F : Type 0} → Result A F → (A → Result B F) �
 (Ok x) >>= f = f x
 (Err e) >>= f = Err e
 
--- the number that follows a first octet of 253, 254 or 255, and the octets after the number; a
--- number below `least` has a shorter form
+-- The number that follows a first octet of 253, 254 or 255, and the octets after the number. The
+-- result is the fault `Truncated` if octets of the number are missing, and `NotShortest` if the
+-- number is below `least`.
 abbrev pub long_number_at : Width → ℕ → List ℕ → Result (ℕ × List ℕ) TlvFault
 long_number_at w least bytes =
     if nat_lt (length bytes) (byte_len w) then Err Truncated else (
@@ -39,7 +40,7 @@ nni_at value =
     if length value == 8 then Ok (from_be_bytes w64 value) else
     Err BadInteger)))
 
--- a VAR-NUMBER that is a valid type, and the octets after it
+-- the VAR-NUMBER at the front, if it is a valid type, and the octets after it
 abbrev pub type_at : List ℕ → Result (ℕ × List ℕ) TlvFault
 type_at bytes = do
   kind ← number_at bytes
@@ -58,7 +59,8 @@ abbrev pub on_result : {A F C : Type 0} → (A → C) → (F → C) → Result A
 on_result f g (Ok x) = f x
 on_result f g (Err e) = g e
 
--- the elements of a text in order, at most n of them
+-- the elements of a text in order, at most n of them, up to the first fault, which is then the last
+-- item
 unfoldable pub elements_within : ℕ → List ℕ → List (Result Field TlvFault)
 elements_within zero bytes = []
 elements_within (suc n) [] = []
@@ -69,7 +71,7 @@ elements_within (suc n) (b ∷ bytes) =
 unfoldable pub elements_of : List ℕ → List (Result Field TlvFault)
 elements_of bytes = elements_within (length bytes) bytes
 
--- the octets are the beginning of some number's encoding, of which at least one octet is missing
+-- the octets, followed by one or more missing octets, are an encoding of some number
 abbrev pub IsCutNumber : List ℕ → Type 0
 IsCutNumber bytes = (missing : List ℕ) × (n : ℕ) × (missing ≢ []) × IsForm (bytes ++ missing) n
 
@@ -107,8 +109,8 @@ ElementFault bytes TypeTooLarge =
     (text rest : List ℕ) × (kind : ℕ) × (bytes ≡ text ++ rest) × Spells text kind × (2 ^ 32 ≤ kind)
 ElementFault bytes BadInteger = ⊥
 
--- the text is these elements, followed by octets at which no element can be read because of this
--- fault
+-- The text is the valid elements `fields`, followed by at least one more octet. `fault` is the
+-- reason why no element can be read after `fields`.
 abbrev pub EndsInFault : List ℕ → List Field → TlvFault → Type 0
 EndsInFault text fields fault =
     (rest : List ℕ) × (text ≡ flat_map element fields ++ rest) × AllByRecursion IsField fields

@@ -11,8 +11,8 @@ use Rattle.forwarder.specs.Event.{Send}
 use Rattle.std.specs.List.{flat_map}
 use Rattle.std.proofs.lemmas.List.{append-nil}
 
--- the texts of the first `i + 1` elements are the texts of the first `i` elements, followed by the
--- text of one more element
+-- the texts of the first `i + 1` elements are the texts of the first `i` elements, followed by
+-- the text of the element at index `i`
 pub flat_map-take_next : {X : Type 0} (f : X → List ℕ) (xs : List X) (i : ℕ) (x : X) → slice_get xs i ≡ Some x → flat_map f (take (suc i) xs) ≡ flat_map f (take i xs) ++ f x
 flat_map-take_next f [] i x h = cc h
 flat_map-take_next {X} f (y ∷ ys) zero x h = let same : y ≡ x = cc h in append-nil (f y) ∙ ap f same

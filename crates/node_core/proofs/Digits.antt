@@ -6,7 +6,7 @@ use Rattle.hex.specs.Hex.{decode_pairs, digit_or_error, hex_digit_value, is_hex_
 use Rattle.hex.proofs.Pairs.{prepend, decode_step}
 use Rattle.hex.proofs.HexLemmas.{decode_pairs-ok}
 
--- the value of a digit is below 16, and the value of any other octet is 255
+-- `value` is the value of a digit, which is below 16, or 255 if the octet is not a digit
 abbrev pub IsValue : Option ℕ → ℕ → Type 0
 IsValue o value = MatchOption o (value ≡ 255) (λ v. (value ≡ v) × (v < 16))
 
@@ -18,7 +18,8 @@ digit_none : (o : Option ℕ) (value : ℕ) → IsValue o value → 16 ≤ value
 digit_none None value is high = refl
 digit_none (Some v) value is high = absurd (omega (arith, is.0, is.1, high))
 
--- if all values up to this index are below 16, the digits up to it spell these octets
+-- if the greatest value so far is below 16, the digits are decoded to the first `i` octets of
+-- `octets`, followed by what the digits from index `2 * i` on are decoded to
 abbrev pub SpellSoFar : List ℕ → List ℕ → ℕ → ℕ → Type 0
 SpellSoFar digits octets i greatest =
     greatest < 16 → decode_pairs 0 digits ≡ prepend (take i octets) (decode_pairs (2 * i) (drop (2 * i) digits))

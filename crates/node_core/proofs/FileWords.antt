@@ -1,4 +1,4 @@
--- Words that do not encode a rule file or a key file without faults.
+-- Words that encode no valid rule file, or no valid key file.
 use Rattle.std.proofs.Common.{◌≡◌, ℕ, List, ap, subst, inl, inr}
 use Rattle.hmac_keys.specs.KeyFile.{NamedKey}
 use Rattle.hmac_keys.specs.KeyReading.{AreKeys, IsFaultOfOctets}
@@ -16,7 +16,7 @@ use Rattle.node_core.specs.Files.{AreRules, IsFaultOfRules}
 use Rattle.node_core.specs.Script.Line.{HexSpells, SpellsKeys, SpellsRules}
 use Rattle.node_core.proofs.OneReading.{HexSpells_once}
 
--- octets of a rule file with a fault define no rules
+-- if reading octets as a rule file has a fault other than Memory, the octets define no rules
 rules_or_fault : (octets : List ℕ) (why : RulesFault) (rules : List PlainRule) → IsFaultOfRules octets why → (why.kind ≡ kinds.Memory → ⊥) → AreRules octets rules → ⊥
 rules_or_fault octets why rules (inl (utf8, inl (inl tree))) other are = let read = tree_again octets are.1.0 are.1.1 in cc (tree, read)
 rules_or_fault octets why rules (inl (utf8, inl (inr memory))) other are = other (ap (λ (f : RulesFault). f.kind) memory)
@@ -32,7 +32,7 @@ no_rules octets word why spelled fault other rules h =
     let same = HexSpells_once h.0 octets word h.1 spelled in
     rules_or_fault octets why rules fault other (subst (λ (o : List ℕ). AreRules o rules) same h.2)
 
--- octets of a key file with a fault define no keys
+-- if reading octets as a key file has a fault other than Memory, the octets define no keys
 keys_or_fault : (octets : List ℕ) (why : KeyFault) (book : List NamedKey) → IsFaultOfOctets octets why → (why ≡ keys.Memory → ⊥) → AreKeys octets book → ⊥
 keys_or_fault octets why book (inl (utf8, inl refused)) other are = let read = again octets book are.1 in cc (refused, read)
 keys_or_fault octets why book (inl (utf8, inr memory)) other are = other memory.0

@@ -29,28 +29,28 @@ start first = record { node = first; lines = 0; events = 0 }
 pub start_is : (place : Place) → IsStart place → place ≡ start place.node
 start_is place h = λ i. record { node = place.node; lines = h.lines i; events = h.events i }
 
--- a node with these parts is new
+-- the first node with these rules, keys, prefix and cache capacity is new
 pub first_is_new : (rules : List PlainRule) (keys : List NamedKey) (repo : List Field) (cache : ℕ) → IsNew (first_node rules keys repo cache)
 first_is_new rules keys repo cache = record {
   now = refl;
   stands = new_stands (first_policy rules keys repo) cache;
 }
 
--- if a node was created, its parts have no fault, so only the case that `why` is None is left
+-- if a node was created and `P` is true, then `MatchOption why P Q` is true, since `why` is None
 pub made_of_good_parts : {N : Type 0} (P : Type 0) (Q : NodeFault → Type 0) (why : Option NodeFault) (made : Result N NodeFault) (node : N) → made ≡ Ok node
     → MatchOption why (IfErr made (λ f. f ≡ Memory)) (λ f. made ≡ Err f) → P → MatchOption why P Q
 made_of_good_parts P Q None made node is h p = p
 made_of_good_parts P Q (Some f) made node is h p = let other : Ok node ≡ Err f = sym is ∙ h in absurd cc
 
--- if a property is true of the octets that were read, whatever octets follow them, it is true of
--- the unread octets of the reader, if these are known
+-- let a property be true of the octets that were read, whatever octets follow them; then it is
+-- true of the octets that were unread before the reading, if those are known
 known_text : (unread left : Option (List ℕ)) (P : List ℕ → Type 0) (front : List ℕ) → Consumes unread left front → ((more : List ℕ) → P (front ++ more)) → IfSome unread P
 known_text None left P front h k = tt
 known_text (Some xs) None P front h k = absurd h
 known_text (Some xs) (Some ys) P front h k = subst P (sym h) (k ys)
 
--- if a property is true of all octets up to the end, it is true of the unread octets of the reader,
--- if these are known
+-- if a property is true of the octets that were read, and the reader is then at its end, the
+-- property is true of the octets that were unread before the reading, if those are known
 known_end : (unread left : Option (List ℕ)) (P : List ℕ → Type 0) (front : List ℕ) → Consumes unread left front → IsAtEnd left → P front → IfSome unread P
 known_end None left P front h e k = tt
 known_end (Some xs) None P front h e k = absurd h

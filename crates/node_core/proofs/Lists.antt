@@ -72,7 +72,7 @@ cut_twice_once octet a b c d e f la lb ld le h =
     let two = cut_once octet b c e f lb le one.back in
     record { first = one.front; second = two.front; third = two.back }
 
--- a Boolean test, for literal texts, that the text does not contain the octet
+-- whether the text lacks the octet, as a Boolean test for literal texts
 abbrev lacks : ℕ → List ℕ → Bool
 lacks octet text = list_all (λ o. not (o == octet)) text
 

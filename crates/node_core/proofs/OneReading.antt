@@ -39,7 +39,7 @@ HexSpells_once [] (p ∷ b) word h k = absurd (no_hex_dash p b word h k)
 HexSpells_once (o ∷ a) [] word h k = absurd (no_hex_dash o a word k h)
 HexSpells_once (o ∷ a) (p ∷ b) word h k = cc (h, k)
 
--- the octets of a word spell at most one rule file, and at most one key file
+-- the octets of a rule file define at most one list of rules
 rules_of_octets : (octets : List ℕ) (a b : List PlainRule) → AreRules octets a → AreRules octets b → a ≡ b
 rules_of_octets octets a b h k =
     let same = one_tree octets h.1.0 k.1.0 h.1.1 k.1.1 in
@@ -130,7 +130,7 @@ SpellEvents_once (l ∷ lines) (e ∷ a) (f ∷ b) (inr h) (inr k) =
 
 -- ---- the lines before the first bad line are determined by the text
 
--- the text is at its end, or its next line is bad
+-- the text is empty, or its first line is bad
 abbrev Tail : List ℕ → Type 0
 Tail r = (r ≡ []) ⊎ ((line rest : List ℕ) × (r ≡ ended line ++ rest) × Lacks 10 line × IsBadLine line)
 

@@ -261,8 +261,8 @@ Fed-start place line rest held =
 shape_line : (j l f a : List ℕ) → j ++ (l ++ (f ++ (10 ∷ a))) ≡ (j ++ ((l ++ f) ++ (10 ∷ []))) ++ a
 shape_line j l f a = simp append_assoc
 
--- the stream is the finished lines, then the unfinished line completed by the octets up to the next
--- LF, then this LF and the octets after it
+-- if an LF comes among the unread octets, the stream is the finished lines, then the unfinished
+-- line with the unread octets before this LF, then the LF and the octets after it
 Fed-line_is : (stream : List ℕ) (from to : Place) (line rest front after : List ℕ) (held holds : Option (List ℕ)) → (fed : Fed stream from to line rest held holds)
     → rest ≡ front ++ (10 ∷ after) → stream ≡ joined fed.lines ++ ((line ++ front) ++ (10 ∷ after))
 Fed-line_is stream from to line rest front after held holds fed is =
@@ -288,8 +288,8 @@ Fed-then stream from mid to line rest front after text held holds new fed is pla
           ∙ ap (λ (t : List ℕ). t ++ ([] ++ after)) (sym (joined-append fed.lines ((line ++ front) ∷ [])));
     }
 
--- if an unfinished line is too long, or memory runs out for it, handling the octets stops with this
--- fault
+-- if appending octets to an unfinished line has the fault `f`, since the line is too long or
+-- memory runs out, then handling the octets stops with `f`
 pub FeedStops-last : (f : RunFault) (stream : List ℕ) (from mid : Place) (line rest : List ℕ) (held holds : Option (List ℕ)) → Fed stream from mid line rest held holds
     → Lacks 10 line → Lacks 10 rest → AddStops f (line ++ rest) mid → FeedStops f stream from held holds
 FeedStops-last (fault.BadLine n) stream from mid line rest held holds fed la lb h =
@@ -353,8 +353,8 @@ FeedStops-written fault.Write stream from text held holds h written = (h.0, h.1,
 FeedStops-written (fault.Node n) stream from text held holds h written = absurd h
 FeedStops-written fault.Memory stream from text held holds h written = (h.0, h.1, h.2, h.3, h.4, gathered_front text h.2 held holds h.5 (AppendsFront-all held holds text written), h.6)
 
--- if the answers before a fault were gathered, but could not be written, handling the octets stops
--- with the fault Write
+-- if the answers before a fault were gathered, but only a prefix of them was written, handling the
+-- octets stops with the fault Write
 pub FeedStops-cut : (f : RunFault) (stream : List ℕ) (from : Place) (text : List ℕ) (held holds : Option (List ℕ)) → FeedStops f stream from (Some []) (Some text)
     → AppendsFront held holds text → FeedStops fault.Write stream from held holds
 FeedStops-cut (fault.BadLine n) stream from text held holds h cut =
@@ -373,7 +373,8 @@ module _ (stream : List ℕ) (from to : Place) (line after : List ℕ) (held hol
   gathered_cut_of (Err f) played stopped cut = FeedStops-cut f stream from after held holds stopped cut
 
 module _ (result : Result (Unit {0}) RunFault) (stream : List ℕ) (from : Place) where
-  -- answers that were gathered in an empty text
+  -- The next two lemmas are about answers that are gathered, in a text that is empty at first, and
+  -- are then written.
   module _ (to : Place) (line before after : List ℕ) (held holds : Option (List ℕ)) (none : before ≡ []) where
     pub gathered_written : OnOk result ((lines : List (List ℕ)) × (text : List ℕ) × Plays lines from to text × Appends (Some before) (Some after) text × (stream ≡ joined lines ++ line))
         → Appends held holds after

@@ -140,7 +140,7 @@ rules_text (NewRules rules keys now) text h = (
   cc h.1.4,
 )
 
--- hexadecimal digits and the dash contain no space
+-- a word of hexadecimal digits contains no space
 digits_lack : (word : List ℕ) → AllPass is_hex_digit word → Lacks 32 word
 digits_lack [] h = tt
 digits_lack (o ∷ word) h = (
@@ -161,8 +161,8 @@ up_lacks event a b c u = (rw u.face_is (number-Lacks u.face u.wide.0), rw u.scop
 pub in_lacks : (event : PlainEvent) (a b c : List ℕ) → InWords event a b c → Lacks 32 a × Lacks 32 b
 in_lacks event a b c u = (rw u.face_is (number-Lacks u.face u.wide.0), rw u.now_is (number-Lacks u.now u.wide.1))
 
--- if the text after `up` was split at its first two spaces, the three parts are the words of the
--- event
+-- if the text after `up` in an event's line was split at its first two spaces, the three parts
+-- are the words of the event
 pub up_words : (event : PlainEvent) (text a b c : List ℕ) → Lacks 32 a → Lacks 32 b → text ≡ a ++ (32 ∷ (b ++ (32 ∷ c)))
     → LineSpells event (codes "up" ++ (32 ∷ text)) → UpWords event a b c
 up_words event text a b c la lb is h =
@@ -228,7 +228,7 @@ kind_word-Lacks (Tick now) = Lacks-from_test 32 (codes "tick") refl
 kind_word-Lacks (Packet face now octets) = Lacks-from_test 32 (codes "in") refl
 kind_word-Lacks (NewRules rules keys now) = Lacks-from_test 32 (codes "rules") refl
 
--- a line of an event begins with the word of its kind
+-- an event's line is the word of the event's kind, then a space, and then more text
 pub kind_first : (event : PlainEvent) (line : List ℕ) → LineSpells event line → (text : List ℕ) × (line ≡ kind_word event ++ (32 ∷ text))
 kind_first (FaceUp face scope now) line h = (_, h.1)
 kind_first (FaceDown face now) line h = (_, h.1)

@@ -17,8 +17,9 @@ pub data Outcome : Type 0 where
 abbrev pub IsEvent : PlainEvent → Type 0
 IsEvent event = BringsOctets event × BringsKeysApart event
 
--- The outcome of an event. Either a step answers the event, or memory ran out. If memory ran out,
--- the cache may have dropped some Data.
+-- The outcome of a valid event. Either a step answers the event, or memory ran out. If memory ran
+-- out, the event needs memory, and nothing changed except that the cache may have dropped or
+-- reordered Data.
 abbrev pub IsOutcome : NodeState → PlainEvent → Outcome → NodeState → Type 0
 IsOutcome old event (Answered answer) new = IsEvent event × IsStep old event answer new
 IsOutcome old event NoMemory new =

@@ -32,8 +32,9 @@ SpellEvents (line ∷ lines) (event ∷ events) =
     (IsSkipped line × SpellEvents lines (event ∷ events))
     ⊎ (IsEventLine event line × SpellEvents lines events)
 
--- A text begins with these lines. The last line of the text may have no LF: an LF is always
--- appended, and after a final LF this only adds an empty line, which is skipped.
+-- A text begins with these lines, and `rest` follows them. The last line of the text may have no
+-- LF: an LF is always appended. After a final LF, the appended LF only adds an empty line, which
+-- is skipped.
 abbrev pub BeginsWithLines : List ℕ → List (List ℕ) → List ℕ → Type 0
 BeginsWithLines text lines rest = AreLines lines × (ended text ≡ joined lines ++ rest)
 

@@ -1,4 +1,4 @@
--- What is done with a datagram.
+-- A datagram that waits, and its octets.
 use Rattle.std.proofs.Common.{◌≡◌, ℕ, ◌≤◌, List, take, length-take, arith, ap}
 use Rattle.std.specs.Prelude.{Option, None, Some}
 use Rattle.std.specs.Option.{option_map}

@@ -70,7 +70,7 @@ pub AreHeardUntil-remove : (moment : ℕ) (idle : Option ℕ) (clients : List Cl
 AreHeardUntil-remove moment None clients place h = tt
 AreHeardUntil-remove moment (Some idle) clients place h = All-remove (λ c. moment ≤ c.heard + idle) clients place h
 
--- none of the first `count` clients has been silent for this time before `moment`
+-- before `moment`, none of the first `count` clients has been silent for the time `time`
 abbrev pub EndAfter : List Client → ℕ → ℕ → ℕ → Type 0
 EndAfter clients time count moment = (k : ℕ) → k < count → moment ≤ heard_at clients k + time
 

@@ -1,4 +1,4 @@
--- Endpoints of 127.0.0.1, and datagrams from strangers.
+-- The endpoints of 127.0.0.1 that are put into a list one after another.
 use Rattle.std.proofs.Common.{◌≡◌, ℕ, ◌+◌, ◌<◌, ◌⊎◌, List, length, slice_get, slice_set, slice_index_or, arith, refl, sym, ◌∙◌, subst, inl, inr}
 use Rattle.std.specs.Prelude.{Some}
 use Rattle.std.specs.declared.net.socket_addr.SocketAddr.{SocketAddr}

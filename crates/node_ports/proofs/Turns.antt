@@ -133,15 +133,15 @@ KeepsJournal-then old mid a b c es fs rs ss outcomes goes_on h k = λ first past
     let two = k first (run_from past es rs) one.0 one.1 begins on.0 on.1 one.2 one.3 one.4 in
     (two.0, two.1, subst (λ (r : Run). IsJournalOf first r two.0) (sym (run_from-append old mid past es fs rs ss outcomes)) two.2, two.3, two.4)
 
--- the line of a journalled event
+-- The next items: what is appended to the journal for an event that was answered.
 module _ (old new : NodeState) (event : PlainEvent) (v : PlainVerdict) (sends : List Send) (coming : Coming) (time : ℕ) (before after : Option (List ℕ)) (is : IsEventOf (moment event) coming.entry event)
     (at : time ≡ max old.policy.now (moment event)) (step : IsStep old event (record { verdict = v; sends = sends }) new)
     (wanted : (text : List ℕ) → before ≡ Some text → coming.is_wanted ≡ brings_wanted (at_moment old.policy (moment event)) event) where
   abbrev pub answer : Answer
   answer = record { verdict = v; sends = sends }
 
-  -- if a run has a journal with this text, the run with the event in addition has a journal, whose
-  -- text is the old text followed by the text that is appended for the event
+  -- If `text` is the text of the journal of a run, then the run followed by the event has a
+  -- journal, whose text is `text` followed by the text that is appended for the event.
   grows : (text : List ℕ) → before ≡ Some text → (is_journalled_entry coming.entry coming.is_wanted v ≡ true → IsLineAt time coming.entry) → (first : Policy) (past : Run) (journal : List PlainEvent) → Stands first past old
       → IsJournalOf first past journal → IsTextOf journal text
       → (longer : List PlainEvent) × IsJournalOf first (Then past event answer) longer
@@ -173,7 +173,7 @@ module _ (old new : NodeState) (event : PlainEvent) (v : PlainVerdict) (sends : 
 
 -- ---- turns
 
--- before the first turn there are no events and no outcomes
+-- in 0 turns, the node and the ports are unchanged, and there are no events and no outcomes
 
 pub Serves-start : (node : NodeState) (before : Shown) → (s : Serves node node before before 0 0 0) × (s.arrivals ≡ []) × (s.outcomes ≡ [])
 Serves-start node before = (
@@ -258,8 +258,8 @@ take-next [] i x h = cc h
 take-next (y ∷ ys) zero x h = let same : y ≡ x = cc h in ap (λ (t : Send). t ∷ []) same
 take-next (y ∷ ys) (suc i) x h = ap (λ (t : List Send). y ∷ t) (take-next ys i x h)
 
--- if the sends before index i were made, and then the send at index i, the sends up to index i were
--- made, and the numbers of failed sends add up
+-- if the first `i` sends were made, and then the send at index `i`, then the first `i + 1` sends
+-- were made, and the numbers of failed sends add up
 pub sent_next : (xs : List Send) (i failed more : ℕ) (x : Send) (y : List Send) (a b c : Option (List Send)) → slice_get xs i ≡ Some x
     → ((taken : List Send) × AreSendsTaken (take i xs) failed taken × Takes a b taken) → AreSendsTaken (x ∷ []) more y → Takes b c y
     → (taken : List Send) × AreSendsTaken (take (i + 1) xs) (failed + more) taken × Takes a c taken

@@ -21,8 +21,8 @@ abbrev pub IsIdle : Option ℕ → ℕ → Client → Type 0
 IsIdle None now client = ⊥
 IsIdle (Some idle) now client = IsSilent idle now client
 
--- the client has been silent long enough for its face to close to make room for an endpoint without
--- a face
+-- an idle time is set, and the client has been silent long enough for its face to close to make
+-- room for an endpoint without a face
 abbrev pub GivesWay : Option ℕ → ℕ → Client → Type 0
 GivesWay None now client = ⊥
 GivesWay (Some idle) now client = IsSilent GIVE_WAY_MILLISECONDS now client

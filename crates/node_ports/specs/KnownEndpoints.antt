@@ -49,7 +49,7 @@ abbrev pub IsNewcomer : KnownEndpoints → SocketAddr → Type 0
 IsNewcomer before endpoint =
     (peer_place endpoint before ≡ None) × IsNoClient before.clients.rows endpoint
 
--- the next face opens for the endpoint
+-- the next face opens for the endpoint, which becomes a client
 abbrev pub OpensNew : KnownEndpoints → KnownEndpoints → SocketAddr → ℕ → ℕ → Type 0
 OpensNew before after endpoint now face =
     (face ≡ before.next)
@@ -66,8 +66,8 @@ OpensNone before after face =
     (face ≡ unwrap_or before.refused before.next)
     × (after ≡ record before { next = one_more face; refused = Some face })
 
--- the face of the client in `rows` that has been silent longest closes, and the client is removed
--- from `rows`
+-- of the clients before the datagram, the one that has been silent longest is removed from
+-- `rows`, and its face closes
 abbrev pub Closes : KnownEndpoints → List Client → KnownEndpoints → Client → ℕ → Type 0
 Closes before rows after client face =
     (place : ℕ) × IsSilentLongest before.clients.rows place client × (face ≡ client.face)

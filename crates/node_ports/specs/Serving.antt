@@ -69,8 +69,8 @@ refused_count [] = 0
 refused_count (Answered answer ∷ outcomes) = refused_count outcomes
 refused_count (NoMemory ∷ outcomes) = refused_count outcomes + 1
 
--- If the old node agrees with a run, and `before` is the text of this run's journal, then `after`
--- is the text of the journal of the longer run, which has these events and outcomes in addition.
+-- Let the old node agree with a run, and let `before` be the text of this run's journal. Then
+-- `after` is the text of the journal of this run, extended by the events and outcomes.
 abbrev pub KeepsJournal : NodeState → Option (List ℕ) → List PlainEvent → List Outcome
     → Option (List ℕ) → Type 0
 KeepsJournal old before events outcomes after =
@@ -106,8 +106,8 @@ HasFront old before event answer after =
     × IsJournalOf first (Then past event answer) longer
     × IsTextOf longer (text ++ (front ++ back)) × (after ≡ Some (text ++ front)))
 
--- An event arrived and was answered, but the event's line is not in the journal, or only a prefix
--- of the line is. None of its packets was sent.
+-- An event arrived and was answered, but it could not be journalled: at most a prefix of the
+-- event's line was appended to the journal. None of its packets was sent.
 pub record FailsToWrite (old new : NodeState) (before after : Shown) : Type 0 where
   pub event : PlainEvent
   pub answer : Answer
@@ -172,7 +172,7 @@ abbrev pub StopsServing : NodeState → NodeState → Shown → Shown → ℕ �
 StopsServing old new before after turns (fault.Next events) =
     (mid : Shown) × (refused failed : ℕ) × Serves old new before mid events refused failed
     × FailsNext mid after × (events < turns)
--- `Journal`: the event after `events` events is not in the journal
+-- `Journal`: after `events` events, before the last turn, an event could not be journalled
 StopsServing old new before after turns (fault.Journal events) =
     (last : NodeState) × (mid : Shown) × (refused failed : ℕ)
     × Serves old last before mid events refused failed

@@ -33,14 +33,15 @@ pub record UdpState : Type 0 where
   pub waiting : Option Datagram
   -- the time that the clock returned most recently
   pub told : ℕ
-  -- datagrams from endpoints that are not peers are accepted
+  -- whether datagrams from endpoints that are not peers are accepted
   pub accepts_strangers : Bool
   -- the number of dropped datagrams from endpoints that are not peers
   pub strangers : ℕ
   -- the number of failed calls
   pub failures : ℕ
 
--- the state of the ports before the first arrival
+-- the state of the ports before the first arrival, if faces do not close and strangers are
+-- accepted
 abbrev pub bound_to : List SocketAddr → ℕ → ℕ → UdpState
 bound_to peers local told = record {
   known = record {

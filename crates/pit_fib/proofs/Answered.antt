@@ -76,7 +76,7 @@ never_last true false = refl
 never_last false true = refl
 never_last false false = refl
 
--- a Data answers the keys along its name, and the keys of its full name
+-- a Data answers exactly the keys along its name and the keys of its full name
 pub answers_along : (q name : List Field) (digest : List ℕ) (p : Bool) → answers name digest q p ≡ (along q name p || eq_by_cmp name_cmp q (full_name name digest))
 unfolding answers
 answers_along [] [] digest p = refl
@@ -94,7 +94,7 @@ answers_along (d ∷ q) (c ∷ name) digest p =
     ∙ apart same (along q name p) (eq_by_cmp name_cmp q (full_name name digest))
     ∙ ap (λ b. (same && along q name p) || b) (sym (same_name d c q (full_name name digest)))
 
--- the walk along a name leaves the values below that name unchanged
+-- a walk along a name leaves the value of this name with one more component unchanged
 pub below_stays : {V : Type 0} (own below : V → Option V) (name : List Field) (c : Field) → changed_along own below (name ++ c ∷ []) name ≡ Some
 below_stays own below [] c = refl
 below_stays own below (d ∷ name) c =
@@ -143,7 +143,8 @@ right_true : (a b : Bool) → IsTrue b → IsTrue (a || b)
 right_true true b t = refl
 right_true false b t = t
 
--- `new` has, in rising order, the faces in `faces` and the faces for which `more` is true
+-- `new` has, in rising order, exactly the faces in `faces` and the faces for which `more` is true;
+-- each face in `new` has the property `P`
 pub record Gathers (P : ℕ → Type 0) (faces new : List ℕ) (more : ℕ → Bool) : Type 0 where
   pub rising : IsRising new
   pub within : (f : ℕ) → IsTrue (has_face f new) → P f

@@ -55,7 +55,9 @@ module _ {X : Type 0} (room face : ℕ) (x : X) (f : Faced X) where
   made_wide few place more =
       (λ i. cond (not_wide _ few i) (false, f) (cond (place i) (true, f) (cond (wide _ more i) (true, record { values = f.values; is_wide = true }) (false, f))))
 
-  -- setting a value is an insertion, if the map's own memory or the supplied memory suffices
+  -- If the face has a value or fewer than 64 faces have one, and the map's own memory or the
+  -- supplied memory suffices, then setting the value inserts it. The map has memory for 64 values
+  -- afterwards if it had this memory before, or if its own memory did not suffice.
   pub set_is : IsSome (get f.values face) ⊎ (len f.values < 64) → ((contains_key f.values face || has_place f) ≡ false → 64 ≤ room)
       → ((set_in room face x f).values ≡ map.insert f.values face x)
       × (((contains_key f.values face || has_place f) ≡ false) ⊎ (f.is_wide ≡ true) → (set_in room face x f).is_wide ≡ true)
@@ -109,8 +111,10 @@ one_of {k} e = ap (key_in k) e
     key_in k None = k
     key_in k (Some c) = c.0
 
--- after an Interest is sent, there is memory for the calls that are still prepared; the entry has
--- memory for the out-records of all faces if it had this memory before, or if this call gave it
+-- After an Interest is sent, there is memory for the calls that are still prepared. The last two
+-- premises: the spare memory is unused if the entry's own memory sufficed. If its own memory did
+-- not suffice, or if the entry had memory for the out-records of 64 faces before, it has this
+-- memory afterwards.
 pub memory_sent : (old new : NameTable Row) (spare left : ℕ) (key : PlainKey) (prepared after : Option Prepared) (has_place : Bool) (was is : Kept) → HasMemory old spare prepared → HasNoArrival after
     → (calls_of after ≡ None) ⊎ ((calls_of prepared ≡ Some (key, None)) × (calls_of after ≡ Some (key, None)))
     → kept_at old.table key ≡ Some was → kept_at new.table key ≡ Some is → (has_place ≡ true → left ≡ spare) → ((has_place ≡ false) ⊎ (was.is_wide ≡ true) → is.is_wide ≡ true)

@@ -174,7 +174,8 @@ some_in total m k x =
     positive : (n : ℕ) → 0 < n → eqb n 0 ≡ false
     positive n less = elim (eqb n 0) as (λ b. eqb n 0 ≡ b → b ≡ false) [ true ↦ λ e. (let zero = eqb-true n 0 e in absurd (omega (arith, zero, less))) | false ↦ λ e. refl ] refl
 
--- a key that has a value after an insertion had a value before, or its value is the inserted one
+-- Let the value `o` be replaced by `x` if `b` is true, and let `A` follow from `b`. If there is a
+-- value afterwards, `o` is a value, or `A` is true.
 set_or : {X : Type 0} (b : Bool) (x : X) (o : Option X) {A : Type 0} → (b ≡ true → A) → IsSome (cond b (Some x) o) → IsSome o ⊎ A
 set_or true x o is some = inr (is refl)
 set_or false x o is some = inl some
@@ -244,8 +245,8 @@ size_left e =
       | false ↦ λ v. refl
     ] refl
 
--- if the entry of one name changes, the number of routes of this name is subtracted from the number
--- of all routes, and its new number of routes is added
+-- if the entry of a name is changed to `e`, the number of all routes decreases by the name's old
+-- number of routes, and increases by the number of routes in `e`
 pub count_changed : (t : Routes) (name : List Field) (e : Entry) → route_count (with_value t name (unless_vacant e)) + len (registered_at t name) ≡ route_count t + len e.registered
 count_changed t name e =
     elim (unless_vacant e) as (λ o. unless_vacant e ≡ o → route_count (with_value t name o) + len (registered_at t name) ≡ route_count t + len e.registered) [

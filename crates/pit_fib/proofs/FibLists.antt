@@ -1,5 +1,5 @@
--- The list of all entries, without those that have neither next hops nor routes after the routes
--- that expire by a moment are removed.
+-- The list of all entries after an expiry, which removes routes, and removes each entry that then
+-- has neither next hops nor routes.
 use Rattle.std.proofs.Common.{◌≡◌, ℕ, ◌<◌, true, false, List, [], ◌∷◌, ◌++◌, length, get_or, refl, sym, ap, ◌∙◌}
 use Rattle.std.proofs.lemmas.List.{append-nil, map-append}
 use Rattle.std.specs.Prelude.{None, Some, IsSome, is_some, map}
@@ -16,7 +16,8 @@ use Rattle.pit_fib.specs.Effective.{effective, entry_listed, listed}
 use Rattle.pit_fib.specs.Fib.{Entry, Routes, entry_left_at, left_at}
 use Rattle.pit_fib.specs.Hops.{hops_of}
 
--- the table has the entry at index `i` of its list under the name at that index
+-- the row at index `i` of the list of entries is a name with the entry that the table has for this
+-- name
 pub entry_at_place : (t : Routes) (i : ℕ) (row : List Field × Entry) → i < length (entries t) → row ≡ get_or (entries t) i row → get t row.0 ≡ Some row.1
 entry_at_place t i row lt is =
     ap (λ (r : List Field × Entry). get t r.0) is ∙ entry_is_there name_cmp-total t i row lt ∙ ap (λ (r : List Field × Entry). Some r.1) (sym is)

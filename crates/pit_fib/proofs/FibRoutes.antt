@@ -16,7 +16,7 @@ use Rattle.pit_fib.specs.Tally.{sooner}
 use Rattle.pit_fib.specs.Within.{entry_with_route_within}
 use Rattle.pit_fib.proofs.FibTables.{count_insert, earlier_none, later_set}
 
--- if there is memory for one more route, the route is set
+-- if there is memory for one more route, `entry_with_route_within` sets the route
 pub set_route : (room : ℕ) (key : RouteKey) (r : Route) (e : Entry) → len e.registered < room → entry_with_route_within room key r e ≡ entry_with_route key r e
 set_route room key r e fits = λ i. record e { registered = ap (λ b. cond b (insert e.registered key r) e.registered) (lt-ltb (len e.registered) room fits) i }
 

@@ -34,7 +34,8 @@ way_kept : (s : AtName) (o : Option Entry) → (taken past_at s o).way ≡ taken
 way_kept s None = refl
 way_kept s (Some e) = refl
 
--- the field `way` is the result of the walk along the name that collects the effective next hops
+-- the field `way` after a walk along a name is the result of the walk that collects the effective
+-- next hops along the name (`past_entry`)
 way_along : (s : AtName) (f : List Field → Option Entry) (front rest : List Field)
     → (taken_along past_at past_at s f front rest).way ≡ taken_along past_entry past_entry s.way f front rest
 way_along s f front [] = way_kept s (f front)
@@ -42,7 +43,8 @@ way_along s f front (c ∷ rest) =
     way_along (taken past_at s (f front)) f (front ++ c ∷ []) rest
     ∙ ap (λ (w : Inheriting). taken_along past_entry past_entry w f (front ++ c ∷ []) rest) (way_kept s (f front))
 
--- whether the entry of a name remains at the moment of the walk depends only on that entry
+-- after a walk along a name that has the entry `e`, the field `is_left` is true exactly if `e`
+-- remains after an expiry at the moment of the walk
 left_along : (s : AtName) (f : List Field → Option Entry) (front rest : List Field) (e : Entry) → f (front ++ rest) ≡ Some e
     → (taken_along past_at past_at s f front rest).is_left ≡ is_some (entry_left_at s.now e)
 left_along s f front [] e is = ap (λ o. (taken past_at s o).is_left) (ap f (sym (append-nil front)) ∙ is)
@@ -83,7 +85,8 @@ module _ {S : Type 0} (show : S → List ℕ → List Hop → S) (t : Routes) (f
             ∙ rest (show s (octets_of e.0) (hops_of (effective (left_at now t) e.0)))
       ] refl
 
-  -- each name whose entry remains at the moment of the walk is shown, with its effective next hops
+  -- the visitor is shown exactly the names that have an entry after the expiry at `now`, each with
+  -- its effective next hops after this expiry
   pub hops_are_shown : (s : S) → (shown_from s (entries t)).show ≡ shown_each show s (listed (left_at now t))
   hops_are_shown s =
       shown_left (entries t) (λ i d lt. entry_is_there name_cmp-total t i d lt) s

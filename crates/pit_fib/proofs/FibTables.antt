@@ -40,22 +40,24 @@ leads_nowhere : {A : Type 0} (f : ℕ) → EntryLeads no_entry f → A
 leads_nowhere f (inl some) = no_some _ (get-empty nat_cmp f) some
 leads_nowhere f (inr way) = no_some _ (get-empty route_cmp (record { face = f; origin = way.0 })) way.1
 
--- a removal turned the entry `whole` into `part`, which has next hops or routes
+-- `part` has next hops or routes, it has no more routes than `whole`, each of its routes is a route
+-- of `whole`, and each face that it leads to is a face that `whole` leads to
 pub record IsPartOf (part whole : Entry) : Type 0 where
   pub some : is_vacant part ≡ false
   pub fewer : len part.registered ≤ len whole.registered
   pub leads : (f : ℕ) → EntryLeads part f → EntryLeads whole f
   pub kept : (key : RouteKey) (r : Route) → get part.registered key ≡ Some r → get whole.registered key ≡ Some r
 
--- each entry of the new table is what remains, after a removal, of the entry of the same name in
--- the old table
+-- each entry of the new table is part of the entry that the old table has for the same name
+-- (`IsPartOf`)
 abbrev pub IsShrunk : Routes → Routes → Type 0
 IsShrunk t new = (q : List Field) (part : Entry) → get new q ≡ Some part → (whole : Entry) × (get t q ≡ Some whole) × IsPartOf part whole
 
 entry_is : (t : Routes) (q : List Field) (e : Entry) → get t q ≡ Some e → entry_at t q ≡ e
 entry_is t q e is = ap (λ o. unwrap_or o no_entry) is
 
--- a next hop or a route on a face is in an entry of the table
+-- if `A` follows from each entry that leads to the face `f`, then `A` follows if the table leads to
+-- `f`
 leads_by : {A : Type 0} (t : Routes) (f : ℕ) → ((q : List Field) (e : Entry) → get t q ≡ Some e → EntryLeads e f → A) → LeadsTo t f → A
 leads_by {A} t f by way =
     elim (get t way.0) as (λ o. get t way.0 ≡ o → EntryLeads (unwrap_or o no_entry) f → A) [
@@ -116,7 +118,8 @@ module _ (t : Routes) (within : IsWithinFib t) (name : List Field) where
   part_itself : (e : Entry) → is_vacant e ≡ false → IsPartOf e e
   part_itself e some = record { some = some; fewer = omega arith; leads = λ f l. l; kept = λ key r is. is }
 
-  -- after a removal from one entry, each entry is what remains of an entry of the old table
+  -- if `g` turns each entry into a part of this entry or removes it, each entry of the table after
+  -- `g` is applied to one name's entry is part of an entry of the old table
   pub shrunk_one : (g : Entry → Option Entry) → ((whole part : Entry) → g whole ≡ Some part → IsPartOf part whole) → IsShrunk t (Changed g)
   shrunk_one g parts q part =
       elim (get t name) as (λ o. get t name ≡ o → get (with_value t name (option_and_then g o)) q ≡ Some part → (whole : Entry) × (get t q ≡ Some whole) × IsPartOf part whole) [
@@ -256,7 +259,8 @@ module _ (t : Routes) (within : IsWithinFib t) (name : List Field) (e : Entry) w
 pub earlier_none : (t : Routes) (early late : ℕ) → early ≤ late → NoneEndsBefore late t → NoneEndsBefore early t
 earlier_none t early late le later q e is key r there deadline ends = (let after = later q e is key r there deadline ends in omega (arith, le, after))
 
--- if the face has no next hop at this name, fewer than 64 faces have a next hop at this name
+-- if the table has room for the face, the face has a next hop at this name, or fewer than 64 faces
+-- have a next hop at this name
 pub hop_room : (t : Routes) (name : List Field) (face : ℕ) → HasRoomFor t face → IsSome (get (entry_at t name).hops face) ⊎ (len (entry_at t name).hops < 64)
 hop_room t name face room = room_in (entry_at t name).hops face (at_most (λ f has. elim has as (λ _. LeadsTo t f ⊎ (f ≡ face)) [ (inl some) ↦ inl (name, inl some) | (inr is) ↦ inr is ]) room)
 

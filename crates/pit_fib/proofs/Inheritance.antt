@@ -55,7 +55,8 @@ or_none (Some x) = refl
 none_last : (a : ByFace) → prefer a empty ≡ a
 none_last a = same_map nat_cmp_total nat_cmp-IsAntisymmetric _ _ (λ f. get-prefer a empty f ∙ ap (option_or (get a f)) (get-empty nat_cmp f) ∙ or_none (get a f))
 
--- if each key with a value has a property, the key of each entry has it
+-- if each key that a lookup finds has the property `P`, the key of each entry in the list has this
+-- property
 keys_all : {K X : Type 0} {R : K → K → Ordering} → IsTotalOrder R → (P : K → Type 0) (es : List (K × X)) → ((k : K) → IsSome (find R k es) → P k) → AllByRecursion (λ (e : K × X). P e.0) es
 keys_all total P [] there = tt
 keys_all {R = R} total P (e ∷ es) there = (
@@ -250,7 +251,8 @@ module _ (P : ℕ → Type 0) (few : AtMost64 P) (s : Inheriting) (among : (f : 
   hops_among : Among P few e.hops
   hops_among f some = leads f (inl some)
 
-  -- the costs that the walk passes on from this entry are the costs that the names below it inherit
+  -- the costs that the walk passes on from an entry are the costs that the names below the entry
+  -- inherit
   inherited_is : laid_over (least_within s.at true (entries e.registered)) (cond (not (has_capture_at s.at (entries e.registered))) s.inherited empty) ≡ passed_on (Some (live s.at e)) s.inherited
   inherited_is =
       laid_is P few _ _ (least_of true).1 (among_if (not (has_capture_at s.at (entries e.registered))))
@@ -263,8 +265,8 @@ module _ (P : ℕ → Type 0) (few : AtMost64 P) (s : Inheriting) (among : (f : 
   own_among : Among P few own
   own_among = laid_among P few _ _ (least_of false).1 (among_if (has_route_at s.at (entries e.registered) && not (has_capture_at s.at (entries e.registered))))
 
-  -- the costs that the walk collects at this entry are the costs of the effective next hops of its
-  -- name
+  -- the costs that the walk collects at an entry are the costs of the effective next hops of the
+  -- entry's name
   costs_are : laid_over e.hops own ≡ effective_of (live s.at e) s.inherited
   costs_are =
       laid_is P few e.hops own hops_among own_among
@@ -312,7 +314,8 @@ take_less (suc m) zero q le = absurd (omega arith)
 take_less (suc m) (suc n) [] le = refl
 take_less (suc m) (suc n) (c ∷ q) le = ap (λ l. c ∷ l) (take_less m n q (omega (arith, le)))
 
--- the costs that a name inherits from a prefix do not depend on the components after that prefix
+-- for m ≤ n, a name and the prefix of its first n components inherit the same costs from the
+-- prefixes with fewer than m components
 handed_prefix : (t : Routes) (name : List Field) (n m : ℕ) → m ≤ n → handed_down t (take n name) m ≡ handed_down t name m
 handed_prefix t name n zero le = refl
 handed_prefix t name n (suc m) le = λ i. passed_on (get t (take_less m n name (omega (arith, le)) i)) (handed_prefix t name n m (omega (arith, le)) i)
@@ -376,7 +379,8 @@ module _ (t : Routes) (few : AtMost64 (LeadsTo t)) (at : Option ℕ) (name : Lis
   entry_faces : (q : List Field) (e : Entry) → get t q ≡ Some e → (f : ℕ) → EntryLeads e f → LeadsTo t f
   entry_faces q e is f l = (q, subst (λ x. EntryLeads x f) (sym (ap (λ o. unwrap_or o no_entry) is)) l)
 
-  -- the costs that the walk has collected are the costs that the name inherits from its prefixes
+  -- after the prefixes with fewer than n components, the costs `inherited` of the walk are the
+  -- costs that the name inherits from these prefixes
   inherited_at : (n : ℕ) → ((known n).inherited ≡ handed_down (live_table at t) name n) × Among (LeadsTo t) few (known n).inherited × ((known n).at ≡ at)
   unfolding known
   inherited_at zero = (refl, among_none (LeadsTo t) few, refl)
@@ -404,8 +408,8 @@ module _ (t : Routes) (few : AtMost64 (LeadsTo t)) (at : Option ℕ) (name : Lis
       none_left None = refl
       none_left (Some now) = refl
 
-  -- if a prefix has an entry, the costs that the walk has collected there are the costs of the
-  -- effective next hops of the prefix
+  -- if the prefix of n components has an entry, the costs that the walk has collected after this
+  -- prefix are the costs of the prefix's effective next hops
   costs_here : (n : ℕ) (e : Entry) → get t (take n name) ≡ Some e → (known (suc n)).costs ≡ effective_of (live at e) (handed_down (live_table at t) name n)
   unfolding known
   costs_here n e is =

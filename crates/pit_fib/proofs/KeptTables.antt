@@ -77,7 +77,7 @@ entries-shown : (m : FinMap key_cmp Kept) → entries (revise (λ s. Some s.reco
 unfolding revise
 entries-shown m = entries-from_sorted key_cmp (revised (λ s. Some s.records) (entries m)) (sorted_revised key_cmp (λ s. Some s.records) (entries m) (map.entries_sorted m))
 
--- the table has as many keys as all rows together
+-- the number of keys in the table is the total number of entries in the rows
 pub len-pending : (rows : Rows) → len (pending_of rows) ≡ total (λ (r : Row). len r) (entries rows)
 len-pending rows =
     let flat = flatten key_cmp key_at rows in
@@ -102,7 +102,7 @@ step_follows cause rows new dead step k =
           | false ↦ refl
         ]
 
--- if a cause does not remove an entry, the entry has an in-record and keeps its memory
+-- if `living` returns an entry, the entry has an in-record, and the same memory as the argument
 left_alive : (t s : Kept) → living t ≡ Some s → (is_alive s.records ≡ true) × (s.is_wide ≡ t.is_wide)
 left_alive t s e =
     elim (is_alive t.records) as (λ b. is_alive t.records ≡ b → cond b (Some t) None ≡ Some s → (is_alive s.records ≡ true) × (s.is_wide ≡ t.is_wide)) [
@@ -223,7 +223,8 @@ step_within cause rows new dead none step h = record {
   bounded = (let less = step_fewer cause rows new step in let most = h.bounded in omega (arith, less, most));
 }
 
--- each key of the table has an in-record
+-- if each entry of the table has an in-record, the keys in `pending` are exactly the keys that have
+-- an in-record
 pub holds_the_living : (rows : Rows) (pending : Pending) → AreAlive rows → pending_of rows ≡ pending → HoldsTheLiving pending
 holds_the_living rows pending alive is = subst HoldsTheLiving is (λ k.
     ap is_some (get-pending rows k) ∙ at (kept_at rows k) (alive k) ∙ ap is_alive (sym (records_kept rows k)))
@@ -232,7 +233,7 @@ holds_the_living rows pending alive is = subst HoldsTheLiving is (λ k.
     at None h = sym dead_none
     at (Some s) h = sym (h s refl)
 
--- a key with an in-record has an entry
+-- a key with an in-record has an entry, whose records are the records of the key
 pub kept_where_alive : (rows : Rows) (k : PlainKey) → is_alive (records_at (pending_of rows) k) ≡ true → (s : Kept) × (kept_at rows k ≡ Some s) × (records_at (pending_of rows) k ≡ s.records)
 kept_where_alive rows k alive = at (kept_at rows k) refl
   where
@@ -316,7 +317,7 @@ step_put key s rows new is k =
     ] refl
     ∙ ap (λ b. cond b (Some s) (kept_at rows k)) (sym (key_ties k key))
 
--- a table in which the entry `s` was put under one key
+-- In this module, `new` is the table `rows` after the entry `s` was put under one key.
 module _ (cause : Cause) (key : PlainKey) (s : Kept) (rows new : Rows) (alive : AreAlive rows) (is_alive_here : is_alive s.records ≡ true)
     (puts : (k : PlainKey) → kept_at new k ≡ cond (same_key k key) (Some s) (kept_at rows k)) where
   pub put_alive : AreAlive new
@@ -399,7 +400,8 @@ turned : (b : Bool) (c : Bool) → c ≡ not b → b ≡ not c
 turned true c e = ap not (sym e)
 turned false c e = ap not (sym e)
 
--- a key is new exactly if it has no entry
+-- Let `b` be true exactly if the key has no entry, and let the statement `many` be true. Then `b`
+-- is true exactly if the key has no in-record and `many` is true.
 pub new_where_absent : (rows : Rows) (pending : Pending) (key : PlainKey) (found : Option (Bor Kept)) → AreAlive rows → pending_of rows ≡ pending
     → option_map (λ e. e.now) found ≡ kept_at rows key → (b : Bool) → is_some found ≡ not b → (many : Type 0) → many
     → IsTrue b ↔ ((is_alive (records_at pending key) ≡ false) × many)

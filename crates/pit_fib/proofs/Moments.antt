@@ -34,7 +34,7 @@ numbers-push : (front : List Row) (row : Row) → numbers (front ++ row ∷ []) 
 numbers-push [] row = refl
 numbers-push (e ∷ front) row = ap (λ l. (e.0, e.1.moment) ∷ l) (numbers-push front row)
 
--- in a sorted list each row comes before all later rows
+-- if `x` is less than all faces of a list of rows, the face of each row is greater than `x`
 below_later : (x : ℕ) (front : List Row) (row : Row) (rest : List Row) → T (below_all nat_cmp x (front ++ row ∷ rest)) → nat_cmp row.0 x ≡ Greater
 below_later x [] row rest h = nat_cmp_total.antisymm row.0 x ∙ ap ordering_reverse (is_less (nat_cmp x row.0) (first_of _ _ h))
 below_later x (e ∷ front) row rest h = below_later x front row rest (second_of _ _ h)
@@ -55,8 +55,8 @@ sorted_front (e ∷ front) rest h = both _ _ (below_front e.0 front (first_of _ 
     below_front x [] h = tt
     below_front x (e ∷ front) h = both _ _ (first_of _ _ h) (below_front x front (second_of _ _ h))
 
--- if an insertion fails only when 64 faces have a number, and fewer faces have one, the number of
--- the face is set
+-- if the insertion of a number can fail only when 64 faces have a number, and fewer than 64 faces
+-- have one, the insertion succeeds
 pub set_here : (b : Bool) (old new : ByFace) (face number : ℕ) → (b ≡ true → new ≡ map.insert old face number) → (b ≡ false → 64 ≤ map.len old) → map.len old < 64 → new ≡ map.insert old face number
 set_here true old new face number ok full few = ok refl
 set_here false old new face number ok full few = absurd (let many = full refl in omega arith)

@@ -130,7 +130,7 @@ module _ (r : Records) (face : ℕ) (nonce : List ℕ) (reason : ℕ) where
   abbrev after : OutRecords
   after = with_reason face nonce reason r.out_records (map.get r.out_records face)
 
-  -- after the Nack, the out-record of the face has the reason
+  -- if the face's out-record has the Nonce of the Nack, it has the reason of the Nack afterwards
   here : was_sent (map.get r.out_records face) nonce ≡ true → (sent : OutRecord) × (map.get after face ≡ Some sent) × (sent.reason ≡ Some reason)
   here was = go (map.get r.out_records face) was
     where

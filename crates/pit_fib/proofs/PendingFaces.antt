@@ -97,11 +97,13 @@ in_settled : (r : Records) (f : ℕ) (b : Bool) → InRecords (cond b r no_recor
 in_settled r f true e = e
 in_settled r f false e = in_none f e
 
--- a face with a record under a key had one before the cause, or the cause gave it one
+-- if a face has a record under a key after a cause, it had a record under this key before the
+-- cause, or the cause gave the face a record
 pub in_after : (cause : Cause) (k : PlainKey) (r : Records) (f : ℕ) → InRecords (records_after cause k r) f → InRecords r f ⊎ Adds cause f
 in_after cause k r f e = in_changed cause k r f (in_settled (changed cause k r) f (is_alive (changed cause k r)) e)
 
--- a face with a record in the table had one before the cause, or the cause gave it one
+-- if a face has a record in the table after a cause, it had a record before the cause, or the cause
+-- gave the face a record
 pub had_record : (cause : Cause) (old new : Pending) → Follows cause old new → (f : ℕ) → HasRecord new f → HasRecord old f ⊎ Adds cause f
 had_record cause old new follows f (k, e) =
     let now : InRecords (records_after cause k (records_at old k)) f = subst (λ r. InRecords r f) (follows k) e in
@@ -113,12 +115,12 @@ abbrev pub GivesNone : Cause → Type 0
 GivesNone cause = (f : ℕ) → Adds cause f → ⊥
 
 -- If the cause gives no face a record (expiry, Data, a Nack, a withdrawal, a removal or a closing),
--- each face with a record had one before.
+-- each face that has a record after the cause had a record before it.
 pub had_records : (cause : Cause) (old new : Pending) → GivesNone cause → Follows cause old new → (f : ℕ) → HasRecord new f → HasRecord old f
 had_records cause old new none follows f has =
     elim (had_record cause old new follows f has) [ (inl was) ↦ was | (inr adds) ↦ absurd (none f adds) ]
 
--- a face that was closed has no record
+-- a face has no in-record after it was closed
 closed_asks : (face : ℕ) (k : PlainKey) (was : Option InRecord) → IsSome (in_record_after (Closed face) k face was) → ⊥
 closed_asks face k was e = never (subst (λ b. IsSome (cond b None was)) (same face) e)
   where
@@ -147,13 +149,14 @@ all_before sub (f ∷ faces) h = (sub f h.0, all_before sub faces h.1)
 pub at_most : {P Q : ℕ → Type 0} → ((f : ℕ) → P f → Q f) → AtMost64 Q → AtMost64 P
 at_most sub few faces rising all = few faces rising (all_before sub faces all)
 
--- after a cause that gives no face a record, at most 64 faces have records
+-- if at most 64 faces have records before a cause that gives no face a record, at most 64 faces
+-- have records after it
 pub stays_few : (cause : Cause) (old new : Pending) → ((f : ℕ) → Adds cause f → ⊥) → Follows cause old new → AtMost64 (HasRecord old) → AtMost64 (HasRecord new)
 stays_few cause old new none follows few =
     at_most (λ f has. elim (had_record cause old new follows f has) [ (inl was) ↦ was | (inr adds) ↦ absurd (none f adds) ]) few
 
--- after a cause that gives one face a record, at most 64 faces have records, if they were at most
--- 64 together with this face
+-- if a cause gives no face except `face` a record, and at most 64 faces, together with `face`, have
+-- records before the cause, then at most 64 faces have records after it
 pub grows_few : (cause : Cause) (old new : Pending) (face : ℕ) → ((f : ℕ) → Adds cause f → f ≡ face) → Follows cause old new
     → AtMost64 (λ f. HasRecord old f ⊎ (f ≡ face)) → AtMost64 (HasRecord new)
 grows_few cause old new face one follows room =
@@ -212,7 +215,8 @@ all_with P f [] h all = (h, tt)
 all_with P f (g ∷ faces) h all =
     elim (ltb f g) as (λ b. AllByRecursion P (cond b (f ∷ g ∷ faces) (g ∷ with_face f faces))) [ true ↦ (h, all) | false ↦ (all.0, all_with P f faces h all.1) ]
 
--- a rising list of faces either contains the face `f` or has fewer than 64 faces
+-- if at most 64 faces, together with `f`, have the property `P`, a rising list of faces with this
+-- property that lacks `f` has fewer than 64 faces
 pub room_in_list : (P : ℕ → Type 0) (f : ℕ) (faces : List ℕ) → AtMost64 (λ g. P g ⊎ (g ≡ f)) → IsRising faces → AllByRecursion P faces → has_face f faces ≡ false → length faces < 64
 room_in_list P f faces few rising all out =
     let more = few (with_face f faces) (with_rises f faces rising out) (all_with (λ g. P g ⊎ (g ≡ f)) f faces (inr refl) (all_before (λ g h. inl h) faces all)) in

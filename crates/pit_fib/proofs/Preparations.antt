@@ -78,8 +78,8 @@ memory_ready rows spare (Some p) h = at p.arrival h.1
     at None h = tt
     at (Some r) h = h.0
 
--- if an `arrive` of this key is prepared, its name is prepared too, and there is memory for `sent`
--- calls to all faces
+-- if an `arrive` of this key is prepared, the key's name is prepared in the table, and the spare
+-- memory has capacity for 64 out-records
 pub memory_arrives : (rows : NameTable Row) (spare room : ℕ) (key : PlainKey) (prepared : Option Prepared) → HasMemory rows spare prepared → calls_of prepared ≡ Some (key, Some room)
     → (64 ≤ spare) × (rows.prepared ≡ Some key.name)
 memory_arrives rows spare room key None h e = absurd cc
@@ -90,20 +90,23 @@ memory_arrives rows spare room key (Some p) h e =
     at None h e = absurd cc
     at (Some r) h e = (h.1, h.2)
 
--- if `sent` calls of this key are prepared, there is memory for them
+-- if calls of this key are prepared, there is memory for the out-records of `sent` calls of this
+-- key
 pub memory_sends : (rows : NameTable Row) (spare : ℕ) (key : PlainKey) (room : Option ℕ) (prepared : Option Prepared) → HasMemory rows spare prepared → calls_of prepared ≡ Some (key, room)
     → CanSend rows.table key spare
 memory_sends rows spare key room None h e = absurd cc
 memory_sends rows spare key room (Some p) h e = subst (λ k. CanSend rows.table k spare) (ap (key_in key) e) h.0
 
--- calls without an `arrive` need memory for the out-records only
+-- if no `arrive` is prepared, and there is memory for the out-records of the prepared `sent` calls,
+-- there is memory for all prepared calls
 pub memory_after : (rows : NameTable Row) (spare : ℕ) (prepared : Option Prepared) → HasNoArrival prepared → ((key : PlainKey) → calls_of prepared ≡ Some (key, None) → CanSend rows.table key spare)
     → HasMemory rows spare prepared
 memory_after rows spare None none h = tt
 memory_after rows spare (Some p) none h = (h p.key (λ i. Some (p.key, room_of (none i))), rw none tt)
 
--- a new preparation of an `arrive` with `size` octets has memory for this call and for the `sent`
--- calls after it
+-- if the spare memory has capacity for 64 out-records, the key's name is prepared in the table, and
+-- the memory of the prepared `arrive` is ready, then there is memory for this `arrive` and for the
+-- `sent` calls after it
 pub memory_new : (rows : NameTable Row) (spare size : ℕ) (p : Prepared) → 64 ≤ spare → rows.prepared ≡ Some p.key.name → room_of p.arrival ≡ Some size → IfSome p.arrival IsReady
     → HasMemory rows spare (Some p)
 memory_new rows spare size p room name is ready = (inl room, at p.arrival ready)

@@ -21,7 +21,7 @@ left_rows now (row ∷ rows) =
     elim (is_due now row.1) as (λ b. cond (not b) (row ∷ filter (λ row. not (is_due now row.1)) rows) (filter (λ row. not (is_due now row.1)) rows)
     ≡ with_entry row.0 (cond b None (Some row.1)) (revised (until_due now) rows)) [ true ↦ rest | false ↦ ap (λ l. row ∷ l) rest ]
 
--- if only the routes whose keys pass a test are kept, sorted routes stay sorted
+-- if all routes whose keys fail a test are removed, sorted routes stay sorted
 pub sorted_kept : (test : RouteKey → Bool) (rows : List (RouteKey × Route)) → T (is_sorted route_cmp rows) → T (is_sorted route_cmp (filter (λ row. test row.0) rows))
 sorted_kept test rows sorted = is_sorted-where_key route_cmp test rows sorted
 

@@ -38,7 +38,7 @@ module _ (name : List Field) (digest : List ℕ) (rows taken : Rows) (along_is :
   pub full_stays : get taken full ≡ get rows full
   full_stays = along_is full ∙ ap (λ (g : Row → Option Row). option_and_then g (get rows full)) (below_stays (changed_row (unanswered true)) (changed_row (unanswered false)) name (1, digest)) ∙ and_some (get rows full)
 
-  -- if there are entries under the full name, they are removed in addition
+  -- `new` is the table `taken` after the entries under the full name, if there are any, are removed
   abbrev pub TakesFull : Rows → Type 0
   TakesFull new = (k : PlainKey) → kept_at new k ≡ cond (eq_by_cmp name_cmp k.name full) None (kept_at taken k)
 

@@ -6,8 +6,8 @@ use Rattle.std.specs.FinMap.{contains_key, get, insert, len}
 use Rattle.pit_fib.specs.Tables.{ByFace}
 use Rattle.pit_fib.specs.Within.{set_within}
 
--- if an insertion fails exactly when the face is new and 64 faces have a cost, the costs afterwards
--- are `set_within`
+-- Let `new` be `old` with the cost of the face inserted if the face has a cost or fewer than 64
+-- faces have one, and `old` otherwise. Then `new` is the result of `set_within`.
 pub set_is : (b : Bool) (old new : ByFace) (face cost : ℕ) → b ≡ (contains_key old face || nat_lt (len old) 64) → (b ≡ true → new ≡ insert old face cost) → (b ≡ false → new ≡ old)
     → new ≡ set_within old face cost
 set_is true old new face cost is ok full = ok refl ∙ ap (λ b. cond b (insert old face cost) old) is
@@ -17,7 +17,7 @@ any_or : (a b : Bool) → b ≡ true → (a || b) ≡ true
 any_or true b e = refl
 any_or false b e = e
 
--- if fewer than 64 faces have a cost, setting a cost is an insertion
+-- if the face has a cost, or fewer than 64 faces have one, `set_within` inserts the cost
 pub set_in_room : (old : ByFace) (face cost : ℕ) → IsSome (get old face) ⊎ (len old < 64) → set_within old face cost ≡ insert old face cost
 set_in_room old face cost (inl there) = ap (λ b. cond (b || nat_lt (len old) 64) (insert old face cost) old) there
 set_in_room old face cost (inr few) = ap (λ b. cond b (insert old face cost) old) (any_or (contains_key old face) (nat_lt (len old) 64) (lt-ltb (len old) 64 few))

@@ -18,11 +18,11 @@ pub data Cause : Type 0 where
   SentTo : (key : PlainKey) (face : ℕ) (nonce : List ℕ) (moment : ℕ) → Cause
   -- a Data of this name and implicit digest came, and satisfies the Interests that it answers
   Satisfied : (name : List Field) (digest : List ℕ) → Cause
-  -- a Nack arrived on a face
+  -- a Nack of an Interest of this key, with this Nonce and reason, arrived on a face
   NackCame : (key : PlainKey) (face : ℕ) (nonce : List ℕ) (reason : ℕ) → Cause
-  -- the in-record of a face was removed
+  -- the in-record of a face under this key was removed
   Withdrawn : (key : PlainKey) (face : ℕ) → Cause
-  -- all records of a key were removed
+  -- all records of this key were removed
   Removed : (key : PlainKey) → Cause
   -- a face closed
   Closed : (face : ℕ) → Cause
@@ -44,8 +44,8 @@ nacked_with nonce reason out_record =
     if same_nonce out_record.nonce nonce then record out_record { reason = Some reason }
     else out_record
 
--- the out-records with the reason of a Nack from a face, where `out_record` is the face's
--- out-record
+-- the out-records after a Nack with this Nonce and reason arrived on a face; the last argument is
+-- the face's out-record, if there is one
 abbrev pub with_reason : ℕ → List ℕ → ℕ → OutRecords → Option OutRecord → OutRecords
 with_reason face nonce reason out_records None = out_records
 with_reason face nonce reason out_records (Some out_record) =

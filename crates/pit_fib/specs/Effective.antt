@@ -34,9 +34,9 @@ least_costs wanted routes =
 abbrev pub has_capture : Registered → Bool
 has_capture registered = list_any (λ e. is_capture e.1) (map.entries registered)
 
--- The costs that the names below an entry inherit: for each face, the least cost of the entry's
--- child-inherit routes. For other faces, the entry passes on the costs that it inherits itself,
--- unless it has a capture route.
+-- The costs that the names below an entry inherit. For each face with child-inherit routes in the
+-- entry, this is the least cost of these routes. For every other face, it is the cost in `above`,
+-- unless the entry has a capture route. Without an entry, the names inherit the costs in `above`.
 abbrev pub passed_on : Option Entry → ByFace → ByFace
 passed_on None above = above
 passed_on (Some e) above =
@@ -53,8 +53,8 @@ handed_down routes name (suc n) =
 abbrev pub does_inherit : Registered → Bool
 does_inherit registered = not (map.len registered == 0) && not (has_capture registered)
 
--- the costs of an entry's next hops; for faces without a next hop, the costs of its routes; for the
--- remaining faces, the costs that it inherits
+-- the costs of an entry's next hops; for faces without a next hop, the least costs of the entry's
+-- routes; for the remaining faces, the costs in `above`, if the entry inherits
 abbrev pub effective_of : Entry → ByFace → ByFace
 effective_of e above =
     prefer e.hops (prefer (least_costs (λ _. true) (map.entries e.registered))
@@ -65,7 +65,8 @@ abbrev pub effective : Routes → List Field → ByFace
 effective routes name =
     effective_of (entry_at routes name) (handed_down routes name (length name))
 
--- the costs at the longest prefix that has an entry, among the prefixes of at most n components
+-- the costs of the effective next hops of the longest prefix that has an entry, among the prefixes
+-- of at most n components
 abbrev pub longest_costs : Routes → List Field → ℕ → ByFace
 longest_costs routes name zero =
     if map.contains_key routes (take 0 name) then effective routes (take 0 name) else map.empty
@@ -77,10 +78,11 @@ longest_costs routes name (suc n) =
 abbrev pub longest_hops : Routes → List Field → List Hop
 longest_hops routes name = hops_of (longest_costs routes name (length name))
 
--- all names in canonical order, each with its effective next hops
+-- the name of an entry, with the name's effective next hops
 abbrev pub entry_listed : Routes → List Field × Entry → List Field × List Hop
 entry_listed routes e = (e.0, hops_of (effective routes e.0))
 
+-- all names that have an entry, in canonical order, each with its effective next hops
 abbrev pub listed : Routes → List (List Field × List Hop)
 listed routes = list_map (entry_listed routes) (map.entries routes)
 

@@ -20,12 +20,14 @@ faced_code {X} x =
 abbrev pub none_in : {X : Type 0} → ℕ → Faced X
 none_in room = record { values = map.empty; is_wide = nat_le MAX_FACES room }
 
--- there is memory for one more value
+-- if fewer than 64 faces have values, whether there is memory for one more value
 abbrev pub has_place : {X : Type 0} → Faced X → Bool
 has_place f = f.is_wide || nat_lt (map.len f.values) FEW
 
--- Whether there is memory for the value of one more face, and the values in that memory. It is
--- their own memory, or the supplied memory, which has capacity for `room` values.
+-- Whether there is memory for the value of one more face, and the values with the memory that they
+-- then have. If 64 faces have values, there is no memory for one more. Otherwise, the values' own
+-- memory is used if it suffices, and if not, the supplied memory, which suffices if `room` is at
+-- least 64.
 abbrev pub placed : {X : Type 0} → ℕ → Faced X → Bool × Faced X
 placed room f =
     if nat_le MAX_FACES (map.len f.values) then (false, f) else (
@@ -36,7 +38,8 @@ placed room f =
 abbrev pub with_face_value : {X : Type 0} → ℕ → X → Faced X → Faced X
 with_face_value face x f = record f { values = map.insert f.values face x }
 
--- the values after the value of a face is set, or unchanged if there is no memory for it
+-- the values after the value of a face is set, or unchanged if the face is new and there is no
+-- memory for its value
 abbrev pub set_in : {X : Type 0} → ℕ → ℕ → X → Faced X → Faced X
 set_in room face x f =
     if map.contains_key f.values face then with_face_value face x f else (

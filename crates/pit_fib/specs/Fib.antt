@@ -61,14 +61,14 @@ HasRoomFor routes face = AtMost64 (λ f. LeadsTo routes f ⊎ (f ≡ face))
 
 -- ---- changes of the table
 
--- whether an entry has neither next hops nor routes, so that it is removed
+-- whether an entry has neither next hops nor routes; the table removes an entry that has neither
 abbrev pub is_vacant : Entry → Bool
 is_vacant e = (map.len e.hops == 0) && (map.len e.registered == 0)
 
 abbrev pub unless_vacant : Entry → Option Entry
 unless_vacant e = if is_vacant e then None else Some e
 
--- the entry after its next hop on this face is set to this cost
+-- the entry after the cost of its next hop on this face is set
 abbrev pub entry_with_hop : ℕ → ℕ → Entry → Entry
 entry_with_hop face cost e = record e { hops = map.insert e.hops face cost }
 
@@ -84,7 +84,8 @@ abbrev pub without_next_hop : Routes → List Field → ℕ → Routes
 without_next_hop routes name face =
     with_value routes name (entry_without_hop face (entry_at routes name))
 
--- the entry with a registered route; a name has only one route for each face and origin
+-- the entry after a route is registered; the route replaces an older route of the same face and
+-- origin
 abbrev pub entry_with_route : RouteKey → Route → Entry → Entry
 entry_with_route key route e = record e { registered = map.insert e.registered key route }
 
@@ -92,7 +93,8 @@ abbrev pub with_route : Routes → List Field → RouteKey → Route → Routes
 with_route routes name key route =
     map.insert routes name (entry_with_route key route (entry_at routes name))
 
--- the entry without a registered route, or None if it then has neither next hops nor routes
+-- the entry without the route of this face and origin, or None if it then has neither next hops nor
+-- routes
 abbrev pub entry_without_route : RouteKey → Entry → Option Entry
 entry_without_route key e = unless_vacant (record e { registered = map.remove e.registered key })
 
@@ -127,14 +129,16 @@ due_count now routes = route_count routes - route_count (left_at now routes)
 
 -- ---- why a route is refused
 
--- Why the table refuses a route for the name: the name has more than 32 components, the name is new
--- and the table has 4,096 names, or the route is new and the table has 16,384 routes.
+-- whether the table has no room for the route: the name is new and the table already has 4,096
+-- names, or the route is new and the table already has 16,384 routes
 abbrev pub is_full_for_route : Routes → List Field → RouteKey → Bool
 is_full_for_route routes name key =
     (not (map.contains_key routes name) && nat_le MAX_ENTRIES (map.len routes))
     || (not (map.contains_key (registered_at routes name) key)
     && nat_le MAX_ROUTES (route_count routes))
 
+-- why the table refuses a route for the name: the name has more than 32 components, or the table
+-- has no room for the route
 abbrev pub route_refusal : Routes → List Field → RouteKey → Option TableFault
 route_refusal routes name key =
     if nat_lt MAX_DEPTH (length name) then Some TooDeep else (

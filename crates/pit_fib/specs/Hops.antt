@@ -15,7 +15,7 @@ abbrev pub with_hop : Hop → List Hop → List Hop
 with_hop hop [] = hop ∷ []
 with_hop hop (h ∷ hops) = if is_before hop h then hop ∷ h ∷ hops else h ∷ with_hop hop hops
 
--- a face and its cost as a next hop; whether the face is Local is not known yet
+-- a face and its cost as a next hop with `local` false, whether or not the face is Local
 abbrev pub unmarked_hop : ℕ × ℕ → Hop
 unmarked_hop e = record { face = e.0; cost = e.1; local = false }
 
@@ -27,12 +27,12 @@ in_order costs = fold {A = ℕ × ℕ} {B = List Hop} (λ hops e. with_hop (unma
 abbrev pub hops_of : ByFace → List Hop
 hops_of costs = in_order (entries costs)
 
--- the list is ordered: each hop is before all later hops of the list, by cost and then by face
+-- each hop comes before all later hops of the list, by cost and then by face
 abbrev pub AreInOrder : List Hop → Type 0
 AreInOrder [] = Unit {0}
 AreInOrder (h ∷ hops) = AllByRecursion (λ g. is_before h g ≡ true) hops × AreInOrder hops
 
--- the hops are the faces in `costs` with their costs, and no others
+-- the list has exactly the faces in `costs` as hops, each with its cost and with `local` false
 abbrev pub AreHopsOf : ByFace → List Hop → Type 0
 AreHopsOf costs hops = (hop : Hop) → Contains hops hop
     ↔ ((get costs hop.face ≡ Some hop.cost) × (hop.local ≡ false))

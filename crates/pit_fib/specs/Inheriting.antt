@@ -12,7 +12,8 @@ use Rattle.pit_fib.specs.Route.{is_capture, is_child_inherit, is_due}
 use Rattle.pit_fib.specs.Tables.{ByFace}
 use Rattle.pit_fib.specs.Within.{set_within}
 
--- the costs in `first`, and for faces without a cost there, the costs in `second`
+-- the costs in `second` after each cost in `first` is set; a cost is not set if its face is new and
+-- 64 faces already have a cost
 abbrev pub laid_over : ByFace → ByFace → ByFace
 laid_over first second =
     fold {A = ℕ × ℕ} {B = ByFace} (λ costs e. set_within costs e.0 e.1) second (map.entries first)
@@ -22,8 +23,8 @@ abbrev pub counts_at : Option ℕ → Route → Bool
 counts_at None r = true
 counts_at (Some now) r = not (is_due now r)
 
--- whether a route counts for a name itself or, if `below` is true, for the names below that name;
--- for the names below it, only child-inherit routes count
+-- whether a route of a name counts for this name or, if `below` is true, for the names below it;
+-- for the names below, only child-inherit routes count
 abbrev pub counts_for : Option ℕ → Bool → Route → Bool
 counts_for at below r = counts_at at r && (not below || is_child_inherit r)
 

@@ -19,11 +19,11 @@ use Rattle.pit_fib.specs.Pit.{all_nacked, least_reason, was_sent}
 use Rattle.pit_fib.specs.Records.{InRecord, OutRecord, Records, Pending, no_records, is_alive, records_code}
 use Rattle.pit_fib.specs.Cause.{Cause, changed, until_after, with_reason}
 
--- the octets of the Interest, without the last `token_len` octets, which are its token
+-- the octets of the Interest: `octets` without the last `token_len` octets, which are the token
 abbrev pub interest_in : ℕ → List ℕ → List ℕ
 interest_in token_len octets = take (length octets - token_len) octets
 
--- the token at the end of these octets, if there is one
+-- the token, which is the last `token_len` octets, or None if `token_len` is 0
 abbrev pub token_in : ℕ → List ℕ → Option (List ℕ)
 token_in token_len octets =
     if token_len == 0 then None else Some (drop (length octets - token_len) octets)
@@ -61,8 +61,9 @@ with_in_record face in_record s =
       };
     } else s
 
--- the entry with the out-record of a face, stored in the out-records' own memory or in the supplied
--- memory
+-- the entry after the out-record of a face is set, in the entry's own memory or in the supplied
+-- memory for `room` out-records; unchanged if the face is new and there is no memory for its
+-- out-record
 abbrev pub sent_in : ℕ → ℕ → OutRecord → Kept → Kept
 sent_in room face out_record s =
     with_out_records s (set_in room face out_record (kept_out_records s))
@@ -95,7 +96,7 @@ nacked face nonce reason s = record s {
   };
 }
 
--- the entry, if it has an in-record; otherwise it is removed
+-- the entry, or None if it has no in-record
 abbrev pub living : Kept → Option Kept
 living s = if is_alive s.records then Some s else None
 
@@ -107,7 +108,7 @@ kept_after cause k s = living (record s { records = changed cause k s.records })
 abbrev pub deadline : Kept → ℕ
 deadline s = least (λ in_record. in_record.deadline) (map.entries s.records.in_records)
 
--- the faces in `faces`, and the faces with an in-record
+-- the faces in `faces` and the faces of these in-records; at most 64 faces
 abbrev pub with_faces_of : List (ℕ × InRecord) → List ℕ → List ℕ
 with_faces_of [] faces = faces
 with_faces_of (e ∷ es) faces = with_faces_of es (adding e.0 faces).1
@@ -148,7 +149,8 @@ by_flags a b c d f =
 abbrev pub changed_row : (Flags → Kept → Option Kept) → Row → Option Row
 changed_row change row = nonempty (row_of (λ f. option_and_then (change f) (map.get row f)))
 
--- a change of the value under one key only
+-- the change of a row that applies `change` to the value under the flags `f`, and changes no other
+-- value
 abbrev pub only : Flags → (Kept → Option Kept) → Flags → Kept → Option Kept
 only f change g s = if same_flags g f then change s else Some s
 
@@ -160,7 +162,7 @@ kept_in row f = option_and_then (λ r. map.get r f) row
 abbrev pub with_kept : Flags → Kept → Option Row → Row
 with_kept f s row = map.insert (unwrap_or row map.empty) f s
 
--- the row after the Interest of a face arrived; a new entry has memory for `room` out-records
+-- the row after an Interest arrived on a face; a new entry has memory for `room` out-records
 abbrev pub row_arrived : Flags → ℕ → InRecord → ℕ → Option Row → Row
 row_arrived f face in_record room row =
     with_kept f (with_in_record face in_record (unwrap_or (kept_in row f) (new_in room))) row
@@ -177,15 +179,16 @@ row_sent f face out_record room row =
     with_kept_if f (option_map (sent_in room face out_record) (kept_in row f)) row
 
 -- Whether a Data answers the key with these flags. If the key's name is the Data's name or full
--- name, the Data answers every key of that name. If the key's name is a proper prefix, the Data
--- answers only the keys with CanBePrefix.
+-- name (`is_own`), the Data answers every key of that name. If the key's name is a proper prefix,
+-- the Data answers only the keys with CanBePrefix.
 abbrev pub is_answered : Bool → Flags → Bool
 is_answered is_own f = is_own || f.can_be_prefix
 
 abbrev pub unanswered : Bool → Flags → Kept → Option Kept
 unanswered is_own f s = if is_answered is_own f then None else Some s
 
--- the faces in `faces`, and the faces with an in-record under a key that the Data answers
+-- the faces in `faces` and the faces with an in-record under a key of the row that the Data
+-- answers; at most 64 faces
 abbrev pub with_answered : Bool → List ℕ → Row → List ℕ
 with_answered is_own faces row =
     with_asking (map.get row (flags true true)) (
@@ -211,12 +214,14 @@ abbrev pub was_sent_in : Option Kept → ℕ → List ℕ → Bool
 was_sent_in None face nonce = false
 was_sent_in (Some s) face nonce = was_sent (map.get s.records.out_records face) nonce
 
--- the result of a Nack, from the entry of its key after the reason `reason` was recorded there
+-- the result of a Nack, from the entry of its key after the reason `reason` was recorded in the
+-- entry
 abbrev pub answer_in : Option Kept → ℕ → Nacked
 answer_in None reason = NoPending
 answer_in (Some s) reason = all_nacked (least_reason reason (map.entries s.records.out_records))
 
--- whether the memory of the entry suffices for an out-record of this face
+-- whether the entry has an out-record of this face, or memory for one more out-record; true if
+-- there is no entry
 abbrev pub has_place_in : Option Kept → ℕ → Bool
 has_place_in None face = true
 has_place_in (Some s) face =

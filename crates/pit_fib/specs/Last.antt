@@ -11,7 +11,8 @@ use Rattle.pit_fib.specs.Kept.{Kept, Row, Rows, pending_of}
 use Rattle.pit_fib.specs.Records.{InRecord}
 use Rattle.pit_fib.specs.Tokens.{HaveNoTokens}
 
--- the in-record with the later deadline, or `b` if their deadlines are the same
+-- the in-record with the later deadline, or `b` if both deadlines are the same; if one of the two
+-- is None, the other one
 abbrev pub later : Option InRecord → Option InRecord → Option InRecord
 later None b = b
 later (Some a) None = Some a
@@ -35,8 +36,8 @@ last_prefix face last row =
     (ask_in face (map.get row (flags true true)))
 
 -- the last one among `last` and the face's in-records under those keys of the row that the Data
--- answers: the keys with CanBePrefix; if the name is the Data's own, the keys without CanBePrefix
--- count too
+-- answers: the keys with CanBePrefix and, if the row's name is the Data's own, the keys without
+-- CanBePrefix
 abbrev pub last_in : Bool → ℕ → Option InRecord → Row → Option InRecord
 last_in is_own face last row =
     last_prefix face (if is_own then last_exact face last row else last) row
@@ -49,13 +50,15 @@ last_in_row is_own face last (Some row) = last_in is_own face last row
 abbrev pub last_seen : Bool → ℕ × Option InRecord → Row → ℕ × Option InRecord
 last_seen is_own s row = (s.0, last_in is_own s.0 s.1 row)
 
--- the face's last in-record under the prefixes of a name that have fewer than n components
+-- the face's last in-record under the keys with CanBePrefix whose names are prefixes of `name` with
+-- fewer than n components
 abbrev pub last_above : Rows → ℕ → List Field → ℕ → Option InRecord
 last_above rows face name zero = None
 last_above rows face name (suc n) =
     last_in_row false face (last_above rows face name n) (map.get rows (take n name))
 
--- the face's last in-record under a name and its proper prefixes
+-- the face's last in-record under the keys of a name and the keys with CanBePrefix of its proper
+-- prefixes
 abbrev pub last_along : Rows → ℕ → List Field → Option InRecord
 last_along rows face name =
     last_in_row true face (last_above rows face name (length name)) (map.get rows name)

@@ -44,7 +44,7 @@ pub record IsTallied (routes : Routes) (count next_due : ℕ) : Type 0 where
   pub counted : count ≡ route_count routes
   pub later : NoneEndsBefore next_due routes
 
--- there is capacity for the routes of the prepared name and for one more route
+-- if a name is prepared, `room` is the number of its routes plus 1, or more
 abbrev pub IsRoomFor : Routes → ℕ → Option (List Field) → Type 0
 IsRoomFor routes room None = Unit {0}
 IsRoomFor routes room (Some name) = map.len (registered_at routes name) < room

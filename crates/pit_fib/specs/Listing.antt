@@ -26,7 +26,8 @@ past_at s e =
       way = past_entry s.way e;
     }
 
--- the visitor after it is shown a name, if the name's entry remains at the moment of the walk
+-- the visitor after it is shown a name with its effective next hops, or unchanged if none of the
+-- name's next hops and routes is left at the moment of the walk
 abbrev pub hops_shown : {S : Type 0} → (S → List ℕ → List Hop → S) → AsHops S → List ℕ → AtName
     → AsHops S
 hops_shown show s name at =

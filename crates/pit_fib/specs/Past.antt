@@ -25,7 +25,8 @@ in_record_after (Withdrawn key face) k f was = if same_key k key && (f == face) 
 in_record_after (Removed key) k f was = if same_key k key then None else was
 in_record_after (Closed face) k f was = if f == face then None else was
 
--- the in-record of a face: its last Interest under the key, unless something has removed it since
+-- the in-record of a face after these causes: the in-record of its last Interest of the key, unless
+-- a later cause has removed this in-record
 abbrev pub in_record_of : List Cause → PlainKey → ℕ → Option InRecord
 in_record_of [] k f = None
 in_record_of (cause ∷ before) k f = in_record_after cause k f (in_record_of before k f)
@@ -44,8 +45,9 @@ out_record_after (Withdrawn key face) k g was = was
 out_record_after (Removed key) k g was = if same_key k key then None else was
 out_record_after (Closed face) k g was = if g == face then None else was
 
--- the out-record of a face: the last Interest that was sent to it since the key was last without an
--- in-record, unless the face has closed since
+-- The out-record of a face after these causes: the out-record of the last Interest of the key that
+-- was sent to the face since the key last had no in-record, unless the face has closed since. If
+-- the key has no in-record, there is no out-record.
 abbrev pub out_record_of : List Cause → PlainKey → ℕ → Option OutRecord
 out_record_of [] k g = None
 out_record_of (cause ∷ before) k g =

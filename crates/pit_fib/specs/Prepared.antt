@@ -14,7 +14,8 @@ use Rattle.pit_fib.specs.Records.{is_alive}
 use Rattle.pit_fib.specs.Kept.{Kept, Row, Rows, kept_at, pending_of}
 use Rattle.pit_fib.specs.Pit.{HasRecord}
 
--- the number of octets for which there is capacity
+-- the number of octets for which the prepared `arrive` has memory, or None if no `arrive` is
+-- prepared
 abbrev pub room_of : Option Ready → Option ℕ
 room_of ready = option_map (λ r. r.size) ready
 
@@ -23,7 +24,7 @@ abbrev pub calls_of : Option Prepared → Option (PlainKey × Option ℕ)
 calls_of None = None
 calls_of (Some p) = Some (p.key, room_of p.arrival)
 
--- there is memory for the octets of an Interest
+-- the vector `octets` is empty, and has capacity for `size` octets
 pub record IsReady (r : Ready) : Type 0 where
   pub octets : r.octets.items ≡ []
   pub room : r.size ≤ vec_capacity r.octets
@@ -32,8 +33,8 @@ pub record IsReady (r : Ready) : Type 0 where
 abbrev pub HasNoArrival : Option Prepared → Type 0
 HasNoArrival prepared = IfSome prepared (λ p. p.arrival ≡ None)
 
--- There is memory for the out-records of all faces under a key: the entry's own memory, or the
--- spare memory, which has capacity for `spare` out-records.
+-- There is memory for the out-records of 64 faces under a key: the spare memory has capacity for 64
+-- out-records, or the key's entry, if there is one, has this memory.
 abbrev pub CanSend : Rows → PlainKey → ℕ → Type 0
 CanSend rows key spare =
     (MAX_FACES ≤ spare) ⊎ ((s : Kept) → kept_at rows key ≡ Some s → s.is_wide ≡ true)
@@ -48,7 +49,7 @@ HasMemory rows spare prepared =
 abbrev pub AreAlive : Rows → Type 0
 AreAlive rows = (k : PlainKey) (s : Kept) → kept_at rows k ≡ Some s → is_alive s.records ≡ true
 
--- the table is within its limits
+-- the table is within its limits, and each of its keys has an in-record
 pub record IsWithin (rows : Rows) : Type 0 where
   pub alive : AreAlive rows
   pub few : AtMost64 (HasRecord (pending_of rows))

@@ -43,7 +43,8 @@ route_code =
 abbrev pub registered_code : Coded Registered
 registered_code = code route_key_code route_code
 
--- the bits of the flags: 1 is child-inherit, and 2 is capture
+-- The next two definitions test the flags of a route: the bit of value 1 is child-inherit, and the
+-- bit of value 2 is capture.
 abbrev pub is_child_inherit : Route → Bool
 is_child_inherit r = r.flags % 2 == 1
 

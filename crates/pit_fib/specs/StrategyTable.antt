@@ -19,7 +19,7 @@ abbrev pub without_choice : {X : Type 0} → ByName X → List Field → ByName 
 without_choice choices [] = choices
 without_choice choices (c ∷ name) = map.remove choices (c ∷ name)
 
--- whether the strategy is multicast; models represent a strategy by this Boolean
+-- whether the strategy is multicast; `strategy_code` encodes a strategy as this Boolean
 abbrev pub is_multicast : StrategyId → Bool
 is_multicast BestRoute = false
 is_multicast Multicast = true

@@ -17,7 +17,8 @@ set_within costs face cost =
 abbrev pub entry_with_hop_within : ℕ → ℕ → Entry → Entry
 entry_with_hop_within face cost e = record e { hops = set_within e.hops face cost }
 
--- the routes with `route` added, if the memory has capacity for one more route than there are
+-- the routes after `route` is set under `key`, or unchanged if there are already `room` routes or
+-- more
 abbrev pub with_route_within : ℕ → RouteKey → Route → Registered → Registered
 with_route_within room key route registered =
     if nat_lt (map.len registered) room then map.insert registered key route else registered

@@ -1,5 +1,5 @@
--- A command is fresh according to the greatest time and number of its signer exactly if it is fresh
--- according to all recorded commands.
+-- A guard stores only the greatest time and the greatest number of each signer. A command is fresh
+-- by this state exactly if it is fresh by the list of all recorded commands.
 use Rattle.std.proofs.Common.{◌≡◌, ℕ, ◌<◌, Bool, true, false, cond, List, [], ◌∷◌, refl, sym, subst, arith}
 use Rattle.std.specs.Prelude.{◌↔◌, Option, Some, None}
 use Rattle.std.specs.List.{AllByRecursion}
@@ -16,8 +16,9 @@ number_after (Some m) None number = (λ h. (h, tt), λ h _. h)
 number_after (Some m) (Some n) None = (λ h. (tt, tt), λ _ _. tt)
 number_after (Some m) (Some n) (Some k) = (λ h. (omega (arith, h), omega (arith, h)), λ h k'. omega (arith, h, k'))
 
--- a command is newer than the state after one more recorded command of its signer exactly if it is
--- newer than the earlier state and newer than that recorded command
+-- One more recorded command raises the state of its signer. A command of this signer is newer
+-- than the new state exactly if it is newer than the earlier state and newer than the recorded
+-- command.
 raised_after : (kept : Option Latest) (t : ℕ) (n : Option ℕ) (time : ℕ) (number : Option ℕ)
     → (IsAfterLatest (Some (raised kept t n)) time number → IsAfterLatest kept time number × ((t < time) × NumberRises n number))
     × (IsAfterLatest kept time number → (t < time) × NumberRises n number → IsAfterLatest (Some (raised kept t n)) time number)
@@ -28,8 +29,9 @@ raised_after (Some l) t n time number =
       λ h k. let e = h.0 in let f = k.0 in (omega (arith, e, f), both.1 h.1 k.1),
     )
 
--- a command is newer than the state after `r` was recorded exactly if it is newer than the earlier
--- state and, if `r` has the same signer, newer than `r`
+-- After `r` is recorded, a command is newer than its signer's state exactly if two conditions
+-- hold: it is newer than its signer's state before `r`, and, if `r` has the same signer, it is
+-- newer than `r`.
 pub one_more : (table : Signer → Option Latest) (r : Recorded) (signer : Signer) (time : ℕ) (number : Option ℕ) (b : Bool) → eq_by_cmp signer_cmp signer r.signer ≡ b
     → (IsAfterLatest (cond b (Some (raised (table r.signer) r.time r.number)) (table signer)) time number → IsAfterLatest (table signer) time number × IsNewer signer time number r)
     × (IsAfterLatest (table signer) time number → IsNewer signer time number r → IsAfterLatest (cond b (Some (raised (table r.signer) r.time r.number)) (table signer)) time number)

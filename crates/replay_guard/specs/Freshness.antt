@@ -25,8 +25,8 @@ NumberRises None number = Unit {0}
 NumberRises (Some m) None = Unit {0}
 NumberRises (Some m) (Some n) = m < n
 
--- A command with this signer, time and number is newer than the recorded command `earlier`, if both
--- are of the same signer.
+-- If a command with this signer, time and number has the signer of the recorded command `earlier`,
+-- it is newer: its time is greater, and its number is greater if both have a number.
 abbrev pub IsNewer : Signer → ℕ → Option ℕ → Recorded → Type 0
 IsNewer signer time number earlier =
     earlier.signer ≡ signer → (earlier.time < time) × NumberRises earlier.number number

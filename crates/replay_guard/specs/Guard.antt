@@ -60,7 +60,8 @@ abbrev pub table_of : List Recorded → Table
 table_of [] = map.empty
 table_of (r ∷ before) = with_recorded (table_of before) r
 
--- a command with this time and number is newer than the recorded state of its signer
+-- a command with this time and number is newer than the recorded state of its signer, if there is
+-- one
 abbrev pub IsAfterLatest : Option Latest → ℕ → Option ℕ → Type 0
 IsAfterLatest None time number = Unit {0}
 IsAfterLatest (Some l) time number = (l.time < time) × NumberRises l.number number

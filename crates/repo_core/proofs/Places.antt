@@ -20,8 +20,9 @@ stands [] at lt = absurd (omega arith)
 stands (x ∷ xs) zero lt = (x, refl)
 stands (x ∷ xs) (suc n) lt = stands xs n (omega arith)
 
--- a property of each element at an index below `at` is a property of all elements of `take at xs`;
--- `all_from` states this for the elements from index `at` on, which are those of `drop at xs`
+-- The next two lemmas: if each element at an index below `at` has the property `P`, all elements of
+-- `take at xs` have it. If each element from index `at` on has it, all elements of `drop at xs`
+-- have it.
 pub all_before : {X : Type 0} (P : X → Type 0) (xs : List X) (at : ℕ) → ((k : ℕ) (d : X) → k < at → k < length xs → P (get_or xs k d)) → AllByRecursion P (take at xs)
 all_before P [] zero h = tt
 all_before P [] (suc n) h = tt

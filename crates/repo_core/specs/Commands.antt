@@ -1,5 +1,5 @@
--- The commands of a repository, one row for each: the verb, and the statuses of its replies. The
--- statuses and their texts are defined here.
+-- The commands of a repository, one row for each: the verb, and the statuses of its replies. This
+-- file also defines the texts of the statuses; `src/types.rt` defines their numbers.
 use Rattle.std.specs.Prelude.{ℕ, List, [], ◌∷◌, Option, find, codes, bytes_eq, ◌==◌}
 use Rattle.std.specs.Option.{option_map}
 use Rattle.repo_core.specs.declared.verb.Verb.{Verb}

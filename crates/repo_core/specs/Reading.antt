@@ -73,7 +73,7 @@ command_of verb es =
 
 -- ---- names
 
--- the value of a component of this type
+-- the value of the component if it has the type `kind`, otherwise None
 abbrev pub value_of : ℕ → Option Field → Option (List ℕ)
 value_of kind None = None
 value_of kind (Some c) = if c.0 == kind then Some c.1 else None

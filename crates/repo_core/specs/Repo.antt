@@ -48,7 +48,7 @@ holds s c Wanted = map.contains_key s.wants (want_key c)
 holds s c NoPlace = is_repo_full s
 holds s c Otherwise = true
 
--- the status of the first case that applies
+-- the status of the first case that applies, or 404 if no case applies
 abbrev pub first_case_status : Held → RepoCommand → List (Case × ℕ) → ℕ
 first_case_status s c [] = NOT_FOUND
 first_case_status s c (row ∷ rows) = if holds s c row.0 then row.1 else first_case_status s c rows
@@ -56,7 +56,8 @@ first_case_status s c (row ∷ rows) = if holds s c row.0 then row.1 else first_
 abbrev pub repo_status_of : Held → RepoCommand → ℕ
 repo_status_of s c = first_case_status s c (verb_row c.verb).answers
 
--- the Interest to send for a pending insert, with the command's name, CanBePrefix and lifetime
+-- the Interest to send for a pending insert, with the command's name, CanBePrefix and lifetime;
+-- None for other commands
 abbrev pub fetch_of : RepoCommand → ℕ → Option Want
 fetch_of c status =
     elim c.verb [
@@ -81,7 +82,8 @@ abbrev pub reply_to : Held → Option RepoCommand → RepoReply
 reply_to s None = record { status = BAD_PARAMETERS; count = 0; fetch = None }
 reply_to s (Some c) = reply_with s c (repo_status_of s c)
 
--- the state after an insert; an equal want gets the new deadline
+-- the state after an insert: if its status is 100 (pending), its want is added, or an equal want
+-- gets the new deadline
 abbrev pub after_insert : RepoCommand → ℕ → Held → Held
 after_insert c now s =
     if repo_status_of s c == PENDING then record s {
@@ -115,8 +117,8 @@ MakesWant s (Some c) = (c.verb ≡ Insert) × (repo_status_of s c ≡ PENDING)
 
 -- ---- Data
 
--- the state after an offer: a wanted Data is stored, and replaces any object with the same full
--- name
+-- the state after an offer: a wanted Data is stored, replaces any object with the same full name,
+-- and removes the wants that it answers; a Data that is not wanted changes nothing
 abbrev pub after_offer : List Field → List ℕ → List ℕ → Held → Held
 after_offer name digest octets s =
     if is_wanted name digest s.wants then record {
@@ -138,7 +140,7 @@ is_insert Insert = true
 is_insert Delete = false
 is_insert Check = false
 
--- the name is that of an insert
+-- whether the name encodes an insert
 abbrev pub is_insert_at : List Field → List Field → Bool
 is_insert_at start name =
     elim (repo_command_at start name) [ None ↦ false | Some c ↦ is_insert c.verb ]

@@ -5,7 +5,7 @@ use Rattle.ndn_tlv.specs.Element.{element}
 use Rattle.ndn_tlv.specs.Writing.{octets}
 use Rattle.ndn_packets.specs.declared.command_types.TheConstants.{COUNT, REPO_COMMAND_RESPONSE, REPO_STATUS_CODE, STATUS_TEXT}
 
--- a reply with its status, its text, and a number
+-- a reply with this status, this text and this count
 abbrev pub repo_response : ℕ → List ℕ → ℕ → List ℕ
 repo_response status text count =
     element (

@@ -101,7 +101,8 @@ fn are_same(alloc: Global, past: &str, other: &str) -> Option<bool> {
     Some(guard.has_same_times(&other))
 }
 
-/// Two guards are the same if they have the same signers with the same times and numbers.
+/// Two guards have the same times and numbers exactly if they have the same signers, each with the
+/// same time and number.
 #[test]
 fn same_times(rt: HostRuntime) {
     let rows = "
@@ -175,15 +176,15 @@ prepare /k, prepare /l, /k 0 0, ? /k 0 1 0 -> no
     check_rows(&rt, rt.alloc(), rows, freshness);
 }
 
-/// Returns whether a prepared recording does not run out of memory, and whether a failed
-/// preparation changes nothing.
+/// Returns whether a prepared recording and a second recording of the same signer succeed. If the
+/// preparation fails, returns whether the guard is unchanged.
 fn keeps_its_promise(alloc: Global) -> Option<bool> {
     let key = key_in(alloc, "/k")?;
     let mut guard = Guard::new(alloc);
     Some(promise_is_kept(&mut guard, signer_of(&key)))
 }
 
-/// Returns the same for this new guard and this signer.
+/// Returns what `keeps_its_promise` returns, for this new guard and this signer.
 fn promise_is_kept(guard: &mut Guard, signer: Signer<'_>) -> bool {
     if guard.prepare(signer).is_err() {
         return guard.check(signer, 0, None, 0);
@@ -205,13 +206,13 @@ fn leaves_earlier_records(alloc: Global) -> Option<bool> {
     new_guard_leaves_records(alloc, signer_of(&first), signer_of(&second))
 }
 
-/// Returns the same for a new guard and these two signers.
+/// Returns what `leaves_earlier_records` returns, for a new guard and these two signers.
 fn new_guard_leaves_records(alloc: Global, first: Signer<'_>, second: Signer<'_>) -> Option<bool> {
     let mut guard = Guard::new(alloc);
     leaves_records(&mut guard, first, second)
 }
 
-/// Returns the same for this new guard and these two signers.
+/// Returns what `leaves_earlier_records` returns, for this new guard and these two signers.
 fn leaves_records(guard: &mut Guard, first: Signer<'_>, second: Signer<'_>) -> Option<bool> {
     guard.record(Signer::Digest, 5, Some(5)).ok()?;
     guard.prepare(second).ok()?;

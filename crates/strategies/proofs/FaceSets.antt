@@ -17,7 +17,7 @@ length-with_face face (f ∷ faces) =
       | false ↦ omega (arith, length-with_face face faces)
     ]
 
--- if there are fewer than 64 faces, `adding` adds a face that is not among them
+-- if there are fewer than 64 faces, `adding` adds the face unless it is already among them
 added : (face : ℕ) (faces : List ℕ) → length faces < 64 → (adding face faces).1 ≡ cond (has_face face faces) faces (with_face face faces)
 added face faces lt =
     let more = with_face face faces in
@@ -31,8 +31,9 @@ added_few face faces =
       | false ↦ omega (arith, length-with_face face faces)
     ]
 
--- if `faces` are the faces that multicast selects from `rest`, and multicast selects one more hop,
--- adding its face gives the faces that multicast selects from all of `hops`
+-- Let `hops` be `hop` followed by `rest`. If multicast selects `hop`, and `faces` are the faces,
+-- fewer than 64, that multicast selects from `rest`, then adding the face of `hop` to `faces` gives
+-- the faces that multicast selects from `hops`.
 pub taken_more : (used : ByFace) (now : ℕ) (hop : Hop) (rest hops : List Hop) (faces new : List ℕ) (n : ℕ) → 0 < n
     → (length faces + n ≤ 64) × (faces ≡ faces_of (multicast rest used now)) → hops ≡ hop ∷ rest → was_recent now (map.get used hop.face) ≡ false
     → new ≡ (adding hop.face faces).1 → (length new + (n - 1) ≤ 64) × (new ≡ faces_of (multicast hops used now))

@@ -8,8 +8,8 @@ use Rattle.pit_fib.specs.declared.hops.Hop.{Hop}
 use Rattle.pit_fib.specs.Hops.{is_before}
 use Rattle.pit_fib.specs.Tables.{ByFace}
 
--- the hops to send to; the arguments are the eligible hops, the moments at which faces were last
--- used, and the present moment
+-- the type of a strategy: a function from the eligible hops, the moments at which faces were last
+-- used, and the present moment to the hops to send to
 abbrev pub Selection : Type 0
 Selection = List Hop → ByFace → ℕ → List Hop
 
@@ -32,13 +32,14 @@ abbrev pub lesser : (Hop → Hop → Bool) → Hop → Option Hop → Hop
 lesser before hop None = hop
 lesser before hop (Some other) = if before other hop then other else hop
 
--- the hop that comes before all others in the order `before`
+-- the first hop in the order `before`, or None if there are no hops
 abbrev pub least : (Hop → Hop → Bool) → List Hop → Option Hop
 least before [] = None
 least before (hop ∷ hops) = Some (lesser before hop (least before hops))
 
--- No hop if some face was used less than 10 ms ago. Otherwise, of the hops that were not used, the
--- least by cost and then by face; if all hops were used, the hop that was used longest ago.
+-- No hop if the last use of some face is recent (`is_recent`). Otherwise, among the hops that were
+-- not used, the least by cost and then by face; if all hops were used, the first hop in the order
+-- `is_staler`.
 abbrev pub best_route : Selection
 best_route hops asked now =
     if list_any (λ e. is_recent now e.1) (map.entries asked) then [] else

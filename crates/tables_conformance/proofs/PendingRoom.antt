@@ -63,11 +63,11 @@ in_none face (inr e) = differ (is_some (get no_records.out_records face)) e (ap 
 empty_has_none : (face : ℕ) → HasRecord map.empty face → ⊥
 empty_has_none face has = in_none face (subst (λ (r : Records). IsSome (get r.in_records face) ⊎ IsSome (get r.out_records face)) (ap (λ (o : Option Records). unwrap_or o no_records) (get-empty key_cmp has.0)) has.1)
 
--- an empty table has no records
+-- all records of an empty table are of faces below 64, since an empty table has no records
 pub none_below : (pending : Pending) → pending ≡ map.empty → AreBelow pending
 none_below pending e face has = absurd (empty_has_none face (subst (λ p. HasRecord p face) e has))
 
--- if a face has an in-record, the records are alive
+-- if a face has an in-record among these records, the records are alive (`is_alive`)
 pub asks_is_alive : (r : Records) (face : ℕ) → IsSome (get r.in_records face) → is_alive r ≡ true
 asks_is_alive r face some = by_len (len r.in_records) (λ e. empty_of_len r.in_records e)
   where

@@ -88,7 +88,8 @@ same f face e = grind (arith, nat_tests, e)
 same_key : (k key : RouteKey) → eq_by_cmp route_cmp k key ≡ true → k ≡ key
 same_key k key e = route_cmp-antisymmetric k key (equal (route_cmp k key) e)
 
--- what is found in a map after a value was inserted or removed
+-- The lemmas of this module: what follows if a map has a value under a key after an insertion, a
+-- removal or a change of its values.
 module _ {X A : Type 0} where
   none_there : (o : Option X) → o ≡ None → IsSome o → A
   none_there o e some = absurd cc
@@ -239,7 +240,9 @@ left_ours now =
     revised_ours (entry_left_at now)
     (λ e all. unless_vacant_ours (record e { registered = revise (until_due now) e.registered }) (until_due_ours now e all))
 
--- a call that may be refused keeps the faces of the table below 63 or at the greatest face number
+-- Let a call that is refused leave the table unchanged. If all faces of the table before the call,
+-- and of the table after a successful call, are below 63 or the greatest face number, then all
+-- faces of the table after the call are, too.
 pub either_ours : {X Y : Type 0} (answer : Result X Y) (old new after : Routes) → OnOk answer (new ≡ after) → OnErr answer (new ≡ old) → AreOurs old → AreOurs after → AreOurs new
 either_ours (Ok x) old new after ok err all done = subst AreOurs (sym ok) done
 either_ours (Err y) old new after ok err all done = subst AreOurs (sym err) all

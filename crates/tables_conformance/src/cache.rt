@@ -17,8 +17,8 @@ fn data_in(alloc: Global, words: &str) -> Option<Vec<u8>> {
     data_of(alloc, name, content, Some(freshness.parse().ok()?))
 }
 
-/// Puts a Data into the store, and returns whether the store keeps it. The words are its name,
-/// Content, FreshnessPeriod and arrival.
+/// Puts a Data into the store, and returns whether it is cached. The words are its name, Content,
+/// FreshnessPeriod and arrival.
 fn put(alloc: Global, store: &mut Store, words: &str) -> Option<bool> {
     let (data, arrival) = words.rsplit_once(' ')?;
     let arrival = arrival.parse().ok()?;
@@ -26,7 +26,7 @@ fn put(alloc: Global, store: &mut Store, words: &str) -> Option<bool> {
     put_packet(store, &packet, arrival)
 }
 
-/// Puts a packet into the store, and returns whether the store keeps it.
+/// Puts the Data in a packet into the store, and returns whether it is cached.
 fn put_packet(store: &mut Store, packet: &[u8], arrival: u64) -> Option<bool> {
     match read_frame(packet).ok()? {
         Frame::Data(data) => Some(store.put(&data, arrival)),
@@ -219,14 +219,15 @@ fn cached_data_by_full_name(rt: HostRuntime) {
     check_rows(&rt, rt.alloc(), rows, answers);
 }
 
-/// Puts a Data with another name, and returns whether it is cached.
+/// Puts a Data with the name `/other/N`, where N is `number`, and returns whether it is cached.
 fn put_other(alloc: Global, store: &mut Store, number: u32) -> Option<bool> {
     let uri = format!(in alloc; "/other/{number}").ok()?;
     let packet = data_of(alloc, &uri, "01", None)?;
     put_packet(store, &packet, 0)
 }
 
-/// Puts Data with other names, and returns whether each of them is cached.
+/// Puts `count` Data with the names `/other/0`, `/other/1` and so on. Returns whether each of them
+/// is cached.
 fn put_others(alloc: Global, store: &mut Store, count: u32) -> Option<bool> {
     for number in 0..count {
         if !put_other(alloc, store, number)? {
@@ -272,8 +273,8 @@ fn put_number(packet: &mut [u8], number: u32) {
     }
 }
 
-/// Returns whether the lookup of a name finds a Data, if it takes at least one and at most `most`
-/// comparisons.
+/// Returns whether the lookup of a name finds the Data in the packet. Returns None if the lookup
+/// takes no comparison, or more than `most`.
 fn is_found_within(store: &mut Store, name: Name<'_>, packet: &[u8], most: u64) -> Option<bool> {
     let mut counted = 0;
     let found = store.find_counted(key_of(name, ""), 0, &mut counted);
@@ -281,8 +282,8 @@ fn is_found_within(store: &mut Store, name: Name<'_>, packet: &[u8], most: u64) 
     (counted >= 1 && counted <= most).then_some(is_found)
 }
 
-/// Returns whether a Data is cached, if its lookup takes at least one and at most `most`
-/// comparisons.
+/// Returns whether the Data in a packet is cached. Returns None if its lookup takes no comparison,
+/// or more than `most`.
 fn is_held(store: &mut Store, packet: &[u8], most: u64) -> Option<bool> {
     match read_frame(packet).ok()? {
         Frame::Data(data) => is_found_within(store, data.name, packet, most),
@@ -291,7 +292,7 @@ fn is_held(store: &mut Store, packet: &[u8], most: u64) -> Option<bool> {
 }
 
 /// Puts a Data for each number up to `last` into a store, and returns whether each of them is
-/// cached. The packet is then that of the last number.
+/// cached. Afterwards, the packet is the Data with the last number.
 fn put_numbers(store: &mut Store, packet: &mut [u8], last: u32) -> Option<bool> {
     for number in 0..=last {
         put_number(packet, number);
@@ -302,8 +303,8 @@ fn put_numbers(store: &mut Store, packet: &mut [u8], last: u32) -> Option<bool> 
     Some(true)
 }
 
-/// Returns whether a store holds the Data with the number of the packet, but not the Data with the
-/// number 0.
+/// Returns whether the Data with the number in the packet is cached, and the Data with the number 0
+/// is not.
 fn holds_the_last(store: &mut Store, packet: &mut [u8], most: u64) -> Option<bool> {
     let last = is_held(store, packet, most)?;
     put_number(packet, 0);
@@ -323,8 +324,8 @@ fn evicts_the_first(
     Some(holds && store.len() == capacity as usize)
 }
 
-/// Returns whether a store with this capacity evicts the first Data for one Data too many. Each
-/// lookup must take at least one and at most `most` comparisons.
+/// Returns whether a store with this capacity evicts the first Data when it gets one Data more than
+/// its capacity. Each lookup must take at least one and at most `most` comparisons.
 fn is_first_gone(alloc: Global, capacity: u32, most: u64) -> Option<bool> {
     let mut packet = data_of(alloc, "/n/0000", "01", Some(0))?;
     let mut store = Store::new(alloc, capacity as usize).ok()?;

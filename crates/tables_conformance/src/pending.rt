@@ -1,5 +1,5 @@
-//! Pending Interests, in tables whose faces are all below 64. Such a table always has capacity for
-//! one more record.
+//! Pending Interests, in tables that have records of faces below 64 only. Such a table does not
+//! exceed its limit of 64 faces.
 
 mod askers;
 mod pending_records;
@@ -70,14 +70,15 @@ impl Table {
         }
     }
 
-    /// Records an Interest whose octets are its Nonce.
+    /// Records an Interest whose octets are its Nonce. Returns the fault if the table refuses it.
     fn ask(&mut self, key: Key<'_>, face: u64, nonce: [u8; 4], deadline: u64) -> Option<PitFault> {
         self.pit
             .arrive(key, face % 64, nonce, &nonce, deadline, None)
             .err()
     }
 
-    /// Records an Interest whose octets are its Nonce, with a PIT token.
+    /// Records an Interest whose octets are its Nonce, with a PIT token. Returns the fault if the
+    /// table refuses it.
     fn ask_with(
         &mut self,
         key: Key<'_>,
@@ -94,7 +95,7 @@ impl Table {
     }
 
     /// Records that an Interest under this key was sent to `face`, if the face `asker` has a
-    /// pending Interest under the key. Otherwise returns false.
+    /// pending Interest under the key. Returns whether it was recorded.
     fn sent(&mut self, key: Key<'_>, asker: u64, face: u64, nonce: [u8; 4], now: u64) -> bool {
         if self.pit.interest_of(key, asker).is_none() {
             return false;
@@ -131,7 +132,7 @@ impl Table {
     }
 }
 
-/// The numbers after a key. Those that a call does not have are 0.
+/// The numbers after a key in a call. Numbers that the call does not have are 0.
 #[derive(Clone, Copy)]
 struct Numbers {
     face: u64,
@@ -140,7 +141,8 @@ struct Numbers {
     third: u64,
 }
 
-/// Reads a number and returns the words after it, which are `0` if there are none.
+/// Reads the number at the start of a text. Returns the number and the text after it, or `0` if
+/// there is no text after it.
 fn number_in(text: &str) -> Option<(u64, &str)> {
     let (number, rest) = text.split_once(' ').unwrap_or((text, "0"));
     Some((number.parse().ok()?, rest))
@@ -185,7 +187,7 @@ fn put_used(text: &mut String, used: &Used) -> Option<()> {
     Some(())
 }
 
-/// Appends the octets of an Interest or of a token.
+/// Appends the octets of an Interest or of a token in hexadecimal, or `none`.
 fn put_interest(alloc: Global, text: &mut String, interest: Option<&[u8]>) -> Option<()> {
     match interest {
         Some(interest) => {
@@ -212,13 +214,13 @@ fn empty_data(alloc: Global, name: Name<'_>) -> Option<Vec<u8>> {
     Some(packet)
 }
 
-/// Returns a Data with this URI and an empty Content.
+/// Returns a Data with the name of this URI and an empty Content.
 fn data_at(alloc: Global, uri: &str) -> Option<Vec<u8>> {
     let name = NameBuf::from_uri(alloc, uri).ok()?;
     empty_data(alloc, name.view())
 }
 
-/// Returns the faces that a Data is sent to.
+/// Satisfies pending Interests with a Data, and returns the faces that the Data is sent to.
 fn faces_answered(table: &mut Table, packet: &[u8]) -> Option<Faces> {
     match read_frame(packet).ok()? {
         Frame::Data(data) => Some(table.satisfy(&data)),
@@ -273,7 +275,7 @@ fn put_of_name(
     put_of_packet(alloc, text, table, call, &packet, face)
 }
 
-/// Returns whether `ask KEY FACE NONCE DEADLINE` is recorded.
+/// Runs `ask KEY FACE NONCE DEADLINE`, and returns whether the Interest is recorded.
 fn is_asked(table: &mut Table, key: Key<'_>, numbers: Numbers) -> Option<bool> {
     let nonce = nonce_of(numbers.first)?;
     Some(
@@ -283,22 +285,22 @@ fn is_asked(table: &mut Table, key: Key<'_>, numbers: Numbers) -> Option<bool> {
     )
 }
 
-/// Returns whether `token KEY FACE TOKEN DEADLINE` is recorded.
+/// Runs `token KEY FACE TOKEN DEADLINE`, and returns whether the Interest is recorded.
 fn is_asked_with(table: &mut Table, key: Key<'_>, numbers: Numbers) -> Option<bool> {
     let octet = u8::try_from(numbers.first).ok()?;
     let refused = table.ask_with(key, numbers.face, [octet; 4], numbers.second, &[octet]);
     Some(refused.is_none())
 }
 
-/// Returns whether `sent KEY ASKER FACE NONCE NOW` is recorded.
+/// Runs `sent KEY ASKER FACE NONCE NOW`, and returns whether the out-record is set.
 fn is_sent(table: &mut Table, key: Key<'_>, numbers: Numbers) -> Option<bool> {
     let nonce = nonce_of(numbers.second)?;
     Some(table.sent(key, numbers.face, numbers.first, nonce, numbers.third))
 }
 
-/// Returns the answer to a call that names a key: `ask KEY FACE NONCE DEADLINE`, `token KEY FACE
-/// TOKEN DEADLINE` for an Interest with a PIT token of one octet, `sent KEY ASKER FACE NONCE NOW`,
-/// `loops KEY FACE NONCE`, or `prepare KEY OCTETS`.
+/// Runs a call that names a key, and returns its answer, yes or no: `ask KEY FACE NONCE DEADLINE`,
+/// `token KEY FACE TOKEN DEADLINE` for an Interest with a PIT token of one octet, `sent KEY ASKER
+/// FACE NONCE NOW`, `loops KEY FACE NONCE`, or `prepare KEY OCTETS`.
 fn is_so(table: &mut Table, call: &str, key: Key<'_>, numbers: Numbers) -> Option<bool> {
     match call {
         "ask" => is_asked(table, key, numbers),
@@ -350,7 +352,7 @@ fn put_of_key(
     }
 }
 
-/// Appends the answer to a call that names a key, which `put_of_key` runs.
+/// Reads the key and the numbers of a call, runs the call by `put_of_key`, and appends its answer.
 fn put_keyed(
     alloc: Global,
     text: &mut String,
@@ -419,8 +421,9 @@ fn answers(alloc: Global, row: &str) -> Option<String> {
     answers_of(alloc, &mut table, row)
 }
 
-/// Records an Interest under the key with this number. Either each key has its own name, or four
-/// keys, one for each setting of the flags, share a name.
+/// Records an Interest under the key with this number, and returns whether it is recorded. If
+/// `share_names` is set, four keys share each name, one for each setting of the flags; otherwise
+/// each key has its own name.
 fn ask_numbered(
     alloc: Global,
     table: &mut Table,
@@ -486,7 +489,8 @@ fn runs_rounds(alloc: Global, table: &mut Table) -> Option<bool> {
     Some(true)
 }
 
-/// Returns whether a table has 64 keys after many rounds, and is empty after their deadline.
+/// Returns whether a table has 64 keys after many rounds, and is empty after the deadline of the
+/// Interests.
 fn ends_empty(alloc: Global, table: &mut Table, _key: Key<'_>, _other: Key<'_>) -> Option<bool> {
     let runs = runs_rounds(alloc, table)?;
     let stood = table.pit.len();
@@ -572,8 +576,8 @@ fn keeps_what_is_prepared(
     Some(is_kept && table.sent(key, 1, 2, [2; 4], 6) && table.pit.len() == 1)
 }
 
-/// Returns whether an older Interest of the same face is unchanged if memory runs out for a new
-/// Interest.
+/// Returns whether a new Interest of a face replaces the older Interest of this face, or leaves it
+/// unchanged if memory runs out.
 fn leaves_the_older_one(
     _alloc: Global,
     table: &mut Table,

@@ -99,7 +99,7 @@ fn put_told(
     }
 }
 
-/// Appends the next hops of a name, after `;`.
+/// Appends `;` and the next hops that the longest prefix match of a name finds.
 fn put_longest(alloc: Global, text: &mut String, fib: &Fib, uri: &str) -> Option<()> {
     let name = NameBuf::from_uri(alloc, uri).ok()?;
     text.push(';').ok()?;
@@ -217,7 +217,8 @@ register /A 2 until=9, register /B 2 until=5, expire 5, expire 8, expire 9 -> 1;
 due 18446744073709551615, expire 18446744073709551615, list 18446744073709551615 -> 0; 0; none
 ";
 
-/// A route exists before its deadline, but no longer at its deadline.
+/// A route is listed before its deadline, but not at its deadline. An expiry at the deadline
+/// removes the route.
 #[test]
 fn routes_end_at_their_deadlines(rt: HostRuntime) {
     check_rows(&rt, rt.alloc(), ROUTES_END_AT_THEIR_DEADLINES, answers);
@@ -313,7 +314,7 @@ register /A 18446744073709551615 cost=18446744073709551615 origin=18446744073709
 register /A 0 cost=18446744073709551615, register /A 0 cost=18446744073709551614 origin=18446744073709551615, of /A, unregister /A 0 origin=18446744073709551615, of /A -> 0@18446744073709551614; 0@18446744073709551615
 ";
 
-/// The least and the greatest faces, costs, origins, flags and deadlines.
+/// The greatest face, cost, origin, flags and deadline, and the least face and origin.
 #[test]
 fn ends_of_routes(rt: HostRuntime) {
     check_rows(&rt, rt.alloc(), ENDS_OF_ROUTES, answers);

@@ -1,5 +1,5 @@
-//! Tables of routes whose faces are below 63 or the greatest face number. Such a table always has
-//! capacity for one more face.
+//! Tables of routes whose faces are below 63 or the greatest face number. Such a table does not
+//! exceed its limit of 64 faces.
 
 ghost use Rattle.std.specs.Prelude.{◌≡◌, ◌<◌, ◌-◌, ◌^◌, ◌⊎◌};
 

@@ -119,8 +119,8 @@ fn choice(alloc: Global, row: &str) -> Option<String> {
     shown(alloc, &chosen(strategy, &hops, &used, ask)?)
 }
 
-/// Interests that were not sent before, Interests that only Local faces may get, and Interests that
-/// came from the face of a next hop.
+/// Interests that every face may get, Interests that only Local faces may get, and Interests that
+/// came from the face of a next hop. None of them was sent before.
 #[test]
 fn only_eligible_hops_are_chosen(rt: HostRuntime) {
     let rows = "
@@ -147,7 +147,7 @@ all: / 2 5, / 3 0; 2 localhost 1000; -> no route
     check_rows(&rt, rt.alloc(), rows, choice);
 }
 
-/// Best-route sends nothing within 10 milliseconds after any face was used. If no next hop is
+/// Best-route sends nothing if any face was used less than 10 milliseconds ago. If no next hop is
 /// eligible, the result is `no route` even then.
 #[test]
 fn best_route_waits_10_milliseconds(rt: HostRuntime) {
@@ -163,7 +163,7 @@ best: / 2 5, / 3 0; 2 zero 1009; 7@1000 -> no route
     check_rows(&rt, rt.alloc(), rows, choice);
 }
 
-/// Multicast does not use a face again within 10 milliseconds.
+/// Multicast does not send to a face that was used less than 10 milliseconds ago.
 #[test]
 fn multicast_leaves_out_who_was_just_asked(rt: HostRuntime) {
     let rows = "

@@ -30,7 +30,7 @@ pub fn routes_in(alloc: Global, text: &str) -> Option<RouteTable> {
     Some(routes)
 }
 
-/// Runs `close` with a face, or `remove` with a name and a face.
+/// Closes a face for `close FACE`, or removes a next hop for `remove NAME FACE`.
 fn remove(alloc: Global, routes: &mut RouteTable, text: &str) -> Option<()> {
     let (call, face) = text.rsplit_once(' ')?;
     let face = face.parse().ok()?;
@@ -44,7 +44,7 @@ fn remove(alloc: Global, routes: &mut RouteTable, text: &str) -> Option<()> {
     Some(())
 }
 
-/// Appends each next hop as ` 3@5`.
+/// Appends each next hop, such as ` 3@5` for face 3 with cost 5.
 pub fn put_hops(text: &mut String, hops: &Hops) -> Option<()> {
     for i in 0..hops.len() {
         let Hop { face, cost, .. } = hops.get(i)?;
@@ -69,13 +69,13 @@ fn put_list(alloc: Global, text: &mut String, fib: &Fib) -> Option<()> {
     put_rows(text, &rows)
 }
 
-/// Appends the next hops of a name.
+/// Appends the next hops that the longest prefix match of a name finds.
 fn put_longest(alloc: Global, text: &mut String, fib: &Fib, uri: &str) -> Option<()> {
     let name = NameBuf::from_uri(alloc, uri).ok()?;
     put_hops(text, &fib.longest(name.view()))
 }
 
-/// Returns the answer to a question: a name or `list`.
+/// Returns the answer to a question, which is a name or `list`.
 fn told(alloc: Global, fib: &Fib, question: &str) -> Option<String> {
     let mut text = String::new(alloc);
     let put = if question == "list" {
@@ -87,7 +87,7 @@ fn told(alloc: Global, fib: &Fib, question: &str) -> Option<String> {
     Some(text)
 }
 
-/// Adds next hops and runs a removal, unless it is `-`.
+/// Adds next hops, and runs a removal unless the removal is `-`.
 fn prepare(alloc: Global, routes: &mut RouteTable, hops: &str, removal: &str) -> Option<()> {
     add_hops(alloc, routes, hops)?;
     if removal == "-" {
@@ -96,7 +96,8 @@ fn prepare(alloc: Global, routes: &mut RouteTable, hops: &str, removal: &str) ->
     remove(alloc, routes, removal)
 }
 
-/// Returns the answer to a row: routes, `; `, a removal, `; `, and a name or `list`.
+/// Returns the answer to a row, which is next hops, `; `, a removal, `; `, and a question: a name
+/// or `list`.
 fn next_hops(alloc: Global, row: &str) -> Option<String> {
     let (hops, rest) = row.split_once("; ")?;
     let (removal, question) = rest.split_once("; ")?;
@@ -134,7 +135,8 @@ fn hops_by_cost_and_then_by_face(rt: HostRuntime) {
     check_rows(&rt, rt.alloc(), rows, next_hops);
 }
 
-/// Removing a next hop leaves the others; an entry without next hops is removed.
+/// Removing a next hop or closing a face leaves the other next hops; an entry without next hops is
+/// removed.
 #[test]
 fn an_entry_without_hops_goes(rt: HostRuntime) {
     let rows = "
@@ -149,7 +151,7 @@ fn an_entry_without_hops_goes(rt: HostRuntime) {
     check_rows(&rt, rt.alloc(), rows, next_hops);
 }
 
-/// The list of routes is in canonical order.
+/// The list of names with next hops is in canonical order.
 #[test]
 fn routes_in_canonical_order(rt: HostRuntime) {
     let rows = "
@@ -158,7 +160,7 @@ fn routes_in_canonical_order(rt: HostRuntime) {
     check_rows(&rt, rt.alloc(), rows, next_hops);
 }
 
-/// The least and the greatest faces and costs.
+/// The least and the greatest face, and the greatest cost.
 #[test]
 fn ends_of_faces_and_costs(rt: HostRuntime) {
     let rows = "
@@ -225,14 +227,14 @@ fn put_strategies(alloc: Global, text: &mut String, table: &StrategyTable) -> Op
     put_choices(text, &rows)
 }
 
-/// Appends the strategy of a name.
+/// Appends the strategy that the longest prefix match of a name finds.
 fn put_strategy(alloc: Global, text: &mut String, table: &StrategyTable, uri: &str) -> Option<()> {
     let name = NameBuf::from_uri(alloc, uri).ok()?;
     text.push_str(strategy_shown(table.longest(name.view())))
         .ok()
 }
 
-/// Returns the answer to a question: a name or `list`.
+/// Returns the answer to a question, which is a name or `list`.
 fn strategy_told(alloc: Global, table: &StrategyTable, question: &str) -> Option<String> {
     let mut text = String::new(alloc);
     let put = if question == "list" {
@@ -244,7 +246,7 @@ fn strategy_told(alloc: Global, table: &StrategyTable, question: &str) -> Option
     Some(text)
 }
 
-/// Returns the answer to a row: calls, `; `, and a name or `list`.
+/// Returns the answer to a row, which is calls, `; `, and a question: a name or `list`.
 fn strategy(alloc: Global, row: &str) -> Option<String> {
     let (calls, question) = row.split_once("; ")?;
     let table = strategies_in(alloc, calls)?;
@@ -351,19 +353,20 @@ pub fn deep_name(alloc: Global, depth: usize) -> Option<NameBuf> {
     Some(name)
 }
 
-/// Returns whether a table of routes gives this answer to a name.
+/// Returns whether adding a next hop of a name to an empty table has this result.
 fn routes_answer(alloc: Global, name: Name<'_>, answer: Result<(), TableFault>) -> bool {
     let mut routes = RouteTable::new(alloc);
     routes.add(name, 1, 0) == answer
 }
 
-/// Returns whether a table of strategies gives this answer to a name.
+/// Returns whether setting the strategy of a name in a new table has this result.
 fn strategies_answer(alloc: Global, name: Name<'_>, answer: Result<(), TableFault>) -> bool {
     let mut strategies = StrategyTable::new(alloc);
     strategies.set(name, StrategyId::Multicast) == answer
 }
 
-/// Returns whether both tables give this answer to a name of `depth` components.
+/// Returns whether adding a next hop and setting a strategy, both for a name of `depth` components,
+/// have this result.
 fn both_answer(alloc: Global, depth: usize, answer: Result<(), TableFault>) -> Option<bool> {
     let name = deep_name(alloc, depth)?;
     let is_added = routes_answer(alloc, name.view(), answer);
@@ -405,7 +408,8 @@ fn is_deep_found(alloc: Global) -> Option<bool> {
     leads_to_2(routes.read(), name.view())
 }
 
-/// A lookup ends when no longer entry can match, and makes at most one search for each component.
+/// A lookup of a name of 64 components finds the next hop of `/`, with at most one search for each
+/// component.
 #[test]
 fn deep_lookup(rt: HostRuntime) {
     assert!(rt; is_deep_found(rt.alloc()) == Some(true));
@@ -445,8 +449,8 @@ pub fn add_deep(alloc: Global, routes: &mut RouteTable) -> Option<Result<(), Tab
 }
 
 /// Returns whether 4,096 names with next hops fit into a table, inserted with the greatest name
-/// first. A further name must then be refused, but a further next hop of a known name must be
-/// accepted.
+/// first. The table must then refuse a further name and a name of 33 components, but accept a new
+/// cost of a known next hop.
 fn takes_4096_routes(alloc: Global, routes: &mut RouteTable) -> Option<bool> {
     for number in (0..4096).rev() {
         add_numbered(alloc, routes, number, 0)?.ok()?;
@@ -507,8 +511,8 @@ fn is_full_of_strategies(alloc: Global, table: &mut StrategyTable) -> Option<boo
     Some(are_refused && is_known && root.is_ok())
 }
 
-/// Returns whether 4,096 names with strategies fit into a table, one of which is `/`, and then no
-/// further name fits until one is removed.
+/// Returns whether a table takes strategies for 4,096 names, `/` among them, and then refuses a
+/// further name until a strategy is removed.
 fn takes_4096_strategies(alloc: Global, table: &mut StrategyTable) -> Option<bool> {
     for number in (1..4096).rev() {
         set_numbered(alloc, table, number)?.ok()?;
@@ -583,8 +587,9 @@ fn adds_what_is_prepared(alloc: Global) -> Option<bool> {
     takes_what_is_prepared(alloc, &mut routes, name.view())
 }
 
-/// Returns whether a prepared `set` of a name does not run out of memory, after the strategy of
-/// another name was removed. A preparation that fails must leave the strategies unchanged.
+/// Returns whether a prepared `set` of a name does not run out of memory, even after a removal of
+/// another name's strategy. After a preparation that fails, the strategy of the name must still be
+/// best-route.
 fn keeps_what_is_prepared(table: &mut StrategyTable, name: Name<'_>, other: Name<'_>) -> bool {
     if table.prepare(name).is_err() {
         return table.longest(name) == StrategyId::BestRoute;
@@ -602,7 +607,7 @@ fn takes_strategy(alloc: Global, name: Name<'_>, other: Name<'_>) -> Option<bool
 }
 
 /// Returns whether a prepared `set` does not run out of memory. A preparation that fails must leave
-/// the strategies unchanged.
+/// the strategy of the name unchanged.
 fn sets_what_is_prepared(alloc: Global) -> Option<bool> {
     let name = numbered(alloc, 1)?;
     let other = numbered(alloc, 2)?;

@@ -79,7 +79,7 @@ fn lends(octets: &mut [u8]) -> bool {
     }
 }
 
-/// Returns the original HopLimit of an Interest, and the octets with a HopLimit of 6.
+/// Returns the original HopLimit of an Interest and its octets, if their HopLimit is now 6.
 fn lent_shown(alloc: Global, limit: Option<u8>, octets: &[u8]) -> Option<String> {
     if hop_limit_of(octets) != Some(6) {
         return None;
@@ -108,7 +108,7 @@ fn lent(alloc: Global, input: &str) -> Option<String> {
     lent_or_kept(alloc, &mut octets, input)
 }
 
-/// Does the same with the octets of the packet in a row.
+/// Returns what `lent` returns for the row `input`, whose packet has these octets.
 fn lent_or_kept(alloc: Global, octets: &mut [u8], input: &str) -> Option<String> {
     let limit = hop_limit_of(octets);
     if lends(octets) {
@@ -138,16 +138,16 @@ fn hop_limits_in_place(rt: HostRuntime) {
 /// signature.
 const DATA: &str = "060f0703080141150178 16031b0100 1700";
 
-/// Shows four results for an Interest with this name: whether the Data answers it without
-/// CanBePrefix, whether the Data answers it with CanBePrefix, whether both answers are the same if
-/// the Data's digest is given, and whether the name asks for a digest.
+/// Shows four results for an Interest with this name: whether `DATA` answers it without
+/// CanBePrefix, whether `DATA` answers it with CanBePrefix, whether both answers are the same if
+/// the digest of `DATA` is given, and whether the name asks for a digest.
 fn answers(alloc: Global, input: &str) -> Option<String> {
     let asked = NameBuf::from_uri(alloc, input).ok()?;
     let octets = octets(alloc, DATA)?;
     answers_in(alloc, &octets, asked.view())
 }
 
-/// Shows these results for the Data in these octets.
+/// Shows the four results of `answers` for the Data in these octets.
 fn answers_in(alloc: Global, octets: &[u8], asked: Name<'_>) -> Option<String> {
     match read_frame(octets).ok()? {
         Frame::Data(data) => answers_shown(alloc, data, asked),
@@ -173,7 +173,7 @@ fn digest(alloc: Global, input: &str) -> Option<String> {
     hex::encode(alloc, digest.as_slice()).ok()
 }
 
-/// SHA-256 of the Data, as computed by another program.
+/// The implicit digest of `DATA` is its SHA-256, as computed by another program.
 #[test]
 fn implicit_digest(rt: HostRuntime) {
     let rows = "

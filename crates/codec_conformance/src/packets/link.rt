@@ -29,8 +29,8 @@ fn with_token(alloc: Global, reason: &str) -> Option<String> {
     hex::encode(alloc, &out).ok()
 }
 
-/// Returns whether `wanted` is two octets, followed by an Interest in a link packet with this
-/// token, or, if there is no token, by the bare Interest.
+/// Appends two octets and an Interest to an output, and wraps the Interest in a link packet with
+/// this token, or leaves it bare if there is no token. Returns whether the output is then `wanted`.
 fn wraps(alloc: Global, token: Option<&[u8]>, wanted: &[u8]) -> bool
     requires { IfSome token (λ t. IsToken t.now) }
 {
@@ -66,8 +66,8 @@ fn link_packets(rt: HostRuntime) {
     check_rows(&rt, rt.alloc(), rows, cut);
 }
 
-/// Sequence, FragIndex, FragCount and PitToken, in any order. In this test and the tests below, the
-/// fault is the same with a Fragment and without a Fragment.
+/// Sequence, FragIndex, FragCount and PitToken, in any order. Most rows of header fields come in
+/// pairs, with a Fragment and without a Fragment. Both rows of a pair have the same outcome.
 #[test]
 fn header_fields(rt: HostRuntime) {
     let rows = "
@@ -167,7 +167,8 @@ fn a_known_field_twice(rt: HostRuntime) {
     check_rows(&rt, rt.alloc(), rows, outcome);
 }
 
-/// Unknown header fields with types from 800 to 959 that are divisible by 4. They may be repeated.
+/// Unknown header fields are ignored only if their types are from 801 to 959 and divisible by 4.
+/// They may be repeated.
 #[test]
 fn other_header_fields(rt: HostRuntime) {
     let rows = "
@@ -195,7 +196,8 @@ fn other_header_fields(rt: HostRuntime) {
     check_rows(&rt, rt.alloc(), rows, outcome);
 }
 
-/// Of two faulty header fields, the first one is reported, in either order of the fields.
+/// Of two faulty header fields, the fault of the first one is reported, in either order of the
+/// fields.
 #[test]
 fn the_first_header_fault(rt: HostRuntime) {
     let rows = "

@@ -118,7 +118,8 @@ fn faults_of_interests(rt: HostRuntime) {
     check_rows(&rt, rt.alloc(), rows, outcome);
 }
 
-/// An Interest with all fields, and an Interest with elements that are ignored.
+/// An Interest with all fields before the ApplicationParameters, and an Interest with elements that
+/// are ignored.
 #[test]
 fn fields_of_interests(rt: HostRuntime) {
     let rows = "
@@ -164,7 +165,7 @@ fn parameters_of_interests(rt: HostRuntime) {
     check_rows(&rt, rt.alloc(), rows, fields);
 }
 
-/// A name with two digests of the parameters, and a name without any.
+/// A name with two digests of the parameters, and a name without a digest of the parameters.
 #[test]
 fn digests_of_parameters(rt: HostRuntime) {
     let rows = "
@@ -217,8 +218,8 @@ fn signed_interest(rt: HostRuntime) {
     check_rows(&rt, rt.alloc(), rows, cut);
 }
 
-/// Returns the outcome of a packet after the octet at index `place` is replaced, unless it already
-/// has that value.
+/// Returns the outcome of a packet in which the octet at index `place` is replaced by `octet`, or
+/// `None` if the two octets are equal.
 fn outcome_with(packet: &mut [u8], place: usize, octet: u8) -> Option<&'static str> {
     let one = packet.get_mut(place)?;
     let old = *one;
@@ -255,6 +256,7 @@ fn change_in(input: &str) -> Option<Change<'_>> {
 }
 
 /// Returns how many of the changed packets have the wanted outcome, or the first other outcome.
+/// The wanted outcome `refused` stands for every outcome other than `read`.
 fn outcomes(packet: &mut [u8], change: &Change<'_>) -> Result<u64, &'static str> {
     let wanted = change.wanted;
     let mut count = 0u64;

@@ -9,7 +9,8 @@ use std::test::*;
 use test_support::octets;
 
 /// Returns the octets that a writer appended to the octet 9, or the writer's fault if the writer
-/// appended nothing.
+/// appended nothing. If there are more than 1,000 octets, returns their number and the outcome of
+/// reading them.
 fn appended(alloc: Global, fault: Option<&str>, out: &[u8]) -> Option<String> {
     let written = out.strip_prefix(&[9])?;
     match fault {

@@ -317,7 +317,7 @@ add 680b07030801416901026a0107, add 680b07030801416901026a0103, routes -> 200 68
     check_rows(&rt, rt.alloc(), rows, answers);
 }
 
-/// Removing a route keeps the routes of other names. A refused command keeps all routes.
+/// Removing a next hop leaves the next hops of other names. A refused command leaves all next hops.
 #[test]
 fn other_routes_stay(rt: HostRuntime) {
     let rows = "
@@ -327,7 +327,7 @@ add 68080703080141690102, add 68080703080141690107, remove 68080703080141690107,
     check_rows(&rt, rt.alloc(), rows, answers);
 }
 
-/// Unsetting the strategy of one name keeps the strategy of another name.
+/// Unsetting the strategy of one name leaves the strategy of another name.
 #[test]
 fn a_strategy_goes_and_another_stays(rt: HostRuntime) {
     let rows = "
@@ -443,7 +443,8 @@ fn lists_4096_routes(alloc: Global, station: &mut Station) -> Option<bool> {
     Some(lists_all(alloc, station)? && has_16_segments(alloc, station)?)
 }
 
-/// Returns whether the dataset of routes is that of 4,096 routes.
+/// Returns whether the dataset of routes has the length for 4,096 routes, and the expected first
+/// and last routes.
 fn lists_all(alloc: Global, station: &Station) -> Option<bool> {
     let text = station.list(alloc, false)?;
     Some(are_4096_routes(&text))
@@ -468,8 +469,8 @@ fn has_last_segment(alloc: Global, station: &Station, len: usize, last: u64) -> 
     Some(segment.len() == len && number == last)
 }
 
-/// Returns whether 4,095 names can have a strategy in addition to `/`, and a further name is
-/// refused. An unknown strategy is reported before the full table.
+/// Returns whether 4,095 names can have a strategy in addition to `/`, a further name is refused,
+/// and a known name is accepted. An unknown strategy is reported before the full table.
 fn refuses_one_strategy_more(
     alloc: Global,
     station: &mut Station,
@@ -690,8 +691,8 @@ fn a_segment_in_a_packet(rt: HostRuntime) {
     assert!(rt; writes_the_segment(rt.alloc()) == Some(true));
 }
 
-/// Returns whether a prepared command does not run out of memory, and a failed preparation keeps
-/// the routes.
+/// Returns whether a prepared command does not run out of memory, and a failed preparation leaves
+/// the routes unchanged.
 fn applies_what_is_prepared(alloc: Global, station: &mut Station) -> Option<bool> {
     let name = numbered(alloc, 1)?;
     Some(keeps_its_promise(station, &name))

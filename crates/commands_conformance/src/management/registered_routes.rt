@@ -146,8 +146,8 @@ register 680e07030801416901026f01016a0107, register 680e07030801416901026f01026a
     check_rows(&rt, rt.alloc(), rows, answers);
 }
 
-/// A next hop hides the route on the same face. Removing the next hop keeps the route, and removing
-/// the route keeps the next hop.
+/// A next hop hides the route on the same face. Removing the next hop leaves the route, and
+/// removing the route leaves the next hop.
 #[test]
 fn next_hops_beside_routes(rt: HostRuntime) {
     let rows = "

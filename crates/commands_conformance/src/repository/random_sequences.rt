@@ -284,7 +284,7 @@ fn all_agree(alloc: Global) -> Option<bool> {
     sequences_agree(alloc, &all)
 }
 
-/// Returns whether the repository and the plain lists agree on ten thousand sequences of calls to
+/// Returns whether the repository and the plain lists agree on ten thousand sequences of calls with
 /// these Data.
 fn sequences_agree(alloc: Global, all: &[Made]) -> Option<bool> {
     let mut state = 0x2545_f491_4f6c_dd1d;

@@ -3,7 +3,8 @@
 use super::answers;
 use crate::rows::check_rows;
 
-/// After an insert, a want is pending. Its Data is then stored and served until it is deleted.
+/// After an insert, a want is pending. A Data that answers the want is stored, and is served until
+/// it is deleted.
 #[test]
 fn from_insert_to_delete(rt: HostRuntime) {
     let rows = "

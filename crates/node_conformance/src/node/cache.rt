@@ -25,8 +25,8 @@ in 1 1006000 FRESH_LATER
 > 2 FRESH_LATER
 ";
 
-/// A cached Data is fresh for its FreshnessPeriod. After that it still answers Interests that do
-/// not ask for fresh Data.
+/// A cached Data is fresh for its FreshnessPeriod. After this period, the Data still answers
+/// Interests that do not ask for fresh Data.
 #[test]
 fn cache_freshness(rt: HostRuntime) {
     replies(&rt, CACHE_FRESHNESS);

@@ -84,7 +84,8 @@ fn free_endpoint(rt: &impl Net) -> Option<SocketAddr> {
     free.local_addr().ok()
 }
 
-/// Returns whether ports serve a client.
+/// Returns whether a datagram of a client opens a face and arrives on it, and the client receives
+/// what is sent to this face.
 fn serves_client(
     ports: &mut UdpPorts<Moving>,
     listen: SocketAddr,
@@ -95,7 +96,7 @@ fn serves_client(
     Some(opened && ports.send(1, b"six").is_ok() && hears_octets(client, b"six"))
 }
 
-/// Returns whether the ports of ::1 serve a client at ::1.
+/// Returns whether `serves_client` is true of ports of ::1 and a client at ::1.
 fn serves_version_six(rt: &impl Net, client: &UdpSocket) -> Option<bool> {
     let listen = free_endpoint(rt)?;
     let mut ports = UdpPorts::bind_at(rt, listen, &[], 0, Moving { last: 0 }).ok()?;

@@ -51,8 +51,8 @@ fn face_events(rt: HostRuntime) {
     replies(&rt, FACE_EVENTS);
 }
 
-/// Appends a script that opens 64 faces, tries to open a 65th, and does so again after the first
-/// has closed. Appends the outcome that it must have to another text. Returns `None` if
+/// Appends a script that opens 64 faces, tries to open face 65, closes face 1, and tries to open
+/// face 65 again. Appends the outcome that the script must have to `wanted`. Returns `None` if
 /// memory runs out.
 fn put_65_faces(script: &mut String, wanted: &mut String) -> Option<()> {
     for face in 1..65 {

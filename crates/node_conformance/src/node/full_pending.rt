@@ -22,7 +22,7 @@ fn put_script(script: &mut String) -> Option<()> {
     writeln!(script, "in 3 1000000 050c0704080200000a0400010000").ok()
 }
 
-/// Returns the outcome of this script.
+/// Returns the outcome of the script that `put_script` appends.
 fn script_outcome(alloc: Global) -> Option<String> {
     let mut script = String::new(alloc);
     put_script(&mut script)?;
@@ -40,7 +40,7 @@ fn is_outcome(came: &str) -> Option<bool> {
 }
 
 /// Returns whether the Interest of the new name is refused, but the Interest of the known name is
-/// not: it waits for the answer to the earlier Interest of that name.
+/// not. The Interest of the known name waits for the answer to the earlier Interest of this name.
 fn is_refused_alone(alloc: Global) -> Option<bool> {
     let came = script_outcome(alloc)?;
     is_outcome(came.as_str())

@@ -146,7 +146,7 @@ fn replays_whole_lines(alloc: Global, text: &[u8]) -> bool {
     ends_on_new_node(alloc, text, &Ok(wanted)) == Some(true)
 }
 
-/// A crash may cut a journal at any octet.
+/// A crash may cut a journal at any octet. The whole lines that are left are replayed.
 #[test]
 fn fronts_of_a_journal(rt: HostRuntime) {
     for len in 0..SOME_EVENTS.len() + 1 {
@@ -261,8 +261,8 @@ fn fails_after(
     Some(fails_at(alloc, node, &mut reader, 17, fault))
 }
 
-/// Returns whether a replay on a new node fails with this fault if the reader fails in this way.
-/// The lines before the failure are handled, and no other lines.
+/// Returns whether a replay on a new node fails with this fault if the reader fails with an error
+/// of this kind. Of the octets before the failure, only the whole line is replayed.
 fn fails_with(alloc: Global, kind: ErrorKind, fault: ReplayFault) -> Option<bool> {
     on_node(
         alloc,

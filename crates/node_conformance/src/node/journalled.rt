@@ -119,8 +119,8 @@ fn has_three_lines(ports: &JournalledPorts<MemoryPorts, MemoryFile>) -> bool {
     ports.ports().sent().len() == 1 && lines == 3
 }
 
-/// Returns whether a node stops when the journal's file fails after three lines, so that nothing of
-/// the fourth line's event is sent.
+/// Returns whether a node stops when writing to the journal's file fails after three lines. The
+/// node must send nothing for the event of the fourth line.
 fn fails_at_the_insert(alloc: Global, node: &mut Node) -> Option<bool> {
     let fault = Some(ServeFault::Journal { after: 3 });
     Some(has_three_lines(&served(alloc, node, FROM_INSERT_TO_DELETE, 3, fault)?))

@@ -32,7 +32,8 @@ in 1 1000000 ADD_NEXT
 > 1 ADDED_NEXT
 ";
 
-/// New rules apply from the next event on. The cache and the recorded times of commands are kept.
+/// New rules apply from the next event on. The cache and the recorded times of commands do not
+/// change.
 #[test]
 fn rules_replaced(rt: HostRuntime) {
     replies(&rt, RULES_REPLACED);
@@ -93,7 +94,8 @@ in 2 1000000 D_A
 > 1 D_A
 ";
 
-/// A Data is decided by the rules that are in force when it comes. The Interest is still pending.
+/// A Data is decided by the rules that are in force when it comes. The Interest that a denied Data
+/// would have answered is still pending.
 #[test]
 fn new_rules_before_data(rt: HostRuntime) {
     replies(&rt, NEW_RULES_BEFORE_DATA);

@@ -75,7 +75,7 @@ fn passes(node: &mut Node, outbox: &mut Outbox, octets: &[u8]) -> bool {
     node.step(interest, outbox).ok() == Some(Verdict::Passed)
 }
 
-/// Returns whether an outbox holds two sends, the second of which is this Nack.
+/// Returns whether an outbox has exactly two sends, the second of which is this Nack on face 1.
 fn ends_with(outbox: &Outbox, nack: &[u8]) -> bool {
     outbox.sent(1) == Some((1, nack)) && outbox.len() == 2 && outbox.sent(2).is_none()
 }
@@ -150,7 +150,8 @@ fn takes_insert(alloc: Global, node: &mut Node) -> bool {
     takes_command(node, &mut Outbox::new(alloc), &insert)
 }
 
-/// Returns whether a node takes the insert, and returns its time and its open faces afterwards.
+/// Returns whether a node takes the insert, and then has the time of the insert, and the Local
+/// face 1 as its only open face.
 fn tells_after_insert(alloc: Global, node: &mut Node) -> bool {
     takes_insert(alloc, node)
         && node.now() == 1_001_000
@@ -158,7 +159,7 @@ fn tells_after_insert(alloc: Global, node: &mut Node) -> bool {
         && node.open_face(1).is_none()
 }
 
-/// Returns whether a node returns its time and its open faces.
+/// Returns whether `tells_after_insert` is true of a new node.
 fn tells_time_and_faces(alloc: Global) -> Option<bool> {
     on_node(alloc, &|alloc, node| Some(tells_after_insert(alloc, node)))
 }

@@ -130,7 +130,7 @@ in 2 1001012 NO_ROUTE
 7 dropped NoPending
 ";
 
-/// A Nack is sent back once all faces have answered with a Nack.
+/// A Nack is sent back once all faces that the Interest was sent to have answered with a Nack.
 #[test]
 fn nacks(rt: HostRuntime) {
     replies(&rt, NACKS);

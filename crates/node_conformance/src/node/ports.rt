@@ -182,7 +182,7 @@ fn put_turn<P: Ports>(
     put_verdict(text, number, &verdict, node.rules()).is_ok() && put_sends(text, outbox).is_ok()
 }
 
-/// Appends the text that is printed for a node's turns at a port, until the port has nothing more.
+/// Appends the text that is printed for a node's turns at a port, until a turn answers no event.
 fn put_turns<P: Ports>(alloc: Global, node: &mut Node, ports: &mut P, text: &mut Vec<u8>) {
     for number in 1..1000 {
         if !put_turn(node, ports, &mut Outbox::new(alloc), number, text) {

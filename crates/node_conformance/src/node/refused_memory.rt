@@ -28,8 +28,8 @@ fn said_of(alloc: Global, node: &mut Node, outbox: &mut Outbox, line: &str) -> O
     step_of(alloc, node, outbox, event_of(alloc, line)?)
 }
 
-/// Returns the verdict on the event of a line. If memory ran out and the node sent nothing, the
-/// event is given to the node a second time, and the node must handle it as a new event.
+/// Returns the verdict on the event of a line. If memory runs out and the node sends nothing, the
+/// event is given to the node a second time, and the second verdict is returned.
 fn verdict_on(alloc: Global, node: &mut Node, outbox: &mut Outbox, line: &str) -> Option<Verdict> {
     let before = outbox.len();
     let said = said_of(alloc, node, outbox, line);
@@ -87,7 +87,7 @@ fn plays(alloc: Global, node: &mut Node, outbox: &mut Outbox, dialogue: &str) ->
     Some(outbox.len() == sends)
 }
 
-/// Does the same with a new outbox.
+/// Does the same as `plays`, with a new outbox.
 fn node_plays(alloc: Global, node: &mut Node, dialogue: &str) -> Option<bool> {
     plays(alloc, node, &mut Outbox::new(alloc), dialogue)
 }
@@ -98,7 +98,7 @@ fn new_node_plays(alloc: Global, dialogue: &str) -> Option<bool> {
     on_node(alloc, &|alloc, node| node_plays(alloc, node, dialogue))
 }
 
-/// Does the same for a dialogue in which words stand for packets.
+/// Does the same as `new_node_plays` for a dialogue in which words stand for packets.
 fn steps(alloc: Global, dialogue: &str) -> Option<bool> {
     let dialogue = spelled(alloc, dialogue)?;
     new_node_plays(alloc, dialogue.as_str())
@@ -121,7 +121,7 @@ in 1 1050 060f070308014115017816031b01001700
 tick 1100
 ";
 
-/// The answers if memory does not run out.
+/// The answers to `SCRIPT` if memory does not run out.
 const ANSWERS: &str = "1 passed
 2 passed
 > 1 6418fd032005fd03210196500d050b07030801410a0401020304
@@ -129,14 +129,14 @@ const ANSWERS: &str = "1 passed
 4 passed
 ";
 
-/// The answers if memory runs out for the Interest.
+/// The answers to `SCRIPT` if memory runs out for the Interest.
 const ANSWERS_TO_DATA: &str = "1 passed
 2 memory
 3 denied data Tag any-data
 4 passed
 ";
 
-/// The answers if memory runs out for the Data.
+/// The answers to `SCRIPT` if memory runs out for the Data.
 const ANSWERS_TO_INTEREST: &str = "1 passed
 2 passed
 > 1 6418fd032005fd03210196500d050b07030801410a0401020304
@@ -156,7 +156,7 @@ fn are_answers(text: &[u8]) -> bool {
         || is_front(text, ANSWERS_TO_INTEREST)
 }
 
-/// Returns whether the script may end like this with this text.
+/// Returns whether the script may end as `end` says, with this text as its output.
 fn is_end(end: Result<(), RunFault>, text: &[u8]) -> bool {
     match end {
         Ok(()) => are_answers(text) && text.ends_with(b"4 passed\n"),
@@ -183,8 +183,8 @@ fn script_with_refused_memory(rt: HostRuntime) {
     assert!(rt; script(rt.alloc()) != Some(false));
 }
 
-/// Returns whether all five events of `FIRST_PATH` come, and at most one event or send is counted
-/// as failed.
+/// Returns whether all five events of `FIRST_PATH` come, and at most one event is counted as
+/// refused or one send as failed.
 fn serves(alloc: Global, node: &mut Node) -> Option<bool> {
     let mut ports = ports_of(alloc, FIRST_PATH)?;
     let served = serve(alloc, node, &mut ports, 10).ok()?;

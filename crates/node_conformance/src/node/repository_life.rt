@@ -1,10 +1,11 @@
-//! What the repository requests, stores and serves. The cache makes no difference to this.
+//! What the repository requests, stores and serves, which does not depend on the capacity of the
+//! cache.
 
 use super::replies_under;
 use std::process::Abort;
 use test_support::SAMPLE;
 
-/// Checks the answers with a cache of one Data, and with a cache of 1,000 Data.
+/// Checks the answers of a dialogue with a cache of one Data, and with a cache of 1,000 Data.
 fn replies_with_each_cache(rt: &(impl Abort + AllocGlobal), dialogue: &str) {
     replies_under(rt, SAMPLE, 1, dialogue);
     replies_under(rt, SAMPLE, 1000, dialogue);

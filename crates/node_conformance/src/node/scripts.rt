@@ -56,7 +56,7 @@ fn shown_outcome(alloc: Global, script: &str) -> Option<String> {
     came.as_str().replace(alloc, '\n', "|").ok()
 }
 
-/// Does the same for a script with `|` for each LF.
+/// Does the same as `shown_outcome` for a script with `|` for each LF.
 fn played(alloc: Global, script: &str) -> Option<String> {
     let script = script.replace(alloc, '|', "\n").ok()?;
     shown_outcome(alloc, script.as_str())

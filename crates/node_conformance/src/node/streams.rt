@@ -5,7 +5,8 @@ use std::io;
 use std::io::{ErrorKind, Read, Write};
 use std::process::Abort;
 
-/// An input that delivers at most `size` octets at a time, and then fails or ends.
+/// An input that delivers at most `size` octets at a time. After its last octet, the input fails
+/// if `fails` is true, and ends otherwise.
 #[derive(Drop)]
 struct Pieces<'a> {
     rest: &'a [u8],
@@ -59,7 +60,8 @@ fn end_of(
     Some(run_script(alloc, input, output, parts(alloc)?))
 }
 
-/// Returns whether a script that is read in pieces has these answers, and then fails or ends.
+/// Returns whether a script that is read in pieces has these answers. The input fails after the
+/// script if `fails` is true, and ends otherwise.
 fn reads(alloc: Global, script: &str, size: usize, fails: bool, answers: &str) -> bool {
     let mut input = Pieces {
         rest: script.as_bytes(),
@@ -103,8 +105,8 @@ pub fn end_in(alloc: Global, script: &str, output: &mut Room) -> Option<Result<(
     Some(run_script(alloc, &mut script.as_bytes(), output, parts(alloc)?))
 }
 
-/// Returns whether a script ends like this and has written this, if its output has capacity for
-/// `left` octets of these answers.
+/// Returns whether `end` and `written` are right for an output with capacity for `left` octets: if
+/// the answers are longer, only their first `left` octets are written, and writing fails.
 fn is_end(end: Option<Result<(), RunFault>>, written: &[u8], left: usize, answers: &[u8]) -> bool {
     let (wanted, len) = if left < answers.len() {
         (Err(RunFault::Write), left)

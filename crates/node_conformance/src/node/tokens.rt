@@ -64,7 +64,8 @@ in 3 1000000 TOKEN_AGAIN
 ";
 
 /// The Interest is forwarded without its token. The Data is sent back with the token to the face
-/// whose Interest had it, also from the cache, and without a token to the other face.
+/// whose Interest had the token, and without a token to the other face. A cached Data is sent back
+/// with the token of the Interest that it answers.
 #[test]
 fn token_on_data(rt: HostRuntime) {
     replies(&rt, DATA_FOR_A_TOKEN);

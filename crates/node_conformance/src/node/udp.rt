@@ -336,7 +336,7 @@ fn drops_as_too_long(alloc: Global, node: &mut Node, ports: &mut UdpPorts<Still>
     passes(alloc, node, ports, 1) && says(alloc, node, ports, too_long)
 }
 
-/// Returns whether a datagram of 9,001 octets is too long to be a packet for a node.
+/// Returns whether a node drops a datagram of 9,001 octets as too long.
 fn drops_9001(rt: &(impl AllocGlobal + Net), node: &mut Node) -> Option<bool> {
     let listen = free_port(rt)?;
     let mut ports = still_ports(rt, listen)?;
@@ -482,8 +482,9 @@ fn brings_end<M: Moments>(ports: &mut UdpPorts<M>, closed: u64, at: u64) -> bool
     )
 }
 
-/// Returns how many clients are answered, one after the other, if each client is silent until its
-/// face closes before the next client sends a packet.
+/// Lets 200 clients send a packet, one after the other. Each client but the first sends when the
+/// face of the client before has been silent for 600 seconds and must close. Returns how many
+/// clients are answered.
 fn answered_at(
     rt: &(impl AllocGlobal + Net),
     node: &mut Node,
@@ -576,8 +577,8 @@ fn udp_silent_peer(rt: HostRuntime) {
     assert!(rt; keeps_peer(&rt, &Cell::new(0)) == Some(true));
 }
 
-/// Returns whether a datagram of face 2 that came in time is received, although face 1 closes first
-/// and the idle time of face 2 is over by then.
+/// Returns whether a datagram of face 2 that came in time is received, although face 1 closes
+/// first, and the idle time of face 2 is over when the datagram is received.
 fn hears_in_time(
     ports: &mut UdpPorts<Handed<'_>>,
     moment: &Cell<u64>,
@@ -591,7 +592,8 @@ fn hears_in_time(
     Some(opened && closed && brings_packet(ports, 2, 1_001, 3))
 }
 
-/// Returns whether face 1 opens for a silent client, and `hears_in_time` is true of a second one.
+/// Returns whether face 1 opens for a silent client, and `hears_in_time` is true of a second
+/// client.
 fn hears_beside(
     rt: &impl Net,
     ports: &mut UdpPorts<Handed<'_>>,
@@ -607,8 +609,8 @@ fn hears_beside(
     hears_in_time(ports, moment, &client)
 }
 
-/// Returns whether a datagram that came in time is received, although another face closes first and
-/// the idle time of the datagram's face is over by then.
+/// Returns whether a datagram that came in time is received, although another face closes first,
+/// and the idle time of the datagram's face is over when the datagram is received.
 fn hears_what_waits(rt: &impl Net, moment: &Cell<u64>) -> Option<bool> {
     let listen = free_port(rt)?;
     let mut ports = handed_ports(rt, listen, moment)?;
@@ -751,7 +753,7 @@ fn node_loses_route(
     loses_route_to(rt, node, moment, &operator, &producer)
 }
 
-/// Returns whether a route is removed when the face of its client closes.
+/// Returns whether a route is removed when the face that it leads to closes.
 fn loses_route(rt: &(impl AllocGlobal + Net), moment: &Cell<u64>) -> Option<bool> {
     on_node(rt.alloc(), &|_, node| node_loses_route(rt, node, moment))
 }

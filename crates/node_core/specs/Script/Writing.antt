@@ -57,11 +57,11 @@ hex_word (o ∷ octets) = encode_lower (o ∷ octets)
 abbrev pub send_text : Send → List ℕ
 send_text sent = codes "> " ++ (decimal sent.0 ++ (32 ∷ (hex_word sent.1 ++ (10 ∷ []))))
 
--- the line of an event with its number
+-- the line for an event: the number of the event, and then the text `said`
 abbrev pub numbered_line : ℕ → List ℕ → List ℕ
 numbered_line number said = decimal number ++ (32 ∷ (said ++ (10 ∷ [])))
 
--- the line of an event and the lines of the packets that are sent
+-- the line for an event, and the lines of the packets that are sent
 abbrev pub lines_text : ℕ → List ℕ → List Send → List ℕ
 lines_text number said sends = numbered_line number said ++ flat_map send_text sends
 
@@ -70,9 +70,9 @@ outcome_text rules number (Answered answer) =
     lines_text number (verdict_text rules answer.verdict) answer.sends
 outcome_text rules number NoMemory = lines_text number (codes "memory") []
 
--- The text of the answers to events, numbered from `number` on, if these rules are in force before
--- the first event. The id in the line of an event is taken from the rule file that decided the
--- event.
+-- The text of the answers to events, numbered from `number` on, if these rules are in force
+-- before the first event. The id in the line of an event is that of a rule that was in force
+-- before the event.
 abbrev pub outcomes_text : List PlainRule → ℕ → List PlainEvent → List Outcome → List ℕ
 outcomes_text rules number [] outcomes = []
 outcomes_text rules number (event ∷ events) [] = []

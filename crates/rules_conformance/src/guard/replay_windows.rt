@@ -32,7 +32,7 @@ fn an_equal_time_or_number_is_not_new(rt: HostRuntime) {
     check_rows(&rt, rt.alloc(), rows, freshness);
 }
 
-/// Recording a command without a number keeps the recorded number.
+/// Recording a command without a number leaves the recorded number unchanged.
 #[test]
 fn a_command_without_a_number_forgets_no_number(rt: HostRuntime) {
     let rows = "

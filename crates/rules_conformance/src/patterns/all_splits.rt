@@ -111,7 +111,8 @@ fn spell_next(numbers: &mut Numbers, sample: &mut Sample) -> Option<()> {
 }
 
 impl Sample {
-    /// Puts this anchor at an end of the pattern, or the implied atom with this number.
+    /// Puts this anchor at one end of the pattern, or leaves the anchor out, so that the atom with
+    /// this number is the implied one.
     fn put_end(&mut self, numbers: &mut Numbers, number: usize, anchor: &str) -> Option<()> {
         if numbers.below(2) == 0 {
             *self.atoms.get_mut(number)? = ANYTHING;
@@ -217,7 +218,7 @@ fn agreed(
     agreed_on(&pattern, name.view(), atoms, group, letters)
 }
 
-/// Returns the same for the pattern that was read and the name of the letters.
+/// Returns what `agreed` returns, for the pattern that was read and the name of the letters.
 fn agreed_on(
     pattern: &Pattern,
     name: Name<'_>,

@@ -258,7 +258,7 @@ const MANY_GROUPS: &str = r"
 (<a>?)(<a>?)(<a>?)(<a>?)(<a>?)(<a>?)(<a>?)(<a>?)(<a>?) → 9 groups
 ";
 
-/// A pattern may have 32 atoms, including two implied atoms, and 9 groups.
+/// A pattern may have 32 written atoms, two implied atoms beside them, and 9 groups.
 #[test]
 fn many_atoms(rt: HostRuntime) {
     assert_right(&rt, first_wrong(rt.alloc(), MANY_ATOMS, is_matched_so));

@@ -349,7 +349,7 @@ const THIRTY_THREE_ATOMS: &str = r"
 <a><a><a><a><a><a><a><a><a><a><a><a><a><a><a><a><a><a><a><a><a><a><a><a><a><a><a><a><a><a><a><a>(<a>) → Syntax(97)
 ";
 
-/// A 33rd atom is a fault, whatever the atom is.
+/// A 33rd written atom is a fault, whatever the atom is.
 #[test]
 fn thirty_three_atoms(rt: HostRuntime) {
     assert_right(&rt, first_wrong(rt.alloc(), THIRTY_THREE_ATOMS, is_read_so));

@@ -35,7 +35,7 @@ fn made(alloc: Global, pattern: &str, name: &str, template: &str) -> Option<Stri
     made_at(alloc, &pattern, template, name.view())
 }
 
-/// Returns the same for the pattern and the name that were read.
+/// Returns what `made` returns, for the pattern and the name that were read.
 fn made_at(alloc: Global, pattern: &Pattern, template: &str, name: Name<'_>) -> Option<String> {
     match expanded(alloc, pattern, template, name).ok()?? {
         Ok(made) => made.to_uri(alloc).ok(),
@@ -43,8 +43,8 @@ fn made_at(alloc: Global, pattern: &Pattern, template: &str, name: Name<'_>) -> 
     }
 }
 
-/// Returns whether a row `PATTERN at NAME by TEMPLATE → URI` is correct. A fault may stand in place
-/// of the URI.
+/// Returns whether a row `PATTERN at NAME by TEMPLATE → URI` is correct. A row may have a fault
+/// instead of the URI.
 pub fn is_made_so(alloc: Global, row: &str) -> bool {
     let Some((front, wanted)) = row.split_once(" → ") else {
         return false;

@@ -295,7 +295,7 @@ octets 060c070308014116031b01011700 → denied 0 SigType
 data /A by /ops/KEY/1 key → denied 0 SigType
 ";
 
-/// A checker for RSA or ECDSA accepts no signature of any type.
+/// A checker for RSA or ECDSA refuses a signature by RSA and a signature by an HMAC key.
 #[test]
 fn unsupported_signatures(rt: HostRuntime) {
     assert_right(&rt, first_wrong_of(rt.alloc(), UNSUPPORTED));
@@ -323,7 +323,7 @@ rule {␊ id a␊ for data }
 data /A by /ops/KEY/1 kez → denied 0 KeyLocator
 ";
 
-/// Rules whose checkers are for another signature type, and a rule without checkers.
+/// A rule whose checkers are for other signature types, and a rule without checkers.
 #[test]
 fn no_checker_of_the_type(rt: HostRuntime) {
     assert_right(&rt, first_wrong_of(rt.alloc(), NO_CHECKER_OF_THE_TYPE));
@@ -362,7 +362,8 @@ octets 0567072508014102204b517d4208fcf6ccf88fa54794a0898bf87bd1bd363776b41a1ffc2
 interest /A by /ops/KEY/1 key → denied 0 KeyLocator
 ";
 
-/// Signed Interests without a SignatureTime, and signed Interests under a rule without a checker.
+/// A signed Interest without a SignatureTime, and a signed Interest with one, both under a rule
+/// without a checker.
 #[test]
 fn signed_interests(rt: HostRuntime) {
     assert_right(&rt, first_wrong_of(rt.alloc(), SIGNED_INTERESTS));
@@ -479,7 +480,7 @@ rule {␊ id a␊ for data␊ checker {␊ type customized␊ sig-type hmac-sha2
 data /1/2/3/4/5/6/7/8 by /1/2/3/4/5/6/7/8 key → denied 0 KeyLocator
 "#;
 
-/// If the expanded names have more than 64 components, the packet is denied, even if the two names
+/// If both expanded names have more than 64 components, the packet is denied, even if the two names
 /// are equal.
 #[test]
 fn expansions_that_are_too_long(rt: HostRuntime) {

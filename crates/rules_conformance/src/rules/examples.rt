@@ -317,7 +317,8 @@ fn producers_sign_below_their_names(rt: HostRuntime) {
     assert_right(&rt, first_wrong_under(rt.alloc(), PRODUCERS, OF_PRODUCERS));
 }
 
-/// Two rules that accept digests and also have key locators.
+/// Two rules that accept digests. The checker of the first rule also has a key locator, and the
+/// checker of the second rule is hierarchical.
 const DIGESTS: &str = r"
 rule {␊ id customized␊ for data␊ filter {␊ type name␊ name /A␊ relation equal }␊ checker {␊ type customized␊ sig-type sha256␊ key-locator {␊ type name␊ name /nobody␊ relation equal } } }
 rule {␊ id hierarchical␊ for data␊ checker {␊ type hierarchical␊ sig-type sha256 } }
@@ -328,7 +329,7 @@ data /A by digest → allowed 0
 data /B by digest → allowed 1
 ";
 
-/// A checker of digests ignores its key locator.
+/// A checker of digests needs no key, even if it has a key locator or is hierarchical.
 #[test]
 fn digests_need_no_key(rt: HostRuntime) {
     assert_right(&rt, first_wrong_under(rt.alloc(), DIGESTS, OF_DIGESTS));
@@ -448,7 +449,7 @@ fn is_allowed_unless_memory(alloc: Global) -> bool {
     told_of(alloc, SHARED_PART, KEYS, packet).is_none_or(|told| told.as_str() == "allowed 0")
 }
 
-/// Each allocation of memory may fail.
+/// If an allocation of memory fails, no wrong decision is returned.
 #[test]
 fn decision_with_refused_memory(rt: HostRuntime) {
     assert!(rt; is_allowed_unless_memory(rt.alloc()));

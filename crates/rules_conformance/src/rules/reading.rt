@@ -248,7 +248,7 @@ fn are_rules_told(alloc: Global, count: u32, wanted: &str) -> bool {
     put_rules(alloc, &mut text, count).is_some() && is_told(alloc, text.as_str(), wanted)
 }
 
-/// Appends this many rules.
+/// Appends `count` rules.
 fn put_rules(alloc: Global, text: &mut String, count: u32) -> Option<()> {
     for number in 0..count {
         let rule = format!(in alloc; "rule {{\n id {number}\n for data }}\n").ok()?;
@@ -263,7 +263,7 @@ fn are_blocks_told(alloc: Global, count: u32, block: &str, wanted: &str) -> bool
     put_blocks(&mut text, count, block).is_some() && is_told(alloc, text.as_str(), wanted)
 }
 
-/// Appends a rule with this many blocks.
+/// Appends a rule with `count` of these blocks.
 fn put_blocks(text: &mut String, count: u32, block: &str) -> Option<()> {
     text.push_str("rule {\n id a\n for data\n").ok()?;
     for _ in 0..count {
@@ -380,7 +380,7 @@ fn is_read_unless_memory(alloc: Global) -> bool {
     }
 }
 
-/// Each allocation of memory may fail.
+/// If an allocation of memory fails, the fault is `Memory`.
 #[test]
 fn rules_with_refused_memory(rt: HostRuntime) {
     assert!(rt; is_read_unless_memory(rt.alloc()));

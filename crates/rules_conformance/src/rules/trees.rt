@@ -36,7 +36,7 @@ fn shown_entries(alloc: Global, entries: &str) -> Option<String> {
     Some(shown)
 }
 
-/// Appends the entries of a tree in the same format.
+/// Appends the entries of a tree in the format of `Debug`, each followed by a comma and a space.
 fn put_entries(alloc: Global, shown: &mut String, entries: &str) -> Option<()> {
     for entry in entries.split(" | ").filter(|entry| *entry != "nothing") {
         shown.push_str(shown_entry(alloc, entry)?.as_str()).ok()?;
@@ -322,7 +322,7 @@ fn is_told_or_memory(alloc: Global, text: &str, line: u32) -> bool {
     }
 }
 
-/// Each allocation of memory may fail.
+/// If an allocation of memory fails, the fault is `Memory`.
 #[test]
 fn refused_memory(rt: HostRuntime) {
     assert!(rt; is_told_or_memory(rt.alloc(), "a \"b\\\\c\"\nd {\n  e f\n}\n", 0));

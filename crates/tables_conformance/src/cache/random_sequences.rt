@@ -116,7 +116,8 @@ fn forget(held: &mut Vec<Held>, made: usize) {
     held.retain(|other| other.made != made);
 }
 
-/// Returns whether a `put` returns true, as it must with ample memory.
+/// Puts a random Data into the store and into the list. Returns whether the store's `put` returns
+/// true, as it must with ample memory.
 fn put_agrees(
     all: &[Made],
     store: &mut Store,
@@ -133,8 +134,8 @@ fn put_agrees(
     put_packet(store, &all.get(one.made)?.packet, one.arrival)
 }
 
-/// Returns the result of `find`, `find_counted` or `serve_at`, chosen at random, if it agrees with
-/// `place_for`.
+/// Returns the result of `find`, `find_counted` or `serve_at`, chosen at random, or None if only
+/// one of this call and `place_for` finds a Data, or if the call takes more than 17 comparisons.
 fn look_up<'a>(
     store: &'a mut Store,
     key: Key<'_>,

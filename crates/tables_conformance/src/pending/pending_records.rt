@@ -13,7 +13,8 @@ ask /A 1 7 18446744073709551615, expire 18446744073709551614, len, expire 184467
 ask /A 1 7 18446744073709551615, sent /A 1 2 7 18446744073709551615, used /A -> yes; yes; used 2@18446744073709551615
 ";
 
-/// An Interest is pending before its deadline, but no longer at its deadline.
+/// An expiry before the deadline of an Interest leaves the Interest pending; an expiry at the
+/// deadline removes it.
 #[test]
 fn pending_deadline(rt: HostRuntime) {
     check_rows(&rt, rt.alloc(), PENDING_DEADLINE, answers);
@@ -29,7 +30,8 @@ ask /A/sha256digest=2d92a383706a615fe67c9a585b00f29c5c06d2abdaec456e9cdc026679eb
 ask /A/sha256digest=6b50b2f9e1b4b6cb6b9a7a4a4c4a2b52f2e4a1f1d8a3a7bd1a2a3b4c5d6e7f80 1 7 9, ask /A 2 8 9, data /A, len -> yes; yes; faces 2; 1 false
 ";
 
-/// A Data goes to all faces that ask for it, and their Interests are then no longer pending.
+/// A Data goes to all faces with pending Interests that it answers, and these Interests are then no
+/// longer pending.
 #[test]
 fn data_goes_to_all_who_ask_for_it(rt: HostRuntime) {
     check_rows(&rt, rt.alloc(), DATA_GOES_TO_ALL_WHO_ASK_FOR_IT, answers);
@@ -39,8 +41,8 @@ const EACH_FLAG_MAKES_ANOTHER_KEY: &str = "\
 ask /A 1 7 9, ask /A+f 2 8 9, len, data /A, len -> yes; yes; 2 false; faces 1 2; 0 true
 ";
 
-/// Interests with the same name and flags share a key. A Data answers a key regardless of
-/// MustBeFresh.
+/// Interests with the same name but different flags have different keys. A Data answers a key
+/// regardless of MustBeFresh.
 #[test]
 fn each_flag_makes_another_key(rt: HostRuntime) {
     check_rows(&rt, rt.alloc(), EACH_FLAG_MAKES_ANOTHER_KEY, answers);
@@ -66,8 +68,8 @@ ask /A 1 7 5000, sent /A 1 2 7 1000, sent /A 1 2 8 1010, sent /A 1 1 8 1010, use
 ask /A 1 7 5000, sent /A 1 2 7 1000, loops /A 1 7, ask /A 1 7 5009, used /A, sent /A 1 2 7 1010, used /A, nack /A 2 7 150, of /A 1 -> yes; yes; no; yes; used 2@1000; yes; used 2@1010; all 150; 00000007
 ";
 
-/// An Interest loops if another face asked with the Interest's Nonce, or if that Nonce was sent to
-/// a face. It does not loop if its own face asked with that Nonce before.
+/// An Interest loops if the in-record of another face, or an out-record, has its Nonce. It does not
+/// loop if the in-record of its own face has this Nonce too.
 #[test]
 fn loops_and_retries(rt: HostRuntime) {
     check_rows(&rt, rt.alloc(), LOOPS_AND_RETRIES, answers);
@@ -93,8 +95,8 @@ ask /A 1 7 5, sent /A 1 2 7 1, withdraw /A 1, ask /A 3 9 5, used /A, loops /A 4 
 ask /A 1 7 5, ask /A 3 9 6, sent /A 1 2 7 1, expire 5, used /A, expire 6, ask /A 1 7 9, used /A -> yes; yes; yes; -; used 2@1; -; yes; used
 ";
 
-/// When no face has a pending Interest under a key any more, the faces that the Interest was sent
-/// to are forgotten.
+/// When no face has a pending Interest under a key any more, the out-records of the key are
+/// removed.
 #[test]
 fn without_an_asker_no_face_asked(rt: HostRuntime) {
     check_rows(&rt, rt.alloc(), WITHOUT_AN_ASKER_NO_FACE_ASKED, answers);

@@ -52,7 +52,7 @@ fn octets_of(nonce: u64) -> [u8; 4] {
     u32::try_from(nonce).unwrap_or(0).to_be_bytes()
 }
 
-/// Returns whether an Interest under a key is among these.
+/// Returns whether one of these Interests is under this key.
 fn has_key(asks: &[Asks], key: usize) -> bool {
     for ask in asks {
         if ask.key == key {
@@ -79,7 +79,7 @@ impl Records {
         None
     }
 
-    /// Returns the moment at which the Interest under a key was sent to a face.
+    /// Returns the moment at which an Interest under a key was last sent to a face.
     fn moment_of(&self, key: usize, face: u64) -> Option<u64> {
         for sent in &self.asked {
             if sent.key == key && sent.face == face {
@@ -151,7 +151,8 @@ impl Records {
         self.asked.push(one).ok()
     }
 
-    /// Notes the reason of a Nack, and returns whether an Interest was sent for which it can come.
+    /// Records the reason of a Nack. Returns whether the last Interest that was sent to the face
+    /// under the key has the Nack's Nonce.
     fn note(&mut self, key: usize, face: u64, nonce: u64, reason: u64) -> bool {
         let mut is_pending = false;
         for sent in &mut self.asked[..] {
@@ -196,7 +197,7 @@ impl Records {
     }
 }
 
-/// Returns whether the octets of an Interest are the Nonce of this Interest, or there is none.
+/// Returns whether the octets are the Nonce of the Interest `ask`, or both are `None`.
 fn is_same(octets: Option<&[u8]>, ask: Option<Asks>) -> bool {
     match (octets, ask) {
         (Some(octets), Some(ask)) => octets == octets_of(ask.nonce).as_slice(),
@@ -279,7 +280,8 @@ fn count_answer(seen: &mut Seen, answer: Nacked) {
     }
 }
 
-/// Returns whether a Nack has the result that the records give. The moment is the reason.
+/// Returns whether a Nack has the result that the records give. The field `moment` of `one` is the
+/// reason.
 fn nack_agrees(
     table: &mut Table,
     records: &mut Records,
@@ -308,7 +310,7 @@ fn loop_agrees(
 }
 
 /// Returns whether the table and the records agree on whether an Interest loops, and the Interest
-/// is then recorded. The moment is its deadline.
+/// is then recorded. The field `moment` of `one` is its deadline.
 fn ask_agrees(
     table: &mut Table,
     records: &mut Records,
@@ -458,8 +460,9 @@ fn all_packets(alloc: Global) -> Option<Vec<Vec<u8>>> {
     Some(packets)
 }
 
-/// Returns whether ten thousand sequences agree with the records. Over all sequences, some Nacks
-/// must have had the result `Waiting`, some the result `All`, and some Interests must have looped.
+/// Returns whether ten thousand sequences agree with the records. Over all sequences, more than 100
+/// Nacks must have had the result `Waiting`, more than 100 the result `All`, and more than 100
+/// Interests must have looped.
 fn sequences_agree(alloc: Global, keys: &[OwnedKey], packets: &[Vec<u8>]) -> Option<bool> {
     let mut state = 0x2545_f491_4f6c_dd1d;
     let mut seen = Seen {

@@ -58,7 +58,8 @@ token /A 1 5 100, ask /A 2 7 200, token_of /A 2, token_for /A 2, token_for /A 1 
 token /A 1 5 100, token /A 2 6 200, token_for /A 1, token_for /A 2, token_for /A 3 -> yes; yes; 05; 06; none
 ";
 
-/// A face gets no token of an Interest that is not answered, and no token of another face.
+/// A face gets no token of an Interest that the Data does not answer, and no token of another face.
+/// It gets no token if its Interest with the latest deadline has none.
 #[test]
 fn no_other_token(rt: HostRuntime) {
     check_rows(&rt, rt.alloc(), NO_OTHER_TOKEN, answers);

@@ -18,7 +18,7 @@ register /A/B 2, register /A/C 3, register /AA 4, of /A/C, of /A -> 3@0; none
 register /A/B 2, register /A 3, of /A -> 3@0
 ";
 
-/// A name with routes inherits the child-inherit routes of shorter names.
+/// A name with routes inherits the child-inherit routes of its proper prefixes.
 #[test]
 fn names_inherit_routes(rt: HostRuntime) {
     check_rows(&rt, rt.alloc(), NAMES_INHERIT_ROUTES, answers);
@@ -86,7 +86,8 @@ register / 2, register /A 3 flags=2, register /B 4, of /B, of / -> 2@0 4@0; 2@0
 register /A 2, register /A/B 3, register /A/B/C 4 flags=2, of /A/B -> 2@0 3@0
 ";
 
-/// A capture route stops its name, and the names below it, from inheriting from shorter names.
+/// A name with a capture route inherits nothing, and longer names inherit nothing from its proper
+/// prefixes.
 #[test]
 fn capture_ends_inheritance(rt: HostRuntime) {
     check_rows(&rt, rt.alloc(), CAPTURE_ENDS_INHERITANCE, answers);
@@ -100,7 +101,8 @@ register / 2 cost=1, register /A 2 cost=9, register /A/B 2 cost=5, register /A/B
 register / 2 cost=1, register /A/B 2 cost=9, register /A/B/C/D 4, of /A/B/C/D -> 4@0 2@9
 ";
 
-/// Each face has the cost of the nearest shorter name with a child-inherit route on that face.
+/// For each face, a name inherits the cost of its longest proper prefix that has a child-inherit
+/// route on this face.
 #[test]
 fn the_nearest_for_each_face(rt: HostRuntime) {
     check_rows(&rt, rt.alloc(), THE_NEAREST_FOR_EACH_FACE, answers);

@@ -108,7 +108,7 @@ impl Plain {
         self.routes.push(one).ok()
     }
 
-    /// Appends the next hops of other lists.
+    /// Appends these next hops.
     fn copy_hops(&mut self, hops: &[NextHop]) -> Option<()> {
         for hop in hops {
             self.hops.push(*hop).ok()?;
@@ -116,7 +116,7 @@ impl Plain {
         Some(())
     }
 
-    /// Appends the routes of other lists that do not expire by a moment.
+    /// Appends those of the given routes that do not expire by a moment.
     fn copy_routes(&mut self, routes: &[Registered], now: u64) -> Option<()> {
         for one in routes {
             if !ends_by(one.route, now) {
@@ -189,7 +189,7 @@ impl Plain {
         least
     }
 
-    /// Returns the nearest shorter name that has a child-inherit route on a face.
+    /// Returns the longest proper prefix of a name that has a child-inherit route on a face.
     fn nearest(&self, name: usize, face: u64) -> Option<usize> {
         let mut nearest = None;
         for above in 0..8 {
@@ -257,8 +257,8 @@ impl Plain {
     }
 }
 
-/// How often a name inherited a cost, how often a capture route prevented this, and how often
-/// routes expired.
+/// How often a name inherited a cost, how often a capture route prevented the inheritance of a
+/// cost, and how many routes expired.
 #[derive(Clone, Copy)]
 struct Seen {
     inherited: u64,
@@ -305,7 +305,8 @@ fn hops_agree(plain: &Plain, seen: &mut Seen, name: Option<usize>, hops: &Hops) 
     Some(hops.len() == len && are_in_order(hops)?)
 }
 
-/// Returns whether a name has the next hops that the lists give.
+/// Returns whether a name has the next hops that the lists give, and its lookup makes at most 4
+/// searches.
 fn longest_agrees(
     routes: &RouteTable,
     plain: &Plain,
@@ -339,8 +340,8 @@ fn rows_agree(
     Some(rows.len() == at)
 }
 
-/// Returns whether the table's list at a moment agrees with the plain lists, which are without the
-/// routes that expire by then.
+/// Returns whether the table's list at the moment `now` agrees with `left`, the plain lists without
+/// the routes that expire by `now`.
 fn lists_agree(
     alloc: Global,
     fib: &Fib,
@@ -386,8 +387,8 @@ fn expire_agrees(
     Some(routes.expire(now) == gone)
 }
 
-/// Sets a next hop in the table and in the lists, and returns true. With ample memory it is not
-/// refused.
+/// Sets a next hop in the table and in the lists, and returns true. With ample memory the next hop
+/// is not refused.
 fn set_hop(
     routes: &mut RouteTable,
     plain: &mut Plain,
@@ -404,7 +405,7 @@ fn set_hop(
     Some(true)
 }
 
-/// Sets a route in the table and in the lists, and returns true. With ample memory it is not
+/// Sets a route in the table and in the lists, and returns true. With ample memory the route is not
 /// refused.
 fn set_route(
     routes: &mut RouteTable,
@@ -534,8 +535,8 @@ fn sequence_agrees(
     calls_agree(alloc, &mut routes, &mut plain, names, seen, state)
 }
 
-/// Returns whether 400 sequences agree with the lists. In some of them a name must inherit a cost,
-/// a capture route must prevent inheritance, and routes must expire.
+/// Returns whether 400 sequences agree with the lists. Over all sequences, each count in `Seen`
+/// must be greater than 100.
 fn sequences_agree(alloc: Global, names: &[NameBuf]) -> Option<bool> {
     let mut state = 0x2545_f491_4f6c_dd1d;
     let mut seen = Seen {

@@ -60,8 +60,8 @@ fn takes_16384(alloc: Global, routes: &mut RouteTable) -> Option<bool> {
     Some(true)
 }
 
-/// Returns whether a table with 16,384 routes refuses a new route, both for a known name and for a
-/// new one, but accepts a next hop and a route that it already has.
+/// Returns whether a table with 16,384 routes refuses a new route for a known name, for a new name
+/// and for a name of 33 components, but accepts a route that it already has, and a next hop.
 fn refuses_new_routes(alloc: Global, routes: &mut RouteTable) -> Option<bool> {
     let route = Route::new(0, 32);
     let further = register(alloc, routes, 7, route)? == FULL;
@@ -81,8 +81,8 @@ fn takes_one_for_one(alloc: Global, routes: &mut RouteTable) -> Option<bool> {
     Some(is_taken && is_full)
 }
 
-/// Returns whether a full table accepts routes again after a face closed, and after other routes
-/// expired.
+/// Returns whether a full table accepts a route after a face closed, and this route then expires as
+/// the only route that has a deadline.
 fn takes_many_for_many(alloc: Global, routes: &mut RouteTable) -> Option<bool> {
     routes.close_face(0);
     let mut route = Route::new(2, 0);
@@ -92,7 +92,7 @@ fn takes_many_for_many(alloc: Global, routes: &mut RouteTable) -> Option<bool> {
     Some(is_taken && gone == 1 && routes.read().due(u64::MAX) == 0)
 }
 
-/// Returns whether a table holds 16,384 routes, and no more.
+/// Returns whether a table accepts 16,384 routes, and no more.
 fn holds_16384_routes(alloc: Global, routes: &mut RouteTable) -> Option<bool> {
     let holds = takes_16384(alloc, routes)? && refuses_new_routes(alloc, routes)?;
     Some(holds && takes_one_for_one(alloc, routes)? && takes_many_for_many(alloc, routes)?)
@@ -113,7 +113,8 @@ fn takes_4096_names(alloc: Global, routes: &mut RouteTable) -> Option<bool> {
     Some(routes.read().len() == 4096)
 }
 
-/// Returns whether a table with 4,096 names refuses a further name, but not a name that it has.
+/// Returns whether a table with 4,096 names refuses a further name and a name of 33 components, but
+/// accepts a name that it has.
 fn refuses_new_names(alloc: Global, routes: &mut RouteTable) -> Option<bool> {
     let route = Route::new(1, 0);
     let is_full = add_numbered(alloc, routes, 4096, 0)? == FULL
@@ -144,7 +145,7 @@ fn frees_names(alloc: Global, routes: &mut RouteTable) -> Option<bool> {
     Some(is_full && is_taken && is_full_again && is_freed)
 }
 
-/// Returns whether a table holds 4,096 names, and no more.
+/// Returns whether a table accepts 4,096 names, and no more.
 fn holds_4096_names(alloc: Global, routes: &mut RouteTable) -> Option<bool> {
     let holds = takes_4096_names(alloc, routes)? && refuses_new_names(alloc, routes)?;
     Some(holds && frees_names(alloc, routes)?)

@@ -26,7 +26,8 @@ returns-in_err-insert-clause-laid c =
       short = omega (arith, ap length (flat_set bs i c.index_mut.result.now b there items));
     }
 
--- after the insertion, the blocks contain the slab indexes of the list with the new one inserted
+-- after the insertion into one block, the slab indexes of all blocks are the old slab indexes with
+-- the new one inserted at position `at`
 more : (c : In_ok-insert)
     → flat (set c.args.blocks.now.items c.block_at-index.result (record { start = c.index_mut.result.now.start; items = c.insert.new.self })) ≡ insert (flat c.args.blocks.now.items) c.args.at c.args.place
 more c =

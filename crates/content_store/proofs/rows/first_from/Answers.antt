@@ -23,7 +23,8 @@ loop-at-init c = (
 order_of : (m n : ℕ) → (m < n) ⊎ ((m ≡ n) ⊎ (n < m))
 order_of m n = grind arith
 
--- the rows that were skipped cannot serve the Interest
+-- if the row that was just read cannot serve the Interest, no row before the next position to read
+-- can serve it
 passed : (c : After-next_place-at) → (CanServe (plain_key c.args.key) c.args.now c.index.result.now.entry → ⊥)
     → (k : ℕ) (d : Placed) → k < c.next_place-at.result → k < length (shown (get c.args.entries.now) c.args.order.now)
     → CanServe (plain_key c.args.key) c.args.now (held_at (get_or (shown (get c.args.entries.now) c.args.order.now) k d)) → ⊥

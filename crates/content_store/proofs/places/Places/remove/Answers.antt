@@ -15,7 +15,8 @@ block_at-index-requires-clause-some c =
     let a = (goal.at.block_at-index-requires-clause-some c).After-deref in
     subst (λ (l : List Block). 0 < length l) (sym c.deref.ensures.value) (some_laid c.self.inside.blocks.items c.args.at (within a))
 
--- after the removal, the blocks contain all slab indexes of the list except the removed one
+-- after the removal from one block, the slab indexes of all blocks are the old slab indexes without
+-- the one at position `at`
 left : (c : After-remove)
     → flat (set c.self.inside.blocks.items c.block_at-index.result (record { start = c.index_mut.result.now.start; items = c.remove.new.self })) ≡ remove (flat c.self.inside.blocks.items) c.args.at
 left c =

@@ -14,7 +14,7 @@ returns-then-is_too_long-clause-long c =
     let long = is_long c.args.captures.now (components c.args.name) c.args.self.now c.requires (sym c.if-is_too_long.true ∙ c.is_too_long.ensures) in
     (λ e. long, λ more. refl)
 
--- if a part cannot be appended, memory ran out
+-- if appending a part fails, the whole name has at most 64 components, and the fault is `Memory`
 memory : (c : goal.After-drop-expanded-inside)
     → (length (expansion_of c.args.self.now c.args.captures.now (components c.args.name)) ≤ 64) × (c.from_residual.result ≡ Err NameFault.Memory)
 memory c =

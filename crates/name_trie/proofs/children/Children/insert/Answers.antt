@@ -12,13 +12,14 @@ use Rattle.ndn_names.proofs.Rows.{sorted_put, from_put}
 use Rattle.name_trie.proofs.children.Children.insert.Goals as goal
 use Rattle.name_trie.proofs.children.Children.insert.Goals.{In_ok-insert-in-Err}
 
--- the row is inserted at the index for its component
+-- the insertion of the row gives the rows that `put` gives for the component and the child
 inserted : (c : In_ok-insert-in-Err) → items_of c.insert.new.self ≡ put component_cmp c.args.component c.args.child (items_of c.self.inside.rows)
 inserted c =
     let absent = rw (c.as_slice.ensures, c.view.ensures) at c.in-Err.ensures.absent in
     c.in_ok-insert-in-Err.ensures.ok ∙ sym (absent.1 c.args.child)
 
--- the search does not find the component, since it has no child yet
+-- the search does not find the component, since the contract requires that the component has no
+-- child
 pub unreachable-requires : goal.unreachable-requires
 unreachable-requires c =
     let found = rw (c.as_slice.ensures, c.view.ensures) at c.in-Ok.ensures.found in

@@ -19,7 +19,7 @@ few : {X : Type 0} {P : Type 0} (o : Option X) → o ≡ None → IsSome o ⊎ P
 few o none (inl some) = (let never = rw none at some in cc)
 few o none (inr p) = p
 
--- if the face has no row, there are fewer than 64 rows, and there is capacity for one more row
+-- if the face has no row, then there are fewer than 64 rows, and there is capacity for one more row
 room : (g : given.Over) (c : After-unwrap_or g) → (vec_len c.self.inside.rows < 64) × (vec_len c.self.inside.rows < vec_capacity c.self.inside.rows)
 room g c =
     let rows = c.self.inside.rows.items in

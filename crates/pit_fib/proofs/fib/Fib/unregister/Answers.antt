@@ -63,7 +63,7 @@ counted c =
           omega (arith, n, count, now, was, is)
     ]
 
--- everything except the number of routes is unchanged
+-- `next_due`, the capacity of `room` and the prepared name are unchanged
 rest : (c : goal.After-change) → (c.if-has_route.self-inside.next_due ≡ c.self.inside.next_due) × (vec_capacity c.if-has_route.self-inside.room ≡ vec_capacity c.self.inside.room) × (c.if-has_route.self-inside.entries.prepared ≡ c.self.inside.entries.prepared)
 rest c =
     elim c.if-has_route.branch [

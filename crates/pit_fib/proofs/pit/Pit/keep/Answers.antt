@@ -21,7 +21,7 @@ use Rattle.pit_fib.proofs.pit.Pit.keep.Goals.{Joined-self-after}
 in_record : Joined-self-after → InRecord
 in_record c = record { interest = c.args.interest.now; nonce = c.args.nonce; deadline = c.args.deadline; token = option_map (λ (t : Bor (List ℕ)). t.now) c.args.token }
 
--- the entry of the key before the Interest is added, or a new entry if there was none
+-- the entry of the key before the Interest is added, or a new entry if the key had none
 before : Joined-self-after → Kept
 before c = unwrap_or (kept_at c.self.inside.rows.table (plain_key c.args.key)) (new_in c.in_ok-in_record.room.out_records)
 
