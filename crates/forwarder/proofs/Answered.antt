@@ -1,4 +1,5 @@
--- How each kind of packet is answered once time has advanced to the packet's moment.
+-- How a Data is answered once time has advanced to its moment, and when `HandlesPacket` is true
+-- of any packet.
 use Rattle.std.proofs.Common.{◌≡◌, ℕ, true, false, not, List, [], refl, sym, ap, subst, ◌∙◌}
 use Rattle.std.specs.Prelude.{Result, Ok, Err, IfOk, IsErr, IsOk, nat_lt}
 use Rattle.std.proofs.lemmas.Bool.{false≢true}

@@ -1,4 +1,6 @@
--- If a Data is sent to a face, this face asked for the Data.
+-- If a Data is sent to a face, this face asked for the Data. If octets that are not read as a
+-- Data, but for which `is_data` is true, are sent to a face, they are the node's own answer to an
+-- Interest of this face.
 use Rattle.std.proofs.Common.{◌≡◌, ℕ, Bool, true, false, cond, List, [], ◌∷◌, refl, sym, ap, subst, ◌∙◌, Result, Ok, Err, inl, inr}
 use Rattle.std.specs.Prelude.{◌≢◌, IfSome, Option, Some, None, Contains, IsSome, IsTrue, max}
 use Rattle.std.specs.FinMap as map
@@ -159,8 +161,7 @@ module _ (first : Policy) (past : Run) (event : PlainEvent) (answer : Answer) (r
   linked : AllFit seen.records
   linked = waiting_fits past now reply.waiting reply.is_waiting
 
-  -- the token that `IsTokenFor` gives for a Data and the face is a valid token, or there is no
-  -- token
+  -- if `IsTokenFor` is true of `token`, then `token` is a valid token or None
   given_token : (name : List Field) (digest : List ℕ) (token : Token) → IsTokenFor seen.records name digest face token → IfSome token IsToken
   given_token name digest token (inl none) = subst (λ (t : Token). IfSome t IsToken) (sym none.1) tt
   given_token name digest token (inr some) = subst (λ (t : Token). IfSome t IsToken) (sym some.3) (linked some.0 face some.1 some.2.asks.1).is_token
@@ -188,8 +189,8 @@ module _ (first : Policy) (past : Run) (event : PlainEvent) (answer : Answer) (r
     own_token : IfSome (token_at r.octets) IsToken
     own_token = token_fits r.octets (token_at r.octets) refl
 
-    -- if the Data was allowed in an earlier event and answers the Interest of this event, then the
-    -- octets that are sent are read as this Data, and the face asked for this Data
+    -- if `whole` is the Data `d` that an earlier event allowed, and `d` answers the Interest of
+    -- this event, then `octets` are read as `d`, and the face asked for `d`
     earlier : (whole : List ℕ) (d : PlainData) → r.packet ≡ whole → AllowedIn first past (AData whole d)
         → IsTrue (answers d.name (sha256 whole) r.interest.name r.interest.can_be_prefix) → (frame_at octets ≡ Ok (AData whole d)) × Asked (AData whole d)
     earlier whole d same allowed answered =

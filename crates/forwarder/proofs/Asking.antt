@@ -1,4 +1,5 @@
--- How the request of an Interest is read off its name.
+-- How the request of an Interest is read off its name: comparing names by their octets, and
+-- reading numbers in their shortest form.
 use Rattle.std.proofs.Common.{◌≡◌, ℕ, ◌^◌, ◌<◌, Bool, List, [], ◌∷◌, ◌++◌, length, refl, sym, ap, ◌∙◌, arith, inl, inr, Ok}
 use Rattle.std.specs.Prelude.{Some, None, bytes_eq, nat_eq, codes}
 use Rattle.std.specs.List.{starts_with}
@@ -44,8 +45,8 @@ pub list_is_name : (kind : ListKind) → IsNameValue (octets_of (list_name kind)
 list_is_name RouteList = under_management (codes "fib") (omega arith)
 list_is_name StrategyList = under_management (codes "strategy-choice") (omega arith)
 
--- the components of the name `b` begin with the components of the name `a` exactly if the octets
--- of `b` begin with the octets of `a`
+-- Let `octets` encode the name `a`, and let `name` encode the name `b`. Then `b` begins with `a`
+-- exactly if `name` begins with `octets`.
 pub begins_is : (octets name : List ℕ) (a b : List Field) (r : Bool) → IsNameValue octets a → IsNameValue name b → r ≡ starts_with nat_eq name octets → r ≡ begins_with a b
 begins_is octets name a b r h g e = same_from_decides r (begins_with a b) (is_prefix-shown octets name a b r h g e) (prefix_is a b)
 

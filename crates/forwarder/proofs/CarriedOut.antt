@@ -1,4 +1,5 @@
--- How allowed commands are carried out.
+-- Allowed commands are carried out on the tables or by the repository, and the reserved memory is
+-- enough for their replies.
 use Rattle.std.proofs.Common.{◌≡◌, ℕ, ◌≤◌, ◌+◌, Bool, true, false, cond, List, [], ◌∷◌, length, arith, Option, None, Some, Result, Ok, refl, sym, ap, subst, ◌∙◌}
 use Rattle.std.specs.Prelude.{IfSome, IsSome, SomeIff, nat_lt, unwrap_or, ◌==◌, ◌||◌, if◌then◌else◌}
 use Rattle.std.proofs.lemmas.Bool.Decides.{nat_tests}
@@ -121,9 +122,8 @@ after_applied p c face status routes choices is to_routes to_choices =
 same_store : (old new : StoreState) → new.cached ≡ old.cached → new.capacity ≡ old.capacity → new ≡ old
 same_store old new cached capacity = λ j. record { cached = cached j; capacity = capacity j }
 
--- If the cached Data are those that a command leaves, and the capacity is unchanged, the cache is
--- as `CacheAfter` requires for the command's status. The status of an erase is always 200, since
--- an erase is never refused.
+-- if the cached Data are those that a command leaves, and the capacity is unchanged, then the
+-- cache is as `CacheAfter` requires for the command's status
 pub cache_applied : (now : ℕ) (waiting : Pending) (c : PlainCommand) (face status : ℕ) (up : List ℕ) (routes : Routes) (choices : Choices) (old new : StoreState)
     → status ≡ status_of c face up routes choices
     → CachedAfter c old.cached new.cached → new.capacity ≡ old.capacity
@@ -195,7 +195,8 @@ has_packet_room total room len space left is few most rest = omega arith
 pub has_places : (places left : ℕ) → 1 + MAX_FACES ≤ places → places ≤ left + 1 → MAX_FACES ≤ left
 has_places places left most rest = omega arith
 
--- an Interest of the node that can be encoded fits in any space of at least 8,800 octets
+-- an Interest that its writer does not refuse has at most 8,800 octets, so it fits in any space
+-- of at least 8,800 octets
 pub written_fits : (w : InterestWriter) (space : ℕ) → interest_refusal w ≡ None → 8800 ≤ space → length (interest_text w) ≤ space
 written_fits w space none most = by (is_bad_name (components w.name)) (nat_lt 64 (length (interest_name w))) (nat_lt 8800 (length (interest_text w))) refl none
   where

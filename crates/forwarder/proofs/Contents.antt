@@ -89,8 +89,8 @@ five text false (Ok len) = by_size (ltb (length len.1) len.0) (take len.0 len.1)
     by_size false value [] = by_read (interest_of text value)
     by_size false value (octet ∷ rest) = (refl, refl)
 
--- `holds_data` is false for the result of reading a text as exactly one element of the type of an
--- Interest
+-- `holds_data` is false for the result of reading exactly one element, if the element has the
+-- type of an Interest or reading it has a fault
 five_holds : (r : Result (ℕ × List ℕ) TlvFault) → holds_data (only (r >>= sized 5)) ≡ false
 five_holds (Err f) = refl
 five_holds (Ok len) = by_size (ltb (length len.1) len.0) (take len.0 len.1) (drop len.0 len.1)
@@ -114,8 +114,8 @@ six text false (Ok len) = by_size (ltb (length len.1) len.0) (take len.0 len.1) 
     by_size false value [] = by_read (data_of text value)
     by_size false value (octet ∷ rest) = refl
 
--- if octets are not read as a Data, and `holds_data` is false for the result of reading them as
--- one element, then `is_data` is false for the octets
+-- If `text` is not read as a Data, and `holds_data` is false for the result of reading `text` as
+-- one element, then `is_data` is false for `text`.
 no_data : (text : List ℕ) → is_data_frame (frame_at text) ≡ false → holds_data (only_element text) ≡ false → is_data text ≡ false
 no_data text read typed = ap (λ (b : Bool). b || holds_data (only_element text)) read ∙ typed
 
@@ -160,8 +160,8 @@ six_whole text false (Ok len) whole d e = by_size (ltb (length len.1) len.0) (ta
     by_size false value [] e = by_read (data_of text value) e
     by_size false value (octet ∷ rest) e = cc e
 
--- octets that begin with the type of a Data, and are read as a Data, are exactly the received
--- octets of that Data
+-- if `text` begins with the type of a Data, and is read as the Data with the octets `whole`, then
+-- `text` equals `whole`
 data_is_whole : (text whole : List ℕ) (d : PlainData) → begins 6 text ≡ true → frame_at text ≡ Ok (AData whole d) → text ≡ whole
 data_is_whole [] whole d is read = cc is
 data_is_whole (octet ∷ octets) whole d is read =
@@ -210,7 +210,8 @@ sent_on_begins whole (Some n) is = begins_still 5 whole (hop_place whole) (n - 1
 pub spelled_begins : (whole : List ℕ) (i : PlainInterest) → IsInterest whole i → begins 5 whole ≡ true
 spelled_begins whole i is = ap (begins 5) is.fields.outer.1 ∙ begins_interest is.fields.value
 
--- the received octets of an Interest that was read begin with the type of an Interest
+-- if `octets` are read as the Interest with the octets `whole`, then `whole` begins with the type
+-- of an Interest
 pub read_begins : (octets whole : List ℕ) (i : PlainInterest) → AreOctets octets → frame_at octets ≡ Ok (AnInterest whole i) → begins 5 whole ≡ true
 read_begins octets whole i fits read = spelled_begins whole i (frame_found octets (AnInterest whole i) fits read).1.0
 
@@ -409,8 +410,8 @@ module _ (token packet : List ℕ) (is : IsToken token) (small : length (wrapped
       ∙ ap (λ (r : Result PlainFramed PacketFault). r >>= λ f. Ok f.frame)
       (link_is value ∙ ap (link_from no_headers_yet) parts_are ∙ ap (λ (r : Result LinkSoFar PacketFault). r >>= λ s. link_from s (Ok (80, packet) ∷ [])) (token_taken token is))
 
--- octets that are not a Nack do not become a Nack when they are sent back, with a token or without
--- one
+-- if `packet` has at most 8,800 octets and is not a Nack, it is not a Nack either when it is sent
+-- back, with a valid token or without a token
 pub back_is_no_nack : (token : Token) (packet : List ℕ) → IfSome token IsToken → length packet ≤ 8800 → is_nack packet ≡ false → is_nack (lp_text token None packet) ≡ false
 back_is_no_nack None packet is short other = other
 back_is_no_nack (Some token) packet is short other = ap is_nack_frame (wrapped_is token packet is (wrapped_short token packet is short)) ∙ by_element (only_element packet)
@@ -433,7 +434,9 @@ back_is_no_nack (Some token) packet is short other = ap is_nack_frame (wrapped_i
     by_element (Err f) = refl
     by_element (Ok e) = by_kind e (e.0 == 5) (e.0 == 6)
 
--- a Data that is sent back is read as the same Data
+-- Let `octets` be read as the Data with the octets `whole`, of which there are at most 8,800. If
+-- `whole` is sent back, with a valid token or without a token, then what is sent is read as the
+-- same Data.
 pub back_reads : (token : Token) (octets whole : List ℕ) (d : PlainData) → IfSome token IsToken → length whole ≤ 8800 → frame_at octets ≡ Ok (AData whole d)
     → frame_at (lp_text token None whole) ≡ Ok (AData whole d)
 back_reads None octets whole d is short read = data_alone octets whole d read

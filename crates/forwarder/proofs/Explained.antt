@@ -118,8 +118,9 @@ module _ (seen : Seen) (face now : ℕ) (octets whole : List ℕ) (i : PlainInte
   command_explained is (decided.Denied rule reason) says = one_send (IsExplained seen event) _ (reply_explained is (decided.Denied rule reason) says)
   command_explained is decided.NoRule says = one_send (IsExplained seen event) _ (reply_explained is decided.NoRule says)
 
-  -- the answer to an Interest for a list, depending on whether the requested version is the current
-  -- one
+  -- the answer to an Interest for a list, where `b` tells whether the requested version is the
+  -- current one: if `b` is true and the list has the segment, the segment; otherwise the Interest
+  -- is dropped
   abbrev by_present : Token → ListAsked → Bool → Answer
   by_present t asked b =
       if b then segment_answer face t (segment_name asked.kind seen.policy.table_number asked.segment) (segment_at (dataset_text seen.policy asked.kind) asked.segment) else dropped NoSegment
@@ -177,8 +178,8 @@ module _ (seen : Seen) (face now : ℕ) (octets whole : List ℕ) (i : PlainInte
 
 -- ---- a Data, a Nack, and all events
 
--- if the send of the Data to each face in `askers` has a property, then all sends of the list that
--- `sent_to` gives have this property
+-- Let `T` be true of all faces with tokens in `askers`. If the send of the Data to each such face
+-- has the property `P`, then all sends that `sent_to` gives have the property `P`.
 all_sent : (P : Send → Type 0) (T : ℕ × Token → Type 0) (whole : List ℕ) (askers : Askers) → All T askers
     → ((a : ℕ × Token) → IsTrue (has_face a.0 (faces_of askers)) → T a → P (sent_back a.0 a.1 whole)) → All P (sent_to askers whole)
 all_sent P T whole [] all each = All-nil P

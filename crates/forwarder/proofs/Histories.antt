@@ -1,4 +1,5 @@
--- What two runs with the same events have in common.
+-- Two runs with the same events lead to the same policy. After them, valid answers to a request
+-- are equal, and valid verdicts on a Data are equal.
 use Rattle.std.proofs.Common.{◌≡◌, ℕ, Bool, true, false, List, refl, sym, ap, subst, ◌∙◌, Result, Ok, Err}
 use Rattle.std.specs.Prelude.{Option, nat_le}
 use Rattle.std.specs.FinMap as map

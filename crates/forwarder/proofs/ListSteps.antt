@@ -26,8 +26,8 @@ use Rattle.forwarder.proofs.ReplyLengths.{segment_at_len, segment_is_short, segm
 use Rattle.forwarder.proofs.Requests.{for_list}
 use Rattle.forwarder.proofs.Uses.{list_use}
 
--- a packet that is sent back to the face that asked, and is not a Nack, leaves the records
--- unchanged
+-- if the only send is `packet`, which goes back to the face that asked, has at most 8,800 octets
+-- and is not a Nack, then the Interest has no causes
 pub back_causes : (now face : ℕ) (token : Token) (whole : List ℕ) (i : PlainInterest) (packet : List ℕ) → IfSome token IsToken → length packet ≤ 8800 → is_nack packet ≡ false
     → interest_causes now face token whole i (sent_back face token packet ∷ []) ≡ []
 back_causes now face token whole i packet is short plain =

@@ -98,8 +98,8 @@ said_guard p face packet decided.NoRule = inl refl
 
 -- ---- the table of a replay guard
 
--- each command of the signer of `r` that is later than this table's record of the signer is newer
--- than `r`
+-- if a command of the signer `r.signer` is later than the record of this signer in `table`, then
+-- the command is newer than `r`
 abbrev HasSeen : Table → Recorded → Type 0
 HasSeen table r =
     (time : ℕ) (number : Option ℕ) → IsLater (map.get table r.signer) time number → (r.time < time) × NumberRises r.number number
@@ -251,8 +251,8 @@ newer_than_all first run r newest (s ∷ records) all =
       newer_than_all first run r newest records (All-tail (IsRecordIn first run) s records all),
     )
 
--- if the guard was empty at first, then a command is fresh if its time is near the time of the
--- event, and it is newer than each earlier allowed command of its signer
+-- If the guard was empty at first, the time of the command `r` is near the time of the event, and
+-- `r` is newer than each earlier allowed command of its signer, then the command is fresh.
 pub newest_is_fresh : (first was : Policy) (run : Run) (now : ℕ) (i : PlainInterest) (r : Recorded) → first.guard ≡ map.empty → IsPolicyOf first run was → recorded_of i ≡ Some r
     → AreNear r.time (at_moment was now).now → IsNewest first run r → IsFreshCommand (at_moment was now) i
 newest_is_fresh first was run now i r none h is near newest =

@@ -1,4 +1,4 @@
--- The open faces as two lists of numbers.
+-- The open faces as two lists of numbers: all open faces, and the Local faces among them.
 use Rattle.std.proofs.Common.{◌≡◌, ℕ, suc, zero, ◌+◌, ◌<◌, ◌≤◌, Bool, true, false, cond, not, eqb, ltb, List, [], ◌∷◌, ◌++◌, length, take, Some, refl, sym, ap, subst, ◌∙◌, arith}
 use Rattle.std.specs.Prelude.{filter, slice_get, ◌||◌, ◌&&◌}
 use Rattle.std.specs.List.{AllByRecursion}
@@ -174,7 +174,7 @@ has-with_face g f (x ∷ xs) =
     swapped false true c = refl
     swapped false false c = refl
 
--- if `f` is not in the list, it is not the first face, and is not among the others
+-- if `f` is not in the list `x ∷ xs`, then `f` is not `x`, and `f` is not in `xs`
 absent_parts : (f x : ℕ) (xs : List ℕ) → has_face f (x ∷ xs) ≡ false → (eqb x f ≡ false) × (has_face f xs ≡ false)
 absent_parts f x xs e = both (eqb x f) (has_face f xs) e
   where

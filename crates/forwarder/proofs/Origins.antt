@@ -1,5 +1,4 @@
--- Each in-record of a run is from an Interest that came in the run, with the token of its link
--- packet.
+-- The Interest of each in-record of a run fits in a packet, and its token is valid.
 use Rattle.std.proofs.Common.{◌≡◌, ℕ, ◌≤◌, List, length, sym, ap, subst, ◌∙◌, inl, inr}
 use Rattle.std.specs.Prelude.{IfSome, None, Some, max}
 use Rattle.std.specs.FinMap as map
@@ -48,8 +47,8 @@ run_fits (Then past event answer) key face r is =
       | inr was ↦ run_fits past key face r was
     ]
 
--- if an in-record is still pending once time has advanced to a moment, its Interest fits in a
--- packet, and its token is valid
+-- if an in-record remains once time has advanced to `now`, its Interest fits in a packet, and its
+-- token is valid
 pub waiting_fits : (past : Run) (now : ℕ) (waiting : Pending) → IsWaiting past now waiting → AllFit (records_at waiting)
 waiting_fits past now waiting is key face r has =
     run_fits past key face r (waited_before past now key face r (sym (ap (λ (rs : Records). map.get rs.in_records face) (is.records key)) ∙ has))

@@ -20,7 +20,7 @@ slice_range-more octets more i j low high =
     let within : j - i ≤ length (drop i octets) = simp length-drop (omega arith) in
     ap (take (j - i)) (drop-append-le i octets more (omega arith)) ∙ take-append-le (j - i) (drop i octets) more within
 
--- the range from the old end to the new end contains the octets that were appended
+-- in `octets` followed by `more`, the range from the end of `octets` to the end contains `more`
 slice_range-last : (octets more : List ℕ) → slice_range (octets ++ more) (length octets) (length (octets ++ more)) ≡ more
 slice_range-last octets more =
     let all : length more ≤ length (octets ++ more) - length octets = omega (arith, length-append octets more) in
@@ -40,8 +40,8 @@ sends_of-placed octets more (f ∷ faces) =
     let one : send_of (octets ++ more) (placed (length octets) (length (octets ++ more)) f) ≡ (f, more) = ap (λ (t : List ℕ). let pair : Send = (f, t) in pair) (slice_range-last octets more) in
     let rest = sends_of-placed octets more faces in cc (one, rest)
 
--- after octets are appended and sent to these faces, an outbox has its earlier sends, and then one
--- send of these octets to each face
+-- After `more` is appended to `octets` and sent to `faces`, the outbox has its earlier sends, and
+-- then one send of `more` to each face in `faces`.
 sends_of-added : (octets more : List ℕ) (sends : List Sent) (faces : List ℕ) → AreWithin octets sends
     → sends_of (octets ++ more) (sends ++ map (placed (length octets) (length (octets ++ more))) faces) ≡ sends_of octets sends ++ map {A = ℕ} {B = Send} (λ f. (f, more)) faces
 sends_of-added octets more sends faces h =
@@ -82,9 +82,9 @@ no_more-added octets more sends faces h some =
     let sum = sum_by-append size_of sends (map (placed (length octets) (length (octets ++ more))) faces) in
     omega (arith, h, added, sum, length-append octets more)
 
--- `AreOctetsOf` remains true when octets are appended and sent to at least one face; `all` are
--- the octets afterwards, in which the appended octets are those from `start` to `end`, and
--- `after` are the sends afterwards
+-- If `AreOctetsOf` is true of `octets` and `sends`, it is also true of `all` and `after`. Here
+-- `all` is `octets` followed by `more`, which lies from `start` to `end`, and `after` is `sends`
+-- followed by the sends of `more` to at least one face.
 octets_after : (octets more all : List ℕ) (sends after : List Sent) (faces : List ℕ) (start end : ℕ)
     → start ≡ length octets → end ≡ length all → all ≡ octets ++ more → after ≡ sends ++ map (placed start end) faces
     → AreOctetsOf octets sends → 0 < length faces → AreOctetsOf all after
@@ -98,8 +98,8 @@ sends_after : (octets more all : List ℕ) (sends after : List Sent) (faces : Li
     → AreWithin octets sends → sends_of all after ≡ sends_of octets sends ++ map {A = ℕ} {B = Send} (λ f. (f, more)) faces
 sends_after octets more all sends after faces start end s e a n h = rw (n, s, e, a) (sends_of-added octets more sends faces h)
 
--- `AreOctetsOf` remains true when octets are appended, and sends of these octets to at least one
--- face are appended to the unchanged earlier sends
+-- `AreOctetsOf` remains true when `more` is appended to the octets, and the sends of `more` to at
+-- least one face are appended to the sends
 pub octets_placed : {octets all : List ℕ} (more : List ℕ) (faces : List ℕ) {sends kept after : List Sent} {start end : ℕ}
     → start ≡ length octets → end ≡ length all → all ≡ octets ++ more → kept ≡ sends → after ≡ kept ++ map (placed start end) faces
     → AreOctetsOf octets sends → 0 < length faces → AreOctetsOf all after

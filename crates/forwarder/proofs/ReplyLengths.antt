@@ -1,4 +1,5 @@
--- The greatest length of a Data whose name and Content are known.
+-- Upper bounds for the lengths of a reply and of a segment, given the lengths of the name and the
+-- Content.
 use Rattle.std.proofs.Common.{◌≡◌, ℕ, ◌+◌, ◌*◌, ◌<◌, ◌≤◌, List, [], ◌∷◌, ◌++◌, length, take, drop, ap, arith, append-nil, append_assoc}
 use Rattle.std.specs.Prelude.{Option, Some, None, Bool, true, false, nat_lt, unwrap_or, if◌then◌else◌}
 use Rattle.std.proofs.lemmas.List.{length-append, length-take}

@@ -33,8 +33,8 @@ use Rattle.forwarder.proofs.Requests.{by_request, no_command}
 use Rattle.forwarder.proofs.RunSteps.{seen_with}
 use Rattle.forwarder.proofs.Uses.{dropped_outcome}
 
--- the value after an outcome, where `command` gives the change by a command that takes effect, and
--- `closing` the change by a face that closes
+-- The value after an outcome. A command with status 200 changes the value by `command`, and a
+-- face that closes changes it by `closing`. Any other outcome leaves the value unchanged.
 abbrev pub after_by : {V : Type 0} → (Result PlainCommand ℕ → ℕ → V → V) → (ℕ → V → V) → Outcome → V → V
 after_by command closing Nothing x = x
 after_by command closing (InterestPassed from whole i) x = x
@@ -80,8 +80,9 @@ module _ {V : Type 0} (see : Routes → V) (q : Policy) (command : Result PlainC
       by_status true = done from c
       by_status false = refl
 
-  -- `after` changes the value, by the command in an Interest's name, if the verdict is Allowed
-  -- with status 200, and leaves the value unchanged for every other verdict on an Interest
+  -- If the verdict on an Interest is Allowed with status 200, then `after` changes the value by
+  -- the command in the Interest's name. For any other verdict on an Interest, `after` leaves the
+  -- value unchanged.
   command_read : (from : ℕ) (whole : List ℕ) (i : PlainInterest) (v : Verdict) (x : V)
       → cond (is_done v) (command (command_at i.name) from x) x ≡ after (packet_outcome from (AnInterest whole i) v) x
   command_read from whole i Passed x = refl

@@ -36,7 +36,7 @@ use Rattle.forwarder.specs.Effects.{IsAfter, IsEffect, after_decision, can_open,
 use Rattle.forwarder.specs.Runs.{Run, Start, Then, IsPolicyOf}
 use Rattle.forwarder.specs.Allowed.{Allows, AllowedIn}
 
--- an object is stored under this full name, with these octets
+-- the object with the full name `name` is stored, and its octets are `octets`
 abbrev Holds : Objects → List Field → List ℕ → Type 0
 Holds objects name octets = map.get objects name ≡ Some octets
 
@@ -114,7 +114,7 @@ offered s whole d name octets = by_wanted (is_wanted d.name (sha256 whole) s.wan
 
 -- ---- runs
 
--- these octets are a Data that was allowed, and `name` is its full name
+-- `octets` are a Data that was allowed, and `name` is its full name
 abbrev pub IsOfAllowed : Policy → Run → List Field → List ℕ → Type 0
 IsOfAllowed first run name octets =
     (d : PlainData) × AllowedIn first run (AData octets d) × (name ≡ full_name d.name (sha256 octets))

@@ -1,4 +1,5 @@
--- Tokens as borrowed octets, and as plain values.
+-- A property is true of a token as borrowed octets exactly if it is true of the token as a plain
+-- value.
 use Rattle.std.proofs.Common.{List, ℕ, None, Some, Option}
 use Rattle.std.specs.Prelude.{IfSome}
 use Rattle.std.specs.Borrow.{Bor}

@@ -31,14 +31,14 @@ pub record BringsPacketOn (event : PlainEvent) (face : ℕ) (packet : PlainFrame
   pub brings : event ≡ Packet face now octets
   pub read : frame_at octets ≡ Ok packet
 
--- the octets are the node's own answer to the Interest `i`: the reply to a command, or the
+-- `octets` are the node's own answer to the Interest `i`: the reply to a command, or the
 -- requested segment of a list
 abbrev pub IsOwnAnswer : Policy → ℕ → List ℕ → PlainInterest → List ℕ → Type 0
 IsOwnAnswer p face asked i octets =
     IsReplyToCommand p face asked i octets ⊎ IsSegmentAskedFor p face i octets
 
--- the Data answers this Interest and came in an earlier event that allowed the Data, or the Data is
--- the node's own answer to this Interest
+-- the Data `d` answers the Interest `i` and came in an earlier event that allowed it, or `whole`
+-- is the node's own answer to `i`
 abbrev pub AnswersNow : Policy → Run → Policy → ℕ → List ℕ → PlainInterest → List ℕ → PlainData
     → Type 0
 AnswersNow first past p face asked i whole d =
@@ -46,10 +46,11 @@ AnswersNow first past p face asked i whole d =
     × AllowedIn first past (AData whole d))
     ⊎ IsOwnAnswer p face asked i whole
 
--- After a run that leaves the policy `was`, the face asked for this Data. Either the event brings
--- and allows the Data, which answers a pending Interest of the face; or the event brings an
--- Interest on this face, and the Data was allowed in an earlier event and answers that Interest,
--- or the Data is the node's own answer to that Interest.
+-- After a run that leaves the policy `was`, the face asked for this Data. There are three cases.
+-- The event brings and allows the Data, which answers a pending Interest of the face. Or the
+-- event brings an Interest on this face, and the Data answers it and was allowed in an earlier
+-- event. Or the event brings an Interest on this face, and the Data is the node's own answer to
+-- it.
 abbrev pub WasAskedFor : Policy → Run → Policy → PlainEvent → ℕ → List ℕ → PlainData → Type 0
 WasAskedFor first past was event face whole d =
     (Allows was event (AData whole d)

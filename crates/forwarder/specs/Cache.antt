@@ -34,9 +34,9 @@ held_from now whole d = record {
   arrival = now;
 }
 
--- How an allowed command that was answered with this status uses the cache, given the command that
--- its name encodes: an erase with status 200 erases Data. A name under the repository's prefix does
--- not encode an erase.
+-- How an allowed command that was answered with `status` uses the cache, given the command that
+-- its name encodes. An erase with status 200 erases Data. In all other cases the cache is
+-- unchanged.
 abbrev pub command_use : Result PlainCommand ℕ → ℕ → CacheUse
 command_use (Err refused) status = Untouched
 command_use (Ok c) status = elim c.action [
@@ -66,10 +66,10 @@ abbrev pub MayForget : StoreState → StoreState → Type 0
 MayForget old new =
     All (λ c. Contains old.cached c) new.cached × (new.capacity ≡ old.capacity)
 
--- The cache after a use. A Data that is served becomes the most recently used. If some face waits
--- for an inserted Data, either the Data is cached, or it is not cached and some cached Data may be
--- dropped; if no face waits for it, the cache is unchanged. An erase removes Data as the content
--- store's erase does.
+-- The cache after a use. The use `Untouched` changes nothing. A Data that is served becomes the
+-- most recently used. If some face waits for an inserted Data, either the Data is cached, or it
+-- is not cached and some cached Data may be dropped or reordered; if no face waits for it, the
+-- cache is unchanged. An erase removes Data as the content store's erase does.
 abbrev pub CacheAfter : ℕ → Pending → CacheUse → StoreState → StoreState → Type 0
 CacheAfter now waiting Untouched old new = new ≡ old
 CacheAfter now waiting (LooksUp key) old new =
@@ -81,8 +81,8 @@ CacheAfter now waiting (Erases name count) old new =
     ((gone : ℕ) × IsErased name count old.cached new.cached gone)
     × (new.capacity ≡ old.capacity)
 
--- The use is an erase without Count, of a name that is a prefix of the full name of `c`, so it
--- removes `c`. An erase with Count is left out: the event does not determine which Data it
+-- The use is an erase without Count, and its name is a prefix of the full name of `c`, so the
+-- erase removes `c`. An erase with Count is left out: the event does not determine which Data it
 -- removes.
 abbrev pub TakesAway : CacheUse → CachedData → Type 0
 TakesAway Untouched c = ⊥

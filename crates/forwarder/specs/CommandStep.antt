@@ -12,7 +12,7 @@ use Rattle.forwarder.specs.Commands.{after_request, allowed_reply, replied, with
 use Rattle.forwarder.specs.Node.{NodeState}
 use Rattle.forwarder.specs.State.{IsLater, state_of}
 
--- how an allowed command uses the cache; a command to the repository does not use the cache
+-- how an allowed command uses the cache; only a command under /localhost/nfd may use it
 abbrev pub request_use : PlainInterest → ℕ → Request → CacheUse
 request_use i status (Refused reason) = Untouched
 request_use i status (ForList asked) = Untouched

@@ -58,8 +58,8 @@ tables_reply p face c =
     let status = tables_status p face c in
     response status (unwrap_or (text_of status) []) (tables_body p face c)
 
--- the policy after the command: its routes and strategies are those that the command leaves, and
--- the lists have their next version
+-- The policy after the command. The lists get their next version. If the status is 200, the
+-- routes and strategies are those that the command leaves; otherwise they are unchanged.
 abbrev pub after_tables : Policy → ℕ → Result PlainCommand ℕ → Policy
 after_tables p face (Err status) = with_next_version p
 after_tables p face (Ok c) =
@@ -100,9 +100,9 @@ abbrev pub to_chosen : Choice → List ℕ → List Send
 to_chosen choices.NoRoute text = []
 to_chosen (choices.Send faces) text = to_each faces text
 
--- The sends of the node's Interest to the faces that the strategy chooses; there are none if the
--- Interest cannot be encoded. For the strategy, the Interest came from no face and was not sent
--- before.
+-- The sends of the node's Interest to the faces that the strategy chooses. There are none if no
+-- Data is wanted or the Interest cannot be encoded. For the strategy, the Interest came from no
+-- face and was not sent before.
 abbrev pub fetch_sends : Policy → List ℕ → Option Want → List Send
 fetch_sends p nonce None = []
 fetch_sends p nonce (Some want) =
@@ -117,7 +117,8 @@ pub record Reply : Type 0 where
   pub content : List ℕ
   pub fetches : List Send
 
--- the reply to an allowed request; a request that rules do not decide has no reply
+-- the reply to an allowed command; for a request that is not a command, the reply is empty and
+-- has the status 0
 abbrev pub allowed_reply : Policy → ℕ → PlainInterest → Request → Reply
 allowed_reply p face i (Refused reason) = record { status = 0; content = []; fetches = [] }
 allowed_reply p face i (ForList asked) = record { status = 0; content = []; fetches = [] }
@@ -199,7 +200,8 @@ abbrev pub with_record : Policy → Option Recorded → Policy
 with_record p None = p
 with_record p (Some r) = record p { guard = with_recorded p.guard r }
 
--- the policy after the effect of an allowed command, which is not yet recorded in the guard
+-- The policy after the effect of an allowed command, which is not yet recorded in the guard. A
+-- request that is not a command has no effect.
 abbrev pub after_request : Policy → ℕ → PlainInterest → Request → Policy
 after_request p face i (Refused reason) = p
 after_request p face i (ForList asked) = p

@@ -46,20 +46,21 @@ pub record IsForwardedData (seen : Seen) (event : PlainEvent) (sent : Send) : Ty
   pub is_token : IsTokenFor seen.records packet.name (sha256 whole) sent.0 token
   pub received : sent ≡ sent_back sent.0 token whole
 
--- these octets are the reply to a command, given a decision on the command
+-- `octets` are the reply to the command in the Interest `i`, for some decision on this command
 abbrev pub IsReplyToCommand : Policy → ℕ → List ℕ → PlainInterest → List ℕ → Type 0
 IsReplyToCommand p face whole i octets =
     (is_command (request_of p face i) ≡ true)
     × ((decision : Decision) × IsDecidedAs p (AnInterest whole i) decision
     × (octets ≡ reply_text i.name (reply_content p face i decision)))
 
--- these octets are the requested segment of the list, as the list is now
+-- the Interest `i` asks for a segment of a list, and `octets` are this segment, as the list is
+-- now
 abbrev pub IsSegmentAskedFor : Policy → ℕ → PlainInterest → List ℕ → Type 0
 IsSegmentAskedFor p face i octets =
     (asked : ListAsked) × (list_asked i ≡ Some asked)
     × (list_answer p face None asked ≡ passed ((face, octets) ∷ []))
 
--- these octets are a Data that answers the Interest at once: from the cache, from the repository,
+-- `octets` are a Data that answers the Interest `i` at once: from the cache, from the repository,
 -- or made by the node itself
 abbrev pub IsAtHand : Seen → ℕ → List ℕ → PlainInterest → List ℕ → Type 0
 IsAtHand seen face whole i octets =

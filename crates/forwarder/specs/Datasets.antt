@@ -41,7 +41,8 @@ abbrev pub is_present : Policy → Option ℕ → Bool
 is_present p None = true
 is_present p (Some version) = version == p.table_number
 
--- how an Interest for a segment is answered
+-- The answer to an Interest for a segment. The segment of the current list is sent if it exists
+-- and the Interest requests the current version or no version. Otherwise the Interest is dropped.
 abbrev pub list_answer : Policy → ℕ → Token → ListAsked → Answer
 list_answer p face token asked =
     if is_present p asked.version

@@ -53,8 +53,8 @@ IsFreshPacket p (AData whole d) = ⊤
 IsFreshPacket p (ANack reason whole i) = ⊤
 IsFreshPacket p Idle = ⊤
 
--- The first rule that applies decides. If that rule allows a command that is not fresh, the command
--- is denied as a replay by that rule.
+-- The first rule that applies decides; if none applies, the decision is NoRule. If the rule
+-- allows a command that is not fresh, the command is denied as a replay by that rule.
 abbrev pub IsDecidedAs : Policy → PlainFrame → Decision → Type 0
 IsDecidedAs p packet (Allowed rule) =
     Decides p.rules p.keys packet (Allowed rule) × IsFreshPacket p packet

@@ -30,7 +30,8 @@ abbrev pub with_open : Policy → ℕ → Scope → Policy
 with_open p face scope =
     if can_open p face then record p { faces = with_face face scope p.faces } else p
 
--- an open face closes: its next hops and routes are removed, and the lists get their next version
+-- the policy after a face closes: if the face was open, it is removed with its next hops and
+-- routes, and the lists get their next version; if it was not open, nothing changes
 abbrev pub with_closed : Policy → ℕ → Policy
 with_closed p face =
     if is_open face p.faces then with_next_version (record p {
@@ -51,8 +52,8 @@ decided_packet p (FaceDown face now) = None
 decided_packet p (Tick now) = None
 decided_packet p (NewRules rules keys now) = None
 
--- the policy after an allowed packet: a command has its effect, and a Data is stored if the
--- repository wants it
+-- the policy after an allowed packet: a command has its effect, a Data is stored if the
+-- repository wants it, and any other packet changes nothing
 abbrev pub after_packet : Policy → ℕ → PlainFrame → Policy
 after_packet p face (AnInterest whole i) = after_allowed p face i
 after_packet p face (AData whole d) =
@@ -81,7 +82,8 @@ undecided_effect p (FaceDown face now) = with_closed p face
 undecided_effect p (Tick now) = p
 undecided_effect p (NewRules rules keys now) = with_rules p rules keys
 
--- what an event changes once time has advanced to the event's moment
+-- `new` is the policy after the effect of `event` on the policy `p`; the last argument is the
+-- packet of the event, if rules decide it
 abbrev pub IsEffect : Policy → PlainEvent → Policy → Option PlainFrame → Type 0
 IsEffect p event new None = new ≡ undecided_effect p event
 IsEffect p event new (Some packet) =

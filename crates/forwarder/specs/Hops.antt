@@ -16,8 +16,8 @@ use Rattle.forwarder.specs.Runs.{Run, Start, Then}
 abbrev pub names_hop : PlainCommand → ℕ → List Field → ℕ → Bool
 names_hop c from name face = eq_by_cmp name_cmp name c.name && (face == face_of c from)
 
--- the cost of a next hop after a command that took effect: add-nexthop for this next hop sets the
--- cost, and remove-nexthop for this next hop removes the next hop
+-- The cost of a next hop after a command that took effect. An add-nexthop for this next hop sets
+-- the cost, and a remove-nexthop for it removes the next hop. Any other command changes nothing.
 abbrev pub cost_after_command : Result PlainCommand ℕ → ℕ → List Field → ℕ → Option ℕ → Option ℕ
 cost_after_command (Err status) from name face was = was
 cost_after_command (Ok c) from name face was =

@@ -88,7 +88,9 @@ NeedsNoMemory p face (Ok (AData whole d)) =
 NeedsNoMemory p face (Ok (ANack reason whole i)) = is_out_of_scope p face i.name ≡ true
 NeedsNoMemory p face (Ok Idle) = ⊤
 
--- the events that need no memory, depending on the node before the event
+-- The events that need no memory if `old` is the node before the event. Of the packets, these are
+-- the ones on a face that is not open and those of `NeedsNoMemory`. All other kinds of events
+-- need no memory.
 abbrev pub AsksNoMemory : NodeState → PlainEvent → Type 0
 AsksNoMemory old (Packet face now octets) =
     (is_open face old.policy.faces ≡ false) ⊎ NeedsNoMemory old.policy face (frame_at octets)

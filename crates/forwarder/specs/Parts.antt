@@ -20,7 +20,8 @@ abbrev pub is_bad_prefix : List Field → Bool
 is_bad_prefix [] = true
 is_bad_prefix (c ∷ cs) = is_localhost c
 
--- the fault of the repository's prefix or of the cache's capacity, if one of them has a fault
+-- the fault of the repository's prefix or, if the prefix has none, of the cache's capacity; None
+-- if neither has a fault
 abbrev pub parts_fault : List Field → ℕ → Option NodeFault
 parts_fault repo cache =
     if is_bad_prefix repo then Some BadRepoPrefix else (

@@ -184,7 +184,8 @@ RepliesToNack seen face reason i answer =
     IfTrueElse (is_out_of_scope seen.policy face i.name) (answer ≡ dropped OutOfScope)
     (answer ≡ nack_answer r.in_records (nacked_answer r face i.nonce reason))
 
--- the answer to a packet; a token that comes with a Data or a Nack is ignored
+-- The answer to octets, given the result of reading them as a packet. Malformed octets and a link
+-- packet without a packet are dropped. A token that comes with a Data or a Nack is ignored.
 abbrev pub RepliesToPacket : Seen → ℕ → Token → Result PlainFrame PacketFault → Answer → Type 0
 RepliesToPacket seen face token (Err fault) answer = answer ≡ dropped (Malformed fault)
 RepliesToPacket seen face token (Ok (AnInterest whole i)) answer =

@@ -17,7 +17,8 @@ abbrev pub unless_refused : Option WriteFault → List Send → List Send
 unless_refused None sends = sends
 unless_refused (Some fault) sends = []
 
--- the sends of an Interest of the node itself to each of these faces
+-- the sends of the node's own Interest to each of these faces; no sends if the Interest cannot be
+-- written
 abbrev pub fetched : List ℕ → InterestWriter → List Send
 fetched faces w = unless_refused (interest_refusal w) (to_each faces (interest_text w))
 

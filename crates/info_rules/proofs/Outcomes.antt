@@ -1,4 +1,5 @@
--- Results and decisions, as the specification sees them.
+-- Decisions and refusals about a packet as the code sees it (`seen_of`) are decisions and refusals
+-- about the packet's frame (`frame_of`).
 use Rattle.std.proofs.Common.{◌≡◌, ℕ, List, get_or, subst, sym}
 use Rattle.std.specs.Prelude.{Result, Ok, Err, IfOk, MatchResult}
 use Rattle.hmac_keys.specs.KeyFile.{NamedKey}

@@ -1,4 +1,5 @@
--- An event with another time.
+-- If only the time of an event is changed, the event has the same effect on a policy at the new
+-- time, and is journalled or not as before.
 use Rattle.std.proofs.Common.{◌≡◌, ℕ, Bool, refl, sym, ap, subst, ◌∙◌}
 use Rattle.std.specs.Prelude.{Option, Some, None}
 use Rattle.ndn_packets.specs.Packet.{PlainFrame}

@@ -1,4 +1,4 @@
--- Lines that are replayed one after another.
+-- Lines that are replayed one after another, and the policy that they restore.
 use Rattle.std.proofs.Common.{◌≡◌, ◌≢◌, ℕ, suc, ◌+◌, ◌-◌, ◌≤◌, inl, inr, Bool, true, false, cond, List, [], ◌∷◌, ◌++◌, length, map, take, append_assoc, append-nil, length-append, arith, refl, sym, ap, subst, ◌∙◌}
 use Rattle.std.specs.Prelude.{◌==◌, ◌*◌, All, Option, None, Some, IfSome}
 use Rattle.std.specs.Io.{StopsAt}

@@ -44,8 +44,8 @@ texts_join (event ∷ journal) added text more h k =
 
 -- ---- a prefix of a text
 
--- the prefix `left` of a text has the whole first line, and `more` after it; `lost` are the octets
--- of the text after `left`
+-- `left` is `line`, an LF and `more`, and `rest` is `more` followed by `lost`. So `left` is a
+-- prefix of the text `line`, LF, `rest`, and has the whole first line of this text.
 pub record HoldsLine (line rest left lost : List ℕ) : Type 0 where
   pub more : List ℕ
   pub front : left ≡ line ++ (10 ∷ more)

@@ -52,7 +52,8 @@ pub record CutsLine (text : List ℕ) (new : Option (List ℕ)) (time : ℕ) (e 
   pub parts : entry_text time e ≡ front ++ back
   pub grown : new ≡ Some (text ++ front)
 
--- The event is journalled, and a prefix of its line was written, possibly nothing.
+-- The event is journalled, and a prefix of its line was written, possibly nothing. Nothing is
+-- claimed if the content of the journal is not known.
 abbrev pub FailsToJournal : Option (List ℕ) → Option (List ℕ) → ℕ → Coming → Verdict → Type 0
 FailsToJournal None new time coming verdict = ⊤
 FailsToJournal (Some text) new time coming verdict =

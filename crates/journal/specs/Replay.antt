@@ -15,9 +15,9 @@ use Rattle.journal.specs.declared.replaying.ReplayFault.TheVariants as fault
 use Rattle.journal.specs.Journal.{AreOneFrom, IsJournalOf}
 use Rattle.journal.specs.Text.{IsTextOf, Survives}
 
--- The events of these lines were answered in order and led from the old node to the new one. If the
--- old node agrees with a run, appending the events gives a valid run, and the new node agrees with
--- it.
+-- The events of these lines were answered in order and led from the old node to the new one. If
+-- the old node agrees with a valid run, then this run followed by the events is valid, and the
+-- new node agrees with the longer run.
 pub record Plays (lines : List (List ℕ)) (events : List PlainEvent)
     (old new : NodeState) : Type 0 where
   pub are_lines : AreLines lines

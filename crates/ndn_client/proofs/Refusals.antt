@@ -1,4 +1,4 @@
--- What the fault of a packet writer tells about the packet that a job asks for.
+-- If writing the packet that a job asks for has a fault, then this fault is correct for the job.
 use Rattle.std.proofs.Common.{List, refl, inl, inr}
 use Rattle.hmac_keys.specs.KeyFile.{NamedKey}
 use Rattle.ndn_packets.specs.declared.fault.WriteFault.{WriteFault}

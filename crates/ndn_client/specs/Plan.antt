@@ -34,7 +34,7 @@ input_form (job.Explain asked) = if is_none asked.packet then Lines else Nothing
 input_form (job.Send asked) = if is_none asked.packet then Packet else Nothing
 input_form asked = Nothing
 
--- the ports that the job's packet is sent to and from
+-- the ports that the job's packet is sent to and from; no ports if the job sends no packet
 abbrev pub ports_of : Job → Ports
 ports_of (job.Command asked) = asked.stamp.ports
 ports_of (job.Ask asked) = asked.ports
@@ -77,7 +77,7 @@ IsRequest asked book input packet = packet.items ≡ []
 
 -- ---- plans
 
--- A job with a port to send to is an exchange with that port.
+-- `x` is the exchange of a job with the port that the job's packet is sent to.
 pub record IsExchange (asked : Job) (book : List NamedKey) (input : List ℕ) (x : Exchange) : Type 0
   where
     pub request : IsRequest asked book input x.request

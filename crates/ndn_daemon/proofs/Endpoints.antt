@@ -1,4 +1,4 @@
--- A text spells at most one endpoint.
+-- A text spells at most one endpoint, and some texts spell none.
 use Rattle.std.proofs.Common.{◌≡◌, ℕ, ◌<◌, List, ◌∷◌, ◌++◌, length, get_or, length-append, codes, true, false, refl, ap, ◌∙◌, arith, rules, inl, inr}
 use Rattle.std.specs.Str.Parse.{IsNumeral}
 use Rattle.std.specs.Fmt.{digits}

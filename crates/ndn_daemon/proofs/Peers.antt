@@ -1,4 +1,4 @@
--- Peers that are read one after another.
+-- The texts of peers are read one after another. They spell at most one list of endpoints.
 use Rattle.std.proofs.Common.{◌≡◌, ◌≢◌, ℕ, ◌+◌, ◌<◌, ◌≤◌, List, [], ◌∷◌, ◌++◌, length, true, false, refl, sym, ap, subst, ◌∙◌, arith, below_more, length-append}
 use Rattle.std.specs.Prelude.{AllPairs, Option, None, Some, slice_index_or}
 use Rattle.std.specs.declared.net.socket_addr.SocketAddr.{SocketAddr}
@@ -66,12 +66,12 @@ pub same_local : (texts : List (List ℕ)) (a b held : List SocketAddr) (d : Soc
 same_local texts a b held d first second holds text local h = subst (λ ps. IsLocal text ps local) (same_endpoints d texts a b first second ∙ sym holds) h
 
 module _ (texts : List (List ℕ)) (i : ℕ) (text : List ℕ) (is : (d : List ℕ) → slice_index_or texts i d ≡ text) (inside : i < length texts) where
-  -- if all texts spell endpoints, then this text spells an endpoint
+  -- if all texts spell endpoints, then `text`, the text at index `i`, spells an endpoint
   pub endpoint_at : (endpoints : List SocketAddr) → AreEndpoints texts endpoints → (e : SocketAddr) × IsEndpoint text e
   endpoint_at endpoints are = let d = some_item endpoints (omega (arith, are.many, inside)) in (slice_index_or endpoints i d, subst (λ t. IsEndpoint t (slice_index_or endpoints i d)) (is []) (spelled_at texts endpoints are i d inside))
 
-  -- if an earlier text spells the same endpoint as this text, then the texts do not spell a valid
-  -- list of endpoints
+  -- If `text` spells the endpoint `e`, and one of the `i` texts before it also spells `e`, then
+  -- the texts do not spell a valid list of endpoints.
   pub twice : (e : SocketAddr) (so_far : List SocketAddr) → SoFar texts i so_far → IsEndpoint text e
       → (k : ℕ) × (k < length so_far) × ((d : SocketAddr) → (socket.ghosts).eq (slice_index_or so_far k d) e ≡ true)
       → (endpoints : List SocketAddr) → AreEndpoints texts endpoints → ⊥

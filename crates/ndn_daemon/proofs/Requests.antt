@@ -1,4 +1,5 @@
--- The properties of a request that was read.
+-- The properties of a request that was read from a command line, and of the fault if none was
+-- read.
 use Rattle.std.proofs.Common.{◌≡◌, ℕ, List, Bool, true, Result, Ok, Err, IfOk, IfErr, codes, eqb}
 use Rattle.std.specs.Cmp.Lexicographic.{pointwise}
 use Rattle.std.proofs.lemmas.Slice.Eq.{slice_eq-Decides}
@@ -59,8 +60,8 @@ is_word word other same h found = (slice_eq-Decides Decides-eqb word other same 
 differ_udp : (name : List ℕ) → name ≡ codes "udp" → name ≡ codes "journal" → ⊥
 differ_udp name udp journal = cc (udp, journal)
 
--- The next two lemmas: a request of the subcommand `udp`, or `journal`, has the options of this
--- subcommand.
+-- The next two lemmas: if `rows` spell a request of the subcommand `udp`, or `journal`, then they
+-- spell options of this subcommand.
 
 pub udp_part : (name : List ℕ) (rows : List Row) → name ≡ codes "udp"
     → (r : Request) → IsRequest name rows r → (options : UdpOptions) × IsUdpOptions rows options

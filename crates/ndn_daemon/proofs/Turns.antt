@@ -100,9 +100,9 @@ pub served_until : (old new : NodeState) (before after : Shown) (turns : ℕ) (r
 served_until old new before after turns (Ok done) h = (after, h)
 served_until old new before after turns (Err why) h = tt
 
--- If a journal was replayed, and a success means that turns were then served at ports whose
--- journal has the octets that the replay kept, then a success means that `TakesLaterTurns` is
--- true.
+-- Let a journal be replayed, which leads to the node `begun` and keeps the octets `kept`. If a
+-- success means that turns were then served at ports whose journal has the octets `kept`, then a
+-- success means that `TakesLaterTurns` is true.
 pub later_turns : (unread kept : Option (List ℕ)) (turns : ℕ) (old begun new : NodeState) (before : Shown) (r : Result (Unit {0}) Fault) → (done : Replayed) × ReplaysJournal unread kept old begun done
     → before.journal ≡ kept → OnOk r ((after : Shown) × ServesTurns begun new before after turns) → OnOk r (TakesLaterTurns unread turns old new)
 later_turns unread kept turns old begun new before (Ok done) replayed same h = record {

@@ -23,9 +23,9 @@ RestoresFrom None kept old new done = ⊤
 RestoresFrom (Some text) kept old new done =
     RestoresRuns old new text done × (kept ≡ Some (take done.whole text))
 
--- A journal with the octets `unread` was replayed, and `kept` are its octets after the replay.
--- `read` are the octets that the reader of the journal had not read before the replay, and `left`
--- are the octets that it had not read after the replay.
+-- A journal was replayed. `unread` are its octets before the replay, if they are known, and `kept`
+-- are its octets after the replay. The reader of the journal still had the octets `read` to read
+-- before the replay, and the octets `left` after the replay.
 pub record ReplaysJournal (unread kept : Option (List ℕ)) (old new : NodeState) (done : Replayed)
     : Type 0 where
   pub read : Option (List ℕ)

@@ -129,7 +129,8 @@ asked_lines name (Some fields) =
     named_line (codes "command") (uri_of (take (length name - 2) name))
     ++ field_lines (elements_of fields)
 
--- the lines of an Interest with this name, if it is a command
+-- the lines of an Interest with this name, if the name has the parameters of a command; otherwise
+-- no lines
 abbrev pub command_lines : List Field → List ℕ
 command_lines name = asked_lines name (parameters_in name)
 

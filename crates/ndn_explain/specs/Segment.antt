@@ -13,7 +13,7 @@ use Rattle.ndn_explain.specs.Show.{named_line}
 abbrev pub number_in : List ℕ → Option ℕ
 number_in value = result_ok (nni_at value)
 
--- the number in a segment component
+-- the number in a segment component, or None for any other component and for no component
 abbrev pub number_of : Option Field → Option ℕ
 number_of None = None
 number_of (Some c) = if c.0 == SEGMENT then number_in c.1 else None
@@ -36,7 +36,7 @@ segment_line (Some segment) (Some last) =
     named_line (codes "segment") (decimal segment ++ (codes " last " ++ decimal last))
 segment_line segment last = []
 
--- the line of a Data with this name and these octets, if the Data is a segment and gives the number
--- of the last segment
+-- the line of a Data with this name and these octets; no line if the Data is not a segment or
+-- does not give the number of the last segment
 abbrev pub segment_lines : List Field → List ℕ → List ℕ
 segment_lines name whole = segment_line (segment_of name) (last_segment whole)

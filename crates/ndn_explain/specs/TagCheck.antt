@@ -24,7 +24,8 @@ IsValueCheck value right Wrong = value ≢ right
 IsValueCheck value right UnknownKey = ⊥
 IsValueCheck value right Unchecked = ⊥
 
--- the result of checking an HMAC under the key with this name
+-- the result of checking an HMAC under the key with this name; it is UnknownKey if the book has
+-- no such key
 abbrev pub IsNamedCheck : List Field → List NamedKey → List ℕ → List ℕ → TagCheck → Type 0
 IsNamedCheck name book value octets UnknownKey = (key : List ℕ) → IsAmong (name, key) book → ⊥
 IsNamedCheck name book value octets check =

@@ -41,8 +41,9 @@ IsListedJob now words name rows (Ask job) =
     (is_list rows ≡ true) × IsListJob now words name rows job
 IsListedJob now words name rows job = ⊥
 
--- the job that the options of a subcommand with this name ask for, at this time and with these
--- words; `route`, `strategy`, `cache` and `repo` are short forms of `command`
+-- the job that the options `rows` of the subcommand, whose name is `name`, ask for at the time
+-- `now` with the words `words`; `route`, `strategy`, `cache` and `repo` are short forms of
+-- `command`
 abbrev pub IsJobFor : Subcommand → ℕ → List ℕ → List ℕ → List Row → Job → Type 0
 IsJobFor sub.Interest now words name rows (Interest job) = IsLinkJob rows job
 IsJobFor sub.Data now words name rows (Data job) = IsDataJob rows job

@@ -40,7 +40,7 @@ signature_in (Some (AData whole d)) = Some d.signature
 signature_in (Some (ANack reason whole i)) = i.signature
 signature_in (Some Idle) = None
 
--- the name in a KeyLocator (NDN Packet Format 0.3, "KeyLocator")
+-- the name in a KeyLocator, or None if it contains no name (NDN Packet Format 0.3, "KeyLocator")
 abbrev pub named_by : PlainLocator → Option (List Field)
 named_by Missing = None
 named_by (KeyName name) = Some name
@@ -51,7 +51,7 @@ abbrev pub signer_of : Option PlainSignature → Option (List Field)
 signer_of None = None
 signer_of (Some signature) = named_by signature.info.locator
 
--- the name of the key in a packet's KeyLocator
+-- the name of the key in a packet's KeyLocator, or None if there is none
 abbrev pub key_of : Option PlainFrame → Option (List Field)
 key_of frame = signer_of (signature_in frame)
 

@@ -105,7 +105,8 @@ IsListed old list turn (Ok (ANack reason whole i)) new progress =
 IsListed old list turn (Ok Idle) new progress = (new ≡ old) × (progress ≡ Ignored)
 IsListed old list turn (Err why) new progress = (new ≡ old) × (progress ≡ Ignored)
 
--- whether a request asks for the first segment of a list, and the Nonce of the request
+-- whether a request asks for the first segment of a list, and the Nonce of the request; None if
+-- the request is not an Interest
 abbrev pub turn_of : Result PlainFrame PacketFault → Option Turn
 turn_of (Ok (AnInterest whole i)) = Some (record { is_first = i.can_be_prefix; nonce = i.nonce })
 turn_of (Ok (AData whole d)) = None

@@ -24,7 +24,7 @@ in_turn is_first (Some segment) (Some last) =
 in_turn is_first segment last = None
 
 -- the number of the segment in a Data with this name and these octets, and the number of the last
--- segment
+-- segment, or None as in `in_turn`
 abbrev pub place_of : Bool → List Field → List ℕ → Option (ℕ × ℕ)
 place_of is_first name whole = in_turn is_first (segment_of name) (last_segment whole)
 

@@ -30,7 +30,8 @@ Outcome = Result Unit Failure
 
 -- ---- statuses
 
--- the StatusCode in a Content that is a single element of the type `response`
+-- the StatusCode in a Content that is a single element of the type `response`, or None if the
+-- Content has none
 abbrev pub code_in : ℕ → ℕ → List ℕ → Option ℕ
 code_in response kind content =
     option_and_then (λ value. result_ok (nni_at value))
@@ -92,8 +93,8 @@ abbrev pub is_same_name : List Field → List Field → Bool
 is_same_name a b = bytes_eq (octets a) (octets b)
 
 -- The outcome of a request, given a Data that answers its Interest. If the Interest is not a
--- command, the Data is accepted. If it is a command, the Data must also have the command's name and
--- a right signature.
+-- command, the Data is accepted. If it is a command, the Data must also have the command's name
+-- and a right signature; otherwise there is no outcome.
 abbrev pub data_outcome : PlainInterest → PlainData → Option TagCheck → Option Outcome
 data_outcome asked d check =
     if is_command asked.name
@@ -179,8 +180,10 @@ is_local (Ok (ANack reason whole i)) = false
 is_local (Ok Idle) = false
 is_local (Err why) = false
 
--- why no answer came to a request that was sent from the port `from`, or from a new port if `from`
--- is absent; `is_closed` tells whether no program listens on the destination port
+-- Why no answer came to a request that was sent from the port `from`, or from a new port if
+-- `from` is absent. If `is_closed` is true, the reason is `Closed`: no program listens on the
+-- destination port. Otherwise, if `from` is absent and the request's name is under `/localhost`,
+-- the reason is `Far`; else it is `Late`.
 abbrev pub silence_of : List ℕ → Option ℕ → Bool → Silence
 silence_of request from is_closed =
     if is_closed then Closed else (

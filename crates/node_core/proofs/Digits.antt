@@ -6,7 +6,8 @@ use Rattle.hex.specs.Hex.{decode_pairs, digit_or_error, hex_digit_value, is_hex_
 use Rattle.hex.proofs.Pairs.{prepend, decode_step}
 use Rattle.hex.proofs.HexLemmas.{decode_pairs-ok}
 
--- `value` is the value of a digit, which is below 16, or 255 if the octet is not a digit
+-- If `o` is the value of a digit, `value` is this value, which is below 16. If `o` is None, since
+-- the octet is not a digit, `value` is 255.
 abbrev pub IsValue : Option ℕ → ℕ → Type 0
 IsValue o value = MatchOption o (value ≡ 255) (λ v. (value ≡ v) × (v < 16))
 

@@ -1,4 +1,4 @@
--- Known octets of writers and readers, as they are written and read.
+-- How writing and reading known octets in two steps amounts to one step.
 use Rattle.std.proofs.Common.{ℕ, List, [], ◌++◌, refl, sym, ap, ◌∙◌, append_assoc, append-nil}
 use Rattle.std.specs.Prelude.{Option, Some, None}
 use Rattle.std.specs.Io.KnownBytes.{Appends, Consumes, Keeps}

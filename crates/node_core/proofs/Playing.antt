@@ -1,4 +1,4 @@
--- Lines that were run one after another.
+-- How the run of several lines follows from the runs of single lines, and how a run stops.
 use Rattle.std.proofs.Common.{◌≡◌, ℕ, suc, ◌+◌, ◌<◌, ◌≤◌, inl, inr, List, [], ◌∷◌, ◌++◌, length, refl, sym, ap, ◌∙◌, arith, append_assoc, append-nil, length-append, Result, Ok, Err, subst}
 use Rattle.std.proofs.Common.{Bool, true, false, ◌==◌, eq-eqb}
 use Rattle.std.proofs.lemmas.Bool.{eqb-true}
@@ -322,7 +322,8 @@ gathered_front : (a text : List ℕ) (held holds : Option (List ℕ)) → Append
 gathered_front a text held holds h k =
     (k.0, k.1 ++ h.1, h.2 ∙ ap (λ (t : List ℕ). t ++ h.1) (sym h.3 ∙ k.2) ∙ append_assoc k.0 k.1 h.1, k.3)
 
--- a prefix that is shorter than the text is a prefix of the text without its last octet
+-- if `xs` followed by `a` begins with `ys` and has at least one more octet, then `xs` begins with
+-- `ys`
 init_after : (xs ys zs : List ℕ) (a z : ℕ) → xs ++ (a ∷ []) ≡ ys ++ (z ∷ zs) → (rest : List ℕ) × (xs ≡ ys ++ rest)
 init_after xs [] zs a z h = (xs, refl)
 init_after [] (y ∷ ys) zs a z h = absurd (let e = ap length h in omega (arith, e, length-append ys (z ∷ zs)))

@@ -1,4 +1,4 @@
--- The words of a line.
+-- The words of an event's line, and lines that spell no event.
 use Rattle.std.proofs.Common.{◌≡◌, ℕ, ◌*◌, ◌<◌, ◌^◌, ◌%◌, List, [], ◌∷◌, ◌++◌, length, get_or, refl, sym, ap, subst, ◌∙◌, arith, Ok, Err, Result, codes}
 use Rattle.std.specs.Fmt.{decimal}
 use Rattle.std.proofs.Common.{◌==◌, Bool, true, false, cond}

@@ -42,8 +42,8 @@ run_from past (event ∷ events) (Answered answer ∷ outcomes) =
     run_from (Then past event answer) events outcomes
 run_from past (event ∷ events) (NoMemory ∷ outcomes) = run_from past events outcomes
 
--- if the old node agrees with a run, appending the events and their answers gives a valid run, and
--- the new node agrees with that run
+-- if the old node agrees with a valid run, then this run followed by the events and their answers
+-- is valid, and the new node agrees with the longer run
 abbrev pub ExtendsRuns : NodeState → List PlainEvent → List Outcome → NodeState → Type 0
 ExtendsRuns old events outcomes new =
     (first : Policy) (past : Run) → first.now ≡ 0 → IsRun first past → Stands first past old

@@ -1,4 +1,5 @@
--- Recording datagrams from clients, which may be idle.
+-- When `HearsInTime` is true: for a client that is not idle, for an idle client, and for an
+-- endpoint that is not a client.
 use Rattle.std.proofs.Common.{◌≡◌, ℕ, ◌<◌, List, length, position, slice_get, slice_set, slice_index_or, refl, inl, inr}
 use Rattle.std.specs.Prelude.{Option, Some, None}
 use Rattle.std.proofs.lemmas.Option.{slice_get-get_or}

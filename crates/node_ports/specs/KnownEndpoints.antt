@@ -20,7 +20,7 @@ known_count endpoints = length endpoints.peers + length endpoints.clients.rows
 abbrev pub peer_at : List SocketAddr → ℕ → Option SocketAddr
 peer_at peers face = if face == 0 then None else slice_get peers (face - 1)
 
--- the endpoint of a face
+-- the endpoint of the peer or client with this face, or None if none has it
 abbrev pub endpoint_at : KnownEndpoints → ℕ → Option SocketAddr
 endpoint_at endpoints face = option_or (peer_at endpoints.peers face)
     (option_map (λ (client : Client). client.endpoint)

@@ -69,8 +69,8 @@ refused_count [] = 0
 refused_count (Answered answer ∷ outcomes) = refused_count outcomes
 refused_count (NoMemory ∷ outcomes) = refused_count outcomes + 1
 
--- Let the old node agree with a run, and let `before` be the text of this run's journal. Then
--- `after` is the text of the journal of this run, extended by the events and outcomes.
+-- Let the old node agree with a valid run, and let `before` be the text of this run's journal.
+-- Then `after` is the text of the journal of this run, extended by the events and outcomes.
 abbrev pub KeepsJournal : NodeState → Option (List ℕ) → List PlainEvent → List Outcome
     → Option (List ℕ) → Type 0
 KeepsJournal old before events outcomes after =
@@ -143,9 +143,9 @@ IsTurn old new before after sends turn.Unwritten =
 IsTurn old new before after sends turn.End =
     EndsNext before after × (new ≡ old) × (sends ≡ [])
 
--- `events` events arrived, memory ran out for `refused` of them, and `failed` sends failed. If the
--- old node agrees with a run, appending the answered events gives a valid run, and the new node
--- agrees with that run.
+-- `events` events arrived, memory ran out for `refused` of them, and `failed` sends failed. If
+-- the old node agrees with a valid run, then this run followed by the answered events is valid,
+-- and the new node agrees with the longer run.
 pub record Serves (old new : NodeState) (before after : Shown)
     (events refused failed : ℕ) : Type 0 where
   pub arrivals : List PlainEvent

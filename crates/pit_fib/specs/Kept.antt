@@ -167,7 +167,8 @@ abbrev pub row_arrived : Flags → ℕ → InRecord → ℕ → Option Row → R
 row_arrived f face in_record room row =
     with_kept f (with_in_record face in_record (unwrap_or (kept_in row f) (new_in room))) row
 
--- the row with the entry under the key with these flags, if there is an entry
+-- the row after the entry, if there is one, is put under the key with these flags; without an
+-- entry, the row is unchanged
 abbrev pub with_kept_if : Flags → Option Kept → Option Row → Row
 with_kept_if f None row = unwrap_or row map.empty
 with_kept_if f (Some s) row = with_kept f s row

@@ -199,9 +199,9 @@ pub fn prints(alloc: Global, node: &mut Node, dialogue: &str, wanted: &str) -> O
     Some(text.as_slice() == wanted.as_bytes())
 }
 
-/// Returns whether serving a node with `FIRST_PATH` for `turns` turns has the result `wanted`. The
-/// call of the port's `next` with the number `next`, and the call of its `send` with the number
-/// `send`, fail. No call has the number 0.
+/// Returns whether serving a node with `FIRST_PATH` for `turns` turns has the result `wanted`. Call
+/// number `next` of the port's method `next` fails, and so does call number `send` of its method
+/// `send`. With the number 0, no call of the method fails.
 fn node_serves(
     alloc: Global,
     node: &mut Node,

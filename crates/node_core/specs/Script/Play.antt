@@ -92,7 +92,7 @@ AddStops fault.Write line from = ⊥
 AddStops fault.Read line from = ⊥
 AddStops (fault.Node _) line from = ⊥
 
--- whatever octets follow `stream`, the line after these lines is bad
+-- whatever octets follow `stream`, the line after `lines` is bad
 abbrev pub TurnsBad : List ℕ → List (List ℕ) → Type 0
 TurnsBad stream lines = (more : List ℕ) → (line rest : List ℕ)
     × (ended (stream ++ more) ≡ joined lines ++ (ended line ++ rest)) × Lacks 10 line

@@ -242,8 +242,9 @@ fn registers_a_ninth_route(alloc: Global, routes: &mut RouteTable) -> Option<boo
     takes_ninth_route(routes, name.view())
 }
 
-/// Returns whether a next hop of this name can be prepared, and is added after the only route of
-/// the name is unregistered. If the preparation fails, the table must still have the name.
+/// Returns whether a next hop that was prepared for this name is added, even after the only route
+/// of the name is unregistered. If the preparation fails, returns whether the table still has the
+/// name.
 fn takes_prepared_hop(routes: &mut RouteTable, name: Name<'_>) -> Option<bool> {
     routes.register(name, Route::new(2, 0)).ok()?;
     if routes.prepare(name).is_err() {
