@@ -72,7 +72,7 @@ IsRelation text relations.Equal = text ≡ codes "equal"
 IsRelation text relations.IsPrefixOf = text ≡ codes "is-prefix-of"
 IsRelation text relations.IsStrictPrefixOf = text ≡ codes "is-strict-prefix-of"
 
--- the text is an id: 1 to 100 octets, and no control character
+-- the text is the id `id`: 1 to 100 octets, none of which is below 32
 abbrev pub IsId : List ℕ → List ℕ → Type 0
 IsId text id =
     (text ≡ id) × (1 ≤ length id) × (length id ≤ 100) × AllByRecursion (λ octet. 32 ≤ octet) id

@@ -33,7 +33,7 @@ signature_type_in text =
     if bytes_eq text (codes "rsa-sha256") || bytes_eq text (codes "ecdsa-sha256")
     then Some Asymmetric else None))
 
--- an id has 1 to 100 octets and no control character
+-- whether the text is an id: it has 1 to 100 octets, none of which is below 32
 abbrev pub is_id : List ℕ → Bool
 is_id text = nat_le 1 (length text) && nat_le (length text) 100 && list_all
     (λ octet. nat_le 32 octet) text

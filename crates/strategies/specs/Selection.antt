@@ -50,6 +50,6 @@ abbrev pub was_recent : ℕ → Option ℕ → Bool
 was_recent now None = false
 was_recent now (Some time) = is_recent now time
 
--- each hop that was never used, or was last used at least 10 ms ago
+-- the hops without those whose last use is recent (`is_recent`)
 abbrev pub multicast : Selection
 multicast hops asked now = filter (λ hop. not (was_recent now (map.get asked hop.face))) hops
