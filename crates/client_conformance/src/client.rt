@@ -17,7 +17,7 @@ fn spelled(word: &str) -> &str {
     }
 }
 
-/// Returns the words of a command line.
+/// Returns the program's name `ndn_tool`, followed by the words of a command line.
 fn words_of<'a>(alloc: Global, line: &'a str) -> Option<Vec<&'a str>> {
     let mut words = Vec::new(alloc);
     words.push("ndn_tool").ok()?;
@@ -68,7 +68,7 @@ pub fn exchange_of(alloc: Global, line: &str, now: u64, book: &KeyBook) -> Optio
 }
 
 /// Returns the result of an exchange that receives these datagrams. The first datagram that is an
-/// answer decides the result.
+/// answer decides the result. If no datagram is an answer, the result is `Ignored`.
 pub fn heard(
     alloc: Global,
     exchange: &mut Exchange,
@@ -95,7 +95,7 @@ pub fn turn(
     heard(alloc, exchange, &answers, book)
 }
 
-/// Returns the final result of an exchange.
+/// Returns the final result of an exchange, or `None` if the exchange needs more than 10 answers.
 pub fn played(
     alloc: Global,
     scene: &mut Scene,
@@ -141,8 +141,8 @@ pub fn end_of(alloc: Global, exchange: &Exchange, progress: Progress) -> (&'stat
     }
 }
 
-/// Returns whether an exchange ended as `text` says: the word for its outcome, then a space and the
-/// end of the printed text, with symbols for LF and tab.
+/// Returns whether an exchange ended as `wanted` says: the word for its outcome, then a space and
+/// the end of the printed text, with symbols for LF and tab.
 pub fn ends_as(
     alloc: Global,
     exchange: &Exchange,

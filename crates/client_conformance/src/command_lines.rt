@@ -30,7 +30,7 @@ fn job_of(alloc: Global, command: &str) -> Result<Job, ToolFault> {
     parse_words(alloc, 1_000_000, arguments.as_slice())
 }
 
-/// Returns the text that a plan prints.
+/// Returns the text that a plan prints, or the fault `NoKey` if the plan prints no UTF-8 text.
 fn printed_text(plan: Plan) -> Result<String, ToolFault> {
     match plan {
         Plan::Print(text) => String::from_utf8(text).map_err(|_| ToolFault::NoKey),
@@ -63,8 +63,8 @@ fn reply(alloc: Global, command: &str, keys: &str) -> Option<(u8, String)> {
     }
 }
 
-/// Returns whether a command prints `wanted`. If the command fails, `wanted` ends with a line that
-/// contains the exit status.
+/// Returns whether a command prints `wanted`. If the command fails, the last line of `wanted` is
+/// `status ` and the exit status.
 fn prints(alloc: Global, command: &str, keys: &str, wanted: &str) -> Option<bool> {
     let (status, text) = reply(alloc, command, keys)?;
     if status == 0 {
@@ -148,7 +148,8 @@ $ ndn_tool interest /A --nonce 01020304 --parameters 70
 053007250801410220620e59c59d04596b40d4cbe11e875a127f928accec817bec4519ae74d661f47a0a0401020304240170
 ";
 
-/// Each option of `interest`. The packets were made by an independent program.
+/// The options of `interest` for an Interest without a token and without a signature. The packets
+/// were made by an independent program.
 #[test]
 fn interests(rt: HostRuntime) {
     check_session(&rt, "", INTERESTS);
@@ -509,8 +510,9 @@ TooLong
 status 1
 ";
 
-/// Commands with a key that is not in the key file, and with names that have too many components
-/// for the parameters to follow.
+/// Commands that cannot be written: with a key that is not in the key file, with a name that
+/// already has a digest of parameters, and with names that have too many components for the
+/// parameters to follow.
 #[test]
 fn unwritten_commands(rt: HostRuntime) {
     check_session(&rt, OPS, UNWRITTEN_COMMANDS);
@@ -959,7 +961,8 @@ key not found
 status 1
 ";
 
-// A missing key is reported before a name that is not valid.
+// In the first command, both the key is missing and the name is not valid: the missing key is
+// reported.
 const REFUSALS: &str = "
 $ ndn_tool interest / --nonce 01020304 --key /ops/KEY/1
 key not found
@@ -1099,7 +1102,7 @@ fn key_files(rt: HostRuntime) {
     assert!(rt; reads_keys(rt.alloc(), OPS.as_bytes(), 1));
 }
 
-/// Returns the exit status and the message for standard input or a key file that is refused.
+/// Returns the exit status and the message of the fault in `read`, or `None` if there is no fault.
 fn refused<T: Drop>(alloc: Global, read: Result<T, Fault>) -> Option<String> {
     let fault = read.err()?;
     format!(in alloc; "{} {fault}", fault.exit_status()).ok()
@@ -1143,8 +1146,8 @@ fn large_input(rt: HostRuntime) {
     assert!(rt; refused_line(alloc, 131_072).as_deref() == Some(line));
 }
 
-/// Reads the key file of a job. Returns 1 if it has keys, 0 if it has none, and otherwise the exit
-/// status of the fault.
+/// Reads the key file of a job. Returns 1 if there are keys, 0 if there are none, and the exit
+/// status of the fault if there is a fault.
 fn key_file_status(rt: &HostRuntime, job: &Job) -> u8 {
     match book_of(rt, job) {
         Ok(book) => u8::from(book.len() > 0),
@@ -1173,8 +1176,8 @@ fn unreadable_key_file(rt: HostRuntime) {
     assert!(rt; said.as_deref() == Some(wanted));
 }
 
-/// Returns whether sending from a port that another socket uses is refused, with the exit status
-/// and the text.
+/// Returns whether sending from a port that another socket uses is refused with exit status 3 and
+/// the text that names this port.
 fn refuses_taken_port(rt: &HostRuntime) -> Option<bool> {
     let other = UdpSocket::bind(rt, (Ipv4Addr::LOCALHOST, 0)).ok()?;
     let port = other.local_addr().ok()?.port();
@@ -1415,8 +1418,8 @@ fn long_reply(alloc: Global, request: &[u8], status: u8) -> Option<Vec<u8>> {
     Some(reply)
 }
 
-/// Returns whether a long reply has this outcome. The last octet of its signature is changed by
-/// `change`.
+/// Returns whether a long reply has this outcome. The last octet of its signature is combined with
+/// `change` by exclusive or.
 fn long_comes_to(alloc: Global, status: u8, change: u8, wanted: &str) -> Option<bool> {
     let (request, _) = ROUTE_ANSWERS.split_once('\n')?;
     let request = packet_in(alloc, request.as_bytes()).ok()?;
@@ -1437,7 +1440,8 @@ fn long_says(alloc: Global, first: &str, last: &str) -> Option<bool> {
     Some(text.starts_with(first.as_bytes()) && text.ends_with(last.as_bytes()))
 }
 
-/// Replies of more than 8,800 octets.
+/// A reply of more than 8,800 octets decides the outcome if its signature is right, is ignored if
+/// its signature is wrong, and can be explained.
 #[test]
 fn long_replies(rt: HostRuntime) {
     assert!(rt; long_comes_to(rt.alloc(), 200, 0, "done") == Some(true));

@@ -3,7 +3,8 @@
 use super::client::misplayed;
 use test_support::SAMPLE;
 
-/// The ten commands of `docs/TOOL.md`.
+/// The ten commands of `docs/TOOL.md`, and its request that ends with a Nack. Each row is a command
+/// line, ` => `, the word for its outcome, and the end of the text that it prints.
 const TEN_COMMANDS: &str = "
 route add /lab --face 2 --cost 5 $KEY $NODE => done status 200 OK␊name /lab␊face 2␊cost 5␊
 route list $NODE => done name␉face␉cost␊/lab␉2␉5␊
@@ -74,7 +75,7 @@ route list --send 6363 => far
 send 062e0703080141150016031b010017205c439ab8938d3e9e250316cbe570d36f8786ba25bc6cc7b37607307c65e62270 --to 6363 => late
 ";
 
-/// Without rules, no command is allowed.
+/// Without rules, no command is allowed, but the list of routes is sent.
 const NO_RULES: &str = "
 route add /A --face 2 $KEY $NODE => refused status 403 no rule␊
 repo insert /repo /A $KEY $NODE => refused status 403 no rule␊count 0␊

@@ -17,7 +17,8 @@ const PRODUCER: u64 = 2;
 /// The face of a port that the node does not know yet.
 const NEW_PORT: u64 = 3;
 
-/// A node with these three faces, and the present moment, which advances with each command.
+/// A node with the faces `OPERATOR`, `PRODUCER` and `NEW_PORT`, and the present moment, which
+/// advances with each command.
 #[derive(Drop)]
 pub struct Scene {
     node: Node,
@@ -32,7 +33,8 @@ fn rules_of(alloc: Global, text: &str) -> Option<Rules> {
     Rules::read(alloc, &tree).ok()
 }
 
-/// Returns the parts of a node whose repository has the prefix `/repo`.
+/// Returns the parts of a node with these rules and the sample keys, whose repository has the
+/// prefix `/repo`.
 fn parts_of(alloc: Global, rules: &str) -> Option<NodeParts> {
     let rules = rules_of(alloc, rules)?;
     let keys = KeyBook::read(alloc, KEYS).ok()?;
@@ -99,7 +101,8 @@ fn data_of(alloc: Global, name: Name<'_>) -> Option<Vec<u8>> {
     Some(data)
 }
 
-/// Returns the packet with which a producer answers a packet.
+/// Returns the packet with which a producer answers an Interest, or `None` if the given packet is
+/// not an Interest.
 fn produced(alloc: Global, packet: &[u8]) -> Option<Vec<u8>> {
     match read_frame(packet) {
         Ok(Frame::Interest(asked)) => data_of(alloc, asked.name),

@@ -108,7 +108,8 @@ fn put_strategy(text: &mut String, strategy: Option<Name<'_>>) -> Option<()> {
     }
 }
 
-/// Without a FaceId the face is 0, and without a Cost the cost is 0.
+/// Without a FaceId the face is 0, without a Cost the cost is 0, and without a Count there is no
+/// count.
 #[test]
 fn absent_fields(rt: HostRuntime) {
     let rows = "
@@ -139,7 +140,7 @@ fn the_first_of_each_field_counts(rt: HostRuntime) {
     check_rows(&rt, rt.alloc(), rows, command_shown);
 }
 
-/// Numbers of every length, up to the greatest.
+/// Numbers of 2, 4 and 8 octets, up to the greatest.
 #[test]
 fn numbers_of_each_length(rt: HostRuntime) {
     let rows = "
@@ -152,7 +153,7 @@ fn numbers_of_each_length(rt: HostRuntime) {
 }
 
 /// Commands with a field of a wrong form, commands without a required field, and commands with a
-/// field that they do not take.
+/// field that they do not take, are refused with status 400.
 #[test]
 fn fields_that_commands_need_and_take(rt: HostRuntime) {
     let rows = "
@@ -251,8 +252,8 @@ fn prefixes_of_32_components(rt: HostRuntime) {
     check_rows(&rt, rt.alloc(), rows, applied_shown);
 }
 
-/// Removal of a next hop that does not exist, on a face that is not up, and of a strategy that does
-/// not exist.
+/// The removal of a next hop that does not exist, on a face that is not up, has status 200, and so
+/// has the removal of a strategy that does not exist.
 #[test]
 fn removals_of_what_is_not_there(rt: HostRuntime) {
     let rows = "
@@ -272,8 +273,8 @@ fn the_count_of_an_erase_is_repeated(rt: HostRuntime) {
     check_rows(&rt, rt.alloc(), rows, applied_shown);
 }
 
-/// Returns whether `expected` is the encoding of a reply. The body and `expected` are in
-/// hexadecimal.
+/// Returns whether `expected` is the encoding of the reply with this status, text and body. `body`
+/// and `expected` are in hexadecimal.
 fn replies(alloc: Global, status: u16, text: &str, body: &str, expected: &str) -> Option<bool> {
     let body = octets(alloc, body)?;
     let reply = encoded_reply(alloc, status, text, &body)?;

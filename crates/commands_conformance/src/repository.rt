@@ -20,7 +20,8 @@ fn without_mark(text: &str, mark: char) -> (&str, bool) {
     }
 }
 
-/// Returns the fields of a command about the Data that answer an Interest: see `command_on`.
+/// Returns the fields of a command about the Data that answer an Interest. The Interest's name is
+/// `asked`, where `*` at the end means CanBePrefix.
 fn fields_of(alloc: Global, asked: &str, lifetime: Option<u64>) -> Option<Vec<u8>> {
     let (uri, can_be_prefix) = without_mark(asked, '*');
     let name = NameBuf::from_uri(alloc, uri).ok()?;
@@ -118,13 +119,14 @@ fn offer_packet(repo: &mut Repo, packet: &[u8]) -> Option<bool> {
     repo.offer(&data).ok()
 }
 
-/// Returns the Content of the Data that answers an Interest, which is given as for `asking`.
+/// Returns the Content of the Data that answers an Interest, or `none` if there is no such Data.
+/// The function `asking` reads the Interest from `asked`.
 fn serve(alloc: Global, repo: &Repo, asked: &str) -> Option<String> {
     let packet = asking(alloc, asked)?;
     serve_packet(alloc, repo, &packet)
 }
 
-/// Returns the Content of the Data that answers an Interest.
+/// Returns the Content of the Data that answers an Interest, or `none` if there is no such Data.
 fn serve_packet(alloc: Global, repo: &Repo, packet: &[u8]) -> Option<String> {
     let interest = interest_in(packet)?;
     content_shown(alloc, repo.serve(&interest))
@@ -182,7 +184,9 @@ fn empty_repo(alloc: Global) -> Option<Repo> {
     repo_at(alloc, "/repo")
 }
 
-/// Returns the answers of an empty repository to consecutive calls.
+/// Returns the answers of an empty repository to calls that are separated by `, `: `insert`,
+/// `delete` or `check` with a name, a moment and perhaps a lifetime, `offer` with a name and a
+/// Content, `serve` with an Interest, or `expire` with a moment.
 fn answers(alloc: Global, calls: &str) -> Option<String> {
     shown_on_repo(alloc, calls, answers_of)
 }
@@ -312,7 +316,7 @@ fn first_answer(alloc: Global, text: &str) -> Option<String> {
     shown_on_repo(alloc, text, answered_to)
 }
 
-/// Shows this repository's reply to a command, which is given as for `first_answer`.
+/// Shows this repository's reply to the command whose name `name_in` reads from `text`.
 fn answered_to(alloc: Global, repo: &mut Repo, text: &str) -> Option<String> {
     let name = name_in(alloc, text)?;
     answered(alloc, repo, name.view(), 1000000)
@@ -383,7 +387,8 @@ fn names_of_another_shape(rt: HostRuntime) {
     check_rows(&rt, rt.alloc(), rows, first_answer);
 }
 
-/// Encodes a reply, given as its status, its text and a count.
+/// Encodes a reply, given as its status and a count, with the text of its status. Returns its
+/// octets in hexadecimal.
 fn reply_written(alloc: Global, row: &str) -> Option<String> {
     let (status, count) = row.split_once(' ')?;
     let status = status.parse().ok()?;
@@ -416,7 +421,8 @@ fn verb_in(repo: &Repo, name: Name<'_>) -> &'static str {
     }
 }
 
-/// Returns the verb of a name, for a repository with the prefix `/repo`.
+/// Returns the verb of a name for a repository with the prefix `/repo`, or `none` if the name has
+/// no verb.
 fn verb_shown(alloc: Global, uri: &str) -> Option<String> {
     let name = NameBuf::from_uri(alloc, uri).ok()?;
     String::from_str(alloc, verb_in(&empty_repo(alloc)?, name.view())).ok()
@@ -481,8 +487,8 @@ fn sixty_four_wants(rt: HostRuntime) {
     assert!(rt; wants_are_limited(rt.alloc()) == Some(true));
 }
 
-/// Runs `play` on an empty repository, with the names of an insert and of a check for `/A`, and
-/// with a Data named `/A`.
+/// Returns what `play` returns for an empty repository, the names of an insert and of a check for
+/// `/A`, and a Data named `/A`.
 fn played<F: Fn(&mut Repo, Name<'_>, Name<'_>, &Data<'_>) -> Option<bool>>(
     alloc: Global,
     play: &F,
@@ -494,8 +500,8 @@ fn played<F: Fn(&mut Repo, Name<'_>, Name<'_>, &Data<'_>) -> Option<bool>>(
     played_on(alloc, &mut repo, &packet, play)
 }
 
-/// Runs `play` on a repository, with the names of an insert and of a check for `/A`, and with the
-/// Data in the packet.
+/// Returns what `play` returns for a repository, the names of an insert and of a check for `/A`,
+/// and the Data in the packet.
 fn played_on<F: Fn(&mut Repo, Name<'_>, Name<'_>, &Data<'_>) -> Option<bool>>(
     alloc: Global,
     repo: &mut Repo,
@@ -511,7 +517,7 @@ fn played_on<F: Fn(&mut Repo, Name<'_>, Name<'_>, &Data<'_>) -> Option<bool>>(
 }
 
 /// Returns whether a prepared command and a prepared offer do not run out of memory, and an offer
-/// that runs out of memory changes nothing.
+/// that runs out of memory changes nothing. Returns `None` if the command cannot be prepared.
 fn keeps_its_promises(
     repo: &mut Repo,
     insert: Name<'_>,

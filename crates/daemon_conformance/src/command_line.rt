@@ -140,7 +140,8 @@ ndn_node journal --shorten j -- => error: unexpected argument '--' found
 ndn_node journals => error: unrecognized subcommand 'journals'
 ";
 
-/// Shows the options of the shortening of a journal.
+/// Returns the journal's file and the repository's prefix as text, or `None` if the command does
+/// not shorten a journal.
 fn shortening_options_of(alloc: Global, command: &str) -> Option<String> {
     let Ok(Request::Shorten(options)) = asked(alloc, command) else {
         return None;
@@ -193,7 +194,9 @@ fn udp_command_lines(rt: HostRuntime) {
     assert!(rt; is_wrong(rt.alloc(), 65));
 }
 
-/// Shows the options of a node on a port.
+/// Returns the options of a node on a port as text: `--cache`, `--listen`, `--turns`, `--local`,
+/// `--idle`, `--log`, the peers, and the word `open` if the node accepts strangers. Returns `None`
+/// if the command runs no node on a port.
 fn udp_options_of(alloc: Global, command: &str) -> Option<String> {
     let Ok(Request::Udp(node, udp)) = asked(alloc, command) else {
         return None;
@@ -264,7 +267,8 @@ fn command_lines(rt: HostRuntime) {
     check_parts(&rt, 2, COMMAND_LINES);
 }
 
-/// Shows the options of a command line.
+/// Returns the rule file, the key file, the repository's prefix and the cache of a command `script`
+/// as text, in which `none` stands for an absent file. Returns `None` for any other command.
 fn options_of(alloc: Global, command: &str) -> Option<String> {
     let Ok(Request::Script(options)) = asked(alloc, command) else {
         return None;
@@ -328,13 +332,14 @@ fn key_files(rt: HostRuntime) {
     assert!(rt; refused_keys(alloc, b"\xff").as_deref() == Some(binary));
 }
 
-/// Returns the refusal of a rule file of `count` semicolons and one letter of two octets.
+/// Returns the refusal of a rule file of `count` semicolons and one letter of two octets, or `None`
+/// if the file is accepted.
 fn refused_comment(alloc: Global, count: u64) -> Option<String> {
     let file = repeat(b';').take(count).chain("é".as_bytes());
     refused(alloc, read_rule_file(alloc, "r", file))
 }
 
-/// Returns the refusal of a key file of `count` semicolons.
+/// Returns the refusal of a key file of `count` semicolons, or `None` if the file is accepted.
 fn refused_key_comment(alloc: Global, count: u64) -> Option<String> {
     refused(alloc, read_key_file(alloc, "k", repeat(b';').take(count)))
 }

@@ -72,7 +72,7 @@ impl<'a> LogSink for Expected<'a> {
 }
 
 /// Sends octets to a node whose log writes to a sink like `expected`, and lets the node take two
-/// turns. Returns whether both turns were taken.
+/// turns. The log shows all events if `shows_all` is true. Returns whether both turns were taken.
 fn writes(
     rt: &(impl AllocGlobal + Net),
     node: &mut Node,

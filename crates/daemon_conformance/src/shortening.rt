@@ -8,7 +8,8 @@ use std::alloc::Global;
 use std::process::Abort;
 use test_support::{KEYS, data_of};
 
-/// Shortens the journal of a node whose repository has this prefix.
+/// Shortens the journal of a node whose repository has this prefix. Returns `Ok(None)` if no
+/// shorter journal is made, or the prefix is not a name.
 fn made(
     alloc: Global,
     prefix: &str,
@@ -188,7 +189,7 @@ fn marked(alloc: Global, lines: &str) -> Option<String> {
     Some(text)
 }
 
-/// Returns the lines of a test without their marks. The line `tick` at the end is left out.
+/// Returns the lines of a test without their marks. Lines that begin with `tick` are left out.
 fn unmarked(alloc: Global, lines: &str) -> Option<String> {
     let mut text = String::new(alloc);
     for line in lines.lines() {
@@ -363,7 +364,8 @@ fn rules_that_change(rt: HostRuntime) {
     keeps_marked(&rt, RULES_THAT_CHANGE);
 }
 
-/// Under another prefix an insert is an ordinary Interest, which no node journals.
+/// Under another prefix an insert is an ordinary Interest, which no node journals. The prefix
+/// `/localhost` is refused.
 #[test]
 fn another_prefix(rt: HostRuntime) {
     let alloc = rt.alloc();

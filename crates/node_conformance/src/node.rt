@@ -39,7 +39,8 @@ fn rules_of(alloc: Global, text: &str) -> Option<Rules> {
     Rules::read(alloc, &tree).ok()
 }
 
-/// Returns the parts of a node whose repository is at `/repo`.
+/// Returns the parts of a node with these rules, the sample keys, a repository at `/repo`, and a
+/// cache of `cache` Data.
 fn parts_of(alloc: Global, rules: &str, cache: u32) -> Option<NodeParts> {
     let rules = rules_of(alloc, rules)?;
     let keys = KeyBook::read(alloc, KEYS).ok()?;
@@ -52,7 +53,7 @@ fn parts_of(alloc: Global, rules: &str, cache: u32) -> Option<NodeParts> {
     })
 }
 
-/// Returns the parts of a node under the sample rules.
+/// Returns the parts of a node with the sample rules and a cache of 1,024 Data.
 fn parts(alloc: Global) -> Option<NodeParts> {
     parts_of(alloc, SAMPLE, 1024)
 }
@@ -65,12 +66,12 @@ fn outcome(alloc: Global, parts: NodeParts, script: &str) -> Option<String> {
     String::from_utf8(output).ok()
 }
 
-/// Returns the outcome of a script under these rules.
+/// Returns the outcome of a script under these rules, with a cache of `cache` Data.
 fn outcome_under(alloc: Global, rules: &str, cache: u32, script: &str) -> Option<String> {
     outcome(alloc, parts_of(alloc, rules, cache)?, script)
 }
 
-/// Returns the outcome of a script under the sample rules.
+/// Returns the outcome of a script under the sample rules, with a cache of 1,024 Data.
 fn sample_outcome(alloc: Global, script: &str) -> Option<String> {
     outcome_under(alloc, SAMPLE, 1024, script)
 }
@@ -108,8 +109,8 @@ fn push_hexadecimal(alloc: Global, text: &mut String, octets: &[u8]) -> Option<(
     text.push_str(&hexadecimal).ok()
 }
 
-/// Appends the hexadecimal that a word of a dialogue stands for: a packet, or the sample files.
-/// Returns `None` if memory runs out.
+/// Appends the hexadecimal of the packet or of the sample file that a word of a dialogue stands
+/// for, or the word itself if it stands for neither. Returns `None` if memory runs out.
 fn push_spelled(alloc: Global, text: &mut String, word: &str) -> Option<()> {
     match word {
         "SAMPLE" => push_hexadecimal(alloc, text, SAMPLE.as_bytes()),
@@ -118,8 +119,8 @@ fn push_spelled(alloc: Global, text: &mut String, word: &str) -> Option<()> {
     }
 }
 
-/// Appends a line of a dialogue in which each word is replaced by the hexadecimal that it stands
-/// for. Returns `None` if memory runs out.
+/// Appends a line of a dialogue in which each word that stands for a packet or a sample file is
+/// replaced by its hexadecimal. Returns `None` if memory runs out.
 fn push_spelled_line(alloc: Global, text: &mut String, line: &str) -> Option<()> {
     for (before, word) in line.split(' ').enumerate() {
         if before > 0 {
@@ -138,7 +139,8 @@ fn push_spelled_lines(alloc: Global, text: &mut String, dialogue: &str) -> Optio
     Some(())
 }
 
-/// Returns a dialogue whose words are replaced by the hexadecimal that they stand for.
+/// Returns a dialogue in which each word that stands for a packet or a sample file is replaced by
+/// its hexadecimal.
 fn spelled(alloc: Global, dialogue: &str) -> Option<String> {
     let mut text = String::new(alloc);
     push_spelled_lines(alloc, &mut text, dialogue)?;

@@ -44,8 +44,8 @@ fn key_of<'a>(name: Name<'a>, flags: &str) -> Key<'a> {
     }
 }
 
-/// Returns the Content of the Data that an Interest gets. The words are the Interest's name, its
-/// flags (`p` for CanBePrefix, `f` for MustBeFresh) and the moment.
+/// Returns the Content of the Data that an Interest gets, or `none` if it gets no Data. The words
+/// are the Interest's name, its flags (`p` for CanBePrefix, `f` for MustBeFresh) and the moment.
 fn find(alloc: Global, store: &mut Store, words: &str) -> Option<String> {
     let (uri, rest) = words.split_once(' ')?;
     let (flags, now) = rest.split_once(' ')?;
@@ -71,8 +71,9 @@ fn erase(alloc: Global, store: &mut Store, words: &str) -> Option<u64> {
     Some(store.erase(name.view(), limit))
 }
 
-/// Runs the calls of a row on a store with the row's capacity, and returns their results and the
-/// number of Data that are then cached.
+/// Runs the calls of a row on a store with the row's capacity. Returns the results of the calls,
+/// and then the number of cached Data and the capacity, such as `(1 of 8)`. Returns `BadCapacity`
+/// if no store has this capacity.
 fn answers(alloc: Global, row: &str) -> Option<String> {
     let (capacity, calls) = row.split_once(": ")?;
     match Store::new(alloc, capacity.parse().ok()?) {
@@ -81,14 +82,14 @@ fn answers(alloc: Global, row: &str) -> Option<String> {
     }
 }
 
-/// Returns the results of calls, and the number of Data that are then cached.
+/// Returns the results of calls, and then the number of cached Data and the capacity.
 fn answers_of(alloc: Global, store: &mut Store, calls: &str) -> Option<String> {
     let mut shown = String::new(alloc);
     put_answers(alloc, &mut shown, store, calls)?;
     Some(shown)
 }
 
-/// Appends the results of calls, and the number of Data that are then cached.
+/// Appends the results of calls, and then the number of cached Data and the capacity.
 fn put_answers(alloc: Global, shown: &mut String, store: &mut Store, calls: &str) -> Option<()> {
     for call in calls.split_terminator(", ") {
         put_answer(alloc, shown, store, call)?;
@@ -96,7 +97,8 @@ fn put_answers(alloc: Global, shown: &mut String, store: &mut Store, calls: &str
     write!(shown, "({} of {})", store.len(), store.capacity()).ok()
 }
 
-/// Runs `put`, `find` or `erase`, and appends the result of `find` or `erase` and a space.
+/// Runs `put`, `find` or `erase`, and appends the result of `find` or `erase` and a space. Returns
+/// `None` if a Data that is put is not cached.
 fn put_answer(alloc: Global, shown: &mut String, store: &mut Store, call: &str) -> Option<()> {
     let (verb, words) = call.split_once(' ')?;
     match verb {
@@ -273,7 +275,7 @@ fn put_number(packet: &mut [u8], number: u32) {
     }
 }
 
-/// Returns whether the lookup of a name finds the Data in the packet. Returns None if the lookup
+/// Returns whether the lookup of a name finds the Data in the packet. Returns `None` if the lookup
 /// takes no comparison, or more than `most`.
 fn is_found_within(store: &mut Store, name: Name<'_>, packet: &[u8], most: u64) -> Option<bool> {
     let mut counted = 0;
@@ -282,8 +284,8 @@ fn is_found_within(store: &mut Store, name: Name<'_>, packet: &[u8], most: u64) 
     (counted >= 1 && counted <= most).then_some(is_found)
 }
 
-/// Returns whether the Data in a packet is cached. Returns None if its lookup takes no comparison,
-/// or more than `most`.
+/// Returns whether the Data in a packet is cached. Returns `None` if its lookup takes no
+/// comparison, or more than `most`.
 fn is_held(store: &mut Store, packet: &[u8], most: u64) -> Option<bool> {
     match read_frame(packet).ok()? {
         Frame::Data(data) => is_found_within(store, data.name, packet, most),

@@ -141,8 +141,8 @@ struct Numbers {
     third: u64,
 }
 
-/// Reads the number at the start of a text. Returns the number and the text after it, or `0` if
-/// there is no text after it.
+/// Reads the number at the start of a text. Returns the number and the text after it. If there is
+/// no text after the number, the returned text is `0`.
 fn number_in(text: &str) -> Option<(u64, &str)> {
     let (number, rest) = text.split_once(' ').unwrap_or((text, "0"));
     Some((number.parse().ok()?, rest))
@@ -366,7 +366,8 @@ fn put_keyed(
     put_of_key(alloc, text, table, call, key.view(), numbers)
 }
 
-/// Appends the answer to `has_tokens` or `len`.
+/// Appends the answer to `has_tokens` or `len`. The answer to `len` is the number of keys with
+/// pending Interests, and whether the table is empty.
 fn put_count(text: &mut String, pit: &Pit, call: &str) -> Option<()> {
     if call == "has_tokens" {
         return write!(text, "{}", pit.has_tokens()).ok();
@@ -518,7 +519,7 @@ fn holds_64_faces(alloc: Global, table: &mut Table, key: Key<'_>, _other: Key<'_
     Some(holds && faces_answered(table, &packet)?.len() == 64)
 }
 
-/// Runs `play` on an empty table, with the keys of `/A` and `/B`.
+/// Returns what `play` returns for an empty table and the keys of `/A` and `/B`.
 fn played<F: Fn(Global, &mut Table, Key<'_>, Key<'_>) -> Option<bool>>(
     alloc: Global,
     play: &F,
@@ -559,6 +560,7 @@ fn records_of_64_faces(rt: HostRuntime) {
 
 /// Returns whether a prepared Interest is recorded and sent on, even if other Interests were
 /// removed after the preparation. A preparation that is refused must leave the records unchanged.
+/// If the Interest under `other` is refused first, the table must be empty.
 fn keeps_what_is_prepared(
     _alloc: Global,
     table: &mut Table,
@@ -577,7 +579,8 @@ fn keeps_what_is_prepared(
 }
 
 /// Returns whether a new Interest of a face replaces the older Interest of this face, or leaves it
-/// unchanged if memory runs out.
+/// unchanged if memory runs out. The out-record must stay. If the older Interest is refused, the
+/// table must be empty.
 fn leaves_the_older_one(
     _alloc: Global,
     table: &mut Table,
@@ -596,7 +599,8 @@ fn leaves_the_older_one(
     Some(sent && kept && table.pit.len() == 1 && table.pit.used(key).get(2) == Some(3))
 }
 
-/// Returns whether a prepared Interest is recorded with a PIT token of 32 octets.
+/// Returns whether a prepared Interest is recorded with a PIT token of 32 octets. A preparation
+/// that is refused must leave the table empty.
 fn keeps_a_prepared_token(
     _alloc: Global,
     table: &mut Table,

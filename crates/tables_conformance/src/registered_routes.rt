@@ -78,13 +78,13 @@ fn list_or_none(alloc: Global, fib: &Fib, now: u64) -> Option<String> {
     String::from_str(alloc, text.strip_prefix(" | ").unwrap_or("none")).ok()
 }
 
-/// Appends the answer to `list` at a moment, after `; `.
+/// Appends `; ` and the answer to `list` at a moment.
 fn put_told_list(alloc: Global, text: &mut String, fib: &Fib, now: u64) -> Option<()> {
     let list = list_or_none(alloc, fib, now)?;
     write!(text, "; {list}").ok()
 }
 
-/// Appends the answer to `due`, `expire` or `list` at a moment, after `; `.
+/// Appends `; ` and the answer to `due`, `expire` or `list` at a moment.
 fn put_told(
     alloc: Global,
     text: &mut String,

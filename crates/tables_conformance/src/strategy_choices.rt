@@ -148,7 +148,8 @@ all: / 2 5, / 3 0; 2 localhost 1000; -> no route
 }
 
 /// Best-route sends nothing if any face was used less than 10 milliseconds ago. If no next hop is
-/// eligible, the result is `no route` even then.
+/// eligible, the result is `no route` even then. Otherwise best-route sends to an eligible next hop
+/// that was not used, or else to the one that was last used the earliest.
 #[test]
 fn best_route_waits_10_milliseconds(rt: HostRuntime) {
     let rows = "
@@ -156,7 +157,7 @@ fn best_route_waits_10_milliseconds(rt: HostRuntime) {
 best: / 2 5, / 3 0; - - 1009; 3@1000 -> send
 best: / 2 5, / 3 0; - - 1010; 3@1000 -> send 2
 best: / 2 5, / 3 0; - - 1020; 2@1010 3@1000 -> send 3
-# best-route waits for any face that was asked, but not where it has no route.
+# Best-route waits for any face that was asked, unless no hop is eligible.
 best: / 2 5, / 3 0; - - 1009; 7@1000 -> send
 best: / 2 5, / 3 0; 2 zero 1009; 7@1000 -> no route
 ";
@@ -172,15 +173,15 @@ all: / 2 5, / 3 0; - - 1015; 2@1010 3@1000 -> send 3
 all: / 2 5, / 3 0; - - 1009; 3@1000 -> send 2
 all: / 2 5, / 3 0; - - 1010; 3@1000 -> send 2 3
 all: / 2 5, / 3 0; - - 1009; 2@1000 3@1000 -> send
-# best-route waits for any face that was asked, but not where it has no route.
+# Multicast does not wait for a face that no eligible hop has.
 all: / 2 5, / 3 0; - - 1009; 7@1000 -> send 2 3
 ";
     check_rows(&rt, rt.alloc(), rows, choice);
 }
 
-/// Among hops with equal costs, the hop with the lesser face is chosen. Among hops that were last
-/// used at the same moment, the hop with the lesser cost is chosen, and then the hop with the
-/// lesser face.
+/// The hop that was last used the earliest is chosen. Among hops that were not used, or were last
+/// used at the same moment, the hop with the least cost is chosen, and among hops with the same
+/// cost, the hop with the least face.
 #[test]
 fn best_route_takes_the_least_hop(rt: HostRuntime) {
     let rows = "

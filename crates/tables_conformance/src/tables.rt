@@ -325,7 +325,7 @@ fn are_same(alloc: Global, calls: &str, others: &str) -> Option<bool> {
     has_choices(alloc, &table, others)
 }
 
-/// Shows whether two tables of strategies are the same.
+/// Shows whether two tables of strategies, each given by its calls, are the same.
 fn same_choices(alloc: Global, row: &str) -> Option<String> {
     let (calls, others) = row.split_once("; ")?;
     let is_same = are_same(alloc, calls, others)?;
@@ -431,7 +431,7 @@ pub fn names_of(alloc: Global, uris: &[&str]) -> Option<Vec<NameBuf>> {
     Some(names)
 }
 
-/// Adds a next hop to the name with this number.
+/// Adds a next hop on face 1 for the name with this number.
 pub fn add_numbered(
     alloc: Global,
     routes: &mut RouteTable,
@@ -442,7 +442,7 @@ pub fn add_numbered(
     Some(routes.add(name.view(), 1, cost))
 }
 
-/// Adds a next hop to a name of 33 components.
+/// Adds a next hop on face 1 for a name of 33 components.
 pub fn add_deep(alloc: Global, routes: &mut RouteTable) -> Option<Result<(), TableFault>> {
     let name = deep_name(alloc, 33)?;
     Some(routes.add(name.view(), 1, 0))

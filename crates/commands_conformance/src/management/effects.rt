@@ -197,14 +197,15 @@ fn empty_data(alloc: Global, uri: &str) -> Option<Vec<u8>> {
     Some(packet)
 }
 
-/// Inserts a Data with this name into the cache, and shows whether it is cached.
+/// Inserts a Data with this name into the cache. Returns `kept` if the Data is cached, and `lost`
+/// if it is not.
 fn put_data(alloc: Global, station: &mut Station, uri: &str) -> Option<&'static str> {
     let packet = empty_data(alloc, uri)?;
     let is_kept = station.put(&packet)?;
     Some(if is_kept { "kept" } else { "lost" })
 }
 
-/// Shows whether the cache has Data with exactly this name.
+/// Returns `there` if the cache has Data with exactly this name, and `gone` if it has none.
 fn find_data(alloc: Global, station: &mut Station, uri: &str) -> Option<&'static str> {
     let name = NameBuf::from_uri(alloc, uri).ok()?;
     let is_there = station.has(name.view());
@@ -388,7 +389,7 @@ fn added(station: &mut Station, name: &NameBuf, face: u64) -> u16 {
     station.status_of(&adds(name.view(), face))
 }
 
-/// Adds 4,096 routes to face 2.
+/// Adds next hops on face 2 for 4,096 names. Returns `None` if one of them is refused.
 fn add_4096(alloc: Global, station: &mut Station) -> Option<()> {
     for number in (0..4096).rev() {
         if added_at(alloc, station, number, 2)? != 200 {
@@ -592,7 +593,7 @@ pub fn sevens(alloc: Global, len: usize) -> Option<Vec<u8>> {
     Some(octets)
 }
 
-/// Adds a next hop.
+/// Adds a next hop. Returns `None` if it is refused.
 fn add_hop(station: &mut Station, name: &NameBuf, face: u64) -> Option<()> {
     if added(station, name, face) != 200 {
         return None;
@@ -691,8 +692,8 @@ fn a_segment_in_a_packet(rt: HostRuntime) {
     assert!(rt; writes_the_segment(rt.alloc()) == Some(true));
 }
 
-/// Returns whether a prepared command does not run out of memory, and a failed preparation leaves
-/// the routes unchanged.
+/// Prepares a command. If the preparation fails, returns whether the name still has no next hop.
+/// Otherwise, returns whether the prepared command does not run out of memory and adds a next hop.
 fn applies_what_is_prepared(alloc: Global, station: &mut Station) -> Option<bool> {
     let name = numbered(alloc, 1)?;
     Some(keeps_its_promise(station, &name))

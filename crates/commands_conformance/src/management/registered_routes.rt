@@ -46,7 +46,7 @@ fn fields_of_routes(rt: HostRuntime) {
 }
 
 /// Commands with a field of a wrong form, commands without a required field, and commands with a
-/// field that they do not take.
+/// field that they do not take, are refused with status 400. The command `rib/list` does not exist.
 #[test]
 fn fields_that_routes_need_and_take(rt: HostRuntime) {
     let rows = "

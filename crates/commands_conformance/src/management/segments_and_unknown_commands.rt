@@ -6,7 +6,7 @@ use crate::rows::check_rows;
 use mgmt_core::segment_of;
 use std::alloc::Global;
 
-/// Names without a module or a verb, with a digest and without one.
+/// Names without a module or a verb, with a digest and without one, are refused with status 400.
 #[test]
 fn names_without_a_verb(rt: HostRuntime) {
     let rows = "
@@ -37,7 +37,8 @@ fn commands_that_do_not_exist(rt: HostRuntime) {
     check_rows(&rt, rt.alloc(), rows, command_shown);
 }
 
-/// A command has one component of parameters, and a digest may follow it.
+/// A command has one component of parameters, and a digest may follow it. Names of another form are
+/// refused with status 400.
 #[test]
 fn names_of_another_shape(rt: HostRuntime) {
     let rows = "
@@ -57,7 +58,7 @@ fn names_of_another_shape(rt: HostRuntime) {
 }
 
 /// Returns whether the segment with this number, in a dataset of `len` octets, has the expected
-/// length and the expected number of the last segment.
+/// length and the expected number of the last segment, or does not exist if `expected` is `None`.
 fn segment_is(alloc: Global, len: usize, number: u64, expected: Option<(usize, u64)>) -> bool {
     match sevens(alloc, len) {
         Some(text) => is_segment(&text, number, expected),
@@ -66,7 +67,7 @@ fn segment_is(alloc: Global, len: usize, number: u64, expected: Option<(usize, u
 }
 
 /// Returns whether the segment with this number has the expected length and the expected number of
-/// the last segment.
+/// the last segment, or does not exist if `expected` is `None`.
 fn is_segment(text: &[u8], number: u64, expected: Option<(usize, u64)>) -> bool {
     match segment_of(text, number) {
         None => expected.is_none(),

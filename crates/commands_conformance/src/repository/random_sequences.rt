@@ -10,7 +10,8 @@ use test_support::{data_of, digest_of, random};
 /// Names in canonical order. The first name is a prefix of the next two.
 const NAMES: [&str; 5] = ["/A", "/A/B", "/A/C", "/B", "/AA"];
 
-/// Returns whether the first name is a prefix of the second. Both are indexes into `NAMES`.
+/// Returns whether the name `first` is a prefix of the name `second`. Both names are given as
+/// indexes into `NAMES`.
 fn begins(first: usize, second: usize) -> bool {
     first == second || (first == 0 && (second == 1 || second == 2))
 }
@@ -30,7 +31,8 @@ struct Wanted {
     deadline: u64,
 }
 
-/// The content of a repository, in plain lists.
+/// The content of a repository, in plain lists: its objects, as indexes into the list of all Data,
+/// and its wants.
 #[derive(Drop)]
 struct Plain {
     objects: Vec<usize>,
@@ -90,7 +92,8 @@ fn number(all: &[Made], plain: &Plain, name: usize, can_be_prefix: bool) -> Opti
     Some(count)
 }
 
-/// Returns the object with the least full name among those that answer.
+/// Returns the object with the least full name among those that answer an Interest with this name
+/// and CanBePrefix, or `Some(None)` if none answers.
 fn least<'a>(
     all: &'a [Made],
     plain: &Plain,
@@ -268,7 +271,7 @@ fn calls_agree(
     Some(true)
 }
 
-/// Returns whether an empty repository and empty lists agree on ten random calls.
+/// Returns whether a repository and lists that are empty at first agree on ten random calls.
 fn sequence_agrees(alloc: Global, all: &[Made], state: &mut u64) -> Option<bool> {
     let mut repo = empty_repo(alloc)?;
     let mut plain = Plain {

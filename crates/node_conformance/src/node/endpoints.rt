@@ -12,7 +12,7 @@ fn loopback(port: u16) -> SocketAddr {
     SocketAddr::from((Ipv4Addr::LOCALHOST, port))
 }
 
-/// Returns a socket that is bound to a port of 127.0.0.2.
+/// Returns a socket that is bound to this port of 127.0.0.2.
 fn bound_elsewhere(rt: &impl Net, port: u16) -> Option<UdpSocket> {
     UdpSocket::bind(rt, (Ipv4Addr::new(127, 0, 0, 2), port)).ok()
 }
@@ -53,7 +53,7 @@ fn endpoint_is_address_and_port(rt: HostRuntime) {
     assert!(rt; parts_addresses(&rt) == Some(true));
 }
 
-/// Returns whether a peer has a face from the start, and hears what is sent to it.
+/// Returns whether a peer has a face from the start, and receives what is sent to this face.
 fn serves_peer(ports: &mut UdpPorts<Moving>, listen: SocketAddr, peer: &UdpSocket) -> Option<bool> {
     peer.send_to(b"333", listen).ok()?;
     let came = brings_face(ports, 1, 1) && brings_packet(ports, 1, 2, 3);
@@ -103,8 +103,8 @@ fn serves_version_six(rt: &impl Net, client: &UdpSocket) -> Option<bool> {
     serves_client(&mut ports, listen, client)
 }
 
-/// Does the same as `serves_version_six` if the machine has the address ::1. On a machine without
-/// this address, nothing is tested.
+/// Returns whether `serves_version_six` is true of a new client. Returns true, without a test, if
+/// no socket can be bound to ::1.
 fn serves_where_there_is_one(rt: &impl Net) -> Option<bool> {
     match UdpSocket::bind(rt, (Ipv6Addr::LOCALHOST, 0)) {
         Ok(client) => serves_version_six(rt, &client),

@@ -58,8 +58,8 @@ fn has_line(alloc: Global, len: usize) -> Option<bool> {
     Some(line_of(alloc, 1000, &entry).is_ok())
 }
 
-/// A line of a script has at most 20,000 octets: `rules 1000 `, the octets in hexadecimal, and
-/// ` -`.
+/// A line of a script has at most 20,000 octets. The lines of this test consist of `rules 1000 `,
+/// the octets of the rules in hexadecimal, and ` -`.
 #[test]
 fn longest_lines(rt: HostRuntime) {
     assert!(rt; has_line(rt.alloc(), 9_993) == Some(true));

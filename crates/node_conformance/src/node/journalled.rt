@@ -9,7 +9,8 @@ use node_core::{Node, Outbox};
 use node_ports::{JournalledPorts, MemoryPorts, Ports, ServeFault, serve};
 use std::alloc::Global;
 
-/// A file in memory, which accepts a given number of lines and then half of a line.
+/// A file in memory that accepts `left` more lines. Appending a further line writes only half of
+/// its octets, and fails.
 #[derive(Drop)]
 pub struct MemoryFile {
     pub octets: Vec<u8>,
@@ -34,7 +35,8 @@ impl JournalFile for MemoryFile {
 }
 
 /// Serves a node with the events of a dialogue and a journal file that accepts `lines` lines.
-/// Returns the ports if serving ends with this fault, or without a fault if none is given.
+/// Returns the ports if serving ends with the fault `fault`, or, if `fault` is `None`, without a
+/// fault.
 fn served(
     alloc: Global,
     node: &mut Node,
@@ -88,8 +90,9 @@ fn journal_of_a_life(rt: HostRuntime) {
     assert!(rt; same == Some(true));
 }
 
-/// A face that is already open, the closing of a face that is not open, a denied command, a Data
-/// that the repository does not want, a tick, and then a new face while the clock goes back.
+/// The opening of a face, the opening of this face while it is open, the closing of a face that is
+/// not open, a denied command, a Data that the repository does not want, a tick, and then a new
+/// face while the clock goes back.
 const MOSTLY_DENIED: &str = "
 up 1 local 1000000
 1 passed
@@ -153,7 +156,7 @@ in 1 1000000 INSERT
 in 1 1000000 ADD_FIRST
 ";
 
-/// Returns whether the first packet of an outbox is the stored Data.
+/// Returns whether the first packet of an outbox is the stored Data, on face 1.
 fn starts_with_data(alloc: Global, sent: &Outbox) -> Option<bool> {
     let data = spelled(alloc, "> 1 D_A")?;
     let mut text = Vec::new(alloc);
@@ -187,7 +190,8 @@ fn sends_after_a_restart(alloc: Global, wanted: &(u64, usize, bool)) -> Option<b
     on_node(alloc, &|alloc, node| replays_and_sends(alloc, node, wanted))
 }
 
-/// After a restart the stored Data is served, and each old command is denied as a replay.
+/// A node replays five events. The node then sends three packets in answer to an Interest and two
+/// old commands, and the first of these packets is the stored Data.
 #[test]
 fn after_a_restart(rt: HostRuntime) {
     assert!(rt; sends_after_a_restart(rt.alloc(), &(5, 3, true)) == Some(true));

@@ -109,12 +109,13 @@ fn sends(rt: HostRuntime) {
     assert!(rt; new_node_sends_in_order(rt.alloc()) == Some(true));
 }
 
-/// Returns whether these are the sample rules.
+/// Returns whether there are three rules, and `RuleNo(1)` has the id `repo-ops`, as in the sample
+/// rules.
 fn are_sample_rules(rules: &Rules) -> bool {
     rules.len() == 3 && rules.id(info_rules::RuleNo(1)) == "repo-ops"
 }
 
-/// Returns whether the ids of a node's rules can be read from the node.
+/// Returns whether `are_sample_rules` is true of the rules of a new node.
 fn tells_rules(alloc: Global) -> Option<bool> {
     on_node(alloc, &|_, node| Some(are_sample_rules(node.rules())))
 }
@@ -181,7 +182,8 @@ fn wants_first(node: &Node, wanted: &[u8], other: &[u8]) -> bool {
         && !wants_at(node, 1_001_100, wanted)
 }
 
-/// Returns whether a node wants the Data of the insert until the deadline, and no other Data.
+/// Returns whether a node wants the Data of the insert until the deadline, and does not want
+/// another Data.
 fn wants_inserted(alloc: Global, node: &Node) -> bool {
     let wanted = octets_of(alloc, "D_A");
     let other = octets_of(alloc, "D_B");
@@ -193,7 +195,7 @@ fn wants_after_insert(alloc: Global, node: &mut Node) -> bool {
     takes_insert(alloc, node) && wants_inserted(alloc, node)
 }
 
-/// Returns whether a node wants the requested Data until the deadline, and no other Data.
+/// Returns whether `wants_after_insert` is true of a new node.
 fn wants_in_time(alloc: Global) -> Option<bool> {
     on_node(alloc, &|alloc, node| Some(wants_after_insert(alloc, node)))
 }

@@ -168,7 +168,8 @@ pub fn hexadecimal_of(word: &str) -> &str {
     word
 }
 
-/// Returns the octets that a word in dialogues stands for.
+/// Returns the octets that a word of the dialogues stands for, or no octets if the word stands for
+/// none.
 pub fn octets_of(alloc: Global, word: &str) -> Vec<u8> {
     hex::decode(alloc, hexadecimal_of(word)).unwrap_or(Vec::new(alloc))
 }

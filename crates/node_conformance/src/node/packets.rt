@@ -67,7 +67,9 @@ in 2 1000000 -
 8 dropped Malformed Tlv Truncated
 ";
 
-/// A packet in a link packet is handled as the same packet without the link packet.
+/// A packet in a link packet is handled like the packet alone. A link packet is dropped if it has
+/// an unknown critical field, has a fragment of a packet, or has no packet. A packet without octets
+/// is dropped.
 #[test]
 fn link_packets(rt: HostRuntime) {
     replies(&rt, LINK_PACKETS);

@@ -9,7 +9,8 @@ use node_ports::{
 use std::alloc::Global;
 use test_support::SAMPLE;
 
-/// Events with two faces, an Interest without a route, and a Data that nobody asked for.
+/// A dialogue in which two faces open, an Interest without a route comes, and a Data that no
+/// Interest asked for comes twice.
 pub const FIRST_PATH: &str = "
 up 1 local 0
 1 passed
@@ -168,7 +169,7 @@ pub fn on_node<F: Fn(Global, &mut Node) -> Option<bool>>(alloc: Global, play: &F
 }
 
 /// Appends the text that is printed for one turn, with an outbox for the turn's sends. Returns
-/// false if no event was answered.
+/// false if the turn answers no event, or the text cannot be appended.
 fn put_turn<P: Ports>(
     node: &mut Node,
     ports: &mut P,
@@ -182,7 +183,8 @@ fn put_turn<P: Ports>(
     put_verdict(text, number, &verdict, node.rules()).is_ok() && put_sends(text, outbox).is_ok()
 }
 
-/// Appends the text that is printed for a node's turns at a port, until a turn answers no event.
+/// Appends the text that is printed for a node's turns at a port: for at most 999 turns, and only
+/// until a turn answers no event.
 fn put_turns<P: Ports>(alloc: Global, node: &mut Node, ports: &mut P, text: &mut Vec<u8>) {
     for number in 1..1000 {
         if !put_turn(node, ports, &mut Outbox::new(alloc), number, text) {
@@ -269,8 +271,8 @@ fn served_turns_with_failed_calls(rt: HostRuntime) {
     assert!(rt; serves(rt.alloc(), 10, 7, 0, &came(5, 0, true)));
 }
 
-/// Returns whether the port's `next` fails after `before` events, and a second call of `serve` then
-/// serves the remaining events, which are `left` in number.
+/// Does the same as `node_goes_on` for a new node. Returns `None` also if the node cannot be
+/// created.
 fn goes_on(alloc: Global, next: u64, before: u64, left: u64) -> Option<bool> {
     on_node(
         alloc,
@@ -279,15 +281,15 @@ fn goes_on(alloc: Global, next: u64, before: u64, left: u64) -> Option<bool> {
 }
 
 /// Returns whether `stops_and_ends` is true of a node at a port with the events of `FIRST_PATH`.
-/// The call of the port's `next` with the number `next` fails.
+/// Call number `next` of the port's method `next` fails.
 fn node_goes_on(alloc: Global, node: &mut Node, next: u64, before: u64, left: u64) -> Option<bool> {
     let mut ports = ports_of(alloc, FIRST_PATH)?;
     ports.fail_next(next);
     Some(stops_and_ends(alloc, node, &mut ports, before, left))
 }
 
-/// Returns whether serving a node stops after `before` events, and a second call of `serve` then
-/// serves the remaining events, which are `left` in number. One packet must be sent.
+/// Returns whether a first call of `serve` fails after `before` events, a second call serves the
+/// remaining events, which are `left` in number, and the two calls send one packet in total.
 fn stops_and_ends(
     alloc: Global,
     node: &mut Node,

@@ -39,7 +39,8 @@ fn verdict_on(alloc: Global, node: &mut Node, outbox: &mut Outbox, line: &str) -
     said
 }
 
-/// Returns whether a line of a dialogue has this verdict.
+/// Returns whether the second word of an answer is the word for the kind of this verdict. The word
+/// for `None` is `memory`.
 fn is_line_of(line: &str, verdict: Option<Verdict>) -> bool {
     let said = match verdict {
         None => "memory",
@@ -165,8 +166,8 @@ fn is_end(end: Result<(), RunFault>, text: &[u8]) -> bool {
     }
 }
 
-/// Returns whether the script may end as it does, or `None` if one of the test's own allocations
-/// fails.
+/// Returns whether `is_end` is true of the end and the output of `SCRIPT`, or `None` if one of the
+/// test's own allocations fails.
 fn script(alloc: Global) -> Option<bool> {
     let held = Vec::with_capacity(alloc, 1000).ok()?;
     let mut output = Room {
@@ -183,8 +184,9 @@ fn script_with_refused_memory(rt: HostRuntime) {
     assert!(rt; script(rt.alloc()) != Some(false));
 }
 
-/// Returns whether all five events of `FIRST_PATH` come, and at most one event is counted as
-/// refused or one send as failed.
+/// Returns whether all five events of `FIRST_PATH` come and the port then ends, and at most one
+/// event is counted as refused or one send as failed. Returns `None` if one of the test's own
+/// allocations fails, or `serve` fails.
 fn serves(alloc: Global, node: &mut Node) -> Option<bool> {
     let mut ports = ports_of(alloc, FIRST_PATH)?;
     let served = serve(alloc, node, &mut ports, 10).ok()?;

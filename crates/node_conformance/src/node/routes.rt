@@ -23,7 +23,8 @@ in 1 1000180 AGAIN
 > 1 D_A
 ";
 
-/// An Interest follows a route that a command has set, and the Data comes back once.
+/// An Interest follows a route that a command has set, and the Data comes back once. After the face
+/// of the route has closed, the cached Data answers another Interest.
 #[test]
 fn a_route_and_back(rt: HostRuntime) {
     replies(&rt, A_ROUTE_AND_BACK);
@@ -64,7 +65,8 @@ in 1 1000000 LIST_2
 ";
 
 /// A route needs an open face. The version of the list of routes increases with each allowed
-/// command, and when the face closes.
+/// command, and when the face closes. An Interest for an older version, or for a segment that the
+/// list does not have, is dropped.
 #[test]
 fn route_command_and_list(rt: HostRuntime) {
     replies(&rt, ROUTE_COMMAND_AND_LIST);
@@ -135,7 +137,8 @@ in 1 1000000 LOCAL_NAME
 > 1 LOCAL_NO_ROUTE
 ";
 
-/// Packets under `/localhost` from other machines are dropped.
+/// Packets under `/localhost` from other machines are dropped. An Interest under `/localhost` from
+/// this machine is not dropped.
 #[test]
 fn localhost_stays_on_this_machine(rt: HostRuntime) {
     replies(&rt, LOCALHOST);
@@ -186,7 +189,8 @@ in 1 1000000 THIRD
 ";
 
 /// The multicast strategy sends an Interest to each next hop. Data that are erased from the cache
-/// no longer answer Interests.
+/// no longer answer Interests. The strategy of the root cannot be unset, and an unknown strategy
+/// cannot be set.
 #[test]
 fn strategy_and_cache(rt: HostRuntime) {
     replies(&rt, STRATEGY_AND_CACHE);

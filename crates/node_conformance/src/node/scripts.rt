@@ -2,7 +2,8 @@ use super::{replies, sample_outcome};
 use std::alloc::Global;
 use test_support::first_wrong;
 
-/// Each row is a script, with `|` for each LF, followed by its output and by how it ends.
+/// Each row is a script, with `|` for each LF, then ` -> `, the script's output, and how the script
+/// ends.
 const SCRIPTS: &str = "
  -> Ok(())
 |# a comment, in 1|| -> Ok(())

@@ -74,7 +74,7 @@ fn reads(alloc: Global, script: &str, size: usize, fails: bool, answers: &str) -
     end == Some(wanted) && output.as_slice() == answers.as_bytes()
 }
 
-/// Checks a script that is read in pieces of 1 to 100 octets.
+/// Checks that `reads` is true of a script for each `size` from 1 to 100.
 fn check_pieces(rt: &(impl Abort + AllocGlobal), script: &str, fails: bool, answers: &str) {
     for size in 1..101 {
         assert!(rt;
@@ -126,7 +126,7 @@ fn writes(alloc: Global, script: &str, size: usize, left: usize, answers: &[u8])
     is_end(end, output.held.as_slice(), left, answers)
 }
 
-/// Checks a script whose output has a capacity of 0 to 40 octets.
+/// Checks that `writes` is true of a script for each `left` from 0 to 40.
 fn check_rooms(rt: &(impl Abort + AllocGlobal), script: &str, size: usize, answers: &[u8]) {
     for left in 0..41 {
         assert!(rt;

@@ -11,7 +11,7 @@ use test_support::data_of;
 const COUNT: u32 = 2000;
 
 /// Puts a Data for each number: the fresh Data for the number `at`, and stale Data for all other
-/// numbers.
+/// numbers. Returns whether each of them is cached.
 fn put_all(alloc: Global, store: &mut Store, fresh: &[u8], at: u32) -> Option<bool> {
     let mut stale = data_of(alloc, "/n/0000", "01", Some(0))?;
     for step in 0..COUNT {

@@ -73,7 +73,7 @@ fn all_made(alloc: Global) -> Option<Vec<Made>> {
     Some(all)
 }
 
-/// Returns whether a name begins with another name.
+/// Returns whether the name `prefix` is a prefix of `name`. Both are indexes into `NAMES`.
 fn is_under(name: usize, prefix: usize) -> bool {
     let (Some(name), Some(prefix)) = (NAMES.get(name), NAMES.get(prefix)) else {
         return false;
@@ -134,7 +134,7 @@ fn put_agrees(
     put_packet(store, &all.get(one.made)?.packet, one.arrival)
 }
 
-/// Returns the result of `find`, `find_counted` or `serve_at`, chosen at random, or None if only
+/// Returns the result of `find`, `find_counted` or `serve_at`, chosen at random, or `None` if only
 /// one of this call and `place_for` finds a Data, or if the call takes more than 17 comparisons.
 fn look_up<'a>(
     store: &'a mut Store,

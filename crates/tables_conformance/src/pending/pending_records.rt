@@ -54,7 +54,8 @@ ask /A 1 7 5, ask /A 2 8 4, withdraw /A 1, of /A 1, of /A 2, withdraw /A 2, len 
 ask /A 1 7 5, withdraw /A 2, withdraw /B 1, remove /A+p, len -> yes; -; -; -; 1 false
 ";
 
-/// For each face, only its latest Interest under a key counts.
+/// For each face, only its latest Interest under a key counts. A withdrawal removes only the
+/// Interest of one face under one key, and a removal only the Interests under one key.
 #[test]
 fn of_each_face_the_last_interest(rt: HostRuntime) {
     check_rows(&rt, rt.alloc(), OF_EACH_FACE_THE_LAST_INTEREST, answers);
@@ -84,7 +85,7 @@ ask /A 1 7 5000, nack /A 1 7 50, nack /A+f 1 7 50 -> yes; no pending; no pending
 ";
 
 /// Once all faces that an Interest was sent to have answered with a Nack, the least reason is sent
-/// back.
+/// back. A Nack counts only if its Nonce is the one that was last sent to its face.
 #[test]
 fn the_least_nack_of_all_faces_asked(rt: HostRuntime) {
     check_rows(&rt, rt.alloc(), THE_LEAST_NACK_OF_ALL_FACES_ASKED, answers);

@@ -426,7 +426,7 @@ fn calls_agree(
     Some(shows_all(table, records, keys))
 }
 
-/// Returns whether random calls of an empty table agree with empty records.
+/// Returns whether a table and records that are empty at first agree on 24 random calls.
 fn sequence_agrees(
     alloc: Global,
     keys: &[OwnedKey],

@@ -40,7 +40,7 @@ token /A+pf 1 6 100, token /A+p 1 5 100, token_for /A 1 -> yes; yes; 06
 ";
 
 /// Among Interests with the same deadline, the face gets the token of the Interest with the
-/// greatest key.
+/// greatest key: the longest name, then CanBePrefix, then MustBeFresh.
 #[test]
 fn token_of_the_greatest_key(rt: HostRuntime) {
     check_rows(&rt, rt.alloc(), TOKEN_OF_THE_GREATEST_KEY, answers);

@@ -34,7 +34,8 @@ register /A 2 cost=7, register /A 2 cost=5 origin=1, register /A/B 3, of /A/B ->
 register /A 2 cost=1 flags=0, register /A 2 cost=9 origin=1, register /A/B 3, of /A, of /A/B -> 2@1; 3@0 2@9
 ";
 
-/// Among the routes of several origins on one face, the least cost counts.
+/// Among the routes of several origins on one face, the least cost counts. Longer names inherit the
+/// least cost of the child-inherit routes alone.
 #[test]
 fn the_least_cost_counts(rt: HostRuntime) {
     check_rows(&rt, rt.alloc(), THE_LEAST_COST_COUNTS, answers);

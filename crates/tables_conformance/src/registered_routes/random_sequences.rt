@@ -219,8 +219,9 @@ impl Plain {
         len
     }
 
-    /// Returns the cost that a name inherits for a face, if the name has routes and none of them is
-    /// a capture route.
+    /// Returns the cost that a name inherits for a face from the prefix that `nearest` returns.
+    /// Returns `None` if there is no such prefix, if the name has no route or has a capture route,
+    /// or if a name between the prefix and the name has a capture route.
     fn inherited_cost(&self, seen: &mut Seen, name: usize, face: u64) -> Option<u64> {
         if !self.has_routes(name) || self.has_capture(name) {
             return None;
@@ -523,7 +524,7 @@ fn calls_agree(
     Some(agrees && routes.read().len() == plain.len())
 }
 
-/// Returns whether random calls of an empty table agree with empty lists.
+/// Returns whether a table and lists that are empty at first agree on 40 random calls.
 fn sequence_agrees(
     alloc: Global,
     names: &[NameBuf],

@@ -201,8 +201,9 @@ fn is_listed(alloc: Global, fib: &Fib, expected: &str) -> Option<bool> {
     Some(listed.as_str() == expected)
 }
 
-/// Returns whether a route of this name can be prepared, and is registered after the route of
-/// another name has expired. If the preparation fails, the table must still have the other route.
+/// Prepares a route of this name. If the preparation fails, returns whether the table still has
+/// only the route of the other name. Otherwise, returns whether the prepared route is registered
+/// after the route of the other name has expired.
 fn takes_prepared_route(alloc: Global, routes: &mut RouteTable, name: Name<'_>) -> Option<bool> {
     if routes.prepare(name).is_err() {
         return is_listed(alloc, routes.read(), "/%00%02 2@0");
@@ -213,7 +214,8 @@ fn takes_prepared_route(alloc: Global, routes: &mut RouteTable, name: Name<'_>) 
 }
 
 /// Returns whether a prepared call does not run out of memory. The call registers a route for a new
-/// name, after other routes have expired. A preparation that fails must leave the routes unchanged.
+/// name, after the route of another name has expired. A preparation that fails must leave the
+/// routes unchanged.
 fn registers_what_is_prepared(alloc: Global, routes: &mut RouteTable) -> Option<bool> {
     let mut route = Route::new(2, 0);
     route.deadline = Some(9);
@@ -222,8 +224,9 @@ fn registers_what_is_prepared(alloc: Global, routes: &mut RouteTable) -> Option<
     takes_prepared_route(alloc, routes, name.view())
 }
 
-/// Returns whether a ninth route of this name can be prepared and is registered. If the preparation
-/// fails, the name must still have eight routes.
+/// Registers eight routes of this name, and prepares a ninth route. If the preparation fails,
+/// returns whether the name still has eight routes. Otherwise, returns whether the ninth route is
+/// registered.
 fn takes_ninth_route(routes: &mut RouteTable, name: Name<'_>) -> Option<bool> {
     for face in 1..9 {
         routes.register(name, Route::new(face, 0)).ok()?;
