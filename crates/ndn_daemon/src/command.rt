@@ -131,10 +131,11 @@ const AFTER_JOURNAL: &str =
     "FILE is a journal that `ndn_node udp --journal FILE` wrote. Give the --repo of that node, and
 stop the node first: a journal that is in use is refused.
 
-What stays is what is needed for the open faces, routes, strategies, rules and the repository as
-they are after the last line, the last command of each signer, so that it cannot be repeated, and
-all lines before a command with the status 503. A line `tick` has the time of the last line. A last
-line without LF is left out, as at the start of a node.
+What stays are the lines that give the open faces, routes, strategies, rules and the repository as
+they are after the last line, and the last command of each signer and the last one with a sequence
+number, so that no command can be repeated. If one of these lines is a command with the status 503,
+all lines before it stay. A line `tick` has the time of the last line. A last line without LF is
+left out, as at the start of a node.
 
 The shorter journal is compared with FILE on two new nodes, is written to FILE.short, and then takes
 the place of FILE. If the two nodes differ, or nothing can be left out, FILE stays as it is.
