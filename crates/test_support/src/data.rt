@@ -29,7 +29,8 @@ fn written_data<'a>(
     Some(out)
 }
 
-/// Shows the Content of a Data, or `none` if there is no Data.
+/// Returns the Content of a Data in hexadecimal, or `none` if `packet` is `None`. Returns `None` if
+/// the packet is not a Data with a Content.
 pub fn content_shown(alloc: Global, packet: Option<&[u8]>) -> Option<String> {
     let Some(packet) = packet else {
         return String::from_str(alloc, "none").ok();

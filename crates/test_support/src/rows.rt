@@ -35,8 +35,9 @@ pub fn first_wrong<F: Fn(Global, &str) -> bool>(alloc: Global, rows: &str, is_ri
     without_rows
 }
 
-/// Returns the first wrong row, and the text that `show` gives for its input. A row consists of an
-/// input, ` -> `, and the text that `show` must give for the input. A text without rows is wrong.
+/// Returns the first wrong row and the text that `show` gives for its input, or `None` if no row is
+/// wrong. A row consists of an input, ` -> `, and the text that `show` must give for the input. For
+/// a text without rows, returns `no rows` as the wrong row.
 pub fn first_misshown<'a>(
     alloc: Global,
     rows: &'a str,
