@@ -38,11 +38,11 @@ const SCRIPTS: &str = "A script has one event on each line, with single spaces b
   up FACE local|far MOMENT  opens a face to a program on this machine, or to another machine
   down FACE MOMENT          closes a face: its routes and the Interests pending there go
   tick MOMENT               lets time pass
-  in FACE MOMENT HEX        hands the node a packet that arrived on a face
-  rules MOMENT HEX HEX      puts a rule file and a key file in the place of those in force
+  in FACE MOMENT HEX        gives the node a packet that arrived on a face
+  rules MOMENT HEX HEX      replaces the rules and keys in force by a rule file and a key file
 FACE is the number of a face, from 1; at most 64 faces are open at once. MOMENT is a time in
 milliseconds since 1970. HEX is the packet or the file in hexadecimal, or - for no octets. Empty
-lines, and lines that begin with #, are skipped.
+lines, and lines that begin with #, are skipped. A `rules` line whose file has a fault is bad.
 
 The answer to event N is a line `N VERDICT`, followed by a line `> FACE HEX` for each packet that
 the node sends. The verdict is one of:
@@ -50,13 +50,13 @@ the node sends. The verdict is one of:
   allowed STATUS RULE           the rule allowed the command, which was answered by this status
   data RULE                     the rule allowed the Data
   denied interest|data WHY RULE the rule denied the command or the Data
-  no-rule interest|data         no rule applies, so it is denied
-  dropped REASON                the event had no effect
+  no-rule interest|data         no rule applies, so the packet is denied
+  dropped REASON                the event had no effect, but a looped Interest is answered by a Nack
   memory                        memory ran out, and the event had no effect
 
 Without --rules no rule allows anything: routes cannot be set, and Data are not returned. A key file
-has on each line the URI of a key's name, one space, and the key in hexadecimal; a second space
-would belong to the name.
+has on each line the URI of a key's name, one space, and the key in hexadecimal. If there are two
+spaces, the first one belongs to the name.
 
 Example: an Interest for /A comes from face 1, and no route leads to /A. The answer is a Nack.
   $ ndn_node script << END
@@ -74,46 +74,46 @@ wrong command line, 3 if input, output or memory fails.";
 const ABOUT_UDP: &str = "Runs the node on a UDP port of this machine and prints its answers";
 
 const AFTER_UDP: &str =
-    "The node has one UDP socket. It listens on an address and a port: --listen 6363 is port 6363 of
-127.0.0.1, which programs on this machine reach; 192.0.2.1:6363 and [2001:db8::1]:6363 are reached
-from other machines, where these are addresses of this one. PEERS are written in the same way, as
-the addresses and ports of programs that the node knows from the start: they are faces 1, 2 and so
-on, in this order. All are IPv4 or all IPv6, as the socket is. The first K are Local, and may send
-commands under /localhost, so they have to be on this machine (127.0.0.0/8 or ::1); the others are
-Far. At most 64 peers are given, each once.
+    "The node has one UDP socket, which listens on an address and a port. --listen 6363 is port 6363
+of 127.0.0.1, which only programs on this machine reach. Other machines reach a node that listens on
+an address of this machine, such as 192.0.2.1:6363 or [2001:db8::1]:6363. PEERS are the addresses
+and ports, written in the same way, of programs that the node knows from the start. Their faces have
+the numbers 1, 2 and so on, in this order. All of them are IPv4 or all IPv6, as the socket is. The
+first K peers are Local and may send commands under /localhost, so they have to be on this machine
+(127.0.0.0/8 or ::1). The other peers are Far. At most 64 peers are given, each once.
 
-In each turn the node opens the face of the next peer, or takes one datagram, for which it waits. A
-datagram from another address and port, a stranger, opens the next face, which is Far, and is
-handled in the turn after that. Where the node listens on an address that other machines can send
-to, strangers are not heard, unless --open is given: their datagrams are dropped unread, and
-counted.
+In each turn the node opens the face of the next peer, or waits for one datagram. A datagram from an
+address and port without a face comes from a stranger. It opens the next face, which is Far, and is
+handled in the turn after that. If the node listens on an address that other machines can send to,
+it drops and counts the datagrams of strangers unread, unless --open is given.
 
-A face that a datagram opened, and that nothing came from for the time of --idle, closes in a turn
-of its own, before the next datagram is handled. While 64 addresses and ports are known and another
-one sends, the one of these faces that was silent longest closes, if it was for 10 seconds; else no
-face opens, and the packet is dropped. The face of a peer never closes, and no number is used again.
+A stranger's face is idle if no datagram came from it for the time of --idle. An idle face closes in
+a turn of its own, before the next datagram is handled. If a new stranger sends while 64 addresses
+and ports are known, the stranger's face that was silent longest closes, provided that it was silent
+for at least 10 seconds. Otherwise no face opens, and the packet is dropped. The face of a peer
+never closes, and the number of a face is never used again.
 
-A key file has on each line the URI of a key's name, one space, and the key in hexadecimal; a second
-space would belong to the name.
+A key file has on each line the URI of a key's name, one space, and the key in hexadecimal. If there
+are two spaces, the first one belongs to the name.
 
-Where a file of --rules or --keys has changed, the node reads both again, and the new rules and keys
-take a turn of their own. Write a new file beside the old one and rename it over. A fault in a file
-is reported, and the rules and keys in force stay.
+If a file of --rules or --keys has changed, the node reads both files again, and the new rules and
+keys take a turn of their own. To change a file, write a new file beside it, and rename the new file
+to the old name. The node reports a fault in a file, and the rules and keys in force stay.
 
-With --journal the node remembers: each event that changes faces, routes, strategies, rules or the
-repository, and each allowed command, is in FILE before its packets are sent. The next node with
-FILE begins where this one ended, however it ended. The faces of peers stay open, if they are as
-Local as before; all others close. The rules and keys are those of --rules and --keys, which then
-have at most 9985 octets together. FILE is a script; it holds the keys, and is for one node at a
-time.
+With --journal the node writes to FILE each event that changes faces, routes, strategies, rules or
+the repository, and each allowed command, before it sends the packets of this event. The next node
+with FILE begins where this one ended, even after a crash. The faces of peers stay open if they are
+Local or Far as before; all other faces close. The rules and keys are those of --rules and --keys,
+which may then have at most 9985 octets together. FILE is a script. It contains the keys, and only
+one node at a time may use it.
 
-The answer to turn N is printed as `script` prints that to event N: a line `N VERDICT`, and a line
-`> FACE HEX` for each packet that goes out. Moments are those of the machine's clock. With
---quiet nothing is printed. The log of --log goes to standard error, with or without --quiet; where
-PEERS follow it, write `--log all`, or another option between.
+Turn N is printed as `script` prints event N: a line `N VERDICT`, and a line `> FACE HEX` for each
+packet that the node sends. Moments are those of the machine's clock. With --quiet nothing is
+printed. The log of --log goes to standard error, with or without --quiet. If PEERS follow --log,
+write `--log all` or `--log events`, or put another option between.
 
-Example: a node that takes two turns. In the first it opens a face for the port that an Interest for
-/A comes from; in the second the answer is a Nack.
+Example: a node that takes two turns. In the first turn it opens a face for the port that an
+Interest for /A comes from. In the second turn it answers with a Nack.
   $ ndn_node udp --listen 6363 --turns 2 &
   $ ndn_tool send 050b07030801410a0401020304 --to 6363
   1 passed
@@ -131,14 +131,15 @@ const AFTER_JOURNAL: &str =
     "FILE is a journal that `ndn_node udp --journal FILE` wrote. Give the --repo of that node, and
 stop the node first: a journal that is in use is refused.
 
-What stays are the lines that give the open faces, routes, strategies, rules and the repository as
-they are after the last line, and the last command of each signer and the last one with a sequence
-number, so that no command can be repeated. If one of these lines is a command with the status 503,
-all lines before it stay. A line `tick` has the time of the last line. A last line without LF is
-left out, as at the start of a node.
+The shorter journal has the lines that give the open faces, routes, strategies, rules and the
+repository as they are after the last line. It also has the last command of each signer and the last
+one with a sequence number, so that no command can be repeated. If one of these lines is a command
+with the status 503, all lines before it stay. At the end a line `tick` is added, with the time of
+the last line of FILE. A last line without LF is left out, as at the start of a node.
 
-The shorter journal is compared with FILE on two new nodes, is written to FILE.short, and then takes
-the place of FILE. If the two nodes differ, or nothing can be left out, FILE stays as it is.
+The shorter journal and FILE are compared on two new nodes. Then the shorter journal is written to
+FILE.short, which is renamed to FILE. If the two nodes differ, or nothing can be left out, FILE
+stays as it is.
 Standard output has one line, `FILE: 7 lines, 4 kept` or `FILE: nothing is left out`.
 
 Exit status: 0 at the end, 1 for a bad line of the journal (`journal:LINE: KIND` on standard error,
@@ -251,19 +252,19 @@ fn udp_command<'a>(alloc: Global) -> Result<Command<'a>, AllocError> {
             alloc,
             "idle",
             "SECONDS",
-            "After how long a silence a face closes that is no peer's; 600 if absent",
+            "After how many seconds of silence a stranger's face closes; 600 if absent",
         ))?
         .arg(flag(
             alloc,
             "open",
-            "Hears strangers on an address that other machines can send to",
+            "Accepts strangers on an address that other machines can send to",
         ))?
         .arg(log_option(alloc))?
         .arg(option(
             alloc,
             "journal",
             "FILE",
-            "Keeps faces, routes, strategies and the repository in FILE, and begins with them",
+            "Stores faces, routes, strategies, rules and the repository in FILE, and starts with them",
         ))?
         .arg(flag(
             alloc,
@@ -328,7 +329,7 @@ fn log_option<'a>(alloc: Global) -> Arg<'a> {
         alloc,
         "log",
         "all",
-        "Logs what an operator has to know of on standard error; with `all`, of every event",
+        "Logs what an operator has to know on standard error; with `all`, every event",
     )
     .num_args(0..=1)
     .default_missing_value("events")

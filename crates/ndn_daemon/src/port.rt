@@ -236,7 +236,8 @@ fn is_of_peer(face: u64, scope: Scope, options: &UdpOptions) -> bool {
     0 < face && face <= options.peers.len() as u64 && is_local == (face <= options.local)
 }
 
-/// Binds the ports that the options describe. Returns `None` if the endpoint cannot be bound.
+/// Binds the ports that the options describe. Returns `None` if the address and port
+/// `options.listen` cannot be bound.
 fn bound_ports<M: Moments>(rt: &impl Net, moments: M, options: &UdpOptions) -> Option<UdpPorts<M>>
     requires { length options.now.peers.items ≤ MAX_FACES }
     ensures { IfSome result (ArePortsOf options.now (M.last moments)) }
