@@ -89,7 +89,7 @@ fn interest_in(alloc: Global, columns: &[&str]) -> Option<String> {
     interest_of(alloc, columns, &octets)
 }
 
-/// Returns what is written for an Interest whose fields are in a row, or the fault.
+/// Returns what is written for the Interest whose fields a row gives, or the fault.
 fn interest(alloc: Global, input: &str) -> Option<String> {
     let columns: Vec<&str> = input.split(", ").collect(alloc).ok()?;
     interest_in(alloc, columns.as_slice())
@@ -123,7 +123,7 @@ fn data_in(alloc: Global, columns: &[&str]) -> Option<String> {
     data_of(alloc, columns, &octets)
 }
 
-/// Returns what is written for a Data whose fields are in a row, or the fault.
+/// Returns what is written for the Data whose fields a row gives, or the fault.
 fn data(alloc: Global, input: &str) -> Option<String> {
     let columns: Vec<&str> = input.split(", ").collect(alloc).ok()?;
     data_in(alloc, columns.as_slice())
@@ -137,7 +137,7 @@ fn written_reply(alloc: Global, name: &[u8], content: &[u8]) -> Option<String> {
     appended(alloc, done.err().map(|_| "Memory"), &out)
 }
 
-/// Returns what is written for a reply whose name and Content are in a row, or the fault.
+/// Returns what is written for the reply whose name and Content a row gives, or the fault.
 fn reply(alloc: Global, input: &str) -> Option<String> {
     let (name, content) = input.split_once(", ")?;
     let name = octets(alloc, name)?;
@@ -152,7 +152,7 @@ fn written_nack_of(alloc: Global, reason: u64, interest: &[u8]) -> Option<String
     appended(alloc, done.err().map(|_| "Memory"), &out)
 }
 
-/// Returns what is written for a Nack whose reason and Interest are in a row, or the fault.
+/// Returns what is written for the Nack whose reason and Interest a row gives, or the fault.
 fn nack(alloc: Global, input: &str) -> Option<String> {
     let (reason, interest) = input.split_once(", ")?;
     let reason = reason.parse().ok()?;

@@ -453,7 +453,7 @@ Tag -> Tag: the octets were changed, or the key's differ; compare the key's on b
 Replay -> Replay: not newer than an allowed command, or the clocks differ; sign it again now
 ";
 
-/// The messages of denials for operators.
+/// The message for each reason of a denial.
 #[test]
 fn texts_of_reasons(rt: HostRuntime) {
     check_rows(&rt, rt.alloc(), REASON_TEXTS, reason_text);
