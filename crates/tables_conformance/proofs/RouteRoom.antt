@@ -88,8 +88,9 @@ same f face e = grind (arith, nat_tests, e)
 same_key : (k key : RouteKey) → eq_by_cmp route_cmp k key ≡ true → k ≡ key
 same_key k key e = route_cmp-antisymmetric k key (equal (route_cmp k key) e)
 
--- The lemmas of this module: what follows if a map has a value under a key after an insertion, a
--- removal or a change of its values.
+-- The lemmas of this module are about the value that a lookup gives in an empty map, or in a map
+-- after an insertion, a removal or a change of its values. If there is a value, then `A` follows,
+-- provided that `A` follows from each way in which the value can be there.
 module _ {X A : Type 0} where
   none_there : (o : Option X) → o ≡ None → IsSome o → A
   none_there o e some = absurd cc
