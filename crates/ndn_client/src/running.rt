@@ -177,8 +177,7 @@ fn next_answer<R: Clock + AllocGlobal + Eprint + Print>(
 ///
 /// # Errors
 ///
-/// `Unbound` if the given port `from` cannot be bound, for example because another program has it.
-/// `Send` if no port can be bound without `from`, or the socket cannot be connected to `to`.
+/// `Unbound` if another program has the port `from`, and `Send` if there is no such socket.
 pub fn socket_of<R: Net>(rt: &R, from: Option<u16>, to: u16) -> Result<UdpSocket, Fault> {
     let Ok(socket) = UdpSocket::bind(rt, (Ipv4Addr::LOCALHOST, from.unwrap_or(0))) else {
         return Err(match from {
