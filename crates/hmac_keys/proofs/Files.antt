@@ -82,8 +82,8 @@ key_is_added n keys more line kept e = from_key (key_in line) refl (sym (rw kept
 pub line_skipped : (n : ℕ) (keys : List NamedKey) (line : List ℕ) → is_skipped line ≡ true → after_line n keys line ≡ Ok keys
 line_skipped n keys line skipped = rw skipped refl
 
--- the next two lemmas: if one more line in front of the lines is skipped, the keys in the lines are
--- the same; if this line has a key, this key comes before the keys in the lines
+-- the next two lemmas: a skipped line in front of the lines changes no keys; a line with a key in
+-- front of the lines puts this key before the keys in the lines
 skipped_before : (line : List ℕ) (lines : List (List ℕ)) (keys all : List NamedKey) → is_skipped line ≡ true → AreRead lines keys all → AreRead (line ∷ lines) keys all
 skipped_before line lines keys all skipped rest =
     record { new = rest.new; whole = rest.whole; are = inl (skipped, rest.are); apart = rest.apart; few = rest.few }

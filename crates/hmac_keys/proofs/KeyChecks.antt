@@ -31,7 +31,8 @@ none_is : {A : Type 0} (o : Option A) → is_some o ≡ false → o ≡ None
 none_is (Some x) e = absurd cc
 none_is None e = refl
 
--- a text reads as a nonempty name exactly if its number of components is greater than 0
+-- if a text reads as a name with n components, n is greater than 0 exactly if `name_of` returns
+-- this name
 pub name_test : (uri : List ℕ) (n : ℕ) → (cs : List Field) × ReadsAs uri cs × (n ≡ length cs) → ltb 0 n ≡ is_some (name_of uri)
 name_test uri n h = ap (ltb 0) h.2 ∙ counted h.0 ∙ sym (ap (λ r. is_some (on_result not_empty (λ _. None) r)) (text_again uri h.0 h.1))
   where

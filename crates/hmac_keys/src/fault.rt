@@ -9,7 +9,8 @@ use thiserror::Error;
 /// enum is reported. `Memory` is returned only if the file has no fault.
 #[derive(Clone, Copy, Debug, PartialEq, Eq, Error)]
 pub enum KeyFault {
-    /// The line is not the URI of a nonempty name, a space, and 1 to 256 octets in hexadecimal.
+    /// The line is not the URI of a nonempty name, a space, and 1 to 256 octets in hexadecimal. The
+    /// number 0 means that the file is not UTF-8.
     #[error("line {0} is not a name and the octets of a key, as /ops/KEY/1 6b6579")]
     BadLine(u64),
     /// The line has the name of an earlier line's key.

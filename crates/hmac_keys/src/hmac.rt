@@ -8,8 +8,8 @@ use sha2::{Digest, Sha256};
 /// The length of a block of SHA-256, in octets.
 const BLOCK_LEN: usize = 64;
 
-/// The octet that is combined with each octet of a key for the outer hash. `INNER_PAD` is the octet
-/// for the inner hash.
+/// The octet that is combined with each octet of a key's block for the outer hash. `INNER_PAD` is
+/// the octet for the inner hash.
 const OUTER_PAD: u8 = 0x5c;
 
 const INNER_PAD: u8 = 0x36;
@@ -36,7 +36,7 @@ impl Blocks {
         combine(&mut block, INNER_PAD);
         let mut inner = Sha256::new();
         inner.update(&block);
-        // Combining with both pads removes the inner pad and applies the outer one.
+        // Combining with the XOR of both pads removes the inner pad and applies the outer one.
         combine(&mut block, INNER_PAD ^ OUTER_PAD);
         let mut outer = Sha256::new();
         outer.update(&block);

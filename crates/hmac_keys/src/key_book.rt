@@ -107,8 +107,8 @@ impl KeyBook {
         read_keys(alloc, text)
     }
 
-    /// Reads the keys in the octets of a key file. If the octets are not UTF-8, the fault is a bad
-    /// line with the number 0. `Memory` is returned only if the text has no fault.
+    /// Reads the keys in the octets of a key file. Returns `BadLine(0)` if the octets are not
+    /// UTF-8. `Memory` is returned only if the text has no fault.
     #[tactic(auto, using(crate::proofs::Files::found))]
     pub fn read_octets(alloc: Global, octets: &[u8]) -> Result<KeyBook, KeyFault>
         ensures { MatchResult result (AreKeys octets.now) (IsFaultOfOctets octets.now) }

@@ -16,15 +16,16 @@ use std::io::{BufRead, Read};
 /// more than 1,000,000 octets of comments.
 pub const MAX_KEY_FILE: u32 = 8_388_608;
 
-/// Reads all octets of a reader. Returns `None` if the reader has more than `limit` octets. More
-/// than `limit` octets are never returned.
+/// Returns all octets of a reader, or `None` if the reader has more than `limit` octets. At most
+/// `limit` + 1 octets are read.
 pub fn read_within<R: Read + Drop>(
     alloc: Global,
     reader: R,
     limit: u32,
 ) -> io::Result<Option<Vec<u8>>>
     ensures bound { IfOk result (λ found. IfSome found (λ octets. length octets.items ≤ limit)) }
-    // If the octets of the reader are known, the result is exactly these octets, or `None`.
+    // If the octets of the reader are known, the result is exactly these octets, or `None` if there
+    // are more than `limit`.
     ensures known { IfOk result (λ found. IfSome (R.remaining reader)
         (λ octets. IsWithin limit octets (option_map (λ o. o.items) found))) }
 {
@@ -41,7 +42,8 @@ pub fn read_line_within<R: BufRead>(
     limit: u32,
 ) -> io::Result<Option<Vec<u8>>>
     ensures bound { IfOk result (λ found. IfSome found (λ line. length line.items ≤ limit)) }
-    // If the octets of the reader are known, the result is exactly the next line, or `None`.
+    // If the octets of the reader are known, the result is exactly the next line, or `None` if the
+    // line has more than `limit` octets.
     ensures known { IfOk result (λ found. IfSome (R.remaining reader.old)
         (λ octets. IsWithin limit (take_through 10 octets) (option_map (λ o. o.items) found))) }
 {

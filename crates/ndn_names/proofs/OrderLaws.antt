@@ -13,8 +13,8 @@ use Rattle.ndn_tlv.specs.Element.{Field}
 use Rattle.ndn_names.specs.Key.{component_cmp-total, component_cmp-antisymmetric, name_cmp-total, name_cmp-antisymmetric}
 use Rattle.ndn_names.specs.Order.{DiffersBelow, IsProperPrefix, OctetsLess, ComponentLess, Less, component_cmp, name_cmp}
 
--- two comparisons in sequence return `Less` only if the first one returns `Less`, or if it returns
--- `Equal` and the second one returns `Less`
+-- if two comparisons in sequence return `Less`, either the first one returns `Less`, or the first
+-- one returns `Equal` and the second one returns `Less`
 then_less : (o p : Ordering) → ordering_then o p ≡ Lt → (o ≡ Lt) ⊎ ((o ≡ Equal) × (p ≡ Lt))
 then_less Lt p e = inl refl
 then_less Equal p e = inr (refl, e)

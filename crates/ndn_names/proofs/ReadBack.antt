@@ -29,8 +29,8 @@ AllByRecursion-append : (P : ℕ → Type 0) (xs ys : List ℕ) → AllByRecursi
 AllByRecursion-append P [] ys p q = q
 AllByRecursion-append P (x ∷ xs) ys p q = (p.0, AllByRecursion-append P xs ys p.1 q)
 
--- if checking all numbers below a limit shows that a test holds, the test holds for each number
--- below the limit
+-- if `agree_below` finds that `test` is true for all numbers below `limit`, `test` is true for each
+-- number `n` below `limit`
 passes_below : (test : ℕ → Bool) (limit n : ℕ) → agree_below test (λ _. true) limit ≡ true → n < limit → test n ≡ true
 passes_below test limit n all lt = agree_below_at test (λ _. true) limit n all lt
 

@@ -46,8 +46,8 @@ pub record AreLeft (left : ℕ) (a b : ValueText) (x y : List ℕ) : Type 0 wher
   pub b_says : SaysFirst b y_left
   pub same : (x ≡ y) ↔ (x_left ≡ y_left)
 
--- whenever what the text `value` encodes begins with one octet followed by others, this octet is
--- `first`, and what the text `after` encodes begins with the others
+-- if the octets that `value` encodes begin with `octet` followed by `octets`, then `octet` is
+-- `first`, and the octets that `after` encodes begin with `octets`
 abbrev pub Begins : ValueText → ℕ → ValueText → Type 0
 Begins value first after = (octet : ℕ) (octets : List ℕ) → SaysFirst value (octet ∷ octets) → (first ≡ octet) × SaysFirst after octets
 
@@ -147,7 +147,7 @@ last_named count cs text rest h none = h.2 ∙ ap (λ (t : List ℕ). named cs (
 pub too_many : (count : ℕ) (cs : List Field) (text rest : List ℕ) → HasNamed count cs text rest → count ≡ 64 → rest ≢ [] → (all : List Field) → components_in 0 (pieces_of text) ≡ Ok all → ⊥
 too_many count cs text rest h full some all e = let both : Err TooManyComponents ≡ Ok all = sym (named_full count cs text rest h full some) ∙ e in absurd cc
 
--- the pieces of both texts read as the same list of components
+-- the pieces of the text `a` and those of the text `b` read as the same list of components
 abbrev pub AreOne : List ℕ → List ℕ → Type 0
 AreOne a b = (cs : List Field) × (components_in 0 (pieces_of a) ≡ Ok cs) × (components_in 0 (pieces_of b) ≡ Ok cs)
 

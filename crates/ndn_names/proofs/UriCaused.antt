@@ -1,4 +1,5 @@
--- Reading a text does not run out of memory: the text is the cause of each fault.
+-- The functions that read a text never return the fault `Memory`: the text is the cause of each
+-- fault.
 use Rattle.std.proofs.Common.{◌≡◌, ℕ, ◌+◌, ◌*◌, ◌-◌, ◌^◌, ltb, leb, eqb, cond, length, take, List, [], ◌∷◌, Result, Ok, Err, subst, codes, bytes_eq, decimal}
 use Rattle.std.specs.Prelude.{Option, Some, None, not, ◌&&◌, ◌||◌}
 use Rattle.std.specs.List.{list_any}

@@ -45,8 +45,8 @@ pub fn octet_of(high: u8, low: u8) -> Result<u8, NameFault>
     }
 }
 
-/// Returns the first octet that a text encodes, and the remaining text. The text is `first`
-/// followed by `after`.
+/// Reads the first octet that a text with percent escapes encodes. The text is `first` followed by
+/// `after`. Returns the octet and the text after it.
 #[inline(always)]
 pub fn first_octet<'a>(first: u8, after: &'a [u8]) -> Result<(u8, &'a [u8]), NameFault>
     ensures read { MatchResult result

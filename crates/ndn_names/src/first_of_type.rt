@@ -44,7 +44,7 @@ pub(crate) fn first_of_type(octets: &[u8], kind: u16) -> Result<Option<FirstOfTy
 }
 
 /// Returns the search result after reading one more component of the type that is searched for.
-/// `found` is the result before.
+/// `found` is the search result before this component.
 #[inline(always)]
 fn with_another<'a>(
     found: Option<FirstOfType<'a>>,

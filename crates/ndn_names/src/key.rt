@@ -62,7 +62,7 @@ impl Hash for NameBuf {
     }
 }
 
-/// Two `Name`s are equal exactly if their components are equal, as with `NameBuf`s.
+/// Two `Name`s are equal exactly if their components are equal.
 impl PartialEq for Name<'_> {
     ghost eq = { eq_by_cmp view_cmp };
 

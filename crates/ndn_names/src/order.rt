@@ -10,8 +10,8 @@ ghost use Rattle.ndn_tlv.specs.Element.{Field};
 ghost use Rattle.ndn_names.specs.Name.{IsNameValue};
 ghost use Rattle.ndn_names.specs.Order.{Less, name_cmp};
 
-/// Law: the result `Less`, `Equal` or `Greater` of a comparison is the canonical order of two
-/// names.
+/// Law: `name_cmp` returns `Less`, `Equal` or `Greater` exactly if, in canonical order, the first
+/// name is less than, equal to or greater than the second one.
 pub fn comparison_tells_the_order()
     ensures less { (a b : List Field) → (name_cmp a b ≡ answers.Less) ↔ Less a b }
     ensures equal { (a b : List Field) → (name_cmp a b ≡ answers.Equal) ↔ (a ≡ b) }

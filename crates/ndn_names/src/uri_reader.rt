@@ -13,8 +13,8 @@ use crate::name_buf::NameBuf;
 use ndn_tlv::put_number;
 use std::alloc::Global;
 
-/// Spare capacity for a name, in octets. In addition to its value, a component usually needs two
-/// octets for type and length, but its text only needs a slash.
+/// Spare capacity for a name, in octets. In addition to its value, a component usually takes two
+/// octets, for type and length, but its text takes only one, the slash.
 const SPARE: usize = 16;
 
 /// Reads the URI text of one component, for example `A` or `seg=5`. Returns its type and its
@@ -127,8 +127,8 @@ fn put_component(out: &mut Vec<u8>, piece: &str) -> Result<(), NameFault>
     put_value(out, component)
 }
 
-/// Returns the text after the scheme and the first slash. If the text after them is only a slash,
-/// returns an empty text.
+/// Returns the text after the optional scheme and the slash that follows it. Returns an empty text
+/// if only one more slash follows, and `BadUri` if the first slash is missing.
 pub(crate) fn pieces_text(text: &str) -> Result<&str, NameFault>
     ensures { MatchResult result
         (λ rest. read.name_in text.now ≡ read.components_in 0 (read.pieces_of rest.now))
@@ -210,8 +210,8 @@ impl NameBuf {
     }
 }
 
-/// Law: a text reads as at most one name. If there is such a name, `name_in` returns it. In the
-/// same way, a text reads as at most one component, which `piece_in` returns.
+/// Law: a text reads as at most one name. If there is such a name, `name_in` returns it. A text
+/// also reads as at most one component. If there is such a component, `piece_in` returns it.
 pub fn texts_have_one_reading()
     ensures component { (text : List ℕ) (c : Field) → (read.piece_in text ≡ Ok c)
         ↔ (ReadsComponent text c × IsComponent c) }

@@ -1,4 +1,5 @@
--- NonNegativeIntegers: `nni_at` reads exactly the valid encodings, and the shortest one is written.
+-- NonNegativeIntegers: `nni_at` reads exactly the valid encodings, and `shortest_nni` is the
+-- shortest one.
 use Rattle.std.proofs.Common.{◌≡◌, ℕ, ◌^◌, ◌<◌, ◌≤◌, ◌⊎◌, Bool, true, false, cond, eqb, List, [], ◌∷◌, length, get_or, Result, Ok, Err, refl, sym, ap, ◌∙◌, arith, inl, inr}
 use Rattle.std.specs.Prelude.{IfOk, IfErr}
 use Rattle.std.specs.Int.{Width, w16, w32, w64, byte_len, from_be_bytes, to_be_bytes}

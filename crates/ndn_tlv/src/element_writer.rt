@@ -1,4 +1,4 @@
-//! Elements whose values are numbers, and the lengths of elements.
+//! Appends headers, numbers and flags as elements, and computes the lengths of elements.
 
 ghost use Rattle.std.specs.Prelude.{◌≡◌, ◌++◌, ◌+◌, ◌≤◌, ◌<◌, ◌^◌, length};
 ghost use Rattle.ndn_tlv.specs.Number.{shortest_nni, spelling};
@@ -31,8 +31,8 @@ pub fn put_nni_element(out: &mut Vec<u8>, kind: u32, number: u64) -> Result<(), 
     Ok(())
 }
 
-/// Appends an optional field whose value is a number. If memory runs out, some octets may have been
-/// appended.
+/// Appends an element whose value is the number `asked`, or nothing if `asked` is `None`. If memory
+/// runs out, some octets may have been appended.
 #[inline(always)]
 pub fn put_number_field(out: &mut Vec<u8>, kind: u32, asked: Option<u64>) -> Result<(), Memory>
     ensures { Puts out.old out.new result (octets (number kind asked)) }
@@ -43,7 +43,8 @@ pub fn put_number_field(out: &mut Vec<u8>, kind: u32, asked: Option<u64>) -> Res
     }
 }
 
-/// Appends a flag if it is set. If memory runs out, some octets may have been appended.
+/// Appends a flag, which is an element with an empty value, if `set` is true. If memory runs out,
+/// some octets may have been appended.
 #[inline(always)]
 pub fn put_flag(out: &mut Vec<u8>, kind: u32, set: bool) -> Result<(), Memory>
     requires { 1 ≤ kind }

@@ -1,4 +1,4 @@
-//! Finding fields in the octets of parameters and replies by their TLV-TYPEs.
+//! Finding fields of a given TLV-TYPE in the octets of parameters and replies.
 
 ghost use Rattle.std.specs.Prelude.{◌≡◌, ◌≤◌, IfSome, length};
 ghost use Rattle.std.specs.Option.{option_map};

@@ -1,4 +1,5 @@
-//! Numbers and elements of the Named Data Networking packet format, read in place.
+//! Reading and writing numbers and elements of the Named Data Networking packet format. Elements
+//! are read in place, without copies.
 #![tactic(auto)]
 
 mod element;

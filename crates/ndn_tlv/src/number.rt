@@ -89,7 +89,8 @@ pub fn number_of(octets: &[u8]) -> Result<(u64, &[u8]), TlvFault>
     leading_number(octets)
 }
 
-/// Law: no encoding of a number is a prefix of the encoding of another number.
+/// Law: the shortest encoding of a number is never a prefix of the shortest encoding of another
+/// number.
 pub fn no_spelling_begins_another()
     ensures { (a b x y : List ℕ) (m n : ℕ) → Spells a m → Spells b n → a ++ x ≡ b ++ y
         → (a ≡ b) × (m ≡ n) }
