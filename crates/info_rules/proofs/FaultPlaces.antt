@@ -92,8 +92,8 @@ one_on : (On : ℕ → Type 0) (line : ℕ) (token : Option Token) (tokens : Lis
 one_on On line None tokens here all = all
 one_on On line (Some token) tokens here all = (here, all)
 
--- if the last of some whole lines is line `n` or a line before it, all tokens that end in these
--- lines are on lines up to `n`
+-- if the octets `inner` end on line `n` or before, all tokens that end within `inner` or at the LF
+-- after it are on lines up to `n`
 within_lines : (n : ℕ) (mode : Mode) (line : ℕ) (inner : List ℕ) → line_at line inner ≤ n → AllOn (λ l. l ≤ n) (ended mode line (inner ++ 10 ∷ []))
 unfolding ended line_at
 within_lines n mode line [] h = one_on (λ l. l ≤ n) line (ended_by mode 10) [] h tt
@@ -223,7 +223,8 @@ whole_err On line draft fault here deep e =
     by_depth true e = by_deep draft.deep deep e
     by_depth false e = let same : syntax line ≡ fault = cc in at_fault On (syntax line) fault same here
 
--- the entries of a whole text, or the fault, from the result `read` of adding all its tokens
+-- the entries of a whole text, or its fault, where `read` is the result of adding all tokens of the
+-- text
 abbrev ending : ℕ → Result PlainDraft RulesFault → Result (List PlainEntry) RulesFault
 ending line read = on_result (whole_of line) (λ fault. Err fault) read
 
@@ -278,8 +279,8 @@ tokens_stopped ((line, token) ∷ some) more draft fault e = by_next (with_token
     by_next (Ok next) is further = tokens_one draft next line token (some ++ more) is ∙ further next (sym (tokens_one draft next line token some is) ∙ e)
     by_next (Err told) is further = tokens_faulty draft line token (some ++ more) told is ∙ (sym (tokens_faulty draft line token some told is) ∙ e)
 
--- if a block inside eight others is on one of the first `n` lines, the fault is on one of these
--- lines
+-- if a block inside eight others opens on one of the first `n` lines, the fault of the text is on
+-- one of these lines
 deep_told : (n line deep : ℕ) (draft : PlainDraft) (tokens : List (ℕ × Token)) (fault : RulesFault) → draft.deep ≡ Some deep → deep ≤ n → n + 1 ≤ line → AllOn (λ l. n + 1 ≤ l) tokens → ending line (with_tokens draft tokens) ≡ Err fault → fault.line ≤ n
 deep_told n line deep draft [] fault is low here all e =
     let other : eqb deep line ≡ false = ne_eqb deep line (λ same. omega (arith, same)) in

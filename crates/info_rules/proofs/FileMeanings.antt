@@ -260,7 +260,8 @@ file_meant entries rules (only, means, few, own, anchors) =
 pub one_meaning : (entries : List PlainEntry) (a b : List PlainRule) → IsRuleFile entries a → IsRuleFile entries b → a ≡ b
 one_meaning entries a b p q = ok_one (rules_in entries) a b (file_meant entries a p) (file_meant entries b q)
 
--- `read` is the list of rules that the entries state, or the fault that is reported
+-- `read` is the list of rules that the entries state, or the fault that is reported, or the fault
+-- `Memory`
 abbrev IsReadOf : List PlainEntry → Result (List PlainRule) RulesFault → Type 0
 IsReadOf entries read = MatchResult read (λ rules. rules_in entries ≡ Ok rules) (λ fault. (rules_in entries ≡ Err fault) ⊎ (fault ≡ memory_fault))
 

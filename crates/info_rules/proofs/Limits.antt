@@ -32,8 +32,8 @@ some_one x y e = cc
 ok_one : {A : Type 0} (x y : Found A) (a b : A) → x ≡ Ok a → y ≡ Ok b → x ≡ y → a ≡ b
 ok_one x y a b p q e = cc
 
--- if all keys are read without a fault, the values are that of the first key, then those of the
--- other keys
+-- if all keys are read without a fault, the first value is that of the first key, and the other
+-- values are those of the other keys
 pub head_gave : {A : Type 0} (f : Block → Found A) (key : Block) (keys : List Block) (all : List A) → each f (key ∷ keys) ≡ Ok all
     → (one : A) × (others : List A) × (f key ≡ Ok one) × (each f keys ≡ Ok others) × (one ∷ others ≡ all)
 unfolding each

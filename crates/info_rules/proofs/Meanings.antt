@@ -114,7 +114,7 @@ lacks words word (key ∷ keys) e h = by_test (bytes_eq key.0.key word) refl (la
 
 -- ---- keys by the table
 
--- the table allows this number of keys that are `word`
+-- `keys` has no more keys that are `word` than the first argument allows
 abbrev pub Stands : Times → List ℕ → List Block → Type 0
 Stands Once word keys = others_of (named word keys) ≡ []
 Stands (UpTo most) word keys = length (named word keys) ≤ most

@@ -61,7 +61,7 @@ form_hyper : (key : Block) → key.0.key ≡ codes "hyper-relation" → form_of 
 unfolding form_of
 form_hyper key e = rw e refl
 
--- the key belongs to no form or to this form
+-- the key belongs to the form `form` or to no form
 abbrev pub MayStand : Tested → Form → Block → Type 0
 MayStand tested form key = (form_of tested key ≡ None) ⊎ (form_of tested key ≡ Some form)
 
@@ -209,7 +209,8 @@ pub record StandOnce (keys : List Block) : Type 0 where
   pub relation : others_of (named (codes "relation") keys) ≡ []
   pub regex : others_of (named (codes "regex") keys) ≡ []
 
--- the keys of a block with a requirement on a name: its type, its names and one form
+-- `keys` are the keys of a block that states a requirement on a name in one form, and `names` are
+-- the name, the relation and the pattern that are read from these keys
 pub record IsAsked (tested : Tested) (keys : List Block) (names : Names) : Type 0 where
   pub form : Form
   pub only : HasOnly (words_by form) keys

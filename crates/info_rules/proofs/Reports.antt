@@ -21,7 +21,8 @@ unfolding after
 after_append told [] ys = refl
 after_append told (x ∷ xs) ys = after_append (noted told x) xs ys
 
--- adding the faults of a list of elements adds those of the first element, then those of the others
+-- the faults of a list of elements can be added in two steps: first the faults of the first
+-- element, then the faults of the other elements
 pub after_first : {A : Type 0} (f : A → List RulesFault) (told : Option RulesFault) (xs : List A) (x : A) (others : List A) → xs ≡ x ∷ others
     → after (after told (f x)) (flat_map f others) ≡ after told (flat_map f xs)
 after_first f told xs x others e = sym (after_append told (f x) (flat_map f others)) ∙ ap (λ l. after told (flat_map f l)) (sym e)
@@ -46,8 +47,8 @@ after_clean f told xs x others e none =
     let same : flat_map f xs ≡ flat_map f others = rw (e, none) refl in
     ap (after told) (sym same)
 
--- adding the one fault of the first element, then those of the others, adds the faults of all
--- elements
+-- if the first element has one fault, adding this fault and then the faults of the other elements
+-- adds the faults of all elements
 pub after_noted : {A : Type 0} (f : A → List RulesFault) (told new : Option RulesFault) (xs : List A) (x : A) (others : List A) (fault : RulesFault) → xs ≡ x ∷ others → f x ≡ fault ∷ [] → new ≡ after told (fault ∷ [])
     → after new (flat_map f others) ≡ after told (flat_map f xs)
 after_noted f told new xs x others fault e one is =

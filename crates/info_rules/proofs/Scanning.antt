@@ -159,8 +159,8 @@ some_or_none : (found : Option ℕ) (len : ℕ) → found ≡ Some len → found
 some_or_none None len a b = absurd cc
 some_or_none (Some n) len a b = absurd cc
 
--- the next lemmas: the effect of an octet in a quoted text, which is an LF, the closing quote, or
--- another octet
+-- the next lemmas: the effect of one octet in a quoted text, for an LF, for the closing quote, and
+-- for any other octet
 quoted_lf : (escaped : Bool) (o : ℕ) (text : List ℕ) → o ≡ 10 → quoted_len escaped (o ∷ text) ≡ None
 unfolding quoted_len
 quoted_lf escaped o text e = rw (eq-eqb o 10 e) refl
@@ -191,7 +191,8 @@ quote_closes : (escaped : Bool) (o : ℕ) → is_closing escaped o ≡ true → 
 unfolding is_closing
 quote_closes escaped o h = eqb-true o 34 (and_parts (eqb o 34) (not escaped) h).0
 
--- a quoted text of this length, and the text after it
+-- the first `len` octets of `text` are the remaining octets of a quoted text, of which `inner` has
+-- been read; the closing quote and then `rest` follow them
 pub record IsQuoted (escaped : Bool) (inner : List ℕ) (line len : ℕ) (text : List ℕ) : Type 0 where
   pub rest : List ℕ
   pub closes : drop len text ≡ 34 ∷ rest

@@ -164,8 +164,8 @@ abbrev Means : Option PlainEntry → PlainDraft → List (ℕ × Token) → List
 Means None draft tokens entries = IsBetweenEntries draft.closed draft.depth draft.ended tokens entries
 Means (Some entry) draft tokens entries = IsGoing entry draft.depth draft.ended tokens entries
 
--- if the remaining tokens spell the remaining entries, and all entries are those of the draft,
--- then the remaining ones, `Means` holds
+-- `Means` holds if the remaining tokens spell the remaining entries, and `entries` are the entries
+-- of the draft followed by the remaining entries
 further : (draft : PlainDraft) (tokens : List (ℕ × Token)) (entries : List PlainEntry) (levels : Levels) → (pending : Option PlainEntry) → draft.pending ≡ pending → tokens ≡ level_tokens levels
     → (draft.pending ≡ None → StartsOff draft.closed (top levels)) → ((entry : PlainEntry) → draft.pending ≡ Some entry → BeginsOff entry.line (top levels)) → AreLevels draft.depth levels
     → entries ≡ entries_of draft ++ level_outline draft.depth levels → Means pending draft tokens entries

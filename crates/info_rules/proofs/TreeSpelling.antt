@@ -81,9 +81,9 @@ starts_opened draft entry line NoNode = tt
 starts_opened draft entry line (Leaf next others) = tt
 starts_opened draft entry line (Branch next opened block closed others) = tt
 
--- reading the tokens of the entries `nodes` from `draft` gives the draft `after`; this draft has
--- the same number of open blocks, no block inside eight others, and the entries of `draft` followed
--- by `nodes`
+-- reading the tokens of the entries `nodes` from `draft` gives the draft `after`; the draft `after`
+-- has as many open blocks as `draft`, no block inside eight others, and the entries of `draft`
+-- followed by `nodes`
 record Passed (draft : PlainDraft) (nodes : Nodes) (tokens : List (ℕ × Token)) : Type 0 where
   after : PlainDraft
   read : with_tokens draft (tokens_of nodes ++ tokens) ≡ with_tokens after tokens

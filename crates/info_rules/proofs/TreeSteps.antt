@@ -46,7 +46,7 @@ MayBegin line None None = Unit {0}
 MayBegin line None (Some closed) = closed ≢ line
 MayBegin line (Some entry) closed = entry.line ≢ line
 
--- the word is the value of the pending entry
+-- the word becomes the value of the pending entry
 pub record IsValueStep (draft : PlainDraft) (line : ℕ) (word : List ℕ) (next : PlainDraft) : Type 0 where
   pub entry : PlainEntry
   pub pending : draft.pending ≡ Some entry

@@ -12,7 +12,7 @@ use Rattle.ndn_packets.specs.Grammar.{IsDigested, IsInterest}
 use Rattle.ndn_packets.proofs.Held.{interest_read}
 use Rattle.info_rules.specs.Seen.{is_digest, without_digest}
 
--- a name without a parameters digest has none at any index
+-- if a name contains no parameters digest, the component at index `i` is not a parameters digest
 none_at : (name : List Field) (i : ℕ) → digests_in name ≡ [] → is_digest (slice_get name i) ≡ false
 none_at [] i none = refl
 none_at (c ∷ name) zero none =

@@ -33,13 +33,14 @@ pub enum Reason {
     /// no SignatureTime.
     #[error("Shape: no SignatureTime, or the digest is not last in the name; sign with a time, digest last")]
     Shape,
-    /// No checker accepts this signature type.
+    /// No checker accepts the signature type of the packet.
     #[error("SigType: no checker takes this type of signature; sign with the rule's sig-type")]
     SigType,
-    /// The KeyLocator has no name of a key that a checker accepts, or the rule has no checker.
+    /// The KeyLocator does not have the name of a key that a checker accepts, or the rule has no
+    /// checker.
     #[error("KeyLocator: not a key that the rule asks for; sign with one, or widen its key-locator")]
     KeyLocator,
-    /// The key is not in the key book.
+    /// The key that the KeyLocator names is not in the key book.
     #[error("KeyUnknown: the key file lacks this key; add its line")]
     KeyUnknown,
     /// The signature value is not the tag of the covered octets.
@@ -51,7 +52,7 @@ pub enum Reason {
     Replay,
 }
 
-/// The decision of the first rule that applies to a packet.
+/// The decision on a packet: that of the first rule that applies to the packet, or `NoRule`.
 #[derive(Clone, Copy, Debug, PartialEq, Eq)]
 pub enum Decision {
     Allowed(RuleNo),
@@ -88,7 +89,8 @@ impl Reason {
     }
 }
 
-/// Returns the reason that is later in the list of reasons, or `reason` if `earlier` is `None`.
+/// Returns the one of the two reasons that is later in the list of reasons, or `reason` if
+/// `earlier` is `None`.
 fn greater(earlier: Option<Reason>, reason: Reason) -> Reason
     ensures { IsGreater earlier reason result }
 {
@@ -200,9 +202,9 @@ pub fn no_packet_is_undecided()
         → ¬ ((decision : Decision) → ¬ Decides rules keys packet decision) }
 {}
 
-/// Law: an allowed packet is signed either with DigestSha256, which anybody can compute, or with
-/// HmacWithSha256 and the key of the book whose name is in the KeyLocator. An allowed Interest also
-/// has a SignatureTime.
+/// Law: an allowed packet has a signature of type DigestSha256, which anybody can compute, or of
+/// type HmacWithSha256. For HmacWithSha256, the KeyLocator has the name of a key of the book. An
+/// allowed Interest also has a SignatureTime.
 pub fn allowed_packets_name_their_signer()
     ensures { (rules : List PlainRule) (keys : List NamedKey) (packet : PlainFrame) (rule : RuleNo)
         → Decides rules keys packet (Decision.Allowed rule) → NamesItsSigner keys packet }

@@ -26,8 +26,9 @@ pub enum RulesFaultKind {
     /// A block without a key that it needs.
     #[error("Missing: this block lacks a key that it needs")]
     Missing,
-    /// A key without the value or the block that it needs; a key with a value or a block that it
-    /// cannot have; or a key of a second form in a block that allows only one form.
+    /// A key whose value is missing or invalid, or a key without the block that it needs. A key
+    /// with a value or a block that it cannot have. A key of a second form in a block that allows
+    /// only one form.
     #[error("BadValue: wrong or missing value or block, or a key that cannot stand with the others")]
     BadValue,
     /// A key is given twice in a block that allows it once, or two rules have the same id.

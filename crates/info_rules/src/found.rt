@@ -93,8 +93,8 @@ pub fn with_one<A: Drop>(parts: Found<Vec<A>>, read: Found<A>) -> Read<Vec<A>>
     }
 }
 
-/// Returns the fault `Missing` at the line, or `None` if `there` is true, that is, if all needed
-/// keys are present.
+/// Returns the fault `Missing` at the line if `there` is false, otherwise `None`. `there` tells
+/// whether all needed keys are present.
 pub fn missing_unless(there: bool, line: u32) -> Option<RulesFault>
     ensures { result ≡ missing_unless there line }
 {

@@ -1,4 +1,4 @@
-//! Decides which packets a key may sign, by the key's name.
+//! Decides by the name of a key which packets the key may sign.
 
 ghost use Rattle.std.specs.Prelude.{◌≡◌, ◌≤◌, ◌↔◌, ℕ, List, Some, length, option_map, IsTrue, MatchOption, MatchResult, IfOk, IfSome, IfNone, codes};
 ghost use Rattle.name_patterns.specs.Grammar.{IsPattern};
@@ -17,7 +17,7 @@ use ndn_names::{Component, Name, NameBuf};
 use ndn_tlv::Memory;
 use std::alloc::Global;
 
-/// The value of the component `KEY` in a key's name, which follows the prefix.
+/// The value of the component `KEY`, which follows the prefix in a key's name.
 const KEY: &[u8; 3] = b"KEY";
 
 /// The greatest number of components after `KEY` in a key's name. The least number is 1.
@@ -41,8 +41,8 @@ pub fn passes_locator(alloc: Global, test: &LocatorTest, key: Name<'_>, packet: 
     }
 }
 
-/// Returns whether the name expanded from the key's name has the relation to the name expanded from
-/// the packet's name.
+/// Returns whether the name expanded from the key's name has the relation of `hyper` to the name
+/// expanded from the packet's name.
 fn is_hyper_related(alloc: Global, hyper: &HyperRelation, key: Name<'_>, packet: Name<'_>) -> Passed
     ensures { MatchResult result
         (λ related. IsTrue related
@@ -78,7 +78,8 @@ fn captured(pattern: &Pattern, template: &Template, name: Name<'_>) -> Option<Ca
     Some(captures)
 }
 
-/// Expands the template with captured groups to a name that is not too long.
+/// Expands the template with captured groups. The caller has checked that the expanded name is not
+/// too long.
 fn made_of(
     alloc: Global,
     template: &Template,
@@ -92,7 +93,8 @@ fn made_of(
     template.expand(alloc, captures, name).map_err(|_| Memory)
 }
 
-/// Returns whether the prefix of the key's name, before `KEY`, is a prefix of the packet's name.
+/// Returns whether the prefix that `prefix_of_key` finds in the key's name is also a prefix of the
+/// packet's name.
 fn is_hierarchical(key: Name<'_>, packet: Name<'_>) -> bool
     ensures { IsTrue result ↔ IsHierarchical (components key.entry) (components packet.entry) }
 {

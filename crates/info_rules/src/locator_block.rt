@@ -26,7 +26,7 @@ fn is_hyper_alone(keys: Keys<'_>) -> bool
 }
 
 /// Makes the requirement on a key's name from the first hyper-relation, or from the name test
-/// `asked` if there is no hyper-relation.
+/// `asked` if there is no hyper-relation or the first one is incomplete.
 fn made_of(
     line: u32,
     asked: Found<Asked>,

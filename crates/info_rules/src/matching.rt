@@ -1,4 +1,4 @@
-//! Finds the rules that apply to a name.
+//! Decides whether a name meets a requirement, and whether a rule applies to a packet.
 
 ghost use Rattle.std.specs.Prelude.{◌↔◌, IsTrue, Any};
 ghost use Rattle.ndn_names.specs.View.{components};

@@ -70,8 +70,8 @@ pub fn read_template(
     }
 }
 
-/// Checks that the value of the first key that is `word` is the word `name`, if there is such a
-/// key.
+/// Finds the first key that is `word`, and checks that the value of this key is the word `name`.
+/// Returns `None` if no key is `word`.
 #[tactic(auto, unfolding(crate::specs::Values::value_in))]
 pub fn read_name_word(keys: Keys<'_>, word: &str) -> Found<Option<()>>
     ensures { result ≡ value_in BadValue name_word_in word.now (keys_of keys.entry) }

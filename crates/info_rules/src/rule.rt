@@ -30,9 +30,9 @@ pub enum NameTest {
     Matching(Pattern),
 }
 
-/// A relation between a key's name and a packet's name. A pattern matches each name, and a template
-/// expands each match to a new name. The new name of the key must have the relation to the new name
-/// of the packet.
+/// A relation between a key's name and a packet's name. Each of the two names must match its
+/// pattern, and a template expands the match to a new name. The new name of the key must have the
+/// relation to the new name of the packet.
 #[derive(Debug, Drop)]
 pub struct HyperRelation {
     pub key_pattern: Pattern,
@@ -70,8 +70,8 @@ impl Model for HyperRelation {
 pub enum LocatorTest {
     Name(NameTest),
     Hyper(HyperRelation),
-    /// The key's name consists of a prefix of the packet's name, then the component `KEY`, then one
-    /// to three more components.
+    /// In the key's name, the longest prefix that is followed by the component `KEY` and one to
+    /// three more components is also a prefix of the packet's name.
     Hierarchical,
 }
 
@@ -80,7 +80,7 @@ pub enum LocatorTest {
 pub enum Checker {
     /// DigestSha256, with any KeyLocator.
     Sha256,
-    /// HmacWithSha256 with a known key.
+    /// HmacWithSha256 with a key of the key book, whose name meets the requirement.
     HmacSha256(LocatorTest),
     /// A signature type for RSA or ECDSA, which is never accepted.
     Unsupported,

@@ -39,7 +39,8 @@ fn made_of(
     }
 }
 
-/// Reads the id and the kind of a rule. `line` is the line of the rule's key.
+/// Reads the id of a rule and the kind of packets that it applies to, from the keys of its block.
+/// `line` is the line of the key `rule` that has the block.
 fn read_head<'a>(alloc: Global, line: u32, keys: Keys<'a>) -> Read<(&'a str, Kind)>
     ensures { IfOk result (λ found. shown (λ head. (head.0.now, head.1)) found
         ≡ head_in line (keys_of keys.entry)) }
@@ -48,8 +49,8 @@ fn read_head<'a>(alloc: Global, line: u32, keys: Keys<'a>) -> Read<(&'a str, Kin
     Ok(both(needed(line, read_id(keys)), needed(line, kind)))
 }
 
-/// Reads a rule from the keys of its block, without checking for keys that are unknown or repeated
-/// too often.
+/// Reads a rule from the keys of its block, without checking for keys that are unknown or given too
+/// many times.
 #[tactic(auto, unfolding(crate::specs::RuleBlock::rule_parts, crate::specs::FilterBlock::filter_in, crate::specs::CheckerBlock::checker_in))]
 fn read_parts(alloc: Global, line: u32, keys: Keys<'_>) -> Read<Rule>
     ensures { IfOk result

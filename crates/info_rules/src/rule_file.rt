@@ -84,7 +84,7 @@ fn judge_ids(keys: Keys<'_>, report: &mut Report)
 }
 
 /// Returns the fault that is reported for the keys of a file. Faults are unknown keys, more than
-/// 256 rules, and ids that two rules have.
+/// 256 rules, and ids that two rules have. Ids are compared only if there are at most 256 rules.
 #[tactic(auto, using(crate::proofs::Reports::after_append, crate::proofs::Reports::after_none))]
 fn judge_file(alloc: Global, keys: Keys<'_>) -> Result<Report, Memory>
     ensures { IfOk result (λ fault. fault ≡ after None

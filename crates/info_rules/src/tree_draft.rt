@@ -12,7 +12,7 @@ use std::alloc::Global;
 /// The greatest number of blocks that are open at once.
 const MAX_DEPTH: usize = 8;
 
-/// The outcome of adding a token. `Err` is the fault of a token that cannot be added.
+/// The outcome of adding a token. `Err` is the fault of a token that cannot be added, or `Memory`.
 type Added = Result<(), RulesFault>;
 
 /// Returns the fault of the block that is inside eight others, if there is such a block on a line
@@ -91,7 +91,7 @@ impl Draft {
         Ok(())
     }
 
-    /// Adds a word that is on the line of `entry`, the pending entry.
+    /// Adds a word as the value of `entry`, the pending entry, whose key is on the same line.
     fn add_value(&mut self, alloc: Global, line: u32, word: &str, entry: Entry) -> Added
         ensures { let next = read.with_value (draft_of self.old) line word.now (entry_of entry)
             (option_map string_bytes entry.value) in
@@ -106,7 +106,8 @@ impl Draft {
         Ok(())
     }
 
-    /// Adds a word.
+    /// Adds a word: the value of the pending entry if its key is on the same line, otherwise the
+    /// key of a new entry.
     fn add_word(&mut self, alloc: Global, line: u32, word: &str) -> Added
         ensures { let next = read.with_word (draft_of self.old) line word.now
             (option_map entry_of self.old.pending) in

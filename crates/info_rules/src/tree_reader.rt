@@ -59,11 +59,11 @@ impl InfoTree {
     /// most one value on the key's line, and at most one block of entries between braces. The
     /// opening brace may be on a later line. An entry ends with its line, or before a `}`.
     ///
-    /// On failure, returns the first of these faults: a word that does not fit (`Syntax`), a block
-    /// that is not closed (`Syntax` at the line where the text ends), or a block inside eight
-    /// others (`TooDeep`, or `Syntax` if a word of the same line does not fit). A text of more than
-    /// 65,536 octets is refused before all these checks (`TooLarge`). `Memory` may be returned for
-    /// any text.
+    /// On failure, returns the first of the following faults. A word or a brace where it is not
+    /// allowed is `Syntax`. A block that is not closed is `Syntax` at the line where the text ends.
+    /// A block inside eight others is `TooDeep`, or `Syntax` if the same line also has a word or a
+    /// brace where it is not allowed. A text of more than 65,536 octets is refused before all these
+    /// checks (`TooLarge`). `Memory` may be returned for any text.
     pub fn read(alloc: Global, text: &str) -> Result<InfoTree, RulesFault>
         // The text spells the entries that are returned.
         ensures found { IfOk result (TreeOf text.now) }
@@ -86,16 +86,16 @@ pub fn trees_have_one_reading()
     ensures one { (text : List ℕ) (a b : List PlainEntry) → TreeOf text a → TreeOf text b → a ≡ b }
 {}
 
-/// Law: the keys of a block are the same in the outline of a text as in its tree, each with its own
-/// block.
+/// Law: `outline` lists the entries of a block and of the blocks inside it. From this list,
+/// `blocks_of` gets back the keys of the block, each with the entries of its own block.
 pub fn outlines_keep_blocks()
     ensures { (depth : ℕ) (nodes : Nodes) → blocks_of depth (outline depth nodes)
         ≡ keyed depth nodes }
 {}
 
-/// Law: unless the fault is `TooLarge`, it is on a line of the text. The lines before that line are
-/// a prefix of some text that spells entries. Together with that line, they are not a prefix of any
-/// text that spells entries.
+/// Law: every fault except `TooLarge` is on a line of the text. The lines before that line are a
+/// prefix of some text that spells entries. If that line ends with an LF, the text up to and
+/// including this LF is not a prefix of any text that spells entries.
 pub fn faults_stand_at_their_line()
     ensures { (text : List ℕ) (fault : RulesFault) → tree_in text ≡ Err fault
         → fault.kind ≢ RulesFaultKind.TooLarge → StandsAt text fault.line }

@@ -109,8 +109,8 @@ fn judge_all_times(alloc: Global, forms: &[Form], keys: Keys<'_>, report: &mut R
     Ok(())
 }
 
-/// Returns the fault that is reported for unknown and repeated keys of a block. The values of keys
-/// that are given for the first time are not checked here.
+/// Returns the fault that is reported for the keys of a block that are unknown or given too many
+/// times. The values of keys that are given for the first time are not checked here.
 #[tactic(auto, using(crate::proofs::Reports::after_append, crate::proofs::Reports::after_none), unfolding(crate::specs::Walk::walk_faults))]
 pub fn walk(alloc: Global, block: Block, keys: Keys<'_>) -> Result<Report, Memory>
     ensures { IfOk result

@@ -104,7 +104,7 @@ fn past_first(text: &str) -> &str
     text.split_at(1).1
 }
 
-/// Returns the word at the start of the text.
+/// Returns the token of the word at the start of the text.
 #[tactic(auto, using(crate::proofs::Scanning::word_boundary, crate::proofs::Scanning::word_at_front, crate::proofs::Scanning::word_some))]
 fn first_word(line: u32, text: &str) -> NextToken<'_>
     requires some { 0 < length text.now }
@@ -120,7 +120,8 @@ fn first_word(line: u32, text: &str) -> NextToken<'_>
     NextToken { token, line, rest }
 }
 
-/// Returns the quoted text. `text` begins after the opening quote.
+/// Returns the token of the quoted text, or `Broken` if the quoted text is not closed on its line.
+/// `text` begins after the opening quote.
 fn first_quoted(line: u32, text: &str) -> NextToken<'_>
     ensures read { tokens_from (words.InQuotes false []) line text.now
         ≡ (result.line, token_of result.token) ∷ tokens_from words.Between line result.rest.now }
@@ -144,7 +145,7 @@ fn first_quoted(line: u32, text: &str) -> NextToken<'_>
     }
 }
 
-/// Returns the line of the text after an octet of the given line.
+/// Returns the line on which the text after `octet` begins, where `octet` is on `line`.
 fn line_after(line: u32, octet: u8) -> u32
     requires { line + 1 < 2 ^ 32 }
     ensures { result ≡ words.line_after line octet }

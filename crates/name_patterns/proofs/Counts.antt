@@ -122,8 +122,8 @@ passing test cs passed place are there =
       | inr above ↦ absurd (true≢false (sym there ∙ (are place ∙ passes_no_end test cs place above)))
     ]
 
--- if `takes` is true of the count `k`, then at least `k` components in a row pass, and the later
--- atoms have a split after these `k` components
+-- if `takes` is true of the position `place` and the count `k`, at least `k` components in a row
+-- pass from `place` on, and the later atoms have a split after these `k` components
 taken_of_run : (test : PlainTest) (cs : List Field) (passed after place k : ℕ) → ArePassed test cs passed → takes passed after place k ≡ true
     → (k ≤ run_of test (drop place cs)) × (has_place after (place + k) ≡ true)
 taken_of_run test cs passed after place zero are e = let is : place + 0 ≡ place = omega arith in (omega arith, rw is e)

@@ -49,7 +49,8 @@ last_split cs len places len_is there other place low =
       | inr apart ↦ other place apart ∙ sym (ap is_some (nil_after cs place (omega arith)))
     ]
 
--- the greatest number depends only on numbers up to its bound
+-- the result of `greatest` depends only on what the test returns for the numbers up to the limit
+-- `n`
 pub same_greatest : (can other : ℕ → Bool) (least n : ℕ) → ((k : ℕ) → k ≤ n → can k ≡ other k) → greatest can least n ≡ greatest other least n
 unfolding greatest
 same_greatest can other least zero h = rw (h 0 (omega arith)) refl
@@ -74,7 +75,7 @@ count_by_places atom atoms cs bounds after place run bounds_is are run_is low =
     (same_greatest (λ count. has_place after (place + count)) (λ count. is_some (first_count atoms (drop count (drop place cs)))) bounds.least
     (at_most bounds.most run) (λ k h. are (place + k) (omega arith) ∙ ap (λ (left : List Field). is_some (first_count atoms left)) (sym (drop-drop k place cs))))
 
--- if some atoms have no split from any position, there is no split with one more atom in front
+-- if `atoms` have no split from any position, they have none with one more atom in front either
 none_in_front : (atom : PlainAtom) (atoms : List PlainAtom) (cs : List Field) → AreSplit atoms cs 0 → AreSplit (atom ∷ atoms) cs 0
 none_in_front atom atoms cs none place low =
     let no_count : first_count (atom ∷ atoms) (drop place cs) ≡ None =

@@ -18,7 +18,8 @@ pub some_of : {X : Type 0} (P : X → Type 0) (o : Option X) → IsSomeAnd o P �
 some_of P None h = absurd h
 some_of P (Some x) h = (x, refl, h)
 
--- the table has a valid row for each atom from `first` on
+-- if the rows of a table from `first` on are valid, the row at index `i`, which is at least
+-- `first`, is valid
 pub row_at : (atoms : List PlainAtom) (cs : List Field) (rows : List Row) (first i : ℕ) (d : Row) → IsTable first atoms cs rows → first ≤ i → i ≤ length atoms → IsRow (drop i atoms) cs (get_or rows i d)
 row_at atoms cs rows first i d table from low =
     let row = some_of (IsRow (drop i atoms) cs) (slice_get rows i) (table i from low) in
@@ -91,8 +92,8 @@ take_step atoms cs i place starts done k w room low e =
       ];
     }
 
--- if `k` is the first count of the next atom, `IsTaken` also holds after `k` is added to the counts
--- `done`
+-- if `first_count` returns `k` for the atoms from index `i` on, `IsTaken` also holds after `k` is
+-- added to the counts `done`
 pub walk_step : (atoms : List PlainAtom) (cs : List Field) (i place : ℕ) (starts done : List ℕ) (k : ℕ) → IsTaken atoms cs i place starts done → i < length atoms
     → i + 1 < length starts → first_count (drop i atoms) (drop place cs) ≡ Some k
     → IsTaken atoms cs (i + 1) (place + k) (slice_set starts (i + 1) (place + k)) (done ++ k ∷ [])

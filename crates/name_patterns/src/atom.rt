@@ -20,7 +20,7 @@ pub struct Atom {
     pub repeat: Repeat,
 }
 
-/// Returns the atom that matches any number of any components.
+/// Returns the atom that matches any number of components, whatever these components are.
 pub fn any_components() -> Atom
     ensures { atom_of result ≡ anything }
 {

@@ -40,8 +40,8 @@ fn first_fault(open_group: Option<OpenGroup>, text: &str, fault: PatternFault) -
     }
 }
 
-/// Reads the items and the last anchor of a pattern. `items` is the text after the first anchor,
-/// and `len` is the length of the whole text.
+/// Reads the items and the last anchor of a pattern. `items` is the text after the first anchor, or
+/// the whole text if this anchor is missing. `len` is the length of the whole text.
 fn read_items(alloc: Global, begun: Draft, len: usize, items: &str) -> Result<Pattern, PatternFault>
     requires limits { read.IsDraft 1 (draft_of begun) }
     requires rest { length items.now ≤ len }

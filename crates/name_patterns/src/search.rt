@@ -19,8 +19,8 @@ const MAX_STARTS: usize = 35;
 /// The positions in a name before each atom, and after the last atom.
 pub type Starts = [usize; MAX_STARTS];
 
-/// A set of positions in a name, with one bit for each position. The position after the last
-/// component is one of them.
+/// A set of positions in a name, with one bit for each position. The end of the name, after its
+/// last component, also counts as a position.
 type Places = u128;
 
 /// What the search knows about an atom.
@@ -72,7 +72,7 @@ fn passed(test: &Test, name: Name<'_>, len: usize, tests: &mut u64) -> Places
     passed
 }
 
-/// Returns the number of consecutive components from position `place` on that pass.
+/// Returns how many consecutive components pass, counted from position `place` on.
 #[inline(always)]
 fn run_at(passed: Places, place: usize) -> u8
     requires { (passed < 2 ^ 64) × (place ≤ 64) }
@@ -131,7 +131,7 @@ fn split_before(repeat: Repeat, passed: Places, after: Places) -> Places
         → length cs ≤ 64 → AreSplit (atom ∷ atoms) cs result }
 {
     let most = most_of(repeat, MAX_COUNT);
-    // From the positions in `begins` on, `count` components pass, and the later atoms can match the
+    // From each position in `begins` on, `count` components pass, and the later atoms can match all
     // components after these.
     let mut begins = after;
     let mut split = 0;

@@ -87,9 +87,10 @@ fn read_parts(alloc: Global, text: &str, groups: u8) -> Result<Vec<Part>, Patter
 }
 
 impl Template {
-    /// Reads a template for a pattern with `groups` groups. Each part of a template is one of `\0`
-    /// to `\9`, for the components that this group captures, or the URI text of a component between
-    /// `<` and `>`. `\0` is the whole name.
+    /// Reads a template for a pattern with `groups` groups. Each part of a template is a group or a
+    /// component. A group is written as a backslash and its digit, from `\0` to `\9`, and stands
+    /// for the components that it captures. `\0` is the whole name. A component is written as its
+    /// URI text between `<` and `>`.
     ///
     /// Returns the fault of the leftmost faulty part if the text is not a template: see
     /// `PatternFault`. `Nested` is never returned. `Memory` may be returned for any text.

@@ -109,7 +109,8 @@ fn read_quoted(alloc: Global, at: usize, text: &str) -> Result<FrontPart<'_, Tes
     })
 }
 
-/// Reads the test at the front of the text. `at` is the offset of its item in the pattern.
+/// Reads the test at the front of the text. `at` is the offset in the pattern of the item that has
+/// this test.
 pub fn read_test(alloc: Global, at: usize, text: &str) -> Result<FrontPart<'_, Test>, PatternFault>
     ensures read { let test = read.test_in text.now in
         MatchResult result (λ found. test ≡ Some (record {

@@ -64,7 +64,8 @@ pub fn first_quoted(text: &str) -> Option<(&str, &str)>
     text.strip_prefix('<')?.split_once('>')
 }
 
-/// Reads a component from its text. `at` is the offset of the item with this text in the pattern.
+/// Reads a component from its text. `at` is the offset of the item or part with this text in the
+/// pattern or template.
 pub fn read_text(alloc: Global, at: usize, text: &str) -> Result<Text, PatternFault>
     ensures { let component = read.text_in text.now in
         MatchResult result (λ text. component ≡ Some (field_of text))

@@ -108,8 +108,8 @@ Cuts value = (from_parameters from_info from_signature : List ℕ) × IsCutAt va
 abbrev HasBoth : List Field → Type 0
 HasBoth fields = Has 44 fields × Has 46 fields
 
--- either both or neither of two statements hold: the octets `value` can be cut for a signature,
--- and `fields` has both an InterestSignatureInfo and an InterestSignatureValue
+-- either the octets `value` can be cut for a signature, and `fields` has both an
+-- InterestSignatureInfo and an InterestSignatureValue; or neither of these two statements holds
 abbrev Decided : List ℕ → List Field → Type 0
 Decided value fields = (Cuts value × HasBoth fields) ⊎ ((Cuts value → ⊥) × (HasBoth fields → ⊥))
 
@@ -216,8 +216,8 @@ has_signed parameters None value signature h some = let none : IsSome {T = Plain
 has_signed parameters (Some v) None signature h some = let none : IsSome {T = PlainSignature} None = subst IsSome h.2 some in absurd cc
 has_signed parameters (Some v) (Some w) signature h some = (has_following 44 (optional 36 parameters) _ (inl refl), has_following 46 (optional 36 parameters) _ (inr (inl refl)))
 
--- the fields of an Interest, where `back` are the fields after the HopLimit: if all fields contain
--- both signature fields, then `back` contains both
+-- The fields of an Interest, where `back` are the fields after the HopLimit. If the two signature
+-- fields are among all fields, they are in `back`.
 module _ (prefix fresh : Bool) (hint : Option (List ℕ)) (nonce : List ℕ) (lifetime hop : Option (List ℕ)) (back : List Field) where
   abbrev all_fields : List Field
   all_fields = flag 33 prefix ++ (flag 18 fresh ++ (optional 30 hint ++ ((10, nonce) ∷ (optional 12 lifetime ++ (optional 34 hop ++ back)))))
@@ -338,7 +338,8 @@ begins_following kind k from v early late fields is others other b = record {
   others = all_both (λ f. f.0 ≢ kind) early ((k, v) ∷ b.early) others (other, b.others);
 }
 
--- if all elements have valid types and lengths, so have those from the field of type `kind` on
+-- if all elements have valid types and lengths, the elements from the field of type `kind` on have
+-- valid types and lengths
 sizes_following : (ignores : ℕ → Bool) (kind : ℕ) (later : List ℕ) (first : Field) (elements fields : List Field) (m : Met ignores kind later elements fields) → AllByRecursion IsField (first ∷ elements)
     → AllByRecursion IsField ((kind, m.value) ∷ m.back)
 sizes_following ignores kind later first elements fields m sizes = (all_front IsField m.front ((kind, m.value) ∷ m.back) (subst (AllByRecursion IsField) m.elements_are sizes.1)).1

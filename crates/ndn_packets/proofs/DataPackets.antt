@@ -112,7 +112,8 @@ data_of name freshness content info signature = record { name = name; freshness 
 abbrev fields_with : Option (List ℕ) → Option (List ℕ) → List ℕ → List ℕ → List Field
 fields_with meta content info signature = optional 20 meta ++ (optional 21 content ++ ((22, info) ∷ (23, signature) ∷ []))
 
--- if all fields consist of octets, so do the values of the MetaInfo and of the SignatureInfo
+-- if the values of all fields consist of octets, the values of the MetaInfo and of the
+-- SignatureInfo do too
 fields_bytes : (meta content : Option (List ℕ)) (info signature : List ℕ) → AreBytes (fields_with meta content info signature) → MayBeBytes meta × IsBytes info
 fields_bytes meta content info signature h =
     let first = bytes_first 20 meta (fields_with meta content info signature) _ refl h in

@@ -462,7 +462,7 @@ token_among (h ∷ headers) few =
     none_more (f ∷ hs) few = absurd (omega arith)
 
 -- if `elements` have the fault `fault` directly after the header fields of state `s`, then reading
--- `elements` in state `s` stops at the first of these elements
+-- `elements` in state `s` stops at the first element
 stops_here : (s : LinkSoFar) (elements : List (Result Field TlvFault)) (fault : PacketFault) → ((before : List Field) → Met s before → AfterHeaders before s.nack elements fault) → Stops s elements fault
 stops_here s elements fault h =
     record { headers = []; rest = elements; last = s; all = refl; allowed = λ fits. (tt, no_more s); met = λ before m. subst (Met s) (sym (append-nil before)) m; here = h }
@@ -526,7 +526,8 @@ link_again_to s before (e ∷ headers) rest token nack fault met allowed r h =
     rw (a.no_fragment, a.taken) (link_again_to a.after (before ++ e ∷ []) headers rest token nack fault (one_more_met s a.after before e met a.taken) allowed.1 a.left
     (subst (λ (hs : List Field). AfterHeaders hs nack rest fault) (sym (append_assoc before (e ∷ []) headers)) h))
 
--- if a value consists of octets, so do its first element and the remaining input
+-- if a value consists of octets, the value of its first element and the input after this element
+-- consist of octets too
 first_bytes : (value : List ℕ) (h : Field) (items : List (Result Field TlvFault)) (r : Result (Field × List ℕ) TlvFault) → element_at value ≡ r → IsBytes value → elements_of value ≡ read h ∷ items
     → (after : List ℕ) × IsBytes h.1 × IsBytes after × (elements_of after ≡ items)
 first_bytes value h items (Ok (f, after)) is fits e =

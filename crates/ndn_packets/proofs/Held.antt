@@ -70,8 +70,8 @@ interest_second_read i = held (option_map (λ c. c.now) i.covered) i.covers
 pub parts_none : (i : Interest) → i.covered ≡ None → (first second : List ℕ) → CoversInterest (components i.name) i.whole.now first second → ⊥
 parts_none i none = subst (λ (covered : Option (List ℕ)). HoldsSecond (components i.name) i.whole.now covered) (ap (option_map (λ c. c.now)) none) (interest_second_read i)
 
--- if an Interest in memory has covered octets, these octets are the second part that its signature
--- covers, and the first part is the octets of its name without the last 34
+-- if the field `covered` of an Interest in memory has a value, this value is the second part that
+-- the signature covers, and the first part is the octets of the name without the last 34
 pub parts_some : (i : Interest) (octets second : List ℕ) → option_map (λ c. c.now) i.covered ≡ Some second → IsNameValue octets (components i.name)
     → (34 ≤ length octets) × CoversInterest (components i.name) i.whole.now (take (length octets - 34) octets) second
 parts_some i octets second some named =
@@ -80,7 +80,7 @@ parts_some i octets second some named =
     (front.0, subst (λ (first : List ℕ). CoversInterest (components i.name) i.whole.now first second) front.1 there.1)
 
 -- an Interest has covered octets exactly if it is signed and its digest of parameters is the last
--- component
+-- component of its name
 pub covers_where : (i : Interest) → ((first second : List ℕ) → CoversInterest (components i.name) i.whole.now first second → IsSome i.signature × EndsInDigest (components i.name))
     × (IsSome i.signature × EndsInDigest (components i.name) → (first second : List ℕ) × CoversInterest (components i.name) i.whole.now first second)
 covers_where i =

@@ -28,15 +28,15 @@ abbrev pub room : Bool → ℕ
 room true = 0
 room false = 1
 
--- the list of Nacks that may still come: it is empty if the Nack of the link packet has been read,
--- otherwise it has just this Nack, if there is one
+-- `nacks` are the Nacks that may still come: none if the Nack of the link packet has been read,
+-- otherwise just this Nack, if there is one
 abbrev pub NackAmong : Option ℕ → List Field → Option ℕ → Type 0
 NackAmong None nacks None = nacks ≡ []
 NackAmong None nacks (Some reason) = (value : List ℕ) × (nacks ≡ (800, value) ∷ []) × IsNack value reason
 NackAmong (Some met) nacks nack = (nacks ≡ []) × (nack ≡ Some met)
 
--- the list of PitTokens that may still come: it is empty if the PitToken of the link packet has
--- been read, otherwise it has just this PitToken, if there is one
+-- `tokens` are the PitTokens that may still come: none if the PitToken of the link packet has been
+-- read, otherwise just this PitToken, if there is one
 abbrev pub TokenAmong : Option (List ℕ) → List Field → Option (List ℕ) → Type 0
 TokenAmong None tokens token = tokens ≡ optional 98 token
 TokenAmong (Some met) tokens token = (tokens ≡ []) × (token ≡ Some met)

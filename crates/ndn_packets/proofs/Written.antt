@@ -158,13 +158,13 @@ types_of P schema (f ∷ fields) h all =
 pub leads : (schema : List ℕ) (kind : ℕ) (value : List ℕ) (fields : List Field) → InOrder schema fields → InOrder (kind ∷ schema) ((kind, value) ∷ fields)
 leads schema kind value fields h = (schema, ([], refl, tt, λ _. refl), h)
 
--- the first type of a schema does not need the previous field
+-- the schema is empty, or its first type does not need the previous field
 abbrev IsLoose : List ℕ → Type 0
 IsLoose [] = Unit {0}
 IsLoose (k ∷ schema) = needs_previous_field k ≡ false
 
--- `kind` is not in `schema`, and the first type in `schema` does not need the previous field, so
--- the type `kind` may come before the types in `schema`
+-- the type `kind` may come before the types in `schema`: it is not in `schema`, and the first type
+-- in `schema`, if there is one, does not need the previous field
 abbrev pub Precedes : ℕ → List ℕ → Type 0
 Precedes kind schema = AllByRecursion (λ k. k ≢ kind) schema × IsLoose schema
 

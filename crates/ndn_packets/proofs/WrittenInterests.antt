@@ -68,7 +68,8 @@ hop_value i = option_map (λ limit. limit ∷ []) i.hop_limit
 abbrev early : PlainInterest → Option ℕ → List Field
 early i lifetime = flag 33 i.can_be_prefix ++ (flag 18 i.must_be_fresh ++ ((10, i.nonce) ∷ (number 12 lifetime ++ optional 34 (hop_value i))))
 
--- the fields before the ApplicationParameters
+-- the fields of an Interest after its Name and before the ApplicationParameters, followed by
+-- `later`
 abbrev before : PlainInterest → Option ℕ → List Field → List Field
 before i lifetime later = flag 33 i.can_be_prefix ++ (flag 18 i.must_be_fresh ++ ((10, i.nonce) ∷ (number 12 lifetime ++ (optional 34 (hop_value i) ++ later))))
 
@@ -121,7 +122,7 @@ is_octet (Some n) = (n, refl, refl)
 interest_types : AllByRecursion IsType interest_schema
 interest_types = search rules
 
--- the fields of an Interest from the ApplicationParameters on
+-- `later` are the valid fields of the Interest `i` from the ApplicationParameters on
 record Ends (i : PlainInterest) (later : List Field) : Type 0 where
   info : Option (List ℕ)
   value : Option (List ℕ)

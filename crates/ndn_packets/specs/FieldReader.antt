@@ -35,6 +35,7 @@ pub record StandsHere (before after : FieldReader) (e : Element) : Type 0 where
   pub place : (kind : ℕ) → IsSome (schema_after kind before.schema.now)
       → from_first kind before.rest.now ≡ from_first kind after.here.now
 
--- `rest` is the octets after a Name: the first element of every other type is in `rest`
+-- for every type other than that of a Name, the octets from the first element of this type on are
+-- equal in `octets` and in `rest`, which is what follows a Name at the front of `octets`
 abbrev pub OthersAfter : List ℕ → List ℕ → Type 0
 OthersAfter octets rest = (kind : ℕ) → kind ≢ NAME → from_first kind octets ≡ from_first kind rest

@@ -24,10 +24,10 @@ impl Data<'_> {
         Sha256::digest(self.whole)
     }
 
-    /// Returns whether the Data answers an Interest with the name `asked`. `asked` must be the name
-    /// of the Data or its full name, which is the name followed by the implicit digest. With
-    /// CanBePrefix, `asked` may also be a prefix of the name or of the full name. The digest is
-    /// computed only if the answer depends on it.
+    /// Returns whether the Data answers an Interest with the name `asked`. The Data answers if
+    /// `asked` is its name or its full name, which is the name followed by the implicit digest.
+    /// With CanBePrefix, the Data also answers if `asked` is a prefix of the name or of the full
+    /// name. The digest is computed only if the answer depends on it.
     pub fn answers(&self, asked: Name<'_>, can_be_prefix: bool) -> bool
         ensures exact { IsTrue result
             ↔ Answers (components self.now.name) (sha256 self.now.whole.now)
@@ -61,9 +61,10 @@ impl Data<'_> {
         }
     }
 
-    /// Returns the last component of `asked`, if it is an implicit digest and the components before
-    /// it are the Data's name. Whether this digest is correct is not checked. For any other name,
-    /// the answer does not depend on the digest.
+    /// Returns the value of the last component of `asked`, if this component is an implicit digest
+    /// and the components before it are the Data's name. Whether the returned digest is correct is
+    /// not checked. If the result is `None`, whether the Data answers does not depend on its
+    /// digest.
     pub fn asked_digest<'n>(&self, asked: Name<'n>) -> Option<&'n [u8]>
         ensures { AsksFor (components self.now.name) (components asked.entry)
             (option_map (λ digest. digest.now) result) }
@@ -91,8 +92,8 @@ impl Data<'_> {
     }
 }
 
-/// Law: the test `answers` decides `Answers`, and the test `begins_with` decides `IsPrefix`. If a
-/// name is not the Data's name followed by a digest, the answer is the same for every digest.
+/// Law: the test `answers` decides `Answers`, and the test `begins_with` decides `IsPrefix`. If
+/// `asked` is not the Data's name followed by a digest, the answer is the same for every digest.
 pub fn answers_can_be_tested()
     ensures answers { (name asked : List Field) (digest : List ℕ) (can_be_prefix : Bool)
         → IsTrue (answers name digest asked can_be_prefix)

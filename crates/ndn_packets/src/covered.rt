@@ -45,9 +45,10 @@ impl<'a> Interest<'a> {
     ghost use Rattle.ndn_packets.specs.Covered.{AreParts, EndsInDigest};
 
     /// Returns the octets that the signature covers, as received. The first part is the name's
-    /// components before the digest of parameters, and the second part is the octets from the
-    /// ApplicationParameters up to the InterestSignatureValue. Returns `None` if the Interest is
-    /// not signed, or if the digest of parameters is not the last component.
+    /// components before the digest of parameters. The second part is the octets from the
+    /// ApplicationParameters up to, but not including, the InterestSignatureValue. Returns `None`
+    /// if the Interest is not signed, or if the digest of parameters is not the last component of
+    /// the name.
     pub fn signed_parts(&self) -> Option<Parts<'a>>
         ensures exact { AreParts (AnInterest self.now.whole.now (plain_interest self.now)) result }
         ensures when { IsSome result
@@ -89,8 +90,8 @@ pub(crate) fn octets_before<'a>(octets: &'a [u8], end: &[u8]) -> &'a [u8]
 /// Law: a Data has covered octets. An Interest has covered octets exactly if it is signed and the
 /// digest of its parameters is the last component of its name. The covered octets end where the
 /// element of the signature's value begins. The covered octets of an Interest are all components of
-/// its name before the digest, followed by a second part. The second part begins where the octets
-/// covered by the digest begin.
+/// its name before the digest, followed by a second part. The second part begins with the first
+/// octet that the digest of parameters covers.
 pub fn signed_packets_have_covered_octets()
     ensures data { (text : List ℕ) (d : PlainData) → IsData text d
         → (covered : List ℕ) × Covered (AData text d) covered [] }

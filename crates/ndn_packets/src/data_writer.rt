@@ -171,7 +171,8 @@ impl DataWriter<'_> {
         Ok(())
     }
 
-    /// Appends the Data, of any length. If memory runs out, nothing is appended.
+    /// Appends the Data, even if it is longer than a packet may be. If memory runs out, nothing is
+    /// appended.
     fn put(&self, out: &mut Vec<u8>, value_len: usize) -> Result<(), Memory>
         requires { IsLength value_len (octets (fields_asked self.now)) }
         ensures ok { OnOk result (out.new.items ≡ out.old.items ++ data_text self.now) }

@@ -6,12 +6,13 @@ use thiserror::Error;
 ///
 /// Faults are ranked as follows: `TooLong` above 9,000 octets, the outer element, octets after it,
 /// its type, `TooLong` above 8,800 octets, the Name, the elements after the Name in order, then a
-/// missing field, and last the digest of an Interest's parameters. For one element, `Tlv` comes
-/// first (never `BadInteger`), then `CriticalUnknown`, then a fault in its value. A MetaInfo, a
-/// SignatureInfo and an InterestSignatureInfo report the faults of their own elements in this
-/// order; a missing SignatureType comes last. For one header field of a link packet, `Tlv` comes
-/// first, then `LpField`, then a fault in its value. A Nack reports the faults of its own elements.
-/// A Fragment reports the faults of the packet in it, from the outer element on.
+/// missing field, and last the digest of an Interest's parameters. Among the faults of one element,
+/// `Tlv` comes first, then `CriticalUnknown`, then a fault in its value. `Tlv` never contains
+/// `BadInteger`. A MetaInfo, a SignatureInfo and an InterestSignatureInfo report the faults of
+/// their own elements in this order. A missing SignatureType comes last. Among the faults of one
+/// header field of a link packet, `Tlv` comes first, then `LpField`, then a fault in its value. A
+/// Nack reports the faults of its own elements. A Fragment reports the faults of the packet in it,
+/// from the outer element on.
 #[derive(Clone, Copy, Debug, PartialEq, Eq, Error)]
 pub enum PacketFault {
     /// An element cannot be read, whether or not this profile knows its type.
@@ -20,13 +21,15 @@ pub enum PacketFault {
     /// A packet does not begin with a Name, or the Name of an Interest is empty.
     #[error("the packet does not begin with a name, or an Interest's name is empty")]
     NoName,
-    /// An element is not a field, or comes too late to be one, and its type is odd or below 32.
-    /// Types 128 to 252 in a MetaInfo, and 253 in a SignatureInfo, are ignored instead.
+    /// An element whose type is odd or below 32 is not a field, or comes too late to be one. Types
+    /// 128 to 252 in a MetaInfo, and 253 in a SignatureInfo or InterestSignatureInfo, are ignored
+    /// instead.
     #[error("an element is unknown or out of order, and may not be ignored")]
     CriticalUnknown,
     /// A field other than the Name and the Nonce is missing, or the value of a field is malformed.
-    /// Or the outer type is none of 5, 6 and 100, or octets follow the outer element. Or a Fragment
-    /// is not exactly one packet (with a Nack, exactly one Interest), or a Nack has no Fragment.
+    /// This is also the fault of an outer type other than 5, 6 and 100, and of octets after the
+    /// outer element. It is the fault of a Fragment that is not exactly one packet, or with a Nack
+    /// not exactly one Interest, and of a Nack without a Fragment.
     #[error("a field is missing, or its value is malformed")]
     BadField,
     /// An Interest has no Nonce.
@@ -47,8 +50,8 @@ pub enum PacketFault {
     #[error("the packet is one of several fragments")]
     Fragmented,
     /// A header field that this profile knows comes twice in a link packet, or an element follows
-    /// the Fragment, or a PitToken is not of 1 to 32 octets, or the type of an unknown header field
-    /// is not from 800 to 959 and divisible by 4.
+    /// the Fragment, or a PitToken does not have 1 to 32 octets. This is also the fault of an
+    /// unknown header field whose type is outside 800 to 959, or is not divisible by 4.
     #[error("the link packet has a header field that it may not have")]
     LpField,
     /// The frame has more than 9,000 octets, or a packet has more than 8,800 octets.

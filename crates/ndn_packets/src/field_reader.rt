@@ -22,7 +22,7 @@ use ndn_tlv::{Element, first_element, nni_of};
 #[derive(Drop)]
 pub struct FieldReader<'a> {
     rules: Rules,
-    /// The octets from the last returned field on.
+    /// The octets that begin with the field that `next` has just returned.
     pub here: &'a [u8],
     rest: &'a [u8],
     schema: &'a [u32],
@@ -44,7 +44,8 @@ impl<'a> FieldReader<'a> {
         }
     }
 
-    /// Returns the next field. Elements that are not fields are ignored or refused.
+    /// Returns the next field. An element that is not a field is ignored if the rules allow it, and
+    /// is otherwise refused as `CriticalUnknown`.
     #[inline(always)]
     pub fn next(&mut self) -> Result<Option<Element<'a>>, PacketFault>
         ensures walk { IsNextField self.old self.new result }
@@ -115,8 +116,8 @@ pub fn leading_name(value: &[u8]) -> Result<(Name<'_>, &[u8]), PacketFault>
     }
 }
 
-/// Returns the name in the first element, which must be a Name, the first digest of parameters in
-/// this name, and the octets after the element.
+/// Returns the name in the first element, which must be a Name. Also returns the first digest of
+/// parameters in this name, and the octets after the element.
 #[inline(always)]
 pub fn digested_name(
     value: &[u8],
@@ -134,7 +135,8 @@ pub fn digested_name(
     }
 }
 
-/// Returns the number in a value that is a NonNegativeInteger.
+/// Returns the number that a value encodes as a NonNegativeInteger, or `BadField` if it encodes
+/// none.
 #[inline(always)]
 pub fn number(value: &[u8]) -> Result<u64, PacketFault>
     ensures { result ≡ nni_value_at value.now }
@@ -142,8 +144,8 @@ pub fn number(value: &[u8]) -> Result<u64, PacketFault>
     nni_of(value).map_err(|_| PacketFault::BadField)
 }
 
-/// Law: readers of the fields of a packet, or of a value that has fields, report the first fault.
-/// All elements before the faulty element are valid fields or are ignored.
+/// Law: the readers of packets, and of values that contain fields, report the first fault among the
+/// fields. All elements before the faulty element are valid fields or are ignored.
 pub fn fields_tell_the_first_fault()
     ensures interest { TellsFirstFault take_interest_field is_even_high interest_schema
         no_fields_yet }
@@ -154,9 +156,9 @@ pub fn fields_tell_the_first_fault()
     ensures nack { TellsFirstFault take_nack_field is_even_high nack_schema 0 }
 {}
 
-/// Law: the first fault of the value of a packet or of a SignatureInfo is reported. In an Interest
-/// or a Data, a fault of the Name comes first, then the first fault among the fields, then a
-/// missing field. In an Interest, a fault of the digest of its parameters comes last.
+/// Law: the readers of a packet's value and of a SignatureInfo report the first fault. In an
+/// Interest or a Data, a fault of the Name comes first, then the first fault among the fields, then
+/// a missing field. In an Interest, a fault of the digest of its parameters comes last.
 pub fn packets_tell_the_first_fault()
     ensures interest { (value : List ℕ) (fault : PacketFault) → (interest_at value ≡ Err fault)
         ↔ InterestFault (elements_of value) fault }

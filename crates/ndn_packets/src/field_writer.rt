@@ -160,7 +160,7 @@ pub fn put_info(
     Ok(())
 }
 
-/// Overwrites octets from index `place` on with `by`.
+/// Overwrites the octets that begin at index `place` with the octets `by`.
 pub fn overwrite(octets: &mut [u8], place: usize, by: &[u8])
     requires { place + length by.now ≤ length octets.old }
     ensures { octets.new

@@ -79,7 +79,8 @@ impl FullName {
         digest_of(mine) == digest_of(its) && self.compare(other).is_eq()
     }
 
-    /// Returns whether the full name comes before the name in `octets` in canonical order.
+    /// Returns whether, in canonical order, the full name comes before the name whose TLV-VALUE is
+    /// `octets`.
     pub fn is_below(&self, octets: &[u8]) -> bool
         ensures { (name : List Field) → IsElements octets.now name
             → result ≡ is_lt (name_cmp (all_components self.now) name) }
@@ -104,9 +105,10 @@ impl FullName {
         self.octets.as_slice().starts_with(name.as_octets())
     }
 
-    /// Returns whether the full name is near `name`: it begins with `name`, and without CanBePrefix
-    /// the next component, if there is one, has at most the type of an implicit digest. Every full
-    /// name that answers an Interest with the name `name` and this CanBePrefix is near `name`.
+    /// Returns whether the full name is near `name`. A full name near `name` begins with `name`.
+    /// Without CanBePrefix, the type of its next component, if there is one, is at most 1, the type
+    /// of an implicit digest. Every full name that answers an Interest with the name `name` and
+    /// this CanBePrefix is near `name`.
     pub fn is_near(&self, name: Name<'_>, can_be_prefix: bool) -> bool
         ensures { result ≡ is_near (components name.entry) can_be_prefix
             (all_components self.now) }

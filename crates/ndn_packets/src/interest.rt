@@ -268,7 +268,7 @@ fn fields_of(rest: &[u8]) -> Result<InterestFields<'_>, PacketFault>
     Ok(found)
 }
 
-/// Reads the value of a flag, which must be empty.
+/// Reads the value of a flag. The value must be empty.
 #[inline(always)]
 fn is_set(value: &[u8]) -> Result<bool, PacketFault>
     ensures { result ≡ (if is_nil value.now then Ok true else Err BadField) }
@@ -280,7 +280,7 @@ fn is_set(value: &[u8]) -> Result<bool, PacketFault>
     }
 }
 
-/// Reads the value of a Nonce, which must have 4 octets.
+/// Reads the value of a Nonce. The value must have 4 octets.
 #[inline(always)]
 fn nonce_of(value: &[u8]) -> Result<[u8; 4], PacketFault>
     ensures { result ≡ (if length value.now == 4 then Ok value.now else Err BadField) }

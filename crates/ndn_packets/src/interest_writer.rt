@@ -27,7 +27,7 @@ use sha2::{Digest, Sha256};
 #[derive(Clone, Copy, Debug)]
 pub struct InterestWriter<'a> {
     /// The name without the digest of parameters. The writer appends the digest if there are
-    /// parameters.
+    /// parameters or the Interest is signed.
     pub name: Name<'a>,
     pub can_be_prefix: bool,
     pub must_be_fresh: bool,
@@ -205,7 +205,8 @@ impl InterestWriter<'_> {
         }
     }
 
-    /// Returns the lengths that the headers state, each at most `usize::MAX`.
+    /// Returns the lengths of the name's value and of the Interest's value in octets, each at most
+    /// `usize::MAX`.
     #[inline(always)]
     fn lengths(&self) -> Lengths
         ensures name { IsLength result.name (octets (interest_name self.now)) }

@@ -25,7 +25,7 @@ use ndn_tlv::{
     put_element, put_header, put_nni_element,
 };
 
-/// The greatest TLV-TYPE of an unknown header field that is ignored.
+/// The upper limit of the TLV-TYPEs of unknown header fields that are ignored.
 const MAX_IGNORED: u32 = 959;
 
 /// The greatest length of a PitToken, in octets.
@@ -63,8 +63,8 @@ impl<'a> Headers<'a> {
         }
     }
 
-    /// Returns the header fields in `self` with `field` added. The field must be allowed after
-    /// them.
+    /// Returns the header fields in `self` with `field` added. The caller has checked with `refuse`
+    /// that the field is allowed.
     fn with(self, field: Element<'a>) -> Result<Headers<'a>, PacketFault>
         ensures { on_result (λ h. Ok (link_so_far h)) Err result
             ≡ with_header (link_so_far self.entry) (field.entry.kind, field.entry.value.now) }
@@ -107,7 +107,7 @@ fn check_at_most(limit: u64, value: &[u8]) -> Result<(), PacketFault>
 }
 
 #[tactic(auto, unfolding(crate::specs::FrameReading::nack_at))]
-/// Returns the reason in a Nack's value.
+/// Returns the reason in a Nack's value, or 0 if the value has no NackReason.
 fn nack_reason(value: &[u8]) -> Result<u64, PacketFault>
     ensures { result ≡ nack_at value.now }
 {
@@ -315,7 +315,8 @@ fn put_lp_parts(
 
 #[tactic(auto, using(crate::proofs::NackWriting::link_put, crate::proofs::NackWriting::link_parts))]
 /// Appends a link packet. If memory runs out, some octets may have been appended. Capacity for the
-/// whole link packet is reserved first, so one that is longer than any memory is refused at once.
+/// whole link packet is reserved first, so a link packet that is longer than any memory is refused
+/// at once.
 fn put_link(
     out: &mut Vec<u8>,
     token: Option<&[u8]>,

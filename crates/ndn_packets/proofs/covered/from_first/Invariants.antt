@@ -2,7 +2,8 @@ use Rattle.std.proofs.Common.{◌≡◌, length}
 use Rattle.ndn_packets.specs.Covered.{from_first}
 use Rattle.ndn_packets.proofs.covered.from_first.Given as goal
 
--- the first element of the type in the remaining input is the first one in all octets
+-- the octets from the first element of type `kind` on are the same in the remaining input as in all
+-- octets
 abbrev pub invariant-loop-element : goal.invariant-loop-element
 invariant-loop-element l = from_first l.kind l.rest ≡ from_first l.kind l.octets
 
