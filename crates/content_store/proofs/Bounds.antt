@@ -1,5 +1,4 @@
--- Changes of one row of the list are changes (`Change`) after which the freshness bounds are
--- updated.
+-- The removal or renewal of one row of the list, as a `Change` of the list.
 use Rattle.std.proofs.Common.{◌≡◌, ◌≢◌, ◌⊎◌, inl, inr, ℕ, ◌+◌, ◌<◌, ◌≤◌, List, length, get_or, sym, ap, subst, ◌∙◌, arith}
 use Rattle.std.specs.Prelude.{Option, Some}
 use Rattle.std.specs.List.{remove}

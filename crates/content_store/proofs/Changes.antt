@@ -163,8 +163,8 @@ take_whole zero (u ∷ us) e = absurd cc
 take_whole (suc n) [] e = refl
 take_whole (suc n) (u ∷ us) e = ap (λ l. u ∷ l) (take_whole n us e)
 
--- if a list with distinct keys has n + 1 elements, the first n elements are the list without its
--- last element `e`, and a lookup of the key of `e` finds its value
+-- Let a list with distinct keys have n + 1 elements, and let `e` be the last one. Then the first n
+-- elements are the list without `e`, and a lookup of the key of `e` finds its value.
 pub take_last : {X : Type 0} (n : ℕ) (us : List (ℕ × X)) (e : ℕ × X) → IsDistinct nat_eq (keys_of us) → length us ≤ n + 1 → slice_get us n ≡ Some e
     → (take n us ≡ remove_entry (nat_eq e.0) us) × (lookup (nat_eq e.0) us ≡ Some e.1)
 take_last zero [] e distinct le at = absurd cc

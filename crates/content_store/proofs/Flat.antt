@@ -187,8 +187,9 @@ laid_set n (b ∷ bs) (suc i) d b' lt start same a = (a.0, laid_set (n + length 
 next_or_last : (i n : ℕ) → i < n → (suc i < n) ⊎ (suc i ≡ n)
 next_or_last i n lt = grind arith
 
--- if the next block begins after position `at`, or there is no next block, then the block at index
--- `i` ends at or after `at`; it ends after `at` if there is a slab index at position `at`
+-- Let the block after index `i` begin after position `at`, or let there be no such block. Then the
+-- block at index `i` ends at or after `at`. It ends after `at` if there is a slab index at position
+-- `at`.
 pub ends_at : (bs : List Block) (i : ℕ) (d : Block) (at : ℕ) → AreLaid 0 bs → i < length bs → (suc i < length bs → at < (get_or bs (suc i) d).start) → at ≤ length (flat bs)
     → (at ≤ (get_or bs i d).start + length (get_or bs i d).items.items) × (at < length (flat bs) → at < (get_or bs i d).start + length (get_or bs i d).items.items)
 ends_at bs i d at a lt before within =

@@ -118,8 +118,8 @@ then_less Greater cs = refl
 digest_field : (d : List ℕ) → length d ≡ 32 → octets_of ((1, d) ∷ []) ≡ digest_octets d
 digest_field d len = let o = full_octets [] d [] ((tt, refl), (omega arith, tt)) len in o.0
 
--- a digest component compares with `rest` followed by a digest component as it compares with `rest`
--- alone, or is less if it equals `rest`
+-- comparing a digest component with `rest` followed by a digest component gives the same result as
+-- comparing it with `rest` alone, or Less if it equals `rest`
 digest_before : (rest : List Field) (d e : List ℕ) → AllByRecursion IsField rest → 0 < length (octets_of rest) → length d ≡ 32 → length e ≡ 32
     → slice_cmp nat_cmp (digest_octets d) (octets_of rest ++ digest_octets e) ≡ ordering_then (slice_cmp nat_cmp (digest_octets d) (octets_of rest)) Less
 digest_before [] d e h some dl el = absurd (omega arith)
@@ -149,8 +149,8 @@ module _ (u v front rest d e : List ℕ) (name other : List Field) (h : IsNameVa
       ∙ (λ k. slice_cmp nat_cmp (o.0 k) ((p.0 ∙ ap (λ (t : List ℕ). t ++ digest_octets e) is ∙ append_assoc front rest (digest_octets e)) k))
       ∙ cmp_split u front (digest_octets d) (rest ++ digest_octets e) (sym len)
 
-  -- if the octets `u` equal `front`, a digest component compares with `rest` followed by a digest
-  -- component as with `rest` alone, or is less if it equals `rest`
+  -- if the octets `u` equal `front`, comparing a digest component with `rest` followed by a digest
+  -- component gives the same result as comparing it with `rest` alone, or Less if it equals `rest`
   behind : u ≡ front → slice_cmp nat_cmp (digest_octets d) (rest ++ digest_octets e) ≡ ordering_then (slice_cmp nat_cmp (digest_octets d) rest) Less
   behind same =
       let p = begins_with name other rest h.0.0 g.0.0 (sym g.0.1 ∙ is ∙ ap (λ (t : List ℕ). t ++ rest) (sym same ∙ h.0.1)) in

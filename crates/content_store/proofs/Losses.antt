@@ -28,8 +28,7 @@ all_stay (x ∷ xs) = ap (λ (t : List CachedData). x ∷ t) (all_stay xs)
 pub nothing_lost : (cs : List CachedData) → LosesSome cs cs
 nothing_lost cs = record { stays = λ _. true; left = all_stay cs }
 
--- if a store stays unchanged or becomes empty, it has lost none or all of its Data, and `LosesSome`
--- is true in both cases
+-- if a store stays unchanged or becomes empty, `LosesSome` is true for its cached Data
 pub loses_either : (old new : StoreState) → (new ≡ old) ⊎ (new ≡ record old { cached = [] }) → LosesSome old.cached new.cached
 loses_either old new (inl e) = subst (λ (s : StoreState). LosesSome old.cached s.cached) (sym e) (nothing_lost old.cached)
 loses_either old new (inr e) =

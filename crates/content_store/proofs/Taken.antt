@@ -72,10 +72,9 @@ one_taken name xs ys n c h least fewer =
           ];
     }
 
--- Let `most` be the count, or 2^64 - 1 if there is no count. If the Data with the n least full
--- names that begin with `name` were removed, where n is at most `most`, and n is `most` or no full
--- name that begins with `name` remains, then `Erases` is true. A premise is that at most 65,536
--- Data were cached.
+-- Let at most 65,536 Data be cached, and let `most` be the count, or 2^64 - 1 if there is no count.
+-- Let the Data with the n least full names that begin with `name` be removed, where n is at most
+-- `most`. If n is `most`, or if no remaining full name begins with `name`, then `Erases` is true.
 pub erases : (name : List Field) (count : Option ℕ) (xs ys : List CachedData) (n most : ℕ) → most ≡ unwrap_or count 18446744073709551615 → TakesLeast name xs ys n → n ≤ most
     → (n ≡ most) ⊎ All (λ d. IsPrefix name (full_name_of d) → ⊥) ys → length xs ≤ 65536 → Erases name count xs ys n
 erases name None xs ys n most is taken le ended few = (

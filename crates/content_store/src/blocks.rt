@@ -11,8 +11,8 @@ use slab::Slab;
 /// The greatest number of rows in a block. A larger block is split.
 const MAX_BLOCK: usize = 512;
 
-/// The list positions from `start` up to `end`, and the freshness bound `until` of this block: from
-/// that moment on, no Data at these positions is fresh.
+/// The list positions from `start` up to, but not including, `end`, and the freshness bound `until`
+/// of this block. From the moment `until` on, no Data at these positions is fresh.
 #[derive(Clone, Copy)]
 pub struct Block {
     pub start: usize,
@@ -27,7 +27,7 @@ pub enum Change {
     Added(usize, u64),
     /// The row at this position is now fresh until this moment.
     Renewed(usize, u64),
-    /// The rows from the first position up to the second were removed.
+    /// The rows from the first position up to, but not including, the second were removed.
     Removed(usize, usize),
 }
 
@@ -55,7 +55,8 @@ impl Block {
     }
 
     /// Returns the block after a row was inserted before position `at`. A row that is inserted at
-    /// the end of the block belongs to the block.
+    /// the end of the block belongs to the block. A row that is inserted at its start does so only
+    /// if the start is 0.
     fn with(self, at: usize, until: u64) -> Block
         ensures { (rows : List Placed) (row : Placed) → at ≤ length rows
             → fresh_until (held_at row) ≤ until → Bounds rows self
@@ -119,12 +120,13 @@ pub fn follow(blocks: &mut Vec<Block>, change: Change)
     }
 }
 
-/// Returns the index of the block that contains a position.
+/// Returns the index of the first block that ends after position `at`, or the number of blocks if
+/// none does.
 fn index_at(blocks: &[Block], at: usize) -> usize {
     blocks.partition_point(|block| block.end <= at)
 }
 
-/// Returns the next position to search after the row at `at`, which cannot serve the Interest. With
+/// Returns the next position to search, if the row at position `at` cannot serve the Interest. With
 /// MustBeFresh, skips rows that are known not to be fresh.
 pub fn next_place(blocks: &[Block], at: usize, must_be_fresh: bool, now: u64) -> usize
     requires { at + 1 < 2 ^ 64 }
@@ -143,7 +145,8 @@ pub fn next_place(blocks: &[Block], at: usize, must_be_fresh: bool, now: u64) ->
     }
 }
 
-/// Returns the block of the positions from `start` up to `end`.
+/// Returns the block of the list positions from `start` up to, but not including, `end`. An `end`
+/// after the end of the list counts as the end of the list.
 fn block_of(entries: &Slab<Row>, order: &Places, start: usize, end: usize) -> Block
     requires { IsRows (get entries.now) order.now }
     ensures { Bounds (shown (get entries.now) order.now) result }
@@ -156,7 +159,7 @@ fn block_of(entries: &Slab<Row>, order: &Places, start: usize, end: usize) -> Bl
     Block { start, end, until }
 }
 
-/// Creates the first block, unless memory runs out.
+/// If there are no blocks, creates one for the whole list, unless memory runs out.
 fn begin(entries: &Slab<Row>, order: &Places, blocks: &mut Vec<Block>)
     requires { IsRows (get entries.now) order.now }
     ensures { Keeps (shown (get entries.now) order.now) blocks.old.items blocks.new.items }
@@ -166,7 +169,7 @@ fn begin(entries: &Slab<Row>, order: &Places, blocks: &mut Vec<Block>)
     }
 }
 
-/// Splits a block that is longer than `MAX_BLOCK`, unless memory runs out.
+/// Splits the block at `index` if it is longer than `MAX_BLOCK`, unless memory runs out.
 fn halve(entries: &Slab<Row>, order: &Places, blocks: &mut Vec<Block>, index: usize)
     requires { IsRows (get entries.now) order.now }
     ensures { Keeps (shown (get entries.now) order.now) blocks.old.items blocks.new.items }
@@ -205,7 +208,8 @@ fn drop_empty(blocks: &mut Vec<Block>)
     blocks.retain(|block| block.start < block.end);
 }
 
-/// Joins a block with the next one if both are short.
+/// Joins a block with the next one if they are adjacent and together have at most half of
+/// `MAX_BLOCK` rows.
 fn join(blocks: &mut Vec<Block>, index: usize)
     ensures { (rows : List Placed) → Keeps rows blocks.old.items blocks.new.items }
 {

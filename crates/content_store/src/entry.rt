@@ -132,9 +132,10 @@ impl Entry {
         self.name.view().compare(name).is_eq() || self.compare(name).is_eq()
     }
 
-    /// Returns whether the full name is near the key's name: it begins with the key's name and,
-    /// unless the key has CanBePrefix, the next component, if any, has a type number of at most 1.
-    /// Only Data with a full name near a key's name can serve an Interest of this key.
+    /// Returns whether the full name is near the key's name. The full name must begin with the
+    /// key's name. If the key does not have CanBePrefix, the next component, if there is one, must
+    /// have a type number of at most 1. Only Data with a full name near a key's name can serve an
+    /// Interest of this key.
     #[inline(always)]
     pub fn is_near(&self, key: Key<'_>) -> bool
         ensures { result
@@ -160,14 +161,14 @@ impl Entry {
         answers && (!key.must_be_fresh || self.is_fresh(now))
     }
 
-    /// Returns the moment at which the FreshnessPeriod after the arrival ends.
+    /// Returns the moment at which the FreshnessPeriod after the arrival ends, at most 2^64 - 1.
     pub fn fresh_until(&self) -> u64
         ensures { result ≡ fresh_until self.now }
     {
         self.arrival.saturating_add(self.freshness)
     }
 
-    /// Returns whether the FreshnessPeriod after the arrival has not ended yet.
+    /// Returns whether the FreshnessPeriod after the arrival ends later than `now`.
     fn is_fresh(&self, now: u64) -> bool
         ensures { IsTrue result ↔ IsFreshData self.now now }
     {

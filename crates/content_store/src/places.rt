@@ -36,8 +36,9 @@ impl Model for Places {
 }
 
 /// Returns the index of the block that contains position `at`, or of the block into which a slab
-/// index is inserted at this position. `first` and `last` are a hint: if the position is in a block
-/// between them, only those blocks are searched; otherwise all blocks are searched.
+/// index is inserted at this position. `first` and `last` are a hint. The search leaves out the
+/// blocks before `first` if block `first` starts at or before position `at`. It leaves out the
+/// blocks from `last` on if block `last` starts after position `at`.
 fn block_at(blocks: &[Block], first: usize, last: usize, at: usize) -> usize
     requires laid { IsLaid blocks.now }
     requires some { 0 < length blocks.now }
@@ -131,7 +132,7 @@ fn put(blocks: &mut Vec<Block>, at: usize, place: u32) -> Result<(), Memory>
     Ok(())
 }
 
-/// Returns the slab indexes of two blocks.
+/// Returns the slab indexes of two blocks in one vector.
 fn joined(alloc: Global, first: &[u32], second: &[u32]) -> Result<Vec<u32>, Memory>
     ensures { IfOk result (λ v. v.items ≡ first.now ++ second.now) }
 {
@@ -140,8 +141,9 @@ fn joined(alloc: Global, first: &[u32], second: &[u32]) -> Result<Vec<u32>, Memo
     Ok(items)
 }
 
-/// Removes a block if it is empty. Joins a block with the next one if both are short, unless memory
-/// runs out.
+/// Removes a block if it is empty. Joins a block of fewer than `MAX_BLOCK` slab indexes with the
+/// next block, if half of its length plus the length of the next block is at most half of
+/// `MAX_BLOCK`. Joins nothing if memory runs out.
 fn join(alloc: Global, blocks: &mut Vec<Block>, index: usize)
     requires { index < length blocks.old.items }
     ensures { flat blocks.new.items ≡ flat blocks.old.items }
@@ -231,8 +233,9 @@ impl Places {
     }
 
     /// Returns the slab index at position `at` of the list, and the index of its block. `first` and
-    /// `last` are a hint: if the position is in a block between them, only those blocks are
-    /// searched; otherwise all blocks are searched.
+    /// `last` are a hint. The search leaves out the blocks before `first` if block `first` starts
+    /// at or before position `at`. It leaves out the blocks from `last` on if block `last` starts
+    /// after position `at`.
     pub fn get_between(&self, first: usize, last: usize, at: usize) -> (usize, u32)
         requires { at < length self.now }
         ensures { result.1 ≡ slice_index self.now at }

@@ -38,8 +38,9 @@ pub struct Row {
 pub struct Rows {
     entries: Slab<Row>,
     order: Places,
-    // The blocks of `order`. Each block has a moment from which on none of its Data is fresh, so
-    // that a search with MustBeFresh can skip the block.
+    // Blocks of list positions, which are not the blocks inside `order`. Each block has a moment
+    // from which on none of its Data is fresh, so that a search with MustBeFresh can skip the
+    // block.
     blocks: Vec<Block>,
 }
 
@@ -109,8 +110,8 @@ fn first_serving(
     first_from(entries, order, blocks, start, key, now)
 }
 
-/// Returns the position of the first Data that can serve an Interest of this key. `start` is the
-/// position of the key's name.
+/// Returns the position of the first Data that can serve an Interest of this key. `start` must be
+/// the position of the key's name or, if no row has this name, the position at which to insert it.
 fn first_from(
     entries: &Slab<Row>,
     order: &Places,
@@ -192,8 +193,8 @@ impl Rows {
         first_serving(&self.entries, &self.order, &self.blocks, key, now, steps)
     }
 
-    /// Returns the position of a key's name in the list, if some Data can serve an Interest of this
-    /// key.
+    /// If some Data can serve an Interest of this key, returns the position of the key's name in
+    /// the list. If no row has this name, that is the position at which to insert it.
     pub fn start_for(&self, key: Key<'_>, now: u64) -> Option<usize>
         requires { length self.now < 131072 }
         ensures { MatchOption result (FirstWith (CanServe (plain_key key.entry) now) self.now None)
@@ -206,8 +207,9 @@ impl Rows {
         }
     }
 
-    /// Returns the position of the first Data that can serve an Interest of this key. If `place` is
-    /// the position of the key's name, no binary search is needed.
+    /// Returns the position of the first Data that can serve an Interest of this key. No binary
+    /// search is needed if `place` is the position of the key's name, or the position at which to
+    /// insert this name.
     pub fn first_at(&self, place: usize, key: Key<'_>, now: u64) -> Option<usize>
         requires { length self.now < 131072 }
         ensures { FirstWith (CanServe (plain_key key.entry) now) self.now result }

@@ -112,9 +112,9 @@ impl Store {
     /// used. It replaces a cached Data with the same full name. If no cached Data has this full
     /// name and the store is full, the least recently used Data is evicted. A Data that is already
     /// cached needs no memory, and is never refused. Returns false and leaves the store unchanged
-    /// if memory runs out, or if a cached Data with the same full name has other octets. After
-    /// 2^64 - 1 full names, the next new full name empties the store without being cached, and the
-    /// result is false.
+    /// if memory runs out, or if a cached Data with the same full name has other octets. When
+    /// 2^64 - 1 new full names have been cached, the next new full name empties the store and is
+    /// not cached, and the result is false.
     pub fn put(&mut self, packet: &Data<'_>, arrival: u64) -> bool
         ensures ok { IsTrue result
             → self.new ≡ with_cached self.old (cached_at packet.now arrival) }
@@ -214,7 +214,8 @@ impl Store {
     }
 
     /// Removes at most `count` Data whose full names begin with a name, the least full names first.
-    /// Returns the number of removed Data.
+    /// If `count` is `None`, removes all Data whose full names begin with the name. Returns the
+    /// number of removed Data.
     pub fn erase(&mut self, name: Name<'_>, count: Option<u64>) -> u64
         ensures erased { Erases (components name.entry) count
             self.old.cached self.new.cached result }
@@ -264,7 +265,7 @@ fn promote(rows: &Rows, used: &mut LruCache<u64, u32>, at: usize)
 }
 
 /// Inserts a row before position `at` of the list, and removes the row that is evicted, if any. If
-/// memory runs out, nothing changes.
+/// memory runs out, returns false and changes nothing.
 fn put_new(rows: &mut Rows, used: &mut LruCache<u64, u32>, at: usize, row: Row) -> bool
     requires sound { Sound rows.old used.old.entries row.serial }
     requires short { length rows.old ≤ 65536 }

@@ -1,5 +1,5 @@
--- How a Data is answered once time has advanced to its moment, and when `HandlesPacket` is true
--- of any packet.
+-- How a Data is answered once time has advanced to the moment at which it came. Also two conditions
+-- under which `HandlesPacket` is true of a packet.
 use Rattle.std.proofs.Common.{◌≡◌, ℕ, true, false, not, List, [], refl, sym, ap, subst, ◌∙◌}
 use Rattle.std.specs.Prelude.{Result, Ok, Err, IfOk, IsErr, IsOk, nat_lt}
 use Rattle.std.proofs.lemmas.Bool.{false≢true}

@@ -1,5 +1,5 @@
--- How an Interest for Data is answered: by a Nack if the Interest loops, and otherwise from the
--- cache, from the repository, or as the strategy chooses.
+-- How an Interest for Data is answered. If the Interest loops, a Nack is sent back. If it does not
+-- loop, it is answered from the cache or the repository, or forwarded as the strategy chooses.
 use Rattle.std.proofs.Common.{◌≡◌, ℕ, ◌≤◌, Bool, true, false, cond, List, [], ◌∷◌, length, Option, None, Some, Result, Ok, Err, inl, inr, refl, sym, ap, subst, ◌∙◌}
 use Rattle.std.specs.Prelude.{◌⊎◌, IfOk, max, not, ◌&&◌, IfSome}
 use Rattle.std.specs.List.{All}

@@ -1,6 +1,6 @@
--- If a Data is sent to a face, this face asked for the Data. If octets that are not read as a
--- Data, but for which `is_data` is true, are sent to a face, they are the node's own answer to an
--- Interest of this face.
+-- If a Data is sent to a face, this face asked for the Data. Let octets be sent to a face, and let
+-- `is_data` be true of these octets. If they are not read as a Data, they are the node's own answer
+-- to an Interest of this face.
 use Rattle.std.proofs.Common.{◌≡◌, ℕ, Bool, true, false, cond, List, [], ◌∷◌, refl, sym, ap, subst, ◌∙◌, Result, Ok, Err, inl, inr}
 use Rattle.std.specs.Prelude.{◌≢◌, IfSome, Option, Some, None, Contains, IsSome, IsTrue, max}
 use Rattle.std.specs.FinMap as map
@@ -189,8 +189,8 @@ module _ (first : Policy) (past : Run) (event : PlainEvent) (answer : Answer) (r
     own_token : IfSome (token_at r.octets) IsToken
     own_token = token_fits r.octets (token_at r.octets) refl
 
-    -- if `whole` is the Data `d` that an earlier event allowed, and `d` answers the Interest of
-    -- this event, then `octets` are read as `d`, and the face asked for `d`
+    -- if `whole` is the Data `d`, which was allowed in an earlier event, and `d` answers the
+    -- Interest of this event, then `octets` are read as `d`, and the face asked for `d`
     earlier : (whole : List ℕ) (d : PlainData) → r.packet ≡ whole → AllowedIn first past (AData whole d)
         → IsTrue (answers d.name (sha256 whole) r.interest.name r.interest.can_be_prefix) → (frame_at octets ≡ Ok (AData whole d)) × Asked (AData whole d)
     earlier whole d same allowed answered =

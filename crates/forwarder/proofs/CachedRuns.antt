@@ -1,4 +1,4 @@
--- Each Data that a cache may hold came in an event that allowed it.
+-- Each Data that a cache may hold after a run was allowed in an event of the run.
 use Rattle.std.proofs.Common.{◌≡◌, ℕ, Bool, true, false, List, refl, sym, ap, subst, ◌∙◌, Result, Ok, inl, inr}
 use Rattle.std.specs.Prelude.{Some, None, max, not, if◌then◌else◌}
 use Rattle.sha2.specs.Sha256.{sha256}

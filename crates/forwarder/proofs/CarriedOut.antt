@@ -184,8 +184,8 @@ pub sum_is : (o : Option ℕ) (r : Result ℕ Memory) (n sum : ℕ) (P : Type 0)
 sum_is o r n sum P fits same given =
     (subst (λ (o : Option ℕ). SomeIff o P sum) (same ∙ ap (λ (r : Result ℕ Memory). result_ok r) given) fits).1
 
--- The next two lemmas: space that is reserved for a reply and a packet is enough for the reply,
--- and after the reply is written, the remaining space is enough for the packet.
+-- The next two lemmas are about space that is reserved for a reply and a packet. It is enough for
+-- the reply. After the reply is written, the remaining space is enough for the packet.
 pub has_reply_room : (total room len space : ℕ) → total ≡ room + 8800 → len ≤ room → total ≤ space → len ≤ space
 has_reply_room total room len space is few most = omega arith
 

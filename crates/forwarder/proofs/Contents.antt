@@ -253,8 +253,8 @@ is_one token is = rw (le-leb 1 (length token) is.0, le-leb (length token) 32 is.
 token_taken : (token : List ℕ) → IsToken token → take_header no_headers_yet (98, token) ≡ Ok (record no_headers_yet { token = Some token })
 token_taken token is = ap (λ (b : Bool). cond (not b) (Err LpField) (Ok (record no_headers_yet { token = Some token }))) (is_one token is)
 
--- The next items: a Nack around `packet`, which has at most 8,800 octets, is no Data, whether the
--- Nack has a token or not.
+-- The next items are about a Nack around `packet`, which has at most 8,800 octets. The Nack is not
+-- a Data, whether it has a token or not.
 module _ (reason : ℕ) (packet : List ℕ) (short : length packet ≤ 8800) where
   abbrev last_part : List ℕ
   last_part = element (80, packet) ++ []
@@ -451,8 +451,8 @@ never_long text whole d read = by_long (nat_lt 9000 (length text)) refl
     by_long false e = ltb-false 9000 (length text) e
     by_long true e = (let none = frame_is text ∙ ap (λ (b : Bool). framed text b (element_at text)) e in cc (none, read))
 
--- if a packet that begins with the type of a Data is sent back, with a token or without one, and
--- is then read as a Data, then the packet is exactly the received octets of that Data
+-- Let a packet that begins with the type of a Data be sent back, with a token or without one. If
+-- what is sent is read as a Data, the packet is exactly the octets of that Data.
 pub back_holds : (token : Token) (packet whole : List ℕ) (d : PlainData) → IfSome token IsToken → begins 6 packet ≡ true → frame_at (lp_text token None packet) ≡ Ok (AData whole d)
     → packet ≡ whole
 back_holds None packet whole d is begun read = data_is_whole packet whole d begun read

@@ -118,9 +118,9 @@ module _ (seen : Seen) (face now : ℕ) (octets whole : List ℕ) (i : PlainInte
   command_explained is (decided.Denied rule reason) says = one_send (IsExplained seen event) _ (reply_explained is (decided.Denied rule reason) says)
   command_explained is decided.NoRule says = one_send (IsExplained seen event) _ (reply_explained is decided.NoRule says)
 
-  -- the answer to an Interest for a list, where `b` tells whether the requested version is the
-  -- current one: if `b` is true and the list has the segment, the segment; otherwise the Interest
-  -- is dropped
+  -- The answer to an Interest for a list, where `b` tells whether the requested version is the
+  -- current one. If `b` is true and the list has the segment, the answer is the segment. In all
+  -- other cases, the Interest is dropped.
   abbrev by_present : Token → ListAsked → Bool → Answer
   by_present t asked b =
       if b then segment_answer face t (segment_name asked.kind seen.policy.table_number asked.segment) (segment_at (dataset_text seen.policy asked.kind) asked.segment) else dropped NoSegment

@@ -1,6 +1,6 @@
--- How an Interest is forwarded. The PIT has capacity for the records of the incoming face and of
--- the faces that the Interest is sent to. The records change according to the causes of the answer.
--- A Nack that is sent back fits in the reserved memory.
+-- How an Interest is forwarded, or answered by a Nack. The incoming face and the faces that the
+-- Interest is sent to are open, so at most 64 faces have records. The records change according to
+-- the causes of the answer.
 use Rattle.std.proofs.Common.{◌^◌, ◌≡◌, ◌⊎◌, inl, inr, ℕ, zero, suc, ◌+◌, ◌<◌, ◌≤◌, Bool, true, false, cond, eqb, List, [], ◌∷◌, ◌++◌, length, map, take, leb, Some, refl, sym, ap, subst, ◌∙◌, arith, add-one}
 use Rattle.std.specs.Prelude.{slice_get, not, ◌&&◌, ◌||◌, ◌==◌, IfSome}
 use Rattle.std.specs.List.{AllByRecursion, list_any}

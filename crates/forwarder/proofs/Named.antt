@@ -27,8 +27,9 @@ use Rattle.forwarder.specs.Runs.{is_denied}
 use Rattle.forwarder.proofs.RunSteps.{seen_with}
 use Rattle.forwarder.proofs.Denials.{Mild, mild_closing, mild_data, mild_is, mild_list, mild_nack, mild_opening}
 
--- the verdict agrees with the decision: it is no denial if the decision allows the packet, and
--- otherwise it states the rule and the reason, or that there is no rule
+-- The verdict agrees with the decision. If the decision allows the packet, the verdict is no
+-- denial. If the decision denies the packet, the verdict states the rule and the reason, or that
+-- there is no rule.
 abbrev Tells : Decision → Verdict → Type 0
 Tells (decided.Allowed n) v = is_denied v ≡ false
 Tells (decided.Denied n reason) v = (kind : Kind) × (v ≡ Denied kind n.0 reason)

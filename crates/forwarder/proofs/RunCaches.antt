@@ -51,9 +51,9 @@ module _ (now : ℕ) (waiting : Pending) (old new : StoreState) (K K' : CachedDa
     inserted c arrives (inl (awaited, inr f)) = all_forgotten K' old.cached new.cached (All-weaker K K' keep old.cached held) f.0
     inserted c arrives (inr (other, e)) = unchanged e
 
-  -- Each Data that remains after an erase has the property `K'`, if `K'` follows from `K` for each
-  -- Data that the erase may leave: one whose full name does not begin with `name`, or any if
-  -- `count` is given.
+  -- Let `K'` follow from `K` for each Data that an erase may leave: each Data whose full name does
+  -- not begin with `name`, and any Data if `count` is given. Then each Data that remains after the
+  -- erase has the property `K'`.
   erased : (name : List Field) (count : Option ℕ) (gone : ℕ) → ((c : CachedData) → K c → ¬ ((count ≡ None) × IsPrefix name (full_name_of c)) → K' c)
       → IsErased name count old.cached new.cached gone → All K' new.cached
   erased name count gone keep h = by_count h.2

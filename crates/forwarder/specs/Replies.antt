@@ -142,7 +142,8 @@ sent_to askers whole =
 
 -- The received octets are sent once to each face with a pending Interest that the Data answers,
 -- except the face that the Data came from, in rising order of the faces. Each face gets the token
--- of its latest Interest that the Data answers.
+-- of the Interest with the latest deadline, among the face's Interests that the Data answers
+-- (`IsTokenFor`).
 abbrev pub IsSentToAskers : Seen → ℕ → List ℕ → PlainData → List Send → Type 0
 IsSentToAskers seen face whole d sends =
     (askers : Askers) × IsRising (faces_of askers)

@@ -120,7 +120,7 @@ impl State {
         }
     }
 
-    /// Answers an allowed command whose name or parameters cannot be read.
+    /// Answers and records an allowed command whose name or parameters cannot be read.
     fn command_unread(
         &mut self,
         arrived: &Arrived<'_, Interest<'_>>,
@@ -146,7 +146,8 @@ impl State {
         Ok(status)
     }
 
-    /// Reserves the memory that the command may need, advances time, and applies the command.
+    /// Reserves the memory that the command may need, advances time, applies the command, and
+    /// answers it.
     fn command_read(
         &mut self,
         arrived: &Arrived<'_, Interest<'_>>,

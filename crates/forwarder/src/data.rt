@@ -85,10 +85,10 @@ impl State {
         Ok(Verdict::DataAllowed(rule))
     }
 
-    /// Sends an allowed Data to the other faces with a pending Interest for the Data, caches the
-    /// Data if any face has a pending Interest for it, and stores the Data if the repository wants
-    /// it. Memory does not run out: memory for 64 sends and their octets is already reserved, and
-    /// the offer to the repository is prepared.
+    /// Sends an allowed Data to the other faces with a pending Interest for the Data. Caches the
+    /// Data if any face has a pending Interest for it. Stores the Data if the repository wants it.
+    /// Memory does not run out: memory for 64 sends and their octets is already reserved, and the
+    /// offer to the repository is prepared.
     fn deliver(
         &mut self,
         face: u64,
@@ -130,8 +130,9 @@ impl State {
         Ok(())
     }
 
-    /// Sends a Data to each other face with a pending Interest for it, with the token of that
-    /// face's latest Interest that the Data answers.
+    /// Sends a Data to each other face with a pending Interest for it. Each face gets the token of
+    /// the Interest with the latest deadline, among the face's Interests that the Data answers (see
+    /// `Pit::token_for`).
     fn send_with_tokens(&self, face: u64, packet: &Data<'_>, out: &mut Sends) -> Result<(), Memory>
         requires places { MAX_FACES ≤ out.old.places }
         requires space { room_for_data packet.now.whole.now true ≤ out.old.space }
@@ -144,8 +145,8 @@ impl State {
         self.push_with_tokens(&without_face(&askers, face), packet, out)
     }
 
-    /// Sends a Data to each of these faces, with the token of the face's latest Interest for this
-    /// Data.
+    /// Sends a Data to each of these faces. Each face gets the token of the Interest with the
+    /// latest deadline, among the face's Interests that the Data answers (see `Pit::token_for`).
     fn push_with_tokens(
         &self,
         faces: &Faces,
@@ -170,9 +171,8 @@ impl State {
     }
 }
 
-/// Returns the greatest number of octets that are needed to send a Data to the faces that asked for
-/// the Data. With tokens, each face may need its own link packet. Without tokens, all faces share
-/// one copy.
+/// Returns a number of octets that is enough to send a Data to all faces that asked for the Data.
+/// With tokens, each face may need its own link packet. Without tokens, all faces share one copy.
 fn data_room(packet: &Data<'_>, with_tokens: bool) -> usize
     ensures { result ≡ room_for_data packet.now.whole.now with_tokens }
 {

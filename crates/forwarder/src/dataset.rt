@@ -68,7 +68,7 @@ fn is_present(asked: Option<u64>, table_number: u64) -> bool
 }
 
 /// Returns the octets of one segment of a list at the moment `now`, and the number of the last
-/// segment.
+/// segment. Returns `None` if the list has no segment with the requested number.
 fn list_part(
     alloc: Global,
     tables: &Tables,

@@ -15,7 +15,7 @@ use ndn_names::Name;
 use pit_fib::MAX_FACES;
 
 impl State {
-    /// Opens a face.
+    /// Opens a face, unless its number is 0, it is already open, or 64 faces are open.
     pub fn open(&mut self, face: u64, scope: Scope, now: u64) -> Verdict
         requires { IsSound (state_of self.old) }
         ensures { IsStep (state_of self.old) (FaceUp face scope now)
@@ -35,7 +35,7 @@ impl State {
         Verdict::Passed
     }
 
-    /// Closes a face, and removes its next hops, routes, in-records and out-records.
+    /// Closes a face if it is open, and removes its next hops, routes, in-records and out-records.
     pub fn close(&mut self, face: u64, now: u64) -> Verdict
         requires { IsSound (state_of self.old) }
         ensures { IsStep (state_of self.old) (FaceDown face now)
@@ -52,7 +52,7 @@ impl State {
         Verdict::Passed
     }
 
-    /// Returns whether the name is under `/localhost` and the face leads to another machine.
+    /// Returns whether the name begins with `/localhost` and the face leads to another machine.
     pub fn is_out_of_scope(&self, face: u64, name: Name<'_>) -> bool
         ensures { result
             ≡ is_out_of_scope (policy_of self.entry.now) face (components name.entry) }

@@ -25,8 +25,8 @@ pub(crate) struct Signed<'a> {
     pub seq: Option<u64>,
 }
 
-/// Returns the signer of a signature. All DigestSha256 signatures count as signatures of one
-/// signer.
+/// Returns the signer of a signature. All DigestSha256 signatures, and all signatures without the
+/// name of a key, count as signatures of one signer.
 fn signer_in<'a>(signature: Signature<'a>) -> Signer<'a>
     ensures { signer_of result ≡ signer_in (plain_signature signature.entry).info }
 {
@@ -54,7 +54,8 @@ fn signed_by<'a>(interest: &Interest<'a>) -> Option<Signed<'a>>
 }
 
 /// Returns whether the time of a command is near `now`, in milliseconds since 1970, and the command
-/// is newer than all recorded commands of its signer.
+/// is newer than all recorded commands of its signer. Returns true if the command has no signature
+/// or no SignatureTime.
 fn is_fresh(guard: &Guard, interest: &Interest<'_>, now: u64) -> bool
     ensures { (p : Policy) → p.guard ≡ guard.now.latest → p.now ≡ now
         → IsTrue result ↔ IsFreshCommand p (plain_interest interest.now) }
@@ -118,7 +119,9 @@ pub(crate) fn prepare_record(guard: &mut Guard, interest: &Interest<'_>) -> Resu
     }
 }
 
-/// Records the signer of a command, and when the command was signed. Recording needs no memory.
+/// Records the signer of a command, and when the command was signed. The call must be prepared by
+/// `prepare_record`, so it needs no memory. Does nothing if the command has no signature or no
+/// SignatureTime.
 pub(crate) fn record(guard: &mut Guard, interest: &Interest<'_>) -> Result<(), Memory>
     requires { IfSome (recorded_of (plain_interest interest.now))
         (λ r. IsPrepared guard.old r.signer) }

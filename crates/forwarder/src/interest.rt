@@ -56,9 +56,9 @@ impl State {
         }
     }
 
-    /// Handles an Interest for Data: if the Interest loops, sends a Nack back; otherwise answers
-    /// the Interest from the cache or the repository, or forwards the Interest. Looks up the cache
-    /// and the repository before a PIT record is prepared, since a hit needs no PIT record.
+    /// Handles an Interest for Data. If the Interest loops, sends a Nack back. If it does not loop,
+    /// answers it from the cache or the repository, or forwards it. Looks up the cache and the
+    /// repository before a PIT record is prepared, since a hit needs no PIT record.
     fn answer(
         &mut self,
         arrived: &Arrived<'_, Interest<'_>>,
@@ -145,7 +145,8 @@ impl State {
     }
 
     /// Forwards an Interest that neither the cache nor the repository answers (NFD Developer's
-    /// Guide, "Content Store Miss Pipeline"), or sends a Nack back.
+    /// Guide, "Content Store Miss Pipeline"). Sends a Nack back if the Interest loops or no next
+    /// hop may get it.
     fn miss(
         &mut self,
         arrived: &Arrived<'_, Interest<'_>>,
@@ -203,8 +204,8 @@ impl State {
         Ok(true)
     }
 
-    /// Sends an Interest that neither the cache nor the repository answers to the faces that its
-    /// strategy chooses, or sends a Nack back.
+    /// Forwards an Interest, which neither the cache nor the repository answers, to the faces that
+    /// its strategy chooses. Sends a Nack back if no next hop may get the Interest.
     fn forward(
         &mut self,
         face: u64,
@@ -241,7 +242,8 @@ impl State {
         }
     }
 
-    /// Adds the in-record of the incoming face, and forwards the Interest to these faces.
+    /// Adds the in-record of the incoming face, and forwards the Interest to these faces. Drops the
+    /// Interest if the PIT is full.
     fn send_on(
         &mut self,
         face: u64,

@@ -67,8 +67,9 @@ pub fn steps_keep_nodes_sound()
         → IsStep old event answer new → IsSound new }
 {}
 
-/// Law: if a node agrees with a run that began at the moment 0, then appending the event and the
-/// answer of a step gives a valid run, and the node after the step agrees with this longer run.
+/// Law: let a node agree with a run that began at the moment 0. Then appending the event and the
+/// answer of a step to the run gives a valid run, and the node after the step agrees with this
+/// longer run.
 pub fn steps_go_on_with_runs()
     ensures { (first : Policy) (past : Run) (old new : NodeState) (event : PlainEvent)
         (answer : Answer) → first.now ≡ 0 → IsRun first past → Stands first past old
@@ -96,8 +97,8 @@ pub fn refused_steps_stand_still()
 /// Law: if no book has two keys of the same name, two runs of the same events give the same policy.
 /// For the next event, all valid answers after both runs are equal if the event brings a command, a
 /// request for a list, or an Interest that is dropped because of its HopLimit or scope. The
-/// verdicts of these answers are equal if the event brings a Data. So these statements are true at
-/// each event of two runs with the same events.
+/// verdicts of these answers are equal if the event brings a Data. It follows that these statements
+/// are true at each event of two runs with the same events.
 pub fn histories_decide()
     ensures policy { (first p q : Policy) (past other : Run) → KeysAreApart first past
         → HaveOneHistory past other → IsPolicyOf first past p → IsPolicyOf first other q → p ≡ q }
@@ -120,10 +121,10 @@ pub fn denied_events_change_nothing()
         → IsPolicyOf first other p }
 {}
 
-/// Law: each Data that a valid answer sends is of one of two kinds. Either the Data came in this
-/// event, is allowed, and is sent to another face with a pending Interest for the Data; or the Data
-/// answers the Interest of this event, from the cache, the repository or the node itself, and is
-/// sent back to the Interest's face. Nothing else that is sent is a Data.
+/// Law: each Data that a valid answer sends is of one of two kinds. Either it came in this event,
+/// is allowed, and is sent to another face with a pending Interest for it. Or it answers the
+/// Interest of this event, from the cache, the repository or the node itself, and is sent back to
+/// the Interest's face. Nothing else that is sent is a Data.
 pub fn each_send_is_explained()
     ensures { (first : Policy) (past : Run) (event : PlainEvent) (answer : Answer)
         (reply : MayReply first past event answer) → BringsOctets event
@@ -131,9 +132,9 @@ pub fn each_send_is_explained()
         event answer }
 {}
 
-/// Law: if no two keys of the first book of keys have the same name, and no two keys that an event
-/// brings have the same name, then no two keys of any book of the run, or of the book in force
-/// after the run, have the same name.
+/// Law: let the keys of the first book of keys have different names, and let the keys that each
+/// event brings have different names. Then the keys of each book of the run, and of the book in
+/// force after the run, have different names.
 pub fn keys_stay_apart()
     ensures books { (first : Policy) (past : Run) → AreApart first.keys
         → All BringsKeysApart (events_back past) → KeysAreApart first past }
@@ -156,11 +157,11 @@ pub fn rules_in_force()
         ⊎ ((rules : List PlainRule) × (keys : List NamedKey) × AreLastRules past rules keys) }
 {}
 
-/// Law: each Data that is sent was asked for by the face that it is sent to. Either the event
-/// brings the Data, the first rule that applies allows the Data, and the Data answers an Interest
-/// that is pending on that face; or the event brings an Interest on that face, and the Data either
-/// answers that Interest and came in an earlier event that allowed it, or is the node's own reply
-/// or segment for that Interest.
+/// Law: if the repository was empty at first, each Data that is sent was asked for by the face that
+/// it is sent to. Either the event brings the Data, the first rule that applies allows the Data,
+/// and the Data answers an Interest that is pending on that face. Or the event brings an Interest
+/// on that face. In this case, the Data answers the Interest and was allowed in an earlier event,
+/// or it is the node's own reply or segment for the Interest.
 pub fn every_data_sent_was_asked_for()
     ensures read { (first : Policy) (past : Run) (event : PlainEvent) (answer : Answer) (face : ℕ)
         (octets whole : List ℕ) (d : PlainData) (reply : MayReply first past event answer)
@@ -176,9 +177,10 @@ pub fn every_data_sent_was_asked_for()
         → AnswersItself reply.was event (face, octets) }
 {}
 
-/// Law: each allowed command has a greater SignatureTime than each earlier allowed command of its
-/// signer and, if both commands have a SignatureSeqNum, a greater SignatureSeqNum. So no signature
-/// is allowed twice, whatever else the Interest contains.
+/// Law: let no book of keys have two keys of the same name. Then each allowed command has a greater
+/// SignatureTime than each earlier allowed command of its signer and, if both commands have a
+/// SignatureSeqNum, a greater SignatureSeqNum. It follows that no signature is allowed twice,
+/// whatever else the Interest contains.
 pub fn commands_are_allowed_once()
     ensures newer { (first was : Policy) (past : Run) (event : PlainEvent) (whole other : List ℕ)
         (i j : PlainInterest) (r s : Recorded) → KeysAreApart first past
@@ -208,8 +210,8 @@ pub fn guards_hold_allowed_commands()
         × AllowedIn first past (AnInterest whole i) × (recorded_of i ≡ Some r)) records }
 {}
 
-/// Law: each object of a repository that was empty at first is a Data that came in an event that
-/// allowed it, and is stored under its full name.
+/// Law: each object of a repository that was empty at first is a Data that was allowed in an event
+/// of the run. It is stored under its full name.
 pub fn objects_were_allowed()
     ensures { (first p : Policy) (past : Run) (name : List Field) (octets : List ℕ)
         → first.held.objects ≡ map.empty → IsPolicyOf first past p
@@ -218,8 +220,8 @@ pub fn objects_were_allowed()
         × (name ≡ full_name d.name (sha256 octets)) }
 {}
 
-/// Law: each Data that a cache may hold after a run came in an event that allowed it, at the moment
-/// that is recorded as its arrival. The Data's implicit digest is the hash of its octets.
+/// Law: each Data that a cache may hold after a run was allowed in an event of the run, at the
+/// moment that is recorded as its arrival. The Data's implicit digest is the hash of its octets.
 pub fn cached_data_were_allowed()
     ensures { (first : Policy) (past : Run) (c : CachedData) → IsRun first past → MayHold past c
         → (d : PlainData) × AllowedAt first past (AData c.octets d) c.arrival × (c.name ≡ d.name)
@@ -227,9 +229,9 @@ pub fn cached_data_were_allowed()
 {}
 
 /// Law: the causes in the past of a run determine the records of each key, face by face. The
-/// in-record is that of the latest Interest that the face sent under this key, and the out-record
-/// is that of the latest Interest under this key that was sent to the face, unless a later cause
-/// has ended the record.
+/// in-record is that of the latest Interest that the face sent under this key. The out-record is
+/// that of the latest Interest under this key that was sent to the face. There is no such record if
+/// a later cause has ended it.
 pub fn records_are_read_off_the_run()
     ensures in_records { (past : Run) (key : PlainKey) (face : ℕ)
         → map.get (records_of past key).in_records face
@@ -267,9 +269,11 @@ pub fn unanswered_interests_wait()
         ⊎ IsSentBack seen face (token_in event) whole i answer.sends }
 {}
 
-/// Law: the cost of a next hop after a run was set by the latest add-nexthop of its name and face
-/// that was answered with status 200, if since then no remove-nexthop of this name and face was
-/// answered with status 200 and the face was not closed. Otherwise there is no such next hop.
+/// Law: let no book of keys have two keys of the same name, and let a run begin without routes. The
+/// cost of a next hop after the run was set by the latest add-nexthop of its name and face that was
+/// answered with status 200. Since then, no remove-nexthop of this name and face was answered with
+/// status 200, and the face was not closed. If there is no such add-nexthop, there is no such next
+/// hop.
 pub fn routes_are_read_off_the_run()
     ensures { (first p : Policy) (past : Run) (name : List Field) (face : ℕ)
         → KeysAreApart first past
@@ -277,12 +281,13 @@ pub fn routes_are_read_off_the_run()
         → map.get (costs_at p.routes name) face ≡ cost_of past name face }
 {}
 
-/// Law: a registered route after a run that began at the moment 0 was given by the latest register
-/// of its name, face and origin that was answered with status 200. It has the cost and flags of
-/// that register and, if the register had a period, a deadline: the time of the register plus the
-/// period, at most the greatest u64. Since then no unregister of this name, face and origin was
-/// answered with status 200, the face was not closed, and no later event came at or after the
-/// deadline. Otherwise there is no such route.
+/// Law: let no book of keys have two keys of the same name, and let a run begin without routes, at
+/// the moment 0. A registered route after the run was given by the latest register of its name,
+/// face and origin that was answered with status 200. It has the cost and flags of that register
+/// and, if the register had a period, a deadline: the time of the register plus the period, at most
+/// the greatest u64. Since then no unregister of this name, face and origin was answered with
+/// status 200, the face was not closed, and no later event came at or after the deadline. If there
+/// is no such register, there is no such route.
 pub fn registered_routes_are_read_off_the_run()
     ensures { (first p : Policy) (past : Run) (name : List Field) (face origin : ℕ)
         → KeysAreApart first past → first.now ≡ 0
@@ -293,8 +298,8 @@ pub fn registered_routes_are_read_off_the_run()
 
 /// Law: a denial in a valid answer is the decision on the event's packet. It gives the rule that
 /// denies the packet, or states that no rule applies. A denied command is answered by a reply with
-/// status 403 that gives the reason and the rule, and a denied Data is not answered. So the kind in
-/// the verdict is the kind of the packet.
+/// status 403 that gives the reason and the rule, and a denied Data is not answered. It follows
+/// that the kind in the verdict is the kind of the packet.
 pub fn denials_name_their_rule()
     ensures denied { (first : Policy) (past : Run) (event : PlainEvent) (answer : Answer)
         (kind : Kind) (rule : ℕ) (reason : Reason) (reply : MayReply first past event answer)

@@ -19,9 +19,9 @@ use ndn_tlv::Memory;
 use pit_fib::{MAX_FACES, Nacked};
 
 impl State {
-    /// Handles a Nack (NFD Developer's Guide, "Incoming Nack Pipeline"). When each out-record has
-    /// the reason of a received Nack, each face with an in-record gets a Nack with the least of
-    /// these reasons.
+    /// Handles a Nack (NFD Developer's Guide, "Incoming Nack Pipeline"). When each out-record of
+    /// the key has the reason of a received Nack, each face with an in-record gets a Nack with the
+    /// least of these reasons. The records of the key are then removed.
     pub fn receive_nack(
         &mut self,
         reason: u64,
@@ -56,7 +56,8 @@ impl State {
         }
     }
 
-    /// Returns the greatest total length in octets of the Nacks for all in-records of a key.
+    /// Returns a number of octets that is enough for the Nacks to all faces with an in-record of a
+    /// key.
     fn nack_room(&self, key: Key<'_>) -> Result<usize, Memory>
         ensures { IfOk result (λ room. room
             ≡ nack_room (in_records_at self.entry.now.pit.pending (plain_key key.entry))

@@ -12,8 +12,9 @@ use pit_fib::{StrategyId, Used};
 use strategies::{Ask, BestRoute, Choice, Multicast, Strategy};
 
 impl State {
-    /// Returns the strategy's choice for an Interest of this name, where `used` has the faces that
-    /// the Interest was sent to before (NFD Developer's Guide, "Strategies").
+    /// Returns the strategy's choice for an Interest of this name (NFD Developer's Guide,
+    /// "Strategies"). `used` has the moments at which an Interest of the same key was last sent to
+    /// each face.
     pub fn choose(&self, name: Name<'_>, used: &Used, ask: Ask) -> Choice
         ensures { result
             ≡ choice_for (policy_of self.entry.now) (components name.entry) used.now ask }

@@ -209,10 +209,10 @@ impl Node {
     /// New rules and keys replace those in force from the next event on, and change nothing else.
     ///
     /// If memory runs out, the cache may have dropped Data or changed their order of use; nothing
-    /// else changes. These events need no memory: face changes, moments, new rules, packets on
-    /// faces that are not open, octets that hold no packet, packets out of scope, Interests of
-    /// HopLimit 0, and Data that the rules do not allow, unless the first rule that applies to the
-    /// Data has a hyper-relation.
+    /// else changes. These events need no memory: face changes, ticks, new rules, packets on faces
+    /// that are not open, octets that hold no packet, packets out of scope, and Interests of
+    /// HopLimit 0. A Data that the rules do not allow needs no memory, unless the first rule that
+    /// applies to the Data has a hyper-relation.
     pub fn step(&mut self, event: Event<'_>, outbox: &mut Outbox) -> Result<Verdict, Memory>
         // One step, from received octets to sent octets.
         ensures answered { IfOk result

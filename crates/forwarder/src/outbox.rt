@@ -6,7 +6,8 @@ use ndn_tlv::Memory;
 use std::alloc::Global;
 use std::marker::Model;
 
-/// The packets to send, in order: for each the octets, and the number of the face to send them to.
+/// The packets to send, in order. Each packet has its octets and the number of the face that it is
+/// sent to.
 #[derive(Drop)]
 pub struct Outbox {
     pub(crate) sends: Sends,

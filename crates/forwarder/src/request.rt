@@ -50,14 +50,15 @@ fn begins(name: Name<'_>, octets: &[u8]) -> bool
     name.as_octets().starts_with(octets)
 }
 
-/// Returns whether the name stays on this machine, that is, begins with `/localhost`.
+/// Returns whether the name begins with `/localhost`, so that its packets stay on this machine.
 pub(crate) fn is_local_name(name: Name<'_>) -> bool
     ensures { result ≡ is_local (components name.entry) }
 {
     begins(name, b"\x08\x09localhost")
 }
 
-/// Returns whether the name begins with `/localhost/nfd`, as the names of commands and lists do.
+/// Returns whether the name begins with `/localhost/nfd`, as do the names of lists, and the names
+/// of commands on routes, strategies and the cache.
 pub(crate) fn is_management(name: Name<'_>) -> bool
     ensures { result ≡ begins_with management (components name.entry) }
 {
@@ -115,7 +116,8 @@ fn shortest_number(value: &[u8]) -> Option<u64>
     Some(number)
 }
 
-/// Returns the number in a component, if the component has the type `kind`.
+/// Returns the number in a component, if the component has the type `kind` and its value is the
+/// shortest encoding of the number.
 fn numbered(kind: u16, component: Component<'_>) -> Option<u64>
     ensures { result ≡ numbered kind (field_of component.entry) }
 {
@@ -126,9 +128,9 @@ fn numbered(kind: u16, component: Component<'_>) -> Option<u64>
     }
 }
 
-/// Returns the request that the components after a list's name encode. A version and a segment
-/// number request that segment. If the Interest has CanBePrefix, a version alone, or no component
-/// at all, requests the first segment.
+/// Returns the request that the components after a list's name encode. A version followed by a
+/// segment number requests this segment of this version. If the Interest has CanBePrefix, a version
+/// alone, or no component at all, requests the first segment. Returns `None` in all other cases.
 fn list_after(kind: ListKind, can_be_prefix: bool, name: Name<'_>) -> Option<ListAsked>
     ensures { result ≡ list_after kind can_be_prefix (drop 4 (components name.entry)) }
 {

@@ -26,14 +26,15 @@ pub struct State {
     pub pit: Pit,
     /// The tables of routes and strategies, and the cache.
     pub tables: Tables,
-    /// The signers of allowed commands, with their latest times and numbers.
+    /// The signers of allowed commands, each with the greatest time and number of its commands.
     pub guard: Guard,
     pub repo: Repo,
 }
 
 impl State {
     /// Advances time to `moment`, if `moment` is later than all earlier moments, and removes the
-    /// records, routes and wants that have expired. Preparations remain valid.
+    /// in-records, routes and wants that have expired. Adds the number of expired routes to the
+    /// version of the lists. Preparations remain valid.
     pub fn pass_time(&mut self, moment: u64)
         ensures later { IsLater (state_of self.old) moment (state_of self.new) }
         ensures pit { self.new.pit.prepared ≡ self.old.pit.prepared }

@@ -11,11 +11,13 @@ pub enum Verdict {
     Allowed(RuleNo, u16),
     /// This rule allowed the Data, whether it was sent on or not.
     DataAllowed(RuleNo),
-    /// This rule denied the command or Data.
+    /// This rule denied the command or Data for this reason. If the reason is `Replay`, the rule
+    /// allowed the command, but the command was not fresh.
     Denied(Kind, RuleNo, Reason),
     /// No rule applies to the command or Data, which is denied.
     NoRule(Kind),
-    /// The event had no effect, except that time advanced to its moment.
+    /// The event had no effect, except that time advanced to its moment, and that a Nack was sent
+    /// back if the reason is `Loop`.
     Dropped(DropReason),
 }
 
@@ -32,11 +34,12 @@ pub enum DropReason {
     HopLimit,
     /// A name under `/localhost` came from another machine.
     Scope,
-    /// The Interest came back: its Nonce is already known. A Nack was sent to the face.
+    /// The Interest loops: another face's in-record or an out-record of its key has its Nonce, but
+    /// the in-record of its own face does not. A Nack with the reason Duplicate was sent back.
     Loop,
-    /// The PIT is full: Interests of 4,096 keys are pending.
+    /// The PIT is full: Interests of 4,096 other keys are pending.
     PitFull,
-    /// No Interest with the Nack's key and Nonce is recorded as sent to this face.
+    /// This face has no out-record with the Nack's key and Nonce.
     NoPending,
     /// The list has no segment with the requested number, or its version is not the requested
     /// version.

@@ -48,8 +48,9 @@ entry_up routes up all n = λ face leads. all face (n, leads)
 entries_up : (routes : Routes) (up : List ℕ) → ((n : List Field) → AreUp (entry_at routes n) up) → AllAreUp routes up
 entries_up routes up each = λ face w. each w.0 face w.1
 
--- The lemmas of this module: what follows if a map has a value under a key after an insertion or a
--- removal.
+-- The lemmas of this module are about the value that a lookup gives in an empty map, or in a map
+-- after an insertion, a removal or a change of its values. If there is a value, then `A` follows,
+-- provided that `A` follows from each way in which the value can be there.
 module _ {X A : Type 0} where
   none_there : (o : Option X) → o ≡ None → IsSome o → A
   none_there o e some = absurd cc

@@ -78,7 +78,7 @@ impl Action {
         None
     }
 
-    /// Returns whether the action needs or uses fields of type `kind`.
+    /// Returns whether the action has a required or optional field of type `kind`.
     pub(crate) fn takes(self, kind: u32) -> bool
         ensures { result ≡ takes kind (row_of self) }
     {

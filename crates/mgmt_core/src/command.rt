@@ -43,8 +43,8 @@ pub struct Command<'a> {
 
 impl<'a> Command<'a> {
     #[tactic(auto, unfolding(crate::specs::Reading::command_before_digest))]
-    /// Reads the name of a command, `/localhost/nfd/MODULE/VERB/PARAMETERS`. A digest component may
-    /// follow.
+    /// Reads the name of a command, `/localhost/nfd/MODULE/VERB/PARAMETERS`. A
+    /// ParametersSha256DigestComponent may follow.
     ///
     /// If this is not the name of a valid command, returns the first status that applies, in this
     /// order: 400 if there are fewer than four components before the digest; 501 if the command

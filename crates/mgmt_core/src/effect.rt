@@ -30,7 +30,7 @@ use pit_fib::{Faces, Fib, MAX_DEPTH, StrategyTable};
 /// - 503 if the name is new and the table already has 4,096 names (`fib/add-nexthop`,
 /// `rib/register`, `strategy-choice/set`), or the route is new and the table already has 16,384
 /// routes (`rib/register`);
-/// - 200 otherwise. All other commands, such as `rib/unregister`, always return 200.
+/// - 200 if none of these applies. All other commands, such as `rib/unregister`, always return 200.
 ///
 /// Only a command with status 200 changes a table. If memory runs out, which can happen only with
 /// status 200 and for a command that was not prepared, `Memory` is returned and no table changes.

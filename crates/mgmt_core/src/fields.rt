@@ -46,7 +46,7 @@ pub fn are_fields(octets: &[u8], action: Action) -> bool
 }
 
 /// Returns the number in the first field of type `kind`, or `Some(None)` if there is no such field.
-/// Returns `None` if the field is not a number.
+/// Returns `None` if the value of the field is not a NonNegativeInteger.
 pub fn number_field(octets: &[u8], kind: u32) -> Option<Option<u64>>
     ensures { result ≡ number_in kind (elements_of octets.now) }
 {
@@ -68,7 +68,7 @@ pub fn name_field(octets: &[u8]) -> Option<Name<'_>>
 }
 
 /// Returns the name in the Strategy field, or `Some(None)` if there is no such field. Returns
-/// `None` if the field is not a name.
+/// `None` if the field does not consist of exactly one valid Name element.
 pub fn strategy_field(octets: &[u8]) -> Option<Option<Name<'_>>>
     ensures { option_map (option_map components) result ≡ strategy_in (elements_of octets.now) }
 {

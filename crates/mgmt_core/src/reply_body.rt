@@ -22,7 +22,8 @@ use std::alloc::Global;
 use std::mem;
 
 /// The greatest number of octets in the body of a reply, not counting the octets of the command's
-/// name. These are the headers and the fields after the name, which are longest for a route.
+/// name. The headers and the fields after the name count. They are longest in the reply to
+/// `rib/register`.
 pub const BODY_EXTRA: usize = 70;
 
 /// The greatest number of octets in a whole reply, not counting the octets of the command's name.
@@ -147,7 +148,7 @@ fn put_strategy(out: &mut Vec<u8>, strategy: Option<StrategyId>) -> Result<(), M
     }
 }
 
-/// Memory that is reserved for one reply.
+/// Memory that is reserved for the body of one reply.
 #[derive(Drop)]
 pub struct ReplyRoom {
     fields: Vec<u8>,
@@ -163,8 +164,8 @@ impl ReplyRoom {
         }
     }
 
-    /// Reserves memory for the reply to a command, whichever face it comes from. The greatest face
-    /// id gives the longest reply.
+    /// Reserves memory for the body of the reply to a command, whichever face the command comes
+    /// from. The greatest face id gives the longest body.
     pub fn prepare(&mut self, command: &Command<'_>) -> Result<(), Memory>
         ensures { OnOk result (HasRoomForReply self.new (asked command.now)) }
     {

@@ -8,7 +8,7 @@ use ndn_names::Name;
 use ndn_names::component_type::VERSION;
 use pit_fib::StrategyId;
 
-/// The names of strategies, each encoded as a Name element.
+/// The name of the best-route strategy, encoded as a Name element.
 const BEST_ROUTE: &[u8; 40] =
     b"\x07\x26\x08\x09localhost\x08\x03nfd\x08\x08strategy\x08\x0abest-route";
 

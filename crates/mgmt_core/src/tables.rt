@@ -17,7 +17,7 @@ pub struct Tables {
     pub strategies: StrategyTable,
     pub store: Store,
     pub(crate) alloc: Global,
-    // The memory that is reserved for the next reply.
+    // The memory that is reserved for the body of the next reply.
     pub(crate) room: ReplyRoom,
 }
 

@@ -1,4 +1,4 @@
--- The effect of a change of a trie's nodes on walks and lookups.
+-- How a change of a trie's nodes affects walks and lookups.
 use Rattle.std.proofs.Common.{◌≡◌, ◌≢◌, ◌≤◌, ℕ, true, false, cond, List, [], ◌∷◌, ◌++◌, length, refl, sym, ap, subst, ◌∙◌, arith, eqb, ◌⊎◌, inl, inr}
 use Rattle.std.specs.Prelude.{Option, None, Some, reverse, IsSome, Result, Ok, Err, IfOk, OnOk, OnErr}
 use Rattle.std.specs.Option.{option_and_then, option_map}

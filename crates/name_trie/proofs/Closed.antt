@@ -78,8 +78,8 @@ module _ {V : Type 0} (k : ℕ) (v : Option V) (h h' : Heap V) (turns : Turns k 
         stays None = refl
         stays (Some j) = same_or j k (value h' j ≡ value h j) (λ e. ap (value h') e ∙ turns.here ∙ now ∙ sym (ap (value h) e ∙ was)) (λ ne. turns.others j ne)
 
-    -- if the change removes the node's value, one name fewer has a value; otherwise the number of
-    -- names with a value stays the same
+    -- If the change removes the node's value, one name fewer has a value. If the change does not
+    -- remove a value, the number of names with a value stays the same.
     pub count_turned : (change : V → Option V) → v ≡ option_and_then change (value h k)
         → len (table_of h' root) + cond (is_some (value h k) && is_none v) 1 0 ≡ len (table_of h root)
     count_turned change is =
@@ -126,8 +126,8 @@ module _ {V : Type 0} (k : ℕ) (v : Option V) (h h' : Heap V) (sets : Sets k v 
     pub lookup_set : (name : List Field) → walk h root name ≡ Some k → (q : List Field) → lookup h' root q ≡ cond (eq_by_cmp name_cmp q name) v (lookup h root q)
     lookup_set = lookup_turned k v h h' (set_turns k v h h' sets) root sound
 
--- For a name of at most 64 components: if a lookup of `name` in `h'` gives `v`, and all other
--- lookups give the same in `h'` as in `h`, then the table of `h'` is the table of `h` with the
+-- Let `name` have at most 64 components, let a lookup of `name` in `h'` give `v`, and let all other
+-- lookups give the same in `h'` as in `h`. Then the table of `h'` is the table of `h` with the
 -- value `v` for `name`, or without a value for `name` if `v` is None.
 pub with_value_table : {V : Type 0} (h h' : Heap V) (root root' : Option ℕ) (name : List Field) (v : Option V) → length name ≤ 64
     → ((q : List Field) → lookup h' root' q ≡ cond (eq_by_cmp name_cmp q name) v (lookup h root q))

@@ -19,7 +19,7 @@ module _ {X : Type 0} where
 
 module _ {V : Type 0} (h : Heap V) where
   -- the value of the longest prefix of `name` that has a value, among the prefixes of at most n
-  -- components; walks from `o` find the values
+  -- components, where a walk from `o` finds the value of a prefix
   abbrev within : Option ℕ → List Field → ℕ → Option V
   within o name zero = lookup h o []
   within o name (suc n) = option_or (lookup h o (take (suc n) name)) (within o name n)

@@ -47,8 +47,8 @@ pub fn change_at<V: Drop, C: Change<V>>(nodes: &mut Slab<Node<V>>, k: usize, how
     false
 }
 
-/// Removes all nodes that have neither a value nor children, except `kept`. Then does the same with
-/// their ancestors that now have neither a value nor children.
+/// Removes all nodes that have neither a value nor children, and then their ancestors that are left
+/// with neither. The node `kept` is never removed.
 pub fn prune_all<V: Drop>(nodes: &mut Slab<Node<V>>, root: &mut Option<usize>, kept: Option<usize>)
     requires { Sound (get nodes.old) root.old }
     ensures sound { Sound (get nodes.new) root.new }

@@ -101,8 +101,8 @@ impl Children {
         Ok(())
     }
 
-    /// Removes a child, which is stored under at most one component. The search begins at the
-    /// position that `hint` gives.
+    /// Removes a child, if it is stored here. It must be stored under at most one component. The
+    /// search begins at the position that `hint` gives.
     pub fn forget(&mut self, child: usize, hint: &Hint)
         requires { (c d : Field) → map.get self.old c ≡ Some child → map.get self.old d ≡ Some child
             → c ≡ d }
@@ -114,7 +114,8 @@ impl Children {
     }
 }
 
-/// Returns the index of the first row that is not before `hint`.
+/// Returns the index of the first row that is not before `hint`, or the number of rows if all rows
+/// are before it. If there are fewer than two rows, returns 0.
 fn start_of(rows: &[(ComponentBuf, usize)], hint: &Hint) -> usize
     ensures { result ≤ length rows.now }
 {
@@ -134,7 +135,7 @@ fn start_of(rows: &[(ComponentBuf, usize)], hint: &Hint) -> usize
     low
 }
 
-/// Returns the index of a child's row in `rows[from..to]`.
+/// Searches `rows[from..to]` for a child's row. Returns the index of the row in `rows`.
 fn row_within(rows: &[(ComponentBuf, usize)], child: usize, from: usize, to: usize) -> Option<usize>
     requires { to ≤ length rows.now }
     ensures found { IfSome result (λ at. (at < length rows.now)
@@ -150,7 +151,7 @@ fn row_within(rows: &[(ComponentBuf, usize)], child: usize, from: usize, to: usi
 }
 
 /// Returns the index of a child's row. The search runs from the position that `hint` gives to the
-/// end, and then over the rows before it.
+/// end, and then over the rows before this position.
 fn row_of(rows: &[(ComponentBuf, usize)], child: usize, hint: &Hint) -> Option<usize>
     ensures found { IfSome result (λ at. (at < length rows.now)
         × HoldsAt (λ row. row.1 ≡ child) rows.now at) }

@@ -139,8 +139,8 @@ pub fn release_other<V: Drop>(
     None
 }
 
-/// Returns the node of a name, as `make_path` does. If there is a reserved node, it is the node of
-/// this name, and is returned without a walk.
+/// Returns the node of a name, as `make_path` does. A reserved node, if there is one, must be the
+/// node of this name. It is returned without a walk.
 fn path_to<V: Drop>(
     alloc: Global,
     nodes: &mut Slab<Node<V>>,

@@ -39,7 +39,8 @@ fn list_value<'a, V>(
     Ok(())
 }
 
-/// Appends the rows of a node and of the nodes below it, down to a depth.
+/// Appends the rows of a node and of the nodes below it. `depth` is the number of levels to list,
+/// including the node itself.
 pub fn list_below<'a, V>(
     alloc: Global,
     nodes: &'a Slab<Node<V>>,

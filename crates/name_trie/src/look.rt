@@ -14,8 +14,8 @@ pub trait Look<'a, V> {
     /// itself.
     ghost seen: { Bool → Self → V → Self };
 
-    /// Looks at a value. If `is_own` is set, it is the value of the name itself; otherwise it is
-    /// the value of a proper prefix.
+    /// Looks at a value. If `is_own` is true, it is the value of the name itself. If `is_own` is
+    /// false, it is the value of a proper prefix.
     fn look(&mut self, value: &'a V, is_own: bool)
         ensures { self.new ≡ seen is_own self.old value.now };
 }

@@ -152,8 +152,9 @@ fn without(key: Option<usize>, k: usize) -> Option<usize>
     }
 }
 
-/// Removes the node `from` if it has no value and no children, and then its ancestors in the same
-/// way, up to the root. Stops before the node `kept`.
+/// Removes the node `from` if it has neither a value nor children, and then, from there up to the
+/// root, each ancestor that is left with neither. Stops at the first node that has a value or
+/// children, and before the node `kept`.
 pub fn prune<V: Drop>(
     nodes: &mut Slab<Node<V>>,
     root: &mut Option<usize>,

@@ -54,7 +54,8 @@ pub fn see_along<V, S: See<V>>(
     }
 }
 
-/// Shows the visitor `see` the values of a node and of the nodes below it, down to a depth.
+/// Shows the visitor `see` the values of a node and of the nodes below it. `depth` is the number of
+/// levels to show, including the node itself.
 fn see_below<V, S: See<V>>(nodes: &Slab<Node<V>>, at: usize, depth: usize, see: &mut S)
     ensures { see.new ≡ fold S.seen see.old
         (map (λ r. r.1) (rows (get nodes.now) depth (Some at))) }

@@ -72,8 +72,8 @@ fn put_component(name: &mut Vec<u8>, component: Component<'_>) -> Result<(), Mem
     Ok(())
 }
 
-/// Shows the names that have a value, at a node and below it, down to a depth. `name` contains the
-/// octets of the node's name.
+/// Shows the names that have a value, at a node and below it. `depth` is the number of levels to
+/// show, including the node itself. `name` contains the octets of the node's name.
 fn show_below<V, W: Carry<V> + Drop, S: Show<W>>(
     nodes: &Slab<Node<V>>,
     at: usize,

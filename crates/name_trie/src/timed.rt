@@ -122,7 +122,8 @@ pub fn change_timed<V: Timed + Drop, C: Change<V>>(
 }
 
 /// Changes or removes every value whose deadline is `now` or earlier, as `how` says. `how` must
-/// keep all other values unchanged.
+/// keep all other values unchanged, and each value that it returns must have a deadline later than
+/// `now`.
 pub fn expire<V: Timed + Drop, C: Change<V>>(
     nodes: &mut Slab<Node<V>>,
     root: &mut Option<usize>,

@@ -35,7 +35,7 @@ pub struct TimedMap<V: Timed> {
     // The timers, one for each value. While a call is prepared, memory is reserved for one more
     // timer.
     timers: Timers,
-    // The total size of all values, which wraps.
+    // The total size of all values, which wraps at 2^64.
     len: usize,
 }
 
@@ -79,7 +79,7 @@ impl<V: Timed + Drop> TimedMap<V> {
         }
     }
 
-    /// Returns the total size of all values.
+    /// Returns the total size of all values, which must be less than 2^64.
     pub fn len(&self) -> usize
         requires { total V.size (map.entries self.now.table) < 2 ^ 64 }
         ensures { result ≡ total V.size (map.entries self.now.table) }
@@ -174,7 +174,9 @@ impl<V: Timed + Drop> TimedMap<V> {
         Ok(())
     }
 
-    /// Changes or removes the values whose deadline is `now` or earlier, as `how` says.
+    /// Changes or removes the values whose deadline is `now` or earlier, as `how` says. `how` must
+    /// keep all other values unchanged, and each value that it returns must have a deadline later
+    /// than `now`.
     pub fn expire<C: Change<V>>(&mut self, now: u64, how: &C)
         requires idle { (v : V) → now < V.timer v → C.change how.now v ≡ Some v }
         requires later { (v w : V) → C.change how.now v ≡ Some w → now < V.timer w }

@@ -142,9 +142,9 @@ impl<V: Drop> NameTrie<V> {
         longest(&self.nodes, self.root, name)
     }
 
-    /// Sets the value of a name. Returns whether the name had no value. Returns `Memory` only for a
-    /// name without a value. In that case the values are unchanged, but a prepared call is
-    /// cancelled.
+    /// Sets the value of a name. Returns whether the name had no value. Each call ends the
+    /// preparation, even if the call fails. Returns `Memory` only for a name that has no value and
+    /// is not prepared. On `Memory`, the values are unchanged.
     pub fn put(&mut self, name: Name<'_>, value: V) -> Result<bool, Memory>
         ensures added { IfOk result (λ is_new. is_new
             ≡ is_none (map.get self.old.table (components name.entry))) }

@@ -94,7 +94,7 @@ answers_along (d ∷ q) (c ∷ name) digest p =
     ∙ apart same (along q name p) (eq_by_cmp name_cmp q (full_name name digest))
     ∙ ap (λ b. (same && along q name p) || b) (sym (same_name d c q (full_name name digest)))
 
--- a walk along a name leaves the value of this name with one more component unchanged
+-- a walk along a name does not change the value of the name extended by one component
 pub below_stays : {V : Type 0} (own below : V → Option V) (name : List Field) (c : Field) → changed_along own below (name ++ c ∷ []) name ≡ Some
 below_stays own below [] c = refl
 below_stays own below (d ∷ name) c =

@@ -111,10 +111,10 @@ one_of {k} e = ap (key_in k) e
     key_in k None = k
     key_in k (Some c) = c.0
 
--- After an Interest is sent, there is memory for the calls that are still prepared. The last two
--- premises: the spare memory is unused if the entry's own memory sufficed. If its own memory did
--- not suffice, or if the entry had memory for the out-records of 64 faces before, it has this
--- memory afterwards.
+-- After an Interest is sent, there is memory for the calls that are still prepared, under two
+-- conditions. If the entry's own memory sufficed, the spare memory is unchanged. If it did not
+-- suffice, or if the entry had memory for the out-records of 64 faces, the entry has memory for the
+-- out-records of 64 faces afterwards.
 pub memory_sent : (old new : NameTable Row) (spare left : ℕ) (key : PlainKey) (prepared after : Option Prepared) (has_place : Bool) (was is : Kept) → HasMemory old spare prepared → HasNoArrival after
     → (calls_of after ≡ None) ⊎ ((calls_of prepared ≡ Some (key, None)) × (calls_of after ≡ Some (key, None)))
     → kept_at old.table key ≡ Some was → kept_at new.table key ≡ Some is → (has_place ≡ true → left ≡ spare) → ((has_place ≡ false) ⊎ (was.is_wide ≡ true) → is.is_wide ≡ true)

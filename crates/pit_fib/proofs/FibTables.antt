@@ -118,8 +118,8 @@ module _ (t : Routes) (within : IsWithinFib t) (name : List Field) where
   part_itself : (e : Entry) → is_vacant e ≡ false → IsPartOf e e
   part_itself e some = record { some = some; fewer = omega arith; leads = λ f l. l; kept = λ key r is. is }
 
-  -- if `g` turns each entry into a part of this entry or removes it, each entry of the table after
-  -- `g` is applied to one name's entry is part of an entry of the old table
+  -- Let `g` turn each entry into a part of this entry, or remove it. If `g` is applied to the entry
+  -- of one name, each entry of the new table is part of the old table's entry for the same name.
   pub shrunk_one : (g : Entry → Option Entry) → ((whole part : Entry) → g whole ≡ Some part → IsPartOf part whole) → IsShrunk t (Changed g)
   shrunk_one g parts q part =
       elim (get t name) as (λ o. get t name ≡ o → get (with_value t name (option_and_then g o)) q ≡ Some part → (whole : Entry) × (get t q ≡ Some whole) × IsPartOf part whole) [

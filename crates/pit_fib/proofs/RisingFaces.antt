@@ -1,4 +1,4 @@
--- The position at which a face is, or would be inserted, in a rising list.
+-- The position of a face in a rising list, or the position at which to insert it.
 use Rattle.std.proofs.Common.{◌≡◌, ℕ, suc, ◌+◌, ◌<◌, ◌≤◌, Bool, true, false, cond, List, [], ◌∷◌, ◌++◌, length, get_or, take, drop, refl, sym, ap, subst, ◌∙◌, arith, eqb, ltb}
 use Rattle.std.specs.Prelude.{insert, ◌||◌}
 use Rattle.std.specs.List.{AllByRecursion}

@@ -130,8 +130,8 @@ impl Used {
     }
 }
 
-/// Of the first `len` entries, moves those of other faces than `face` to the front, and returns the
-/// number of these entries.
+/// Moves to the front those of the first `len` entries whose face is not `face`. Returns how many
+/// entries were moved.
 fn without_face(places: &mut [(u64, u64)], len: usize, face: u64) -> usize
     requires { len ≤ length places.old }
     ensures fewer { result ≤ len }

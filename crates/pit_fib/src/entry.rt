@@ -101,7 +101,7 @@ pub struct OutRecord {
     nonce: [u8; 4],
     // When the Interest was sent, in milliseconds since 1970.
     moment: u64,
-    // The reason of the Nack that came back for this Nonce, or `None` if no Nack came.
+    // The reason of the last Nack that came back for this Nonce, or `None` if no Nack came.
     reason: Option<u64>,
 }
 
@@ -131,7 +131,7 @@ impl OutRecord {
     }
 
     /// If the Nack has the Nonce of this out-record, returns the out-record with the reason of the
-    /// Nack. Otherwise returns it unchanged.
+    /// Nack. If the Nack has another Nonce, returns the out-record unchanged.
     fn nacked_with(self, nonce: [u8; 4], reason: u64) -> OutRecord
         ensures { result ≡ nacked_with nonce reason self }
     {
@@ -280,7 +280,7 @@ impl Entry {
     }
 
     /// Adds or replaces the out-record of a face, in the out-records' own memory or in the memory
-    /// `room`.
+    /// `room`. If the face is new and neither suffices, changes nothing.
     pub fn sent(&mut self, face: u64, out_record: OutRecord, room: Room<OutRecord>)
         ensures { self.new ≡ sent_in room face out_record self.old }
     {
@@ -318,7 +318,8 @@ impl Entry {
             .any(|row| row.1.nonce == nonce)
     }
 
-    /// Returns when the Interest was last sent to each face.
+    /// Returns the moments at which an Interest of the key was last sent to each face, in
+    /// milliseconds since 1970.
     pub fn moments(&self) -> Used
         ensures { result ≡ moments_of self.now.records.out_records }
     {

@@ -80,7 +80,7 @@ impl<V: Drop> FaceMap<V> {
         }
     }
 
-    /// Returns whether there is memory for one more value.
+    /// If the map has fewer than 64 values, returns whether its own memory suffices for one more.
     pub fn has_place(&self) -> bool
         ensures { result ≡ has_place self.now }
     {

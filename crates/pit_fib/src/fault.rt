@@ -12,7 +12,8 @@ pub enum TableFault {
     /// The name has more than 32 components.
     #[error("the name has more than 32 components")]
     TooDeep,
-    /// The name is new, and the table has 4,096 names.
+    /// The name is new and the table has 4,096 names, or the route is new and the table has 16,384
+    /// routes.
     #[error("the table has 4096 names")]
     TableFull,
     /// Out of memory.

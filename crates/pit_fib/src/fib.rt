@@ -101,9 +101,9 @@ impl Fib {
     /// Adds a next hop, or sets its cost. The faces of all next hops and routes, together with
     /// `face`, must be at most 64.
     ///
-    /// On failure, it returns the first fault in the order of `TableFault`. In that case the table
-    /// is unchanged, but a prepared call is cancelled. `Memory` is never returned for a name that
-    /// has an entry.
+    /// On failure, it returns the first fault in the order of `TableFault`, and the table is
+    /// unchanged. Each call ends the preparation, even if the call fails. `Memory` is never
+    /// returned for a name that has an entry or is prepared.
     pub fn add(&mut self, name: Name<'_>, face: u64, cost: u64) -> Result<(), TableFault>
         requires { HasRoomFor self.old.table face }
         ensures ok { OnOk result
@@ -147,9 +147,9 @@ impl Fib {
     /// name's route with the same face and origin. The faces of all next hops and routes, together
     /// with `face`, must be at most 64.
     ///
-    /// On failure, it returns the first fault in the order of `TableFault`. In that case the table
-    /// is unchanged, but a prepared call is cancelled. The table is full for a new name when it has
-    /// 4,096 names, and for a new route when it has 16,384 routes.
+    /// On failure, it returns the first fault in the order of `TableFault`, and the table is
+    /// unchanged. Each call ends the preparation, even if the call fails. The table is full for a
+    /// new name when it has 4,096 names, and for a new route when it has 16,384 routes.
     pub fn register(
         &mut self,
         name: Name<'_>,
@@ -296,8 +296,8 @@ impl Fib {
         self.longest_counted(name, &mut steps)
     }
 
-    /// Does the same as `longest`, and adds one to `steps` for each search among the children of a
-    /// node. The contract promises at most one search for each component of the name.
+    /// Returns what `longest` returns, and adds one to `steps` for each search among the children
+    /// of a node. The contract promises at most one search for each component of the name.
     pub fn longest_counted(&self, name: Name<'_>, steps: &mut u64) -> Hops
         requires { steps.old + 64 < 2 ^ 64 }
         ensures exact { result ≡ longest_hops self.now.table (components name.entry) }
@@ -463,7 +463,8 @@ fn enough_room(
     Ok(Vec::with_capacity(alloc, len + 1)?)
 }
 
-/// Returns the number of all routes, and the first moment at which one of them expires.
+/// Returns the number of all routes, and the first moment at which one of them expires, or the
+/// greatest u64 if none expires.
 fn tally(entries: &NameMap<Entry>) -> Tally
     requires { route_count entries.now.table ≤ MAX_ROUTES }
     ensures { IsTallied entries.now.table result.count result.next_due }

@@ -30,7 +30,7 @@ impl Flags {
         }
     }
 
-    /// Returns whether both flags are the same.
+    /// Returns whether `self` and `other` agree in both flags.
     pub fn is(self, other: Flags) -> bool
         ensures { result ≡ same_flags self other }
     {

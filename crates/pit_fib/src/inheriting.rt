@@ -9,9 +9,9 @@ use crate::fib_entry::Entry;
 use crate::route::{Route, RouteKey};
 use name_trie::See;
 
-/// The state of a walk along a name, after the last entry that it passed: the effective next hops
-/// of that entry, and the costs that the names below it inherit (NFD Developer's Guide, "Routing
-/// Information Base").
+/// The state of a walk along a name, after the last entry that the walk passed (NFD Developer's
+/// Guide, "Routing Information Base"). It has the effective next hops of that entry, and the costs
+/// that the names below that entry inherit.
 #[derive(Drop)]
 pub struct Inheriting {
     /// If `at` is a moment, routes that expire by that moment do not count.
@@ -125,7 +125,8 @@ fn least_within(rows: &[(RouteKey, Route)], at: Option<u64>, below: bool) -> Use
     costs
 }
 
-/// Sets the cost of a face, if the face has no cost or a greater one.
+/// Sets the cost of a face, if the face has a greater cost, or if it has none and fewer than 64
+/// faces have one.
 fn set_lesser(costs: &mut Used, face: u64, cost: u64)
     ensures { costs.new ≡ set_within costs.old face (lesser cost (map.get costs.old face)) }
 {
@@ -136,7 +137,8 @@ fn set_lesser(costs: &mut Used, face: u64, cost: u64)
     costs.insert(face, lesser);
 }
 
-/// Returns the costs in `first`, and for faces without a cost there, the costs in `second`.
+/// Returns the costs in `first`, and for faces without a cost in `first`, the costs in `second`.
+/// Leaves out a cost in `first` whose face would be the 65th.
 fn laid_over(first: &Used, second: Used) -> Used
     ensures { result ≡ laid_over first.now second }
 {

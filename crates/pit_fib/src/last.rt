@@ -1,4 +1,4 @@
-//! The search for the last in-record of a face that a Data answers. The last in-record is the
+//! The search for the last of a face's in-records that a Data answers. The last in-record is the
 //! in-record with the latest deadline. If several in-records have this deadline, it is the
 //! in-record under the greatest key.
 ghost use Rattle.std.specs.Prelude.{◌≡◌};
@@ -59,7 +59,8 @@ fn last_along<'a>(rows: &'a TimedMap<Row>, name: Name<'_>, face: u64) -> Option<
 
 /// Of the face's in-records that a Data answers, returns the in-record with the latest deadline. If
 /// several in-records have this deadline, returns the in-record under the greatest key. The Data's
-/// digest is computed only if some key has a digest.
+/// digest is computed only if some key may have the Data's name followed by a digest component
+/// (`TimedMap::has_below`).
 pub fn last_for<'a>(rows: &'a TimedMap<Row>, packet: &Data<'_>, face: u64) -> Option<&'a InRecord>
     ensures { option_map (λ r. r.now) result ≡ last_of rows.now.table face
         (components packet.now.name) (sha256 packet.now.whole.now) }

@@ -92,8 +92,8 @@ pub fn records_are_the_past()
 {}
 
 /// Law: the result of a Nack is `NoPending` exactly if its Nonce was not the last one sent to its
-/// face. Otherwise the result is `All` exactly if each out-record has a reason after the Nack, and
-/// its number is the least of these reasons.
+/// face. If it was, the result is `All` exactly if each out-record has a reason after the Nack, and
+/// the number in `All` is the least of these reasons.
 pub fn nacks_tell_the_least_reason()
     ensures pending { (r : Records) (face : ℕ) (nonce : List ℕ) (reason : ℕ)
         → (nacked_answer r face nonce reason ≡ answers.NoPending)
@@ -119,8 +119,8 @@ pub fn records_tell_the_table()
         → ((key : PlainKey) → records_at a key ≡ records_at b key) → a ≡ b }
 {}
 
-/// Law: the records after an expiry are the same, whether or not there was an expiry at an earlier
-/// moment.
+/// Law: the records after an expiry are the same, whether or not there was an expiry at the same or
+/// an earlier moment.
 pub fn expiry_may_come_twice()
     ensures { (m n : ℕ) (key : PlainKey) (r : Records) → m ≤ n
         → records_after (Expires n) key (records_after (Expires m) key r)
@@ -128,7 +128,7 @@ pub fn expiry_may_come_twice()
 {}
 
 /// Law: the limits are 4,096 names or keys in a table, 32 components in the name of a route or
-/// strategy, 64 faces under a key or in the table of routes, and 16,384 registered routes.
+/// strategy, 64 faces in a set or a table, and 16,384 registered routes.
 pub fn table_limits_are_as_promised()
     ensures { (MAX_FACES ≡ 64) × (MAX_ENTRIES ≡ 4096) × (MAX_DEPTH ≡ 32) × (MAX_ROUTES ≡ 16384)
         × (MAX_PENDING ≡ 4096) }

@@ -51,7 +51,7 @@ pub struct Pit {
     prepared: Option<Prepared>,
     // Spare memory for the out-records of an entry whose own memory is full.
     spare: Room<OutRecord>,
-    // Whether any Interest that has ever arrived had a PIT token. While this is false, no search
+    // Whether any Interest that was ever recorded had a PIT token. While this is false, no search
     // looks for a token.
     has_tokens: bool,
 }
@@ -145,8 +145,9 @@ impl Pit {
     /// Token"). The Interest and its token replace those that the face had under this key. The
     /// faces that have records, together with `face`, must be at most 64.
     ///
-    /// On failure, the records are unchanged, but a prepared call is cancelled. `arrive` fails with
-    /// `PitFull` if the key is new and there are 4,096 keys, and otherwise with `Memory`.
+    /// On failure, the records are unchanged. An `arrive` that fails, or that is not the prepared
+    /// one, ends the preparation. `arrive` fails with `PitFull` if the key is new and there are
+    /// 4,096 keys, and otherwise with `Memory`.
     pub fn arrive(
         &mut self,
         key: Key<'_>,
@@ -256,8 +257,8 @@ impl Pit {
     /// Records that an Interest with this key and Nonce was sent to a face at the moment `now`, in
     /// milliseconds since 1970. This replaces the face's older out-record. The key must have an
     /// in-record, and the faces that have records, together with `face`, must be at most 64. A call
-    /// that is not prepared may run out of memory. In that case the records are unchanged, but a
-    /// prepared call is cancelled.
+    /// that is not prepared ends the preparation, and may run out of memory. On `Memory`, the
+    /// records are unchanged.
     pub fn sent(&mut self, key: Key<'_>, face: u64, nonce: [u8; 4], now: u64) -> Result<(), Memory>
         requires stands { is_alive (records_at self.old.pending (plain_key key)) ≡ true }
         requires room { HasRoomFor self.old.pending face }
@@ -471,9 +472,9 @@ fn entry_of<'a>(rows: &'a TimedMap<Row>, key: Key<'_>) -> Option<&'a Entry>
     rows.get(key.name)?.get(Flags::of(key))
 }
 
-/// Does nothing if there is no row. Otherwise adds the faces that have an in-record under a key of
-/// the row's name that the Data answers. If the name is the Data's own, the Data answers all keys
-/// of the name; otherwise it answers the keys with CanBePrefix.
+/// If there is a row, adds the faces that have an in-record under a key of the row's name that the
+/// Data answers. If the name is the Data's name or full name (`is_own`), the Data answers all keys
+/// of the name. If it is a proper prefix, the Data answers only the keys with CanBePrefix.
 fn add_of(row: Option<&Row>, is_own: bool, faces: &mut Faces)
     ensures { faces.new
         ≡ taken (with_answered is_own) faces.old (option_map (λ r. r.now) row.entry) }
@@ -526,7 +527,7 @@ fn widen(alloc: Global, spare: &mut Room<OutRecord>) -> Result<(), Memory>
 }
 
 /// Returns memory for the out-records of all faces, taken from `spare` or newly allocated. If
-/// `has_place` is true, no memory is needed, and `spare` is unchanged.
+/// `has_place` is true, returns memory with capacity for no values, and leaves `spare` unchanged.
 fn room_for(
     alloc: Global,
     spare: &mut Room<OutRecord>,

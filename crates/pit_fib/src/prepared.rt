@@ -81,7 +81,7 @@ pub fn arriving(prepared: Option<Prepared>, key: Key<'_>) -> (Option<Ready>, Opt
     (arrival, Some(after))
 }
 
-/// Returns `ready`, if it has capacity for `size` octets. Otherwise returns new memory.
+/// Returns `ready`, if it has capacity for `size` octets. If it does not, returns new memory.
 fn ready_for(alloc: Global, ready: Option<Ready>, size: usize) -> Result<Ready, Memory>
     requires { IfSome ready IsReady }
     ensures ok { IfOk result (λ ready. (size ≤ ready.size) × IsReady ready) }

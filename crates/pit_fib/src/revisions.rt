@@ -1,4 +1,5 @@
-//! How each call of the pending Interest table changes the entry of a key.
+//! How an entry changes in the calls of the pending Interest table that remove records or record a
+//! Nack.
 
 use crate::entry::Entry;
 use crate::face_set::Faces;
@@ -106,8 +107,8 @@ impl Revision for Removal {
     }
 }
 
-/// A revision that removes the entries that a Data answers, under the Data's own name or a prefix
-/// of it.
+/// A revision that removes the entries that a Data answers, under the Data's name or full name
+/// (`is_own`), or under a proper prefix.
 #[derive(Drop)]
 pub struct Answered {
     pub is_own: bool,

@@ -5,8 +5,8 @@ ghost use Rattle.pit_fib.specs.Route.{is_capture, is_child_inherit, is_due, rout
 
 use std::cmp::Ordering;
 
-/// The face and the origin of a registered route. A name has at most one route for each such pair
-/// (NFD Management, "RIB Management").
+/// The face and the origin of a registered route. A name has at most one route for each pair of a
+/// face and an origin (NFD Management, "RIB Management").
 #[derive(Clone, Copy, Debug, PartialEq, Eq)]
 pub struct RouteKey {
     pub face: u64,

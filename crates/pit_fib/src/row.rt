@@ -74,8 +74,8 @@ impl Row {
     }
 
     /// Adds the faces that have an in-record under a key of this name that the Data answers. If the
-    /// name is the Data's own, the Data answers all keys of the name; otherwise it answers the keys
-    /// with CanBePrefix.
+    /// name is the Data's name or full name (`is_own`), the Data answers all keys of the name. If
+    /// it is a proper prefix, the Data answers only the keys with CanBePrefix.
     pub fn add_answered(&self, is_own: bool, faces: &mut Faces)
         ensures { faces.new ≡ with_answered is_own faces.old self.now }
     {
@@ -87,8 +87,8 @@ impl Row {
     /// Of `last` and the face's in-records under the keys of this name that the Data answers,
     /// returns the in-record with the latest deadline. Among in-records with the same deadline, a
     /// greater key takes precedence over a lesser key, and every key takes precedence over `last`.
-    /// If the name is the Data's own, the Data answers all keys; otherwise it answers the keys with
-    /// CanBePrefix.
+    /// If the name is the Data's name or full name (`is_own`), the Data answers all keys of the
+    /// name. If it is a proper prefix, the Data answers only the keys with CanBePrefix.
     pub fn last_of<'a>(
         &'a self,
         is_own: bool,

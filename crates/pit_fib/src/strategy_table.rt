@@ -89,9 +89,9 @@ impl StrategyTable {
 
     /// Sets the strategy of a name.
     ///
-    /// On failure, it returns the first fault in the order of `TableFault`. In that case the table
-    /// is unchanged, but a prepared call is cancelled. `Memory` is never returned for a name that
-    /// has a strategy, such as `/`.
+    /// On failure, it returns the first fault in the order of `TableFault`, and the table is
+    /// unchanged. Each call ends the preparation, even if the call fails. `Memory` is never
+    /// returned for a name that has a strategy, such as `/`, or is prepared.
     pub fn set(&mut self, name: Name<'_>, strategy: StrategyId) -> Result<(), TableFault>
         ensures ok { OnOk result
             (self.new.table ≡ map.insert self.old.table (components name.entry) strategy) }

@@ -11,7 +11,8 @@ use ndn_tlv::Memory;
 use std::alloc::Global;
 use std::marker::Model;
 
-/// The greatest difference between a command's time and the present moment, in milliseconds.
+/// The greatest difference, in milliseconds, between the present moment and the time of a fresh
+/// command.
 const WINDOW: u64 = 120_000;
 
 /// For each signer, the greatest time and the greatest number of its recorded commands.
@@ -19,7 +20,8 @@ const WINDOW: u64 = 120_000;
 pub struct Guard {
     alloc: Global,
     rows: Vec<Row>,
-    // The key of the prepared row. `rows` has capacity for that row.
+    // The key of the prepared row, or `None` if no row is prepared. If a row is prepared, `rows`
+    // has capacity for it.
     spare: Option<Option<NameBuf>>,
 }
 
@@ -74,8 +76,9 @@ impl Guard {
         place_of(&self.rows, signer).is_some()
     }
 
-    /// Records a command. `Memory` is returned only for a signer without recorded commands. In that
-    /// case the recorded commands are unchanged, but a prepared call is cancelled.
+    /// Records a command. Each call ends the preparation, even if the call fails. `Memory` is
+    /// returned only for a signer that has no recorded command and is not prepared. On `Memory`,
+    /// the recorded commands are unchanged.
     pub fn record(&mut self, signer: Signer<'_>, time: u64, seq: Option<u64>) -> Result<(), Memory>
         ensures ok { OnOk result (self.new.latest ≡ with_recorded self.old.latest
             (record { signer = signer_of signer.entry; time = time; number = seq })) }
@@ -160,7 +163,7 @@ fn are_near(a: u64, b: u64) -> bool
     a.abs_diff(b) <= WINDOW
 }
 
-/// Returns the signer's key: the spare key, or a new copy.
+/// Returns the signer's key: the spare key if it is the signer's, or a new copy.
 fn key_in(
     alloc: Global,
     spare: Option<Option<NameBuf>>,
@@ -175,7 +178,7 @@ fn key_in(
     }
 }
 
-/// Returns the index of a signer's first row.
+/// Returns the index of a signer's first row, or `None` if the signer has no row.
 fn place_of(rows: &[Row], signer: Signer<'_>) -> Option<usize>
     ensures { MatchOption result (map.find signer_cmp (signer_of signer.entry) rows.now ≡ None)
         (IsFirst (signer_of signer.entry) rows.now) }

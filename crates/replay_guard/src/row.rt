@@ -82,7 +82,7 @@ impl Row {
     }
 }
 
-/// Returns whether `key` is the signer's key.
+/// Returns whether `key` is the signer's key, where `None` is the key of DigestSha256.
 pub fn is_key(key: &Option<NameBuf>, signer: Signer<'_>) -> bool
     ensures { result ≡ eq_by_cmp signer_cmp (signer_of signer.entry) key.now }
 {
@@ -93,7 +93,7 @@ pub fn is_key(key: &Option<NameBuf>, signer: Signer<'_>) -> bool
     }
 }
 
-/// Returns a copy of the signer's key.
+/// Returns a copy of the signer's key, or `None` for DigestSha256.
 pub fn key_of(alloc: Global, signer: Signer<'_>) -> Result<Option<NameBuf>, Memory>
     ensures { IfOk result (λ key. key ≡ signer_of signer.entry) }
 {

@@ -25,8 +25,8 @@ pub fn full_names_answer_as_data()
         ≡ answers name digest asked can_be_prefix }
 {}
 
-/// Law: a Data that is not wanted remains unwanted while wants only expire or are deleted. So the
-/// preparation of an offer remains valid.
+/// Law: a Data that is not wanted remains unwanted while wants only expire or are deleted. For this
+/// reason, the preparation of an offer remains valid.
 pub fn removals_keep_preparations()
     ensures expiry { (now : ℕ) (name : List Field) (digest : List ℕ) (wants : Wants)
         → is_wanted name digest (wants_after now wants) ≡ true
@@ -80,9 +80,9 @@ pub fn objects_stay_data()
         → AreObjects s.objects → AreObjects (after_time now s).objects }
 {}
 
-/// Law: after all entries that fail a test are removed from a map of objects or wants, a lookup of
-/// a key finds the same entry as before if that entry passes the test, and otherwise finds no
-/// entry.
+/// Law: let all entries that fail a test be removed from a map of objects or wants. A lookup of a
+/// key then finds the same entry as before if that entry passes the test. In all other cases, it
+/// finds no entry.
 pub fn kept_entries_by_key()
     ensures objects { (test : List Field × List ℕ → Bool) (objects : Objects) (name : List Field)
         → map.get (kept test objects) name ≡ if_kept test name (map.get objects name) }

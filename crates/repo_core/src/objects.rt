@@ -111,7 +111,8 @@ impl Objects {
         Ok(())
     }
 
-    /// Inserts an object. An object with the same full name is replaced.
+    /// Inserts an object, or replaces the object with the same full name. Memory for one more
+    /// object must be reserved.
     pub fn put(&mut self, object: Object)
         requires { 0 < self.old.room }
         ensures { self.new.table ≡ map.insert self.old.table object.0 object.1 }

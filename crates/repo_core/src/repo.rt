@@ -106,14 +106,15 @@ impl Repo {
     ///
     /// Objects match a command if they answer an Interest with its name and CanBePrefix. A want is
     /// equal to a command if it has the same name and CanBePrefix. An insert is answered 200 with
-    /// the number of matching objects if at least one object matches. Otherwise the insert is
-    /// answered 503 if there is no equal want and one more want would exceed the limits, and 100 in
-    /// all other cases. An insert that is answered 100 adds a want or renews the equal want; the
-    /// want expires when the lifetime of the want is over. A delete removes the matching objects
-    /// and the equal want. The delete is answered 200 with the number of removed objects if it
-    /// removed an object or a want, and 404 otherwise. A check is answered 200 with the number of
-    /// matching objects if at least one object matches; otherwise 100 if there is an equal want,
-    /// and 404 if there is no equal want. Any other name is answered 400.
+    /// the number of matching objects if at least one object matches. If no object matches, the
+    /// insert is answered 503 if there is no equal want and one more want would exceed the limits,
+    /// and 100 in all other cases. An insert that is answered 100 adds a want or renews the equal
+    /// want; the want expires when the lifetime of the want is over. A delete removes the matching
+    /// objects and the equal want. The delete is answered 200 with the number of removed objects if
+    /// it removed an object or a want, and 404 if it removed neither. A check is answered 200 with
+    /// the number of matching objects if at least one object matches. If none matches, the check is
+    /// answered 100 if there is an equal want, and 404 if there is none. Any other name is answered
+    /// 400.
     ///
     /// Only an insert can return `Memory`. It then leaves the objects and wants unchanged. Every
     /// insert ends the preparation; other commands do not.
@@ -252,8 +253,8 @@ impl Repo {
     }
 
     /// Prepares the command with this name, including its reply. The command then cannot run out of
-    /// memory. An insert, a stored Data or another preparation, even one that fails, ends the
-    /// preparation. Deletes and the expiry of wants do not end the preparation. Only an insert
+    /// memory. An insert, an offer of a wanted Data or another preparation ends the preparation,
+    /// even if it fails. Deletes and the expiry of wants do not end the preparation. Only an insert
     /// needs memory.
     pub fn prepare_command(&mut self, name: Name<'_>) -> Result<(), Memory>
         ensures held { self.new.held ≡ self.old.held }
@@ -277,7 +278,8 @@ impl Repo {
         Ok(())
     }
 
-    /// Prepares the offer of this Data. The preparation lasts as long as that of `prepare_command`.
+    /// Prepares the offer of this Data. The offer then cannot run out of memory. An insert, an
+    /// offer of a wanted Data or another preparation ends the preparation, even if it fails.
     pub fn prepare_offer(&mut self, packet: &Data<'_>) -> Result<(), Memory>
         ensures held { self.new.held ≡ self.old.held }
         ensures start { self.new.start ≡ self.old.start }

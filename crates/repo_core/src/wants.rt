@@ -68,7 +68,8 @@ impl Wants {
         has_at(&self.rows, at, name, can_be_prefix)
     }
 
-    /// Sets the deadline of the want with this name and CanBePrefix. Adds the want if it is new.
+    /// Sets the deadline of the want with this name and CanBePrefix. Adds the want if it is new. If
+    /// it is new, there must be fewer than 64 wants.
     pub fn put(&mut self, name: NameBuf, can_be_prefix: bool, deadline: u64)
         requires { (map.contains_key self.old (name, can_be_prefix) ≡ true)
             ⊎ (map.len self.old < MAX_WANTS) }

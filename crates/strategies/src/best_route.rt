@@ -10,9 +10,10 @@ use crate::eligible::{any_eligible, eligible_at, is_recent};
 use crate::strategy::{Ask, Choice, Strategy};
 use pit_fib::{Faces, Hop, Hops, Used};
 
-/// Sends to no hop if some face was used less than 10 milliseconds ago. Otherwise sends to one
-/// eligible hop. Of the eligible hops that were not used, it is the least by cost and then by face.
-/// If all eligible hops were used, it is the hop that was used longest ago.
+/// Chooses `NoRoute` if no hop is eligible. Sends to no hop if some face was used less than 10
+/// milliseconds ago or in the future. In all other cases, sends to one eligible hop: of those that
+/// were never used, the least by cost and then by face. If all eligible hops were used, sends to
+/// the one that was used longest ago.
 #[derive(Clone, Copy, Debug)]
 pub struct BestRoute;
 
@@ -37,7 +38,7 @@ impl Strategy for BestRoute {
     }
 }
 
-/// Returns whether some face was used less than 10 milliseconds ago.
+/// Returns whether some face was used less than 10 milliseconds ago, or in the future.
 fn any_recent(used: &Used, now: u64) -> bool
     ensures { result ≡ list_any (λ e. came_recently now e.1) (map.entries used.now) }
 {
@@ -66,8 +67,9 @@ fn least_new(hops: &Hops, used: &Used, ask: Ask) -> Option<Hop>
     first
 }
 
-/// Returns the eligible hop that was used longest ago. Of the hops that were used at the same
-/// moment, it returns the least by cost and then by face.
+/// Returns the eligible hop that was used longest ago. A hop that was never used counts as used at
+/// the moment 0. Of the hops that were used at the same moment, it returns the least by cost and
+/// then by face.
 fn stalest(hops: &Hops, used: &Used, ask: Ask) -> Option<Hop>
     ensures { result ≡ least (is_hop_staler used.now) (eligible ask hops.now) }
 {
@@ -106,7 +108,8 @@ fn staler(used: &Used, hop: Hop, first: Option<Hop>) -> Hop
 }
 
 /// Returns whether hop `a` was used longer ago than hop `b`. If they were used at the same moment,
-/// returns whether `a` comes before `b`.
+/// returns whether `a` comes before `b` by cost and then by face. A hop that was never used counts
+/// as used at the moment 0.
 fn is_staler(used: &Used, a: Hop, b: Hop) -> bool
     ensures { result ≡ is_hop_staler used.now a b }
 {

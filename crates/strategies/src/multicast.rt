@@ -7,7 +7,8 @@ use crate::eligible::{any_eligible, eligible_at, is_recent};
 use crate::strategy::{Ask, Choice, Strategy};
 use pit_fib::{Faces, Hops, Used};
 
-/// Sends to each eligible hop that was never used, or was last used at least 10 milliseconds ago.
+/// Chooses `NoRoute` if no hop is eligible. In all other cases, sends to each eligible hop whose
+/// face was never used, or was last used at least 10 milliseconds ago.
 #[derive(Clone, Copy, Debug)]
 pub struct Multicast;
 
@@ -32,7 +33,7 @@ impl Strategy for Multicast {
     }
 }
 
-/// Returns whether a face was used less than 10 milliseconds ago.
+/// Returns whether a face was used less than 10 milliseconds ago, or in the future.
 fn was_asked_recently(used: &Used, face: u64, now: u64) -> bool
     ensures { result ≡ was_recent now (map.get used.now face) }
 {
