@@ -23,7 +23,8 @@ use Rattle.journal.proofs.Verdicts.{step_grows}
 pub by_entry : (now : ℕ) (e : Entry) (event : PlainEvent) (wanted : Bool) (v : Verdict) → IsEventOf now e event → is_journalled_by event wanted v ≡ is_journalled_entry e wanted v
 by_entry now e event wanted v is = ap (λ (changes : Bool). is_journalled_where changes wanted v) (entry_change now e event is)
 
--- after a step, the time is the greater of the time before it and the time of the event
+-- after a step, the node's time is the greater of its time before the step and the time of the
+-- event
 pub time_after : (old new : NodeState) (event : PlainEvent) (v : Verdict) (sends : List Send) (now : ℕ) (e : Entry) → IsEventOf now e event
     → IsStep old event (record { verdict = v; sends = sends }) new → new.policy.now ≡ max old.policy.now now
 time_after old new event v sends now e is step =

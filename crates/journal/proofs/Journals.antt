@@ -57,8 +57,8 @@ one_journal first (Then before event answer) a b apart h k =
 
 -- ---- the journal's events lead to the policy of the run
 
--- the run `again` leads to a policy that is the same as `p` from the time of `p` on, the journal
--- of `again` is `journal`, and no book of keys in `again` has two keys of the same name
+-- The run `again` leads to a policy that is the same as `p` from the time of `p` on. The journal of
+-- `again` is `journal`. No key book in `again` has two keys of the same name.
 pub record Keeps (first p : Policy) (again : Run) (journal : List PlainEvent) : Type 0 where
   pub left : Policy
   pub is_policy : IsPolicyOf first again left
@@ -66,7 +66,7 @@ pub record Keeps (first p : Policy) (again : Run) (journal : List PlainEvent) : 
   pub same : IsJournalOf first again journal
   pub apart : KeysAreApart first again
 
--- a run with one more event
+-- The next lemmas are about a run with one more event.
 module _ (first was p : Policy) (event : PlainEvent) (earlier journal : List PlainEvent) (keys : AreApart was.keys) (brings : BringsKeysApart event) (after : IsAfter was event p)
     (before_keeps : (again : Run) → events_of again ≡ earlier → Keeps first was again earlier) where
   -- if the event is not journalled, replaying the journal still leads to the policy of the run

@@ -7,8 +7,8 @@ use Rattle.forwarder.specs.Policy.{Policy, at_moment}
 use Rattle.forwarder.proofs.LaterMoments.{moments_in_a_row}
 use Rattle.journal.specs.Journal.{AreOneFrom}
 
--- the policy at the time `now`: without the routes and wants that expire by `now`, and with the
--- version that the lists then have
+-- the policy at the time `now`: the routes and wants that expire by `now` are removed, and each
+-- route that expires gives the lists their next version
 abbrev with_time : Policy → ℕ → Policy
 with_time p now = record p {
   now = now;

@@ -1,5 +1,5 @@
--- If only the time of an event is changed, the event has the same effect on a policy at the new
--- time, and is journalled or not as before.
+-- Changing only the time of an event does not change its effect, nor whether it is journalled, if
+-- the policy at the new time equals the policy at the old time.
 use Rattle.std.proofs.Common.{◌≡◌, ℕ, Bool, refl, sym, ap, subst, ◌∙◌}
 use Rattle.std.specs.Prelude.{Option, Some, None}
 use Rattle.ndn_packets.specs.Packet.{PlainFrame}

@@ -63,7 +63,7 @@ short_line line (event ∷ events) (inr h) = h.0.0
 
 -- ---- the loop
 
--- `number` lines were replayed; they have `events` events and `whole` octets.
+-- `number` lines were replayed. They have `events` events and `whole` octets.
 pub record SoFar (old new : NodeState) (unread left : Option (List ℕ)) (number events whole : ℕ) : Type 0 where
   pub lines : List (List ℕ)
   pub said : List PlainEvent

@@ -101,7 +101,7 @@ left_of (event ∷ journal) text left lost h e =
       | (inr g) ↦ one_left event journal h.0 h.1 left lost h.2 h.3 g (left_of journal h.1 g.more lost h.5 g.back)
     ]
 
--- ---- text that was written whole is read
+-- ---- a journal whose whole text is left is read whole
 
 pub record Begins (journal events : List PlainEvent) : Type 0 where
   pub others : List PlainEvent

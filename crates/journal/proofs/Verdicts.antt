@@ -1,5 +1,5 @@
--- The verdict on an event, and whether the event brings a wanted Data, determine whether the
--- event is journalled.
+-- The kind of an event, the verdict on it, and whether it brings a wanted Data determine whether
+-- the event is journalled.
 use Rattle.std.proofs.Common.{◌≡◌, ℕ, Bool, true, false, List, [], ◌∷◌, refl, ap, ◌∙◌, Result, Ok, Err}
 use Rattle.std.specs.Prelude.{Option, Some, None, max, nat_le, length, not, ◌==◌, ◌&&◌, if◌then◌else◌}
 use Rattle.sha2.specs.Sha256.{sha256}

@@ -29,8 +29,8 @@ pub enum AppendFault {
     File,
 }
 
-/// Appends the line of an event with this verdict, if the event is journalled. The call returns
-/// only after the line survives a crash. `time` is the latest time of any event so far, in
+/// Appends the line of an event with this verdict, if the event is journalled. The call succeeds
+/// only when the line survives a crash. `time` is the latest time of any event so far, in
 /// milliseconds since 1970.
 pub fn append_event<F: JournalFile>(
     alloc: Global,
@@ -75,7 +75,7 @@ fn is_journalled(coming: &Coming<'_>, verdict: &Verdict) -> bool
     }
 }
 
-/// Returns whether the event of the entry changes faces or rules.
+/// Returns whether the event of the entry may change faces or rules.
 fn is_change(entry: &Entry<'_>) -> bool
     ensures { result ≡ is_change_entry entry.now }
 {

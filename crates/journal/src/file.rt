@@ -17,7 +17,7 @@ pub trait JournalFile {
     // the operating system they are not known, and no contract states its content.
     ghost synced: { Self → Option (List ℕ) };
 
-    /// Appends octets, and returns only after they survive a crash. On failure, a prefix of the
+    /// Appends octets, and succeeds only when they survive a crash. On failure, a prefix of the
     /// octets may have been appended.
     fn append(&mut self, octets: &[u8]) -> Result<(), FileFault>
         ensures done { OnOk result (Appends (synced self.old) (synced self.new) octets.now) }

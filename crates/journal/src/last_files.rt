@@ -9,9 +9,9 @@ use crate::replaying::{ReplayFault, read_line, whole_line};
 use std::alloc::{AllocError, Global};
 use std::io::BufRead;
 
-/// Returns the text after the time of the last whole line of new rules: the octets of its rule file
-/// and of its key file in hexadecimal. Returns `None` if no whole line has new rules. The octets
-/// after the last LF are ignored. The fault is `Read` or `Memory`.
+/// Finds the last whole line of new rules, and returns the text after its time: the octets of the
+/// rule file and of the key file in hexadecimal. Returns `None` if no whole line has new rules. The
+/// octets after the last LF are ignored. The fault is `Read` or `Memory`.
 pub fn last_rules<R: BufRead>(alloc: Global, reader: &mut R) -> Result<Option<Vec<u8>>, ReplayFault>
     ensures { IfOk result (λ last. IfSome (R.remaining reader.old)
         (λ text. MatchOption last (HasNoFiles text) (λ files. HasLastFiles text files.items))) }
@@ -50,7 +50,7 @@ pub fn are_last_rules<R: BufRead>(
     }
 }
 
-/// Returns the octets of two files as a line of new rules has them after its time.
+/// Returns the text that a line of new rules with these two files has after its time.
 fn text_of_files(alloc: Global, rules: &[u8], keys: &[u8]) -> Result<String, AllocError>
     ensures { IfOk result (λ text. string_bytes text ≡ files_text rules.now keys.now) }
 {

@@ -14,8 +14,8 @@ ghost use Rattle.journal.specs.Appending.{Steps};
 ghost use Rattle.journal.specs.Text.{IsCutTextOf, IsTextOf, Survives};
 ghost use Rattle.journal.specs.Journal.{AreOneFrom, IsJournalled, IsJournalOf, KeepsBeginning, events_of, with_event, with_moment};
 
-/// Law: an event and the policy before it decide whether the event is journalled. An event that is
-/// not journalled changes the policy only by advancing its time.
+/// Law: if the keys of a policy have different names, the policy and the next event decide whether
+/// the event is journalled. An event that is not journalled only advances the policy's time.
 pub fn other_events_bring_their_moments()
     ensures decided { (old : Policy) (event : PlainEvent) (a b : Bool) → AreApart old.keys
         → IsJournalled old event a → IsJournalled old event b → a ≡ b }
@@ -24,8 +24,8 @@ pub fn other_events_bring_their_moments()
         → new ≡ at_moment old (moment event) }
 {}
 
-/// Law: whether a step journals its event depends only on the verdict and, for a Data, on whether
-/// the repository wants the Data at that time.
+/// Law: whether a step journals its event depends only on the kind of the event, on the verdict,
+/// and on whether the event brings a Data that the repository wants at the event's time.
 pub fn verdicts_say_what_is_journalled()
     ensures { (old new : NodeState) (event : PlainEvent) (answer : Answer)
         → IsStep old event answer new → let p = at_moment old.policy (moment event) in
@@ -33,8 +33,9 @@ pub fn verdicts_say_what_is_journalled()
         (is_journalled_by event (brings_wanted p event) answer.verdict) }
 {}
 
-/// Law: if the node agrees with a run and the event of a step is journalled, the step appends the
-/// event to the run's journal and the event's line to the text. Otherwise it appends nothing.
+/// Law: let a node agree with a run. If the event of the node's next step is journalled, the step
+/// appends the event to the run's journal and the event's line to the journal's text. If the event
+/// is not journalled, the step appends nothing.
 pub fn journals_grow_by_steps()
     ensures journal { (first : Policy) (past : Run) (old new : NodeState) (event : PlainEvent)
         (answer : Answer) (journal : List PlainEvent) → Stands first past old
@@ -58,8 +59,8 @@ pub fn journals_grow_by_steps()
         × IsTextOf longer (text ++ added) }
 {}
 
-/// Law: a run that leads to a policy has a journal. It has only one if the keys of each key book
-/// have different names.
+/// Law: a run that leads to a policy has a journal. If the keys of each key book in the run have
+/// different names, the run has only one journal.
 pub fn journals_are_one()
     ensures some { (first p : Policy) (past : Run) → IsPolicyOf first past p
         → (journal : List PlainEvent) × IsJournalOf first past journal }
@@ -69,7 +70,7 @@ pub fn journals_are_one()
 
 /// Law: replaying the events of a run's journal from the first policy leads to a policy that is the
 /// run's policy from the run's last time on. The replayed run has the same journal, so the run can
-/// be continued after the replay.
+/// be continued after the replay. The keys of each key book in the run must have different names.
 pub fn journals_keep_policy()
     ensures policy { (first p q : Policy) (past again : Run) (journal : List PlainEvent)
         → KeysAreApart first past → IsPolicyOf first past p → IsJournalOf first past journal
@@ -82,14 +83,15 @@ pub fn journals_keep_policy()
         → KeysAreApart first past → IsPolicyOf first past p → IsJournalOf first past journal
         → events_of again ≡ journal → (q : Policy) × IsPolicyOf first again q }
     // The next event has the same effect after the replay as after the run, if its time is not
-    // earlier.
+    // before the run's last time.
     ensures next { (p q r : Policy) (event : PlainEvent) → AreOneFrom p.now q p
         → p.now ≤ moment event → IsAfter p event r → IsAfter q event r }
 {}
 
-/// Law: if the first event brings rules and keys, the rules and keys before it make no difference.
-/// So the replay of a journal that begins with new rules does not depend on the rules and keys that
-/// the node was created with. The repository's prefix must be the same.
+/// Law: if the first event of a run brings new rules and keys, the policy after the run does not
+/// depend on the rules and keys before this event. The replay of a journal that begins with new
+/// rules therefore does not depend on the rules and keys that the node was created with. The
+/// repository's prefix must be that of the node that wrote the journal.
 pub fn rules_at_the_start_are_the_first()
     ensures { (first q : Policy) (r rules : List PlainRule) (k keys : List NamedKey) (now : ℕ)
         (again : Run) (rest : List PlainEvent) → events_of again ≡ NewRules rules keys now ∷ rest
@@ -98,7 +100,8 @@ pub fn rules_at_the_start_are_the_first()
 
 /// Law: if a crash leaves only the first events of a run's journal, these events are the journal of
 /// a prefix of the run and lead to the policy of that prefix. That prefix includes each shorter
-/// prefix whose whole journal is left.
+/// prefix whose whole journal is left. The keys of each key book in the run must have different
+/// names.
 pub fn crashes_leave_a_beginning()
     ensures { (first p : Policy) (past : Run) (journal left lost : List PlainEvent)
         → KeysAreApart first past → IsPolicyOf first past p → IsJournalOf first past journal
@@ -114,9 +117,10 @@ pub fn journal_texts_have_one_reading()
         → IsScriptSoFar text b → a ≡ b }
 {}
 
-/// Law: the whole lines of each prefix of the text of a run's journal are the journal of a prefix
-/// of the run. If `synced` is `None`, as for a file of the operating system, the content after a
-/// crash is not specified.
+/// Law: if a crash leaves a prefix of the text of a run's journal, the whole lines that are left
+/// are the journal of a prefix of the run. The keys of each key book in the run must have different
+/// names. If `synced` of a `JournalFile` is `None`, as for a file of the operating system, the
+/// content after a crash is not specified.
 pub fn journals_survive_crashes()
     ensures { (first p : Policy) (past : Run) (journal : List PlainEvent) (text left lost : List ℕ)
         → KeysAreApart first past → IsPolicyOf first past p → IsJournalOf first past journal

@@ -25,8 +25,8 @@ pub enum Entry<'a> {
     FaceDown { face: u64 },
     /// Time passed.
     Tick,
-    /// The octets of a rule file and of a key file, which replace the rules and keys in force. Keys
-    /// are secrets, and the line contains them.
+    /// The octets of a rule file and of a key file, whose rules and keys replace those in force.
+    /// Keys are secrets, and the line contains them.
     NewRules { rules: &'a [u8], keys: &'a [u8] },
 }
 
@@ -58,7 +58,7 @@ pub fn line_of(alloc: Global, now: u64, entry: &Entry<'_>) -> Result<String, Lin
     Ok(line)
 }
 
-/// Returns the text of an entry of any length.
+/// Returns the line of an entry with its LF, even if the line is too long.
 fn text_of(alloc: Global, now: u64, entry: &Entry<'_>) -> Result<String, AllocError>
     ensures text { IfOk result (λ line. string_bytes line ≡ entry_text now entry.now) }
     ensures octets { OnOk result (HasOctets entry.now) }

@@ -29,7 +29,7 @@ pub enum ReplayFault {
     /// The line with this number, counted from 1, is not a line of a script.
     #[error("line {0} of the journal is a bad line")]
     BadLine(u64),
-    /// The reader failed, or the journal has 4,294,967,295 lines.
+    /// The reader failed, or the journal has 4,294,967,295 or more whole lines.
     #[error("the journal cannot be read")]
     Read,
     /// Memory ran out for a line or for the step of its event.
@@ -40,7 +40,8 @@ pub enum ReplayFault {
 /// Replays the events in the whole lines of a journal on a node. The octets after the last LF,
 /// which a crash may leave, are only counted.
 ///
-/// A line is read whole before it is parsed, and takes as much memory as it has octets.
+/// Each line is read completely before it is parsed, and takes at least as much memory as it has
+/// octets.
 pub fn replay<R: BufRead>(
     alloc: Global,
     node: &mut Node,

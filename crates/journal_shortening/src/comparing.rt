@@ -6,11 +6,11 @@ use forwarder::Node;
 use journal::{last_rules, replay};
 use std::alloc::Global;
 
-/// Replays the whole lines of one journal on node `a` and those of another on node `b`, and returns
-/// whether the nodes then have the same tables. If the function fails, it may have replayed a part
-/// of the journals.
+/// Replays the whole lines of the journal `old` on node `a`, and the whole lines of the journal
+/// `new` on node `b`. Returns whether the nodes then have the same tables. If the function fails,
+/// it may have replayed a part of the journals.
 ///
-/// The tables are all that a node's policy has except its rules and keys, and the version of its
+/// The tables are everything in a node's policy except the rules, the keys and the version of the
 /// lists.
 pub fn restores_same_tables(
     alloc: Global,

@@ -9,11 +9,11 @@ pub enum ShortenFault {
     #[error("line {0} of the journal is a bad line")]
     BadLine(u64),
     /// The packet in the line with this number is not allowed, or is neither a command nor a Data
-    /// that the repository wants. No node has such a line in its journal: the rules, the keys or
-    /// the repository's prefix differ from those of the node that wrote it.
+    /// that the repository wants. A node journals no such packet, so the rules, the keys or the
+    /// repository's prefix differ from those of the node that wrote the journal.
     #[error("no node with these options journals line {0}")]
     NotJournalled(u64),
-    /// The journal has 4,294,967,295 lines.
+    /// The journal has 4,294,967,295 or more whole lines.
     #[error("the journal has too many lines")]
     TooLong,
     /// The repository's prefix is not allowed.
@@ -24,7 +24,7 @@ pub enum ShortenFault {
 }
 
 impl From<ReplayFault> for ShortenFault {
-    // A reader of octets in memory fails only if there are too many lines.
+    // A reader of octets in memory does not fail, so `Read` means that there are too many lines.
     fn from(fault: ReplayFault) -> ShortenFault {
         match fault {
             ReplayFault::BadLine(line) => ShortenFault::BadLine(line),

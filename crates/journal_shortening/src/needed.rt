@@ -20,8 +20,8 @@ pub struct Needed {
     pub moment: u64,
 }
 
-/// Replays the whole lines of a journal on a new node, which has handled no event, and returns the
-/// lines that the survey finds to be needed to restore the same tables.
+/// Replays the whole lines of a journal on a node that has not handled any event. Returns the lines
+/// that, according to the survey, are needed to restore the same tables.
 ///
 /// No contract states that these lines restore the same tables. `restores_same_tables` compares the
 /// tables that two journals restore.
@@ -38,8 +38,8 @@ pub fn needed_lines(
     }
 }
 
-/// Returns the lines that are needed to restore the tables at the time `now`, by what the survey
-/// found.
+/// Returns the lines that, according to the survey, are needed to restore the tables at the time
+/// `now`.
 fn needed_by(survey: &mut Survey, now: u64) -> Result<Needed, ShortenFault> {
     survey.links.sort_unstable();
     let mut reach = Reach::new(survey.alloc, survey.count)?;

@@ -19,11 +19,12 @@ pub enum Change {
     Command(u64, u16),
     /// A Data on this face was stored in the repository.
     Stored(u64),
-    /// A packet had no effect for which a node would journal it.
+    /// The event was a packet that a node does not journal: it was neither an allowed command nor
+    /// an allowed Data that the repository wanted.
     NotJournalled,
 }
 
-/// What an event changed, and the node's time after it.
+/// What an event changed, and the node's time after the event.
 #[derive(Clone, Copy, Debug)]
 pub struct Seen {
     pub change: Change,

@@ -87,7 +87,8 @@ impl Survey {
         None
     }
 
-    /// Notes that a delete removed the objects that answer it, and the equal want if there was one.
+    /// Notes that a delete removed the objects that answer the command, and that it ended the equal
+    /// want if there was one.
     fn note_delete(&mut self, line: u32, asked: &Asked<'_>) -> Result<(), Memory> {
         self.end_want(line, asked)?;
         let start = key_of(self.alloc, Kind::Object, &[], asked.name.as_octets())?;
@@ -113,8 +114,8 @@ impl Survey {
         Ok(())
     }
 
-    /// Notes that a wanted Data was stored, and that it ended all wants that it answers. Its line
-    /// needs the lines of these wants, and they need it.
+    /// Notes that a wanted Data was stored, and that this Data ended all wants that it answers. The
+    /// line of the Data needs the lines of these wants, and these lines need the line of the Data.
     pub fn note_object(&mut self, line: u32, data: &Data<'_>) -> Result<(), Memory> {
         for want in &self.wants {
             if data.answers(want.name.view(), want.can_be_prefix) {
@@ -129,14 +130,15 @@ impl Survey {
     }
 }
 
-/// Returns the command to the repository that a name encodes, or `None` if it encodes none. The
-/// name is the prefix of the repository, the verb, the parameters and the digest of the parameters.
+/// Returns the command to the repository that a name encodes, or `None` if the name encodes no
+/// command. The name is the prefix of the repository, the verb, the parameters and the digest of
+/// the parameters.
 fn asked_by(name: Name<'_>) -> Option<Asked<'_>> {
     let start = name.len().checked_sub(3)?;
     command_in(name.prefix(start), name)
 }
 
-/// Returns whether a want is equal to what a command asks for.
+/// Returns whether a want has the name and the CanBePrefix of a command.
 fn is_equal(want: &Want, asked: &Asked<'_>) -> bool {
     want.can_be_prefix == asked.can_be_prefix
         && want.name.view().as_octets() == asked.name.as_octets()

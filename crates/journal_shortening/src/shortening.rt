@@ -27,8 +27,8 @@ pub struct ShorterJournal {
 }
 
 /// Returns the shorter journal of a node whose repository has the prefix `repo`. Returns `None` if
-/// the journal would not become shorter, or would not restore the same tables, rules and keys.
-/// Octets after the last LF are left out.
+/// leaving out lines would not make the journal shorter, or if the shorter journal would not
+/// restore the same tables, rules and keys. Octets after the last LF are left out.
 pub fn shortened(
     alloc: Global,
     repo: &NameBuf,
@@ -68,9 +68,9 @@ fn restores_same(
 }
 
 // Each of the next three functions makes a node, lends it to one call, and returns the result of
-// this call. So there is one place where the node is dropped.
+// this call, so that the node is dropped in only one place.
 
-/// Returns the lines of a journal that an empty node needs.
+/// Returns the lines of a journal that an empty node needs to restore the same tables.
 fn needed_of(alloc: Global, repo: &NameBuf, journal: &[u8]) -> Result<Needed, ShortenFault> {
     let mut node = empty_node(alloc, repo)?;
     needed_lines(alloc, &mut node, journal)
@@ -89,8 +89,8 @@ fn restores_same_on_empty(
     restores_same_on(alloc, repo, &mut node, old, new)
 }
 
-/// Returns whether the journal `new` restores the same tables on an empty node as the journal `old`
-/// on `node`.
+/// Returns whether the journal `new` restores on an empty node the tables that the journal `old`
+/// restores on `node`.
 fn restores_same_on(
     alloc: Global,
     repo: &NameBuf,
@@ -117,8 +117,8 @@ fn empty_node(alloc: Global, repo: &NameBuf) -> Result<Node, ShortenFault>
     }
 }
 
-/// Returns the parts of an empty node. Since the empty rule file has no fault, the
-/// function fails only if memory runs out.
+/// Returns the parts of an empty node. Since the empty rule file has no fault, the function fails
+/// only if memory runs out.
 fn parts_of(alloc: Global, repo: &NameBuf) -> Result<NodeParts, ShortenFault>
     ensures { IfOk result (λ parts. AreEmptyParts repo.now parts) }
 {

@@ -10,7 +10,7 @@ use ndn_tlv::Memory;
 use std::alloc::Global;
 use std::collections::BTreeMap;
 
-/// Where a packet came from: its face, its line, and the node's time.
+/// Where a packet came from: its face, its line, and the node's time after the packet.
 #[derive(Clone, Copy, Debug)]
 pub struct Place {
     pub face: u64,
@@ -29,8 +29,8 @@ pub struct Want {
 
 /// What is known of the lines that were replayed. Lines are counted from 0.
 ///
-/// A first line needs a second line if a journal that has the first line but not the second might
-/// not restore what the first line restores in the whole journal.
+/// Line `a` needs line `b` if a journal that has `a` but not `b` might not restore what `a`
+/// restores in the whole journal.
 #[derive(Drop)]
 pub struct Survey {
     pub alloc: Global,
@@ -85,7 +85,8 @@ impl Survey {
         }
     }
 
-    /// Notes what the event of a line did. `octets` are those of its packet, if it has one.
+    /// Notes what the event of a line did. `octets` are the octets of the event's packet, if the
+    /// event has one.
     pub fn note(&mut self, seen: Seen, octets: &[u8], line: u32) -> Result<(), ShortenFault> {
         match seen.change {
             Change::Nothing => {}
@@ -172,9 +173,9 @@ impl Survey {
         }
     }
 
-    /// Notes that, of the lines that were replayed, this line has the last command of its signer.
-    /// The node allows only commands whose time and number are greater than those of all earlier
-    /// allowed commands of the signer.
+    /// Notes that this line has the last command of its signer among the lines that were replayed
+    /// so far. The node allows only commands whose time and number are greater than those of all
+    /// earlier allowed commands of the signer.
     fn note_signer(&mut self, line: u32, signature: &Signature<'_>) -> Result<(), Memory> {
         if signature.time.is_none() {
             return Ok(());
@@ -207,8 +208,8 @@ impl Survey {
     }
 
     /// Marks the lines that are needed even if no other line needs them: the line of the last
-    /// rules, the lines of open faces and of wants, and the lines that set what the subjects are at
-    /// the time `now`.
+    /// rules, the lines of open faces, the lines of wants that have not expired at the time `now`,
+    /// and the lines that set what the subjects are at this time.
     pub fn mark_roots(&self, now: u64, reach: &mut Reach) -> Result<(), Memory> {
         if let Some(rules) = self.rules {
             reach.mark(rules)?;

@@ -27,8 +27,8 @@ impl Survey {
         self.write(key, line, effect)
     }
 
-    /// Notes that a command set or removed a next hop or a route. The line needs the line that
-    /// opened the face.
+    /// Notes that a command set or removed a next hop or a route. The line of the command needs the
+    /// line that opened the face, if the face is open.
     fn note_route(&mut self, at: Place, command: &Command<'_>) -> Result<(), Memory> {
         let face = if command.face == 0 {
             at.face

@@ -10,8 +10,8 @@ pub enum Effect {
     /// the next line may remove or change what this line set.
     Set,
     /// It set a next hop or a route through `face`, which the line with the number `up` opened.
-    /// This is like `Set`, but the route ends when the face closes or the deadline, in milliseconds
-    /// since 1970, comes.
+    /// This is like `Set`, but the next hop or route ends when the face closes, or at the deadline,
+    /// which is in milliseconds since 1970.
     Routed {
         face: u64,
         up: u32,

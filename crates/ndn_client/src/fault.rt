@@ -14,11 +14,11 @@ use std::io::ErrorKind;
 pub enum Fault {
     /// The job was not carried out.
     Tool(ToolFault),
-    /// A key is named, but no key file.
+    /// A key is named, but no key file is.
     NoKeyFile,
     /// An argument is not UTF-8.
     NotText,
-    /// The file is not a key file.
+    /// The key file has a fault, or memory ran out for its keys.
     Keys(KeyFault),
     /// The file has more octets than a key file may have.
     LargeKeys,
@@ -35,7 +35,7 @@ pub enum Fault {
     Write,
     /// Standard input cannot be read, or is not UTF-8.
     Input,
-    /// The packet cannot be sent.
+    /// The packet cannot be sent, or no socket can be connected to the port.
     Send,
     /// The local port to send from cannot be bound.
     Unbound {
@@ -52,9 +52,9 @@ impl Fault {
     ghost use Rattle.std.specs.Prelude.{◌≡◌};
     ghost use Rattle.ndn_client.specs.Fault.{status_of};
 
-    /// Returns the exit status: that of the job's fault; or 1 for a bad key file or a request that
-    /// was not done, 2 for a wrong command line, 3 if reading, writing, sending, receiving or
-    /// memory failed.
+    /// Returns the exit status. For `Tool`, it is the exit status of the job's fault. For other
+    /// faults, it is 1 for a missing or bad key file or a request that was not done, 2 for an
+    /// argument that is not UTF-8, and 3 if reading, writing, sending, receiving or memory failed.
     pub fn exit_status(&self) -> u8
         ensures { result ≡ status_of self.now }
     {

@@ -22,9 +22,9 @@ const MAX_PACKET_INPUT: u32 = 131_015;
 const MAX_INPUT_LINE: u32 = 131_072;
 
 /// Reads the text of standard input, which must be one packet. An input of more than 131,015 octets
-/// is refused: the hexadecimal digits of 65,507 octets, and an LF.
+/// is refused. The hexadecimal digits of 65,507 octets and an LF have this length.
 pub fn read_packet_input<R: Read + Drop>(alloc: Global, reader: R) -> Result<String, Fault>
-    // This holds if the octets of the reader are known.
+    // This clause states the result if the octets of the reader are known.
     ensures { IfSome (R.remaining reader)
         (λ octets. MatchResult result (IsInput 131015 octets) (IsInputFault 131015 octets)) }
 {
@@ -42,7 +42,7 @@ pub fn read_packet_input<R: Read + Drop>(alloc: Global, reader: R) -> Result<Str
 /// empty. A line of more than 131,072 octets, including its LF, is refused.
 pub fn read_input_line<R: BufRead>(alloc: Global, reader: &mut R) -> Result<String, Fault>
     ensures bound { IfOk result (λ line. string_len line ≤ 131072) }
-    // This holds if the octets of the reader are known.
+    // This clause states the result if the octets of the reader are known.
     ensures known { IfSome (R.remaining reader.old)
         (λ octets. MatchResult result (IsInput 131072 (take_through 10 octets))
         (IsInputFault 131072 (take_through 10 octets))) }
@@ -83,7 +83,7 @@ pub fn packet_in(alloc: Global, input: &[u8]) -> Result<Vec<u8>, ToolFault>
     }
 }
 
-/// Returns the text without an LF at its end.
+/// Returns the text without its last octet if this octet is an LF, or else the whole text.
 fn without_lf(text: &[u8]) -> &[u8]
     ensures { result.now ≡ without_lf text.now }
 {

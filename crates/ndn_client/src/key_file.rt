@@ -24,7 +24,7 @@ pub fn read_book(alloc: Global, octets: &[u8]) -> Result<KeyBook, Fault>
 /// Reads the keys of an open key file at this path. A file of more than `MAX_KEY_FILE` octets is
 /// reported as too large, whatever it contains.
 pub fn read_key_file<R: Read + Drop>(alloc: Global, path: &str, file: R) -> Result<KeyBook, Fault>
-    // This holds if the octets of the file are known.
+    // This clause states the result if the octets of the file are known.
     ensures { IfSome (R.remaining file)
         (λ octets. MatchResult result (AreKeysOfFile octets) (IsKeyFileFault path.now octets)) }
 {

@@ -1,5 +1,5 @@
-//! A run of the client: the arguments, the clock, files, standard input and sockets of the operating
-//! system.
+//! A run of the client: the arguments, the clock, files, standard input and sockets of the
+//! operating system.
 ghost use Rattle.std.specs.Prelude.{◌≤◌, length, IfOk};
 
 use crate::fault::Fault;
@@ -28,7 +28,7 @@ const ANSWER_SECONDS: u64 = 4;
 enum Missed {
     /// No program uses the port.
     Closed,
-    /// No datagram arrived in time.
+    /// No datagram arrived in time, or receiving failed for another reason.
     Late,
     /// The clock cannot be read.
     Clock,
@@ -93,7 +93,7 @@ where
     }
 }
 
-/// Sends the first request of the exchange and the requests that follow it, and prints the answers.
+/// Sends the first request of the exchange and the requests that follow it, and prints the answer.
 fn run_exchange<R: Clock + AllocGlobal + Eprint + Net + Print>(
     rt: &R,
     exchange: Exchange,
@@ -103,12 +103,12 @@ fn run_exchange<R: Clock + AllocGlobal + Eprint + Net + Print>(
     exchange_on(rt, &socket, exchange, book)
 }
 
-/// Runs the exchange on this socket: sends its requests, and prints the answers. The answer to each
-/// request must arrive within 4 seconds.
+/// Runs the exchange on this socket: sends its requests one after another, and prints the answer.
+/// The answer to each request must arrive within 4 seconds.
 ///
 /// # Errors
 ///
-/// The outcome of the exchange if a request was refused, or why there is no outcome.
+/// `NotDone` if a request was not carried out, or the reason why the exchange has no outcome.
 pub fn exchange_on<R: Clock + AllocGlobal + Eprint + Print>(
     rt: &R,
     socket: &UdpSocket,
@@ -177,7 +177,8 @@ fn next_answer<R: Clock + AllocGlobal + Eprint + Print>(
 ///
 /// # Errors
 ///
-/// `Unbound` if another program has the port `from`, and `Send` if there is no such socket.
+/// `Unbound` if the given port `from` cannot be bound, for example because another program has it.
+/// `Send` if no port can be bound without `from`, or the socket cannot be connected to `to`.
 pub fn socket_of<R: Net>(rt: &R, from: Option<u16>, to: u16) -> Result<UdpSocket, Fault> {
     let Ok(socket) = UdpSocket::bind(rt, (Ipv4Addr::LOCALHOST, from.unwrap_or(0))) else {
         return Err(match from {
@@ -245,7 +246,7 @@ fn milliseconds<R: Clock>(rt: &R) -> Result<u64, Fault> {
 ///
 /// # Errors
 ///
-/// Why the file cannot be opened or read, or the fault of its first faulty line.
+/// Why the file cannot be opened or read, or what is wrong with its content.
 pub fn book_of<R: AllocGlobal + Files>(rt: &R, job: &Job) -> Result<KeyBook, Fault> {
     let Some(path) = job.key_file() else {
         return Ok(KeyBook::new(rt.alloc()));

@@ -1,4 +1,4 @@
--- The properties of a request that was read from a command line, and of the fault if none was
+-- The properties of a request that was read from a command line, and of the fault if no request was
 -- read.
 use Rattle.std.proofs.Common.{◌≡◌, ℕ, List, Bool, true, Result, Ok, Err, IfOk, IfErr, codes, eqb}
 use Rattle.std.specs.Cmp.Lexicographic.{pointwise}
@@ -60,8 +60,8 @@ is_word word other same h found = (slice_eq-Decides Decides-eqb word other same 
 differ_udp : (name : List ℕ) → name ≡ codes "udp" → name ≡ codes "journal" → ⊥
 differ_udp name udp journal = cc (udp, journal)
 
--- The next two lemmas: if `rows` spell a request of the subcommand `udp`, or `journal`, then they
--- spell options of this subcommand.
+-- The next two lemmas are about the subcommands `udp` and `journal`: if `rows` spell a request of
+-- the subcommand, then they spell options of this subcommand.
 
 pub udp_part : (name : List ℕ) (rows : List Row) → name ≡ codes "udp"
     → (r : Request) → IsRequest name rows r → (options : UdpOptions) × IsUdpOptions rows options

@@ -88,8 +88,9 @@ no_fault (Err why) P h = let no : ⊥ = cc in absurd no
 pub turns_served : (old new : NodeState) (before after : Shown) (turns : ℕ) (held holds : Option (List ℕ)) → TakesTurns old new before after turns held holds → ServesTurns old new before after turns
 turns_served old new before after turns held holds t = (t.0, t.3.refused, t.3.failed, t.1, t.3.serves, t.4)
 
--- The next two lemmas: if a success means that turns were taken, or served, and left the ports in
--- the state `after`, then a success means that these turns left the ports in some state.
+-- The next two lemmas are about turns that were taken, and turns that were served: if a success
+-- means that they left the ports in the state `after`, then it means that they left the ports in
+-- some state.
 pub taken_until : (old new : NodeState) (before after : Shown) (turns : ℕ) (held holds : Option (List ℕ)) (r : Result (Unit {0}) Fault)
     → OnOk r (TakesTurns old new before after turns held holds) → OnOk r ((last : Shown) × TakesTurns old new before last turns held holds)
 taken_until old new before after turns held holds (Ok done) h = (after, h)
@@ -100,9 +101,9 @@ pub served_until : (old new : NodeState) (before after : Shown) (turns : ℕ) (r
 served_until old new before after turns (Ok done) h = (after, h)
 served_until old new before after turns (Err why) h = tt
 
--- Let a journal be replayed, which leads to the node `begun` and keeps the octets `kept`. If a
--- success means that turns were then served at ports whose journal has the octets `kept`, then a
--- success means that `TakesLaterTurns` is true.
+-- Let the replay of a journal lead to the node `begun` and keep the octets `kept`. If a success
+-- means that turns were then served at ports whose journal has the octets `kept`, then a success
+-- means that `TakesLaterTurns` is true.
 pub later_turns : (unread kept : Option (List ℕ)) (turns : ℕ) (old begun new : NodeState) (before : Shown) (r : Result (Unit {0}) Fault) → (done : Replayed) × ReplaysJournal unread kept old begun done
     → before.journal ≡ kept → OnOk r ((after : Shown) × ServesTurns begun new before after turns) → OnOk r (TakesLaterTurns unread turns old new)
 later_turns unread kept turns old begun new before (Ok done) replayed same h = record {

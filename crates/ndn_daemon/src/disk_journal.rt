@@ -187,7 +187,7 @@ fn folder_of(path: &str) -> &str {
 }
 
 /// Locks the file. Fails if another program holds the lock, or if the path no longer leads to the
-/// file: another program may have replaced it before it was locked.
+/// file. Another program may have replaced the file at the path before this file was locked.
 fn locked<'a, R: AllocGlobal + Files<File = File>>(
     rt: &R,
     path: &'a str,

@@ -107,8 +107,8 @@ impl<S: LogSink> EventLog<S> {
         self.text.is_empty()
     }
 
-    /// Appends the line of an event, unless the event is left out. A face that closes without a
-    /// line is counted.
+    /// Appends the line of an event, if the log shows the event. A face that closes without a line
+    /// is counted.
     pub fn put_event(&mut self, entry: &Entry<'_>, outcome: &Result<Verdict, Memory>, rules: &Rules)
         ensures left_out { is_left_out self.old.shows_all entry.now.came outcome.now ≡ true
             → self.new.text.items ≡ self.old.text.items }
@@ -140,7 +140,8 @@ impl<S: LogSink> EventLog<S> {
         }
     }
 
-    /// Stores the line of a failed send until the line of the event that caused it is appended.
+    /// Stores the line of a failed send until the line of the event that caused the send is
+    /// appended.
     pub fn put_failed_send(
         &mut self,
         moment: u64,
@@ -264,8 +265,8 @@ impl<S: LogSink> EventLog<S> {
         self.text.clear();
     }
 
-    /// Prepares for the next line at the time `moment`. If no lines are waiting to be written, that
-    /// line will be the first one, and its time is stored.
+    /// Prepares for the next line at the time `moment`. If no lines are waiting to be written,
+    /// stores `moment` as the time of the first line.
     pub fn begin(&mut self, moment: u64)
         ensures first { self.old.text.items ≡ [] → self.new.since ≡ moment }
         ensures others { self.new ≡ record self.old { since = self.new.since } }

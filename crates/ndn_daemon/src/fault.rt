@@ -23,7 +23,7 @@ pub enum Fault {
     },
     /// An argument is not UTF-8.
     NotText,
-    /// A file cannot be read.
+    /// A file cannot be opened or read, or a journal cannot be locked or truncated.
     Unread {
         /// The kind of file.
         file: &'static str,
@@ -32,9 +32,9 @@ pub enum Fault {
         /// Why the file cannot be read.
         kind: ErrorKind,
     },
-    /// The file is not a rule file.
+    /// The rule file has a fault, or memory ran out for its rules.
     Rules(RulesFault),
-    /// The file is not a key file.
+    /// The key file has a fault, or memory ran out for its keys.
     Keys(KeyFault),
     /// The key file has more octets than allowed.
     LargeKeys,
@@ -54,7 +54,7 @@ pub enum Fault {
 /// Why a journal cannot be used.
 #[derive(Clone, Copy, Debug, PartialEq, Eq)]
 pub enum JournalFault {
-    /// Another program holds the lock of the journal.
+    /// Another program holds the lock of the journal, or has just replaced the journal.
     Locked,
     /// The line with this number, counted from 1, is not a line of a script.
     BadLine(u64),

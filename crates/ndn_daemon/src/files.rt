@@ -38,7 +38,7 @@ pub fn read_rule_file<R: Read + Drop>(
     path: &str,
     file: R,
 ) -> Result<(Rules, Vec<u8>), Fault>
-    // The result, if the content of the file is known.
+    // This clause states the result if the content of the file is known.
     ensures known { IfSome (R.remaining file) (λ octets. MatchResult result
         (λ read. AreRules octets read.0) (IsRuleFileFault path.now octets)) }
     ensures rules { IfOk result (λ read. AreRules read.1.items read.0) }
@@ -63,7 +63,7 @@ pub fn read_key_file<R: Read + Drop>(
     path: &str,
     file: R,
 ) -> Result<(KeyBook, Vec<u8>), Fault>
-    // The result, if the content of the file is known.
+    // This clause states the result if the content of the file is known.
     ensures known { IfSome (R.remaining file) (λ octets. MatchResult result
         (λ read. AreKeysOfFile octets read.0) (IsKeyFileFault path.now octets)) }
     ensures keys { IfOk result (λ read. AreKeys read.1.items read.0) }
@@ -94,7 +94,7 @@ pub fn unread_keys(alloc: Global, path: &str, error: &io::Error) -> Fault
     unread(alloc, "key file", path, error.kind())
 }
 
-/// Returns the fault of a journal that cannot be opened, read or truncated.
+/// Returns the fault of a journal that cannot be opened, locked, read or truncated.
 pub fn unread_journal(alloc: Global, path: &str, error: &io::Error) -> Fault
     ensures file { IsUnread (codes "journal") path.now result }
     ensures cause { HasCause (error_kind error.now) result }

@@ -52,14 +52,15 @@ enum Seen {
     NewRules,
 }
 
-/// Ports with a log. They deliver and send the same packets as the underlying ports. If nothing
-/// arrives soon, log lines are written before the ports wait. While packets arrive, log lines are
-/// written every second.
+/// Ports with a log. They return the same arrivals and send the same packets as the underlying
+/// ports. Log lines are buffered. If nothing arrives soon, they are written before the ports wait.
+/// While events arrive, they are written when the first of them is a second old, or when they have
+/// at least 65,536 octets.
 #[derive(Drop)]
 pub struct LoggedPorts<P: Ports + HasEndpoints + Drop, S: LogSink> {
     ports: P,
     log: EventLog<S>,
-    // The last arrival and its time.
+    // The last arrival, until its outcome is logged, and the time of the last arrival.
     seen: Option<Seen>,
     moment: u64,
     // The face of the last `FaceUp` arrival, and the endpoint of that face.

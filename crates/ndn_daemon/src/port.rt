@@ -78,7 +78,7 @@ fn milliseconds<R: Clock>(rt: &R) -> Option<u64> {
 /// node's rules and keys are replaced whenever their source has new ones. Invalid parts are
 /// reported before the port is bound. With a journal, the node starts with the state that the
 /// journal restores, and with the source's rules and keys. These rules and keys are journalled if
-/// they differ from the last ones of the journal.
+/// they differ from the last rules and keys in the journal.
 pub fn run_on_port<
     R: AllocGlobal + Eprint + Files<File = File> + Net + Print,
     M: Moments,
@@ -152,8 +152,8 @@ fn take_as_begun<
 }
 
 /// Replays a journal on a node, and then lets the node take the requested turns and append to the
-/// journal. The source's rules and keys are journalled first, if they differ from the last ones of
-/// the journal.
+/// journal. The source's rules and keys are journalled first, if they differ from the last rules
+/// and keys in the journal.
 pub fn take_restored<
     R: AllocGlobal + Eprint + Print,
     J: StoredJournal,
@@ -340,8 +340,9 @@ fn take_quiet_turns<P: Ports>(
     }
 }
 
-/// Lets a node take this number of turns, or fewer if the port ends, and writes their text. The
-/// text is written when the buffer is long, before the node waits for an arrival, and at the end.
+/// Lets a node take this number of turns, or fewer if the port ends, and writes the text of the
+/// turns. The text is buffered. It is written when it has at least `MOST_GATHERED` octets, before
+/// the node waits for an arrival, and at the end.
 fn take_turns<P: Ports, W: Write>(
     alloc: Global,
     node: &mut Node,

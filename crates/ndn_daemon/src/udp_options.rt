@@ -16,7 +16,7 @@ use std::net::{IpAddr, Ipv4Addr, SocketAddr};
 pub enum LogLevel {
     /// No events.
     None,
-    /// Events that an operator must know about.
+    /// All events except plain ones, as `ndn_log::is_plain` defines them.
     Events,
     /// Every event.
     All,
@@ -35,7 +35,8 @@ pub struct UdpOptions {
     /// The number of Local peers, at most the number of peers. The Local peers come first in
     /// `peers`, and they are on this machine.
     pub local: u64,
-    /// The idle time in seconds, at least 1, after which a face closes unless it belongs to a peer.
+    /// The idle time in seconds, at least 1, after which a face that does not belong to a peer
+    /// closes.
     pub idle: u32,
     /// Whether datagrams from strangers are accepted even if `listen` is not a loopback address.
     pub open: bool,
@@ -74,8 +75,8 @@ impl UdpOptions {
     }
 
     /// Returns whether datagrams from endpoints that are not peers are accepted. They are accepted
-    /// with `--open`, and if the node listens on a loopback address, to which only this machine can
-    /// send.
+    /// if `--open` is given, or if the node listens on a loopback address, to which only this
+    /// machine can send.
     pub fn accepts_strangers(&self) -> bool
         ensures { IsTrue result ↔ (IsTrue self.now.«open» ⊎ IsLoopback self.now.listen) }
     {
@@ -231,7 +232,7 @@ fn seconds_of(digits: &str) -> Result<u32, Fault>
     })
 }
 
-/// Returns the log level for the value of `--log`, or for its absence.
+/// Returns the log level for the value of `--log`. No events are logged if the option is absent.
 fn log_of(level: Option<&str>) -> Result<LogLevel, Fault>
     ensures { Reads (IsLog (option_map (λ level. level.now) level.entry)) result }
 {

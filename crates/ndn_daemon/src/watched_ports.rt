@@ -26,10 +26,10 @@ pub trait RuleSource: Drop {
 pub struct Restart {
     /// The last time in the journal, which is also the time of these events.
     pub now: u64,
-    /// The rules and keys that were read from the files, if they differ from the last ones of the
-    /// journal.
+    /// The rules and keys that were read from the files, if they differ from the last rules and
+    /// keys in the journal.
     pub renewal: Option<Renewal>,
-    /// The open faces of endpoints that are no longer known. They are to be closed.
+    /// The open faces that are to be closed, since no peer has a face with this number and scope.
     pub closing: Vec<u64>,
 }
 
@@ -115,7 +115,7 @@ impl<P: Ports + Drop, S: RuleSource> WatchedPorts<P, S> {
     }
 
     /// Returns new rules and keys, if the source has them, and stores the arrival for the next
-    /// turn. Otherwise returns the arrival.
+    /// turn. If the source has nothing new, returns the arrival.
     fn renewed_first(&mut self, arrival: Arrival, buffer: &[u8]) -> Arrival
         requires { LiesWithin (length buffer.now) arrival }
         ensures ports { self.new.ports ≡ self.old.ports }
@@ -131,7 +131,7 @@ impl<P: Ports + Drop, S: RuleSource> WatchedPorts<P, S> {
         Arrival::NewRules { renewal, now }
     }
 
-    /// Gives the stored arrival. Copies the octets of a packet to the start of the buffer; octets
+    /// Gives the stored arrival. Copies the octets of a packet to the start of the buffer. Octets
     /// that do not fit are dropped.
     fn give_held(&self, arrival: Arrival, buffer: &mut [u8]) -> Arrival
         ensures { LiesWithin (length buffer.new) result }

@@ -31,8 +31,8 @@ struct Labels {
     strategy: &'static str,
 }
 
-/// Appends the lines of all entries in a Content, or nothing if it has no entries. On `Memory`,
-/// some of the lines may have been appended.
+/// Appends the lines of all entries in a Content, or nothing if it has no entries. Octets from the
+/// first malformed element on are ignored. On `Memory`, some of the lines may have been appended.
 pub fn put_entries(
     alloc: Global,
     text: &mut Vec<u8>,
@@ -82,7 +82,7 @@ fn put_entry_name(alloc: Global, text: &mut Vec<u8>, name: Option<&[u8]>) -> Res
     }
 }
 
-/// Appends the line of an entry that has a strategy.
+/// Appends the line of an entry's strategy, if the entry has one.
 fn put_choice(
     alloc: Global,
     text: &mut Vec<u8>,
@@ -107,8 +107,8 @@ fn put_choice(
     Ok(())
 }
 
-/// Returns the word for one of the two strategies of this profile, or the URI of any other
-/// strategy.
+/// Returns the word `best-route` or `multicast` for the URI of that strategy, or the unchanged URI
+/// of any other strategy.
 fn short_strategy(uri: &[u8]) -> &[u8]
     ensures { result.now ≡ short_strategy uri.now }
 {

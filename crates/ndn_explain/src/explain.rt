@@ -48,9 +48,10 @@ pub fn put_framed_explanation(
     put_explanation(alloc, text, &framed.frame, check)
 }
 
-/// Appends the lines of `show`, those of the SignatureInfo and of the signature check, and those of
-/// a segment, a command, a reply or a dataset. On `Memory`, some of the lines may have been
-/// appended.
+/// Appends the lines of the fields, as `ndn_tool show` prints them but with the name of a Nack's
+/// reason. Then appends the lines of the SignatureInfo and of the signature check, and the lines of
+/// a segment, a command, a reply, a dataset or a printable Content. On `Memory`, some of the lines
+/// may have been appended.
 pub fn put_explanation(
     alloc: Global,
     text: &mut Vec<u8>,
@@ -66,7 +67,7 @@ pub fn put_explanation(
     put_meaning(alloc, text, frame)
 }
 
-/// Appends the lines of `show`, with the name of a Nack's reason.
+/// Appends the lines that `ndn_tool show` prints, with the name of a Nack's reason.
 fn put_named_frame(alloc: Global, text: &mut Vec<u8>, frame: &Frame<'_>) -> Result<(), Memory>
     ensures { OnOk result (text.new.items
         ≡ text.old.items ++ named_frame_lines (plain_frame frame.now)) }
@@ -120,7 +121,8 @@ fn check_words(check: TagCheck) -> &'static str
     }
 }
 
-/// Appends the lines of the segment, the command, the reply or the dataset that the packet carries.
+/// Appends the lines of what the packet carries: a segment, a command, a reply, a dataset or a
+/// text.
 fn put_meaning(alloc: Global, text: &mut Vec<u8>, frame: &Frame<'_>) -> Result<(), Memory>
     ensures { OnOk result (text.new.items ≡ text.old.items ++ meaning (plain_frame frame.now)) }
 {

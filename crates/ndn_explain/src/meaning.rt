@@ -112,7 +112,7 @@ fn put_repository_reply(alloc: Global, text: &mut Vec<u8>, fields: &[u8]) -> Res
     put_fields(alloc, text, fields)
 }
 
-/// Appends the line of the status. The status code is the field of type `kind`.
+/// Appends the line of the status, if there is a status code, which is the field of type `kind`.
 fn put_status(alloc: Global, text: &mut Vec<u8>, fields: &[u8], kind: u32) -> Result<(), Memory>
     ensures { OnOk result (text.new.items
         ≡ text.old.items ++ status_line kind (elements_of fields.now)) }
@@ -128,7 +128,8 @@ fn put_status(alloc: Global, text: &mut Vec<u8>, fields: &[u8], kind: u32) -> Re
     Ok(())
 }
 
-/// Appends the text of a status on one line, or a dash if there is no text.
+/// Appends the StatusText, in hexadecimal if it is not printable ASCII, or a dash if there is no
+/// StatusText.
 fn put_status_text(alloc: Global, text: &mut Vec<u8>, status: Option<&[u8]>) -> Result<(), Memory>
     ensures { OnOk result (text.new.items ≡ text.old.items
         ++ status_text (option_map (λ s. s.now) status.entry)) }

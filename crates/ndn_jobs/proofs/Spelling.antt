@@ -38,7 +38,7 @@ module _ {A B : Type 0} (Part : A → Type 0) (Whole : B → Type 0) (part : (y 
   wrong_in_memory (fault.Packet why) h = h
   wrong_in_memory fault.Memory h = absurd h
 
--- The next two lemmas: if the text spells no value, a fault `BadValue` is correct.
+-- By the next two lemmas, a fault `BadValue` is correct if the text spells no value.
 
 module _ {A : Type 0} (Spell : A → Type 0) (none : (x : A) → Spell x → ⊥) where
   pub usage_wrong : (why : ToolFault) → IsUsage why → IsWrong Spell why
@@ -61,8 +61,8 @@ module _ {A : Type 0} (Spell : A → Type 0) (none : (x : A) → Spell x → ⊥
 pub lacks : {A : Type 0} (Spells : List ℕ → A → Type 0) (said : Option (List ℕ)) → said ≡ None → (x : A) → Has said Spells x → ⊥
 lacks Spells said e x h = let both : None ≡ Some h.0 = sym e ∙ h.1 in absurd cc
 
--- The next lemmas: if the option is given with the value `value`, then reading `value` is the same
--- as reading the option.
+-- By the next lemmas, reading `value` is the same as reading the option, if the option is given
+-- with the value `value`.
 
 module _ {A : Type 0} (Spells : List ℕ → A → Type 0) (said : Option (List ℕ)) (value : List ℕ) (there : Some value ≡ said) where
   same : (w : List ℕ) → said ≡ Some w → w ≡ value

@@ -16,8 +16,8 @@ use ndn_command_line::{Subcommand, tool_command};
 use std::alloc::Global;
 use std::convert::AsStr;
 
-/// Reads the arguments of a command line as a job, at a time in milliseconds since 1970. The first
-/// argument is the program's name.
+/// Reads the arguments of a command line as a job. The first argument is the program's name. `now`
+/// is the time in milliseconds since 1970.
 ///
 /// Returns `Usage` for a wrong command line. The only other error is `Memory`.
 pub fn parse_words<S: AsStr>(alloc: Global, now: u64, arguments: &[S]) -> Result<Job, ToolFault>

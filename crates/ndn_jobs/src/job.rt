@@ -472,8 +472,8 @@ impl AskJob {
         })
     }
 
-    /// Returns the Interest that the options of `peek` ask for. If the Nonce is not given, it is
-    /// computed from the time and the words.
+    /// Returns what the options of `peek` ask for: the Interest, what is printed of the answer, and
+    /// the ports. If the Nonce is not given, it is computed from the time and the words.
     pub fn read_peek(
         alloc: Global,
         options: &ArgMatches<'_>,

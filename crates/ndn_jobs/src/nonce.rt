@@ -1,4 +1,4 @@
-//! The Nonce of a command if its options do not give one.
+//! The Nonce of an Interest if the options do not give one.
 
 ghost use Rattle.std.specs.Prelude.{◌≡◌, ◌++◌, flat_map, unwrap_or, IfOk, OnOk};
 ghost use Rattle.ndn_jobs.specs.Nonce.{nonce_of, spaced};
@@ -44,8 +44,8 @@ pub fn nonce_or(
     }
 }
 
-/// Returns a Nonce that is computed from a time and the words of a command: the first four octets
-/// of SHA-256 over a text, which is the time in decimal digits and then the words.
+/// Returns a Nonce that is computed from a time and the words of a command line: the first four
+/// octets of SHA-256 over the time in decimal digits, followed by the words.
 fn nonce_of(alloc: Global, time: u64, words: &[u8]) -> Result<[u8; 4], AllocError>
     ensures { IfOk result (λ nonce. nonce ≡ nonce_of time words.now) }
 {

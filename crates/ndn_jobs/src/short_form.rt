@@ -142,7 +142,8 @@ fn is_register(action: Action) -> bool
     action == Action::Register
 }
 
-/// Returns the URI of the strategy that a word stands for.
+/// Returns the URI of the strategy that the word `best-route` or `multicast` stands for. Returns
+/// any other word unchanged.
 pub fn strategy_uri(word: &str) -> &str
     ensures { result.now ≡ strategy_uri word.now }
 {

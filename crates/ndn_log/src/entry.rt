@@ -32,8 +32,8 @@ pub struct Entry<'a> {
     pub came: Came<'a>,
 }
 
-/// Returns whether the event is plain: it passed, or it is an allowed Data, and it does not bring
-/// new rules. A log that does not show all events leaves out plain ones.
+/// Returns whether the event is plain: it does not bring new rules, and its verdict is `Passed` or
+/// `DataAllowed`. A log that does not show all events leaves out plain ones.
 pub fn is_plain(entry: &Entry<'_>, outcome: &Result<Verdict, Memory>) -> bool
     ensures { result ≡ is_plain entry.now.came outcome.now }
 {

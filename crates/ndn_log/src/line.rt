@@ -62,7 +62,7 @@ pub fn put_line(alloc: Global, text: &mut Vec<u8>, moment: u64, words: &[u8]) ->
     put_shown(alloc, text, &stamped)
 }
 
-/// Appends octets as a line. If memory runs out, nothing is appended.
+/// Appends the line that shows these octets. If memory runs out, nothing is appended.
 fn put_shown(alloc: Global, text: &mut Vec<u8>, octets: &[u8]) -> Result<(), Memory>
     ensures ok { OnOk result (text.new.items ≡ text.old.items ++ line_of octets.now) }
     ensures one_line { OnOk result (IsOneLine (drop (vec_len text.old) text.new.items)) }
@@ -73,7 +73,7 @@ fn put_shown(alloc: Global, text: &mut Vec<u8>, octets: &[u8]) -> Result<(), Mem
     Ok(())
 }
 
-/// Returns octets as a line.
+/// Returns the line that shows these octets, with its LF.
 fn shown_line(alloc: Global, octets: &[u8]) -> Result<Vec<u8>, Memory>
     ensures text { IfOk result (λ line. line.items ≡ line_of octets.now) }
     ensures one_line { IfOk result (λ line. IsOneLine line.items) }

@@ -24,7 +24,7 @@ pub fn put_time(text: &mut Vec<u8>, moment: u64) -> Result<(), Memory>
     }
 }
 
-/// Returns the timestamp for a time that has a date.
+/// Returns the timestamp for a time, or `None` for a time after `LAST_DATED`.
 fn time_of(moment: u64) -> Option<Timestamp>
     ensures { MatchOption result (LAST_DATED < moment)
         (λ time. (moment ≤ LAST_DATED) × (time.nanosecond ≡ pos moment *ℤ pos 1_000_000)) }

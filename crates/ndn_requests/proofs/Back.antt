@@ -72,8 +72,7 @@ pub part_right : {X : Type 0} (P : X → Type 0) (xs ys : List X) → AllByRecur
 part_right P [] ys all = all
 part_right P (x ∷ xs) ys all = part_right P xs ys all.1
 
--- if the components of a name are the value of a Name, the length of the last component's value is
--- below 2^64
+-- if a name satisfies `IsWhole`, the length of the last component's value is below 2^64
 pub last_fits : (name : List Field) (kind : ℕ) (value : List ℕ) → IsWhole (name ++ (kind, value) ∷ []) → length value < 2 ^ 64
 last_fits name kind value whole = (part_right IsField name ((kind, value) ∷ []) whole.0.0).0.2
 

@@ -25,7 +25,7 @@ pub enum View {
     Hexadecimal,
     /// The lines that `explain` prints for the answer.
     Lines,
-    /// Only the Content, unchanged; nothing for a Nack.
+    /// Only the Content, unchanged. Nothing is printed for a Nack.
     Content,
     /// A table of the entries in all segments of a list.
     Table(NodeList),
@@ -57,7 +57,7 @@ pub enum Progress {
     Done(Vec<u8>, Outcome),
 }
 
-/// Which segment a request asks for.
+/// Which segment a request asks for, and the request's Nonce.
 #[derive(Clone, Copy)]
 struct Turn {
     /// Whether the request asks for the first segment, whatever the version of the list.
@@ -217,7 +217,7 @@ impl Exchange {
         Ok(Progress::Next)
     }
 
-    /// Returns why no answer came; `is_closed` tells whether no program listens on the port.
+    /// Returns why no answer came. `is_closed` tells whether no program listens on the port.
     pub fn silence(&self, is_closed: bool) -> Silence
         ensures { result ≡ silence_in self.now is_closed }
     {

@@ -28,8 +28,8 @@ pub fn nodes_read_what_is_asked()
         ≡ (if suits action p then Ok (asked_of action p) else Err code.BAD_PARAMETERS) }
 {}
 
-/// Law: a repository reads the name of a command as exactly the command that was asked for,
-/// whatever digest follows the parameters.
+/// Law: if a command's name is not under `/localhost/nfd`, the repository reads the name as exactly
+/// the command that was asked for, whatever digest follows the parameters.
 pub fn repositories_read_what_is_asked()
     ensures { (prefix : List Field) (verb : Verb) (p : Parameters) (digest : List ℕ)
         → AreValues p → is_of_node (repository_name prefix verb) ≡ false
@@ -64,8 +64,8 @@ pub fn statuses_decide()
         ≡ done_if (status == repo_code.OK || (status == repo_code.PENDING && is_insert name)) }
 {}
 
-/// Law: a command counts as a command to a repository exactly if its parameters were written as
-/// those of a repository.
+/// Law: a command that was written counts as a command to a repository exactly if its name is not
+/// under `/localhost/nfd`.
 pub fn commands_tell_whose_they_are()
     ensures { (name : List Field) (p : Parameters) (digest : List ℕ)
         → IsWhole (command_name name p)

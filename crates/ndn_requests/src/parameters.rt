@@ -24,7 +24,7 @@ use std::alloc::Global;
 pub struct Parameters {
     /// The name that the command applies to.
     pub name: NameBuf,
-    /// The face of a next hop or route; 0 is the face that the command comes from.
+    /// The face of a next hop or route. The number 0 means the face that the command comes from.
     pub face: Option<u64>,
     /// The origin of a route.
     pub origin: Option<u64>,
@@ -121,7 +121,7 @@ fn put_node_fields(alloc: Global, out: &mut Vec<u8>, parameters: &Parameters) ->
     put_fields_after_strategy(out, parameters)
 }
 
-/// Appends those fields of a command for the node that follow the strategy.
+/// Appends the fields that follow the strategy in a command for the node.
 fn put_fields_after_strategy(out: &mut Vec<u8>, parameters: &Parameters) -> Result<(), Memory>
     ensures { OnOk result (out.new.items
         ≡ out.old.items ++ octets (fields_after_strategy parameters.now)) }

@@ -28,10 +28,10 @@ pub type Outcome = Result<(), Failure>;
 /// answer the request.
 ///
 /// A Nack of the request's Interest is an answer. If the request is not a command, a Data that
-/// answers the Interest is an answer too, and the request is then done. If the request is a
-/// command, a Data is an answer if it is exactly the reply that a node writes, of any length, or if
-/// it has the command's name and a right signature, by DigestSha256 or by a key of the book. A
-/// command is done if the status is 200, or 100 for an insert to a repository.
+/// answers the Interest is an answer too. In this case, the request is done. If the request is a
+/// command, a Data of any length is an answer if it is exactly the reply that a node writes. A Data
+/// with the command's name is also an answer if its signature is right, by DigestSha256 or by a key
+/// of the book. A command is done if the status is 200, or 100 for an insert to a repository.
 pub fn judge(
     alloc: Global,
     request: &[u8],
@@ -169,7 +169,7 @@ fn node_outcome(code: Option<u64>) -> Outcome
     }
 }
 
-/// Returns the outcome of a command to a repository, with this name, given the status in its reply.
+/// Returns the outcome of a command with this name to a repository, given the status in the reply.
 fn repository_outcome(name: Name<'_>, code: Option<u64>) -> Outcome
     ensures { result ≡ repository_outcome (components name.entry) code }
 {
@@ -200,7 +200,8 @@ fn done_if(is_done: bool) -> Outcome
     }
 }
 
-/// Returns the StatusCode in a Content that is a single element of the type `response`.
+/// Returns the number in the field of type `kind`, if the Content is a single element of the type
+/// `response`.
 fn code_in(content: &[u8], response: u32, kind: u32) -> Option<u64>
     ensures { result ≡ code_in response kind content.now }
 {

@@ -6,8 +6,8 @@ use Rattle.hex.specs.Hex.{decode_pairs, digit_or_error, hex_digit_value, is_hex_
 use Rattle.hex.proofs.Pairs.{prepend, decode_step}
 use Rattle.hex.proofs.HexLemmas.{decode_pairs-ok}
 
--- If `o` is the value of a digit, `value` is this value, which is below 16. If `o` is None, since
--- the octet is not a digit, `value` is 255.
+-- If `o` is the value of a digit, `value` is this value, which is below 16. If `o` is None, the
+-- octet is not a digit, and `value` is 255.
 abbrev pub IsValue : Option ℕ → ℕ → Type 0
 IsValue o value = MatchOption o (value ≡ 255) (λ v. (value ≡ v) × (v < 16))
 
@@ -19,8 +19,8 @@ digit_none : (o : Option ℕ) (value : ℕ) → IsValue o value → 16 ≤ value
 digit_none None value is high = refl
 digit_none (Some v) value is high = absurd (omega (arith, is.0, is.1, high))
 
--- if the greatest value so far is below 16, the digits are decoded to the first `i` octets of
--- `octets`, followed by what the digits from index `2 * i` on are decoded to
+-- if the greatest value so far is below 16, decoding all digits gives the first `i` octets of
+-- `octets`, followed by the result of decoding the digits from index `2 * i` on
 abbrev pub SpellSoFar : List ℕ → List ℕ → ℕ → ℕ → Type 0
 SpellSoFar digits octets i greatest =
     greatest < 16 → decode_pairs 0 digits ≡ prepend (take i octets) (decode_pairs (2 * i) (drop (2 * i) digits))

@@ -36,14 +36,14 @@ first_is_new rules keys repo cache = record {
   stands = new_stands (first_policy rules keys repo) cache;
 }
 
--- if a node was created and `P` is true, then `MatchOption why P Q` is true, since `why` is None
+-- if a node was created, then `why` is None, so `MatchOption why P Q` is true if `P` is true
 pub made_of_good_parts : {N : Type 0} (P : Type 0) (Q : NodeFault → Type 0) (why : Option NodeFault) (made : Result N NodeFault) (node : N) → made ≡ Ok node
     → MatchOption why (IfErr made (λ f. f ≡ Memory)) (λ f. made ≡ Err f) → P → MatchOption why P Q
 made_of_good_parts P Q None made node is h p = p
 made_of_good_parts P Q (Some f) made node is h p = let other : Ok node ≡ Err f = sym is ∙ h in absurd cc
 
--- let a property be true of the octets that were read, whatever octets follow them; then it is
--- true of the octets that were unread before the reading, if those are known
+-- if a property is true of the octets that were read, followed by any octets, it is true of the
+-- octets that were unread before the reading, if these are known
 known_text : (unread left : Option (List ℕ)) (P : List ℕ → Type 0) (front : List ℕ) → Consumes unread left front → ((more : List ℕ) → P (front ++ more)) → IfSome unread P
 known_text None left P front h k = tt
 known_text (Some xs) None P front h k = absurd h

@@ -245,8 +245,8 @@ TurnsBad-long stream long lines is lacks h = λ more.
 
 -- ---- octets that were read so far
 
--- running the finished lines of a stream changed the state `from` to the state `to`; an unfinished
--- line and unread octets remain
+-- Running the finished lines of a stream changed the state `from` to the state `to`. The unfinished
+-- line `line` and the unread octets `rest` remain.
 pub record Fed (stream : List ℕ) (from to : Place) (line rest : List ℕ) (held holds : Option (List ℕ)) : Type 0 where
   pub lines : List (List ℕ)
   pub text : List ℕ
@@ -261,8 +261,8 @@ Fed-start place line rest held =
 shape_line : (j l f a : List ℕ) → j ++ (l ++ (f ++ (10 ∷ a))) ≡ (j ++ ((l ++ f) ++ (10 ∷ []))) ++ a
 shape_line j l f a = simp append_assoc
 
--- if an LF comes among the unread octets, the stream is the finished lines, then the unfinished
--- line with the unread octets before this LF, then the LF and the octets after it
+-- if an LF comes among the unread octets, the stream has three parts: the finished lines, the
+-- unfinished line with the unread octets before this LF, and the octets from this LF on
 Fed-line_is : (stream : List ℕ) (from to : Place) (line rest front after : List ℕ) (held holds : Option (List ℕ)) → (fed : Fed stream from to line rest held holds)
     → rest ≡ front ++ (10 ∷ after) → stream ≡ joined fed.lines ++ ((line ++ front) ++ (10 ∷ after))
 Fed-line_is stream from to line rest front after held holds fed is =

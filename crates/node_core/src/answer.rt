@@ -15,7 +15,8 @@ use itoa::Buffer;
 use ndn_tlv::Memory;
 
 /// Appends the text of an answer: a line with the event's number and its verdict, and one line for
-/// each packet that is sent. A rule is printed as its id. If memory runs out, nothing is appended.
+/// each packet that is sent. If `outcome` is an error, the line has `memory` in place of a verdict.
+/// A rule is printed as its id. If memory runs out for the text, nothing is appended.
 pub fn put_answer(
     text: &mut Vec<u8>,
     number: u64,
@@ -179,8 +180,7 @@ fn put_send(text: &mut Vec<u8>, face: u64, octets: &[u8]) -> Result<(), Memory>
     put_word(text, b"\n")
 }
 
-/// Appends octets in hexadecimal, or a dash for no octets. If memory runs out, some of the digits
-/// may be appended.
+/// Appends octets in hexadecimal, or a dash for no octets. If memory runs out, nothing is appended.
 fn put_octets(text: &mut Vec<u8>, octets: &[u8]) -> Result<(), Memory>
     ensures { Puts text.old text.new result (hex_word octets.now) }
 {
@@ -212,8 +212,8 @@ fn fill_digits(digits: &mut [u8], octets: &[u8])
     }
 }
 
-/// Returns the hexadecimal digit of a value. The digit is computed, so that a loop over octets
-/// needs no branch and no table.
+/// Returns the lower-case hexadecimal digit of a value below 16. The digit is computed, so that a
+/// loop over octets needs no branch and no table.
 #[inline(always)]
 fn digit_of(value: u8) -> u8
     requires { value < 16 }
@@ -303,7 +303,8 @@ fn kind_name(kind: Kind) -> &'static [u8]
     }
 }
 
-/// Appends two words. If memory runs out, some of their octets may be appended.
+/// Appends two words, one directly after the other. If memory runs out, some of their octets may be
+/// appended.
 fn put_words(text: &mut Vec<u8>, first: &[u8], second: &[u8]) -> Result<(), Memory>
     ensures { Puts text.old text.new result (first.now ++ second.now) }
 {

@@ -25,7 +25,8 @@ pub enum RunFault {
     /// The line with this number, counted from 1, is not a line of a script.
     #[error("line {0} is a bad line")]
     BadLine(u64),
-    /// The reader failed or was called 4,294,967,295 times.
+    /// The reader failed, or was called 4,294,967,295 times without reporting the end of the
+    /// script.
     #[error("the script cannot be read")]
     Read,
     /// The writer failed, accepted no octets, or was called 4,294,967,295 times for the answers to
@@ -35,7 +36,8 @@ pub enum RunFault {
     /// The node could not be created. Nothing was read or written.
     #[error("{0}")]
     Node(NodeFault),
-    /// Memory ran out for reading a line with its rules and keys, or for printing an answer.
+    /// Memory ran out for the read buffer, for a line with its rules and keys, or for the text of
+    /// an answer.
     #[error("out of memory")]
     Memory,
 }
@@ -45,11 +47,11 @@ pub enum RunFault {
 ///
 /// A line is `up FACE local|far MOMENT`, `down FACE MOMENT`, `tick MOMENT`, `in FACE MOMENT HEX` or
 /// `rules MOMENT HEX HEX`. Words are separated by single spaces, numbers are decimal without
-/// leading zeros, and `-` stands for no octets. A line has at most 20,000 octets and ends with an
-/// LF or at the end of the input. The two HEX words of `rules` are the octets of a rule file and of
-/// a key file. Empty lines and lines that begin with `#` are skipped. An event for which memory
-/// runs out is answered `memory`. Such an event has no effect, except that the cache may have
-/// dropped Data.
+/// leading zeros, and `-` stands for no octets. A line has at most 20,000 octets, not counting its
+/// LF. It ends with an LF or at the end of the input. The two HEX words of `rules` are the octets
+/// of a rule file and of a key file. Empty lines and lines that begin with `#` are skipped. The
+/// answer to an event for which memory runs out is `memory`. This event has no effect, except that
+/// the cache may have dropped or reordered Data.
 pub fn run_script<R: Read, W: Write>(
     alloc: Global,
     reader: &mut R,

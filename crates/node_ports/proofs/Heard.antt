@@ -1,5 +1,5 @@
--- When `HearsInTime` is true: for a client that is not idle, for an idle client, and for an
--- endpoint that is not a client.
+-- `HearsInTime` in each of three cases: a client that is not idle, an idle client, and an endpoint
+-- that is not a client.
 use Rattle.std.proofs.Common.{◌≡◌, ℕ, ◌<◌, List, length, position, slice_get, slice_set, slice_index_or, refl, inl, inr}
 use Rattle.std.specs.Prelude.{Option, Some, None}
 use Rattle.std.proofs.lemmas.Option.{slice_get-get_or}

@@ -15,8 +15,8 @@ nobody = record { endpoint = V4 (record { ip = record { octets = [] }; port = 0 
 abbrev pub heard_at : List Client → ℕ → ℕ
 heard_at clients k = (slice_index_or clients k nobody).heard
 
--- of the first `count` clients, the client at index `place` has been silent longest; if several
--- have been silent equally long, it is the first of them
+-- Of the first `count` clients, the client at index `place` has been silent longest. If several
+-- have been silent equally long, it is the first of them.
 pub record IsLongestOf (clients : List Client) (count place : ℕ) : Type 0 where
   pub within : place < count
   pub least : (k : ℕ) → k < count → heard_at clients place ≤ heard_at clients k
@@ -59,7 +59,7 @@ IsLongestOf-kept clients count place h kept = record {
 }
 
 -- if the index k is below the number of clients, the time of the last datagram of the client at
--- index k does not depend on the default value
+-- index k does not depend on the default client `d`
 heard_any : (clients : List Client) (k : ℕ) (d : Client) → k < length clients → (slice_index_or clients k d).heard ≡ heard_at clients k
 heard_any clients k d h = ap (λ (c : Client). c.heard) (get_or_default clients k d nobody h)
 

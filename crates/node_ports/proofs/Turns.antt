@@ -133,7 +133,7 @@ KeepsJournal-then old mid a b c es fs rs ss outcomes goes_on h k = λ first past
     let two = k first (run_from past es rs) one.0 one.1 begins on.0 on.1 one.2 one.3 one.4 in
     (two.0, two.1, subst (λ (r : Run). IsJournalOf first r two.0) (sym (run_from-append old mid past es fs rs ss outcomes)) two.2, two.3, two.4)
 
--- The next items: what is appended to the journal for an event that was answered.
+-- The next items state what is appended to the journal for an event that was answered.
 module _ (old new : NodeState) (event : PlainEvent) (v : PlainVerdict) (sends : List Send) (coming : Coming) (time : ℕ) (before after : Option (List ℕ)) (is : IsEventOf (moment event) coming.entry event)
     (at : time ≡ max old.policy.now (moment event)) (step : IsStep old event (record { verdict = v; sends = sends }) new)
     (wanted : (text : List ℕ) → before ≡ Some text → coming.is_wanted ≡ brings_wanted (at_moment old.policy (moment event)) event) where

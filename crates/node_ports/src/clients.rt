@@ -252,7 +252,8 @@ fn is_silent(heard: u64, time: u64, now: u64) -> bool
     heard <= now && now - heard >= time
 }
 
-/// Returns the time at which a client becomes idle if no more datagrams arrive from it.
+/// Returns the time at which a client becomes idle if no more datagrams arrive from it. If no idle
+/// time is set, returns the greatest u64.
 fn end_of(idle: Option<u64>, heard: u64) -> u64
     ensures { IfSome idle (λ idle. result ≤ heard + idle) }
 {

@@ -85,16 +85,16 @@ impl MemoryPorts {
         }
     }
 
-    /// Tells the `k`th call of `next` from now on to fail, where the next call is the first. If `k`
-    /// is 0, no call fails.
+    /// Makes the `k`th call of `next` fail, counted from 1 for the first call after this one. If
+    /// `k` is 0, no call fails.
     pub fn fail_next(&mut self, k: u64)
         ensures { self.new ≡ record self.old { next_told = k } }
     {
         self.next_told = k;
     }
 
-    /// Tells the `k`th call of `send` from now on to fail, where the next call is the first. If `k`
-    /// is 0, no call is told to fail.
+    /// Makes the `k`th call of `send` fail, counted from 1 for the first call after this one. If
+    /// `k` is 0, no call is told to fail.
     pub fn fail_send(&mut self, k: u64)
         ensures { self.new ≡ record self.old { send_told = k } }
     {

@@ -27,7 +27,7 @@ impl Model for Peers {
 }
 
 impl Peers {
-    /// Returns these endpoints, at most 64.
+    /// Returns the peers with these endpoints. There are at most 64 endpoints.
     pub fn new(endpoints: &[SocketAddr]) -> Peers
         requires { length endpoints.now ≤ MAX_FACES }
         ensures { result ≡ endpoints.now }

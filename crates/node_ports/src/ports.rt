@@ -13,7 +13,8 @@ use ndn_packets::MAX_FRAME;
 use thiserror::Error;
 
 /// The greatest number of octets that are read of a packet or datagram. It is one octet more than a
-/// node accepts, so that the node drops a longer packet as too long.
+/// node accepts. A packet that is longer than a node accepts is therefore still too long after it
+/// is truncated, and the node drops it.
 pub const FRAME_ROOM: usize = MAX_FRAME + 1;
 
 /// Law: a buffer has room for 9,001 octets, one more than the longest packet that a node accepts.
@@ -94,8 +95,9 @@ pub trait Ports {
         ensures { result ≡ false → journal self.now ≡ None };
 
     /// Is called for each answered event with its verdict, before the event's packets are sent. If
-    /// the event is journalled, a port with a journal appends the event's line with `time`, the
-    /// latest time of all events up to this one, and returns when the line survives a crash.
+    /// the event is journalled, a port with a journal appends the event's line, and succeeds only
+    /// when the line survives a crash. The time in the line is `time`, the latest time of all
+    /// events up to this one.
     fn commit(&mut self, event: &Coming<'_>, time: u64, verdict: &Verdict) -> Result<(), PortFault>
         ensures done { OnOk result (Journals (journal self.old) (journal self.new) time
             event.now (verdict_of verdict.now)) }
@@ -116,9 +118,10 @@ pub trait Ports {
         ensures failed { OnErr result ((taken self.new ≡ taken self.old)
             × (failures self.new ≡ one_more (failures self.old))) };
 
-    /// Is called with the result of the latest arrival, after its packets were sent. `_octets`
-    /// begins with the arrival's octets, and `_rules` are the rules in force then. A port with a
-    /// log writes the result to the log. Nothing else changes.
+    /// Is called with the result of the latest arrival, after the packets of this turn were sent.
+    /// If the arrival is a packet, `_octets` begins with the packet's octets. `_rules` are the
+    /// rules in force after the arrival. A port with a log writes the result to the log. Nothing
+    /// else changes.
     fn note(&mut self, _turn: &Turn, _octets: &[u8], _rules: &Rules)
         ensures gives_none { coming self.new ≡ coming self.old }
         ensures takes_none { taken self.new ≡ taken self.old }

@@ -17,7 +17,8 @@ use thiserror::Error;
 pub enum Turn {
     /// An event was answered. `failed` is the number of its sends that failed.
     Done { verdict: Verdict, failed: u64 },
-    /// Memory ran out for handling an event. The event is treated as if it had not arrived.
+    /// Memory ran out for handling an event. The event has no effect, except that the cache may
+    /// have dropped or reordered Data.
     Refused,
     /// An event was answered but could not be journalled. None of its packets is sent, and the node
     /// must stop.
@@ -40,7 +41,7 @@ pub enum ServeFault {
 /// The result of several turns.
 #[derive(Clone, Copy, Debug, PartialEq, Eq)]
 pub struct Served {
-    /// The number of events.
+    /// The number of events, including those for which memory ran out.
     pub events: u64,
     /// The number of events for which memory ran out.
     pub refused: u64,
@@ -54,9 +55,9 @@ pub struct Served {
 /// ends.
 ///
 /// A failed send is counted and does not prevent other sends. An event for which memory runs out is
-/// counted and otherwise treated as if it had not arrived. Only the first 9,001 octets of a longer
-/// packet are read, and the node drops the packet as too long. If the port fails to give the next
-/// arrival, all earlier events remain handled.
+/// counted. It has no other effect, except that the cache may have dropped or reordered Data. Only
+/// the first 9,001 octets of a longer packet are read, and the node drops the packet as too long.
+/// If the port fails to give the next arrival, all earlier events remain handled.
 pub fn serve<P: Ports>(
     alloc: Global,
     node: &mut Node,
@@ -116,8 +117,8 @@ pub fn serve<P: Ports>(
 /// Lets a node handle the next arrival of a port.
 ///
 /// If the result is `Done`, the outbox contains exactly the event's sends, including those that
-/// failed. Otherwise it is empty. The only fault is `Next` after 0 events, and then the node is
-/// unchanged.
+/// failed. For any other result, the outbox is empty. The only fault is `Next` after 0 events. If
+/// this fault is returned, the node is unchanged.
 pub fn serve_turn<P: Ports>(
     node: &mut Node,
     ports: &mut P,
@@ -167,8 +168,9 @@ pub fn serve_turn_in<P: Ports>(
     Ok(handle(node, ports, arrival, buffer, outbox))
 }
 
-/// Does the same as `serve_turn_in` if `next_soon` returns an arrival. Otherwise the node and the
-/// visible state of the port are unchanged, and the outbox is empty.
+/// Does the same as `serve_turn_in` if `next_soon` returns an arrival. If `next_soon` returns
+/// `None`, also returns `None`. In this case, the node and the visible state of the port are
+/// unchanged, and the outbox is empty.
 pub fn serve_turn_soon<P: Ports>(
     node: &mut Node,
     ports: &mut P,
@@ -266,8 +268,8 @@ fn answer<P: Ports>(
     }
 }
 
-// Lets a node answer an event, and commits the event to the port's journal before its packets are
-// sent.
+// Lets a node answer an event, and commits the event to the port's journal before the packets of
+// the event are sent.
 fn handle_event<P: Ports>(
     node: &mut Node,
     ports: &mut P,

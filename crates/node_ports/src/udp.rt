@@ -33,10 +33,10 @@ pub trait Moments: Drop {
 /// The peers' endpoints have the faces 1, 2 and so on. Each of these faces is opened in a turn of
 /// its own before any datagram is received. For an unknown endpoint, a Far face with the next
 /// number is opened before the endpoint's first packet arrives. While 64 endpoints are known, an
-/// unknown endpoint is not stored. The arrivals for its datagram, which are the opening of a face
-/// and the packet, then have the next face number, which is 65 if no face has closed. A node with
-/// 64 faces does not open a face with this number. The number of an opened face is never used for
-/// another face. The ports never end.
+/// unknown endpoint is not stored. The arrivals for its datagram are the opening of a face and the
+/// packet. Both have the next face number, which is 65 if no face has closed. A node with 64 faces
+/// does not open a face with this number. The number of an opened face is never used for another
+/// face. The ports never end.
 ///
 /// After `close_after`, idle faces close. A peer's face never closes. After `ignore_strangers`,
 /// only datagrams from peers are accepted.
@@ -151,9 +151,9 @@ impl<M: Moments> UdpPorts<M> {
     }
 
     /// From now on, a client's face closes if nothing has arrived on it for `idle` milliseconds. If
-    /// a datagram arrives from an unknown endpoint while 64 endpoints are known, the client's face
-    /// that has been silent longest closes, provided that it has been silent for at least 10,000
-    /// milliseconds.
+    /// a datagram arrives from an unknown endpoint while 64 endpoints are known, the face of the
+    /// client that has been silent longest closes. It closes only if this client has been silent
+    /// for at least 10,000 milliseconds.
     ///
     /// A face closes when a datagram from any endpoint has arrived, before that datagram is
     /// handled. At most one face closes in each turn. If a face was opened for a datagram in the
@@ -164,7 +164,8 @@ impl<M: Moments> UdpPorts<M> {
         self.known.clients.close_after(idle);
     }
 
-    /// From now on, a datagram from an endpoint that is not a peer is dropped unread and counted.
+    /// From now on, a datagram from an endpoint that is not a peer is dropped and counted. It does
+    /// not become an arrival.
     pub fn ignore_strangers(&mut self)
         ensures { self.new ≡ record self.old { accepts_strangers = false } }
     {
@@ -233,7 +234,7 @@ impl<M: Moments> UdpPorts<M> {
     }
 
     /// Returns the arrival of the waiting datagram on its face. Copies the datagram to the start of
-    /// the buffer; octets that do not fit are dropped.
+    /// the buffer. Octets that do not fit are dropped.
     fn give_waiting(&mut self, endpoint: SocketAddr, face: u64, buffer: &mut [u8]) -> Arrival
         requires opened { HasOpened self.old }
         requires waiting { (octets : List ℕ) × (self.old.waiting
@@ -304,7 +305,8 @@ impl<M: Moments> UdpPorts<M> {
     }
 
     /// Returns the arrival for a datagram from this endpoint. The datagram is the first `len`
-    /// octets of the buffer. Precondition: no other datagram waits.
+    /// octets of the buffer. Precondition: all peers' faces are opened, and no other datagram
+    /// waits.
     fn arrive(&mut self, endpoint: SocketAddr, len: usize, buffer: &[u8]) -> Arrival
         requires listens { Listens self.old }
         requires fits { len ≤ length buffer.now }
@@ -346,9 +348,9 @@ impl<M: Moments> UdpPorts<M> {
     }
 
     /// Receives a datagram and returns its arrival, or `None` if the socket gives no datagram. A
-    /// datagram from an endpoint that is not accepted is counted. After such a datagram, returns
-    /// `None` if `is_brief` is set, and otherwise receives the next datagram. Precondition: no
-    /// datagram is stored for the next turn.
+    /// datagram from an endpoint that is not accepted is counted. After a datagram that is counted,
+    /// returns `None` if `is_brief` is set. If it is not set, receives the next datagram.
+    /// Precondition: all peers' faces are opened, and no datagram waits for the next turn.
     fn receive(&mut self, buffer: &mut [u8], is_brief: bool) -> Option<Arrival>
         requires { Listens self.old }
         ensures fits { IfSome result (LiesWithin (length buffer.new)) }

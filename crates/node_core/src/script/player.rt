@@ -66,7 +66,8 @@ impl Player {
         self.play(chunk.as_mut_slice(), reader, writer)
     }
 
-    // Does the same as `run`. `chunk` is the buffer for reading.
+    // Runs a script from its start to the end of the reader, with `chunk` as the buffer for
+    // reading.
     fn play<R: Read, W: Write>(
         &mut self,
         chunk: &mut [u8],

@@ -99,9 +99,9 @@ pub fn octets_of(alloc: Global, word: &[u8]) -> Result<Option<Vec<u8>>, Memory>
     Ok(None)
 }
 
-/// Decodes two hexadecimal digits for each octet. Returns whether all `digits` are digits; if not,
-/// the content of `octets` is unspecified. The whole text is always processed, so that the loop has
-/// no branch.
+/// Decodes each pair of hexadecimal digits to one octet of `octets`. Returns whether each octet of
+/// `digits` is a hexadecimal digit. If one is not, the content of `octets` is unspecified. The
+/// whole text is always processed, so that the loop has no branch.
 fn fill(octets: &mut [u8], digits: &[u8]) -> bool
     requires { length digits.now ≡ 2 * length octets.old }
     ensures found { IsTrue result → decode_pairs 0 digits.now ≡ Ok octets.new }
