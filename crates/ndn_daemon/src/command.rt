@@ -30,7 +30,7 @@ const VERSION: &str = "0.1.0";
 
 const ABOUT: &str =
     "A Named Data Networking node: it forwards Interests by routes and strategies, caches Data and
-stores Data. A rule file says which commands and which Data it accepts.";
+stores Data. A rule file says which commands and which Data the node accepts.";
 
 const ABOUT_SCRIPT: &str = "Runs the script on standard input and prints the node's answers";
 
@@ -52,7 +52,7 @@ the node sends. The verdict is one of:
   denied interest|data WHY RULE the rule denied the command or the Data
   no-rule interest|data         no rule applies, so the packet is denied
   dropped REASON                the event had no effect, but a looped Interest is answered by a Nack
-  memory                        memory ran out, and the event had no effect
+  memory                        memory ran out: the event had no effect, but cached Data may be lost
 
 Without --rules no rule allows anything: routes cannot be set, and Data are not returned. A key file
 has on each line the URI of a key's name, one space, and the key in hexadecimal. If there are two
@@ -85,7 +85,7 @@ first K peers are Local and may send commands under /localhost, so they have to 
 In each turn the node opens the face of the next peer, or waits for one datagram. A datagram from an
 address and port without a face comes from a stranger. It opens the next face, which is Far, and is
 handled in the turn after that. If the node listens on an address that other machines can send to,
-it drops and counts the datagrams of strangers unread, unless --open is given.
+it drops the datagrams of strangers and only counts them, unless --open is given.
 
 A stranger's face is idle if no datagram came from it for the time of --idle. An idle face closes in
 a turn of its own, before the next datagram is handled. If a new stranger sends while 64 addresses
@@ -101,11 +101,11 @@ keys take a turn of their own. To change a file, write a new file beside it, and
 to the old name. The node reports a fault in a file, and the rules and keys in force stay.
 
 With --journal the node writes to FILE each event that changes faces, routes, strategies, rules or
-the repository, and each allowed command, before it sends the packets of this event. The next node
-with FILE begins where this one ended, even after a crash. The faces of peers stay open if they are
-Local or Far as before; all other faces close. The rules and keys are those of --rules and --keys,
-which may then have at most 9985 octets together. FILE is a script. It contains the keys, and only
-one node at a time may use it.
+the repository, and each allowed command, before it sends the packets of this event. Nothing is
+written for a route that expires. The next node with FILE begins where this one ended, even after a
+crash. The faces of peers stay open if they are Local or Far as before; all other faces close. The
+rules and keys are those of --rules and --keys, which may then have at most 9985 octets together.
+FILE is a script. It contains the keys, and only one node at a time may use it.
 
 Turn N is printed as `script` prints event N: a line `N VERDICT`, and a line `> FACE HEX` for each
 packet that the node sends. Moments are those of the machine's clock. With --quiet nothing is
@@ -264,7 +264,7 @@ fn udp_command<'a>(alloc: Global) -> Result<Command<'a>, AllocError> {
             alloc,
             "journal",
             "FILE",
-            "Stores faces, routes, strategies, rules and the repository in FILE, and starts with them",
+            "Keeps faces, routes, strategies, rules and the repository in FILE for the next start",
         ))?
         .arg(flag(
             alloc,
@@ -330,7 +330,7 @@ fn log_option<'a>(alloc: Global) -> Arg<'a> {
         alloc,
         "log",
         "all",
-        "Logs what an operator has to know on standard error; with `all`, every event",
+        "Logs commands, new rules, denials and drops to standard error; with `all`, every event",
     )
     .num_args(0..=1)
     .default_missing_value("events")
