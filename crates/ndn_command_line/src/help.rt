@@ -153,7 +153,7 @@ pub const FLAGS: &str =
     "The flags of the route: 1 child-inherit, 2 capture, 3 both, 0 none; 1 if absent";
 
 pub const EXPIRES: &str =
-    "For how long the route is registered, in milliseconds; without an end if absent";
+    "The route's period in milliseconds; if absent, the route does not expire";
 
 pub const ORIGIN: &str = "The origin of the route; 0 if absent";
 

@@ -246,7 +246,7 @@ fn udp_command<'a>(alloc: Global) -> Result<Command<'a>, AllocError> {
             alloc,
             "local",
             "K",
-            "How many of the first peers are Local, all on this machine; 0 if absent",
+            "The first K peers are Local, and have to be on this machine; 0 if absent",
         ))?
         .arg(option(
             alloc,
@@ -319,7 +319,7 @@ fn repo_option<'a>(alloc: Global) -> Arg<'a> {
 /// Returns the argument for the addresses and ports of the peers.
 fn peers<'a>(alloc: Global) -> Arg<'a> {
     Arg::new(alloc, "PEERS").num_args(0..).help(
-        "The peers, written as --listen, which are faces 1, 2 and so on",
+        "The peers, in the form of --listen; their faces are 1, 2 and so on",
     )
 }
 
