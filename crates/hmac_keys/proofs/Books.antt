@@ -90,7 +90,7 @@ among_from_has name (key ∷ keys) h = elim (or_cases (is_eq (name_cmp key.0 nam
   | inr more ↦ let rest = among_from_has name keys more in (rest.0, inr rest.1)
 ]
 
--- a key is found exactly if its name is among the keys
+-- a search for a name finds octets exactly if one of the keys has this name
 pub found_has : (name : List Field) (keys : List NamedKey) (r : Option (Bor (List ℕ))) → MatchOption r ((octets : List ℕ) → IsAmong (name, octets) keys → ⊥) (λ octets. IsAmong (name, octets.now) keys)
     → is_some r ≡ has_name name keys
 found_has name keys None h = sym (false_from_ne_true (has_name name keys) (λ t. let some = among_from_has name keys t in h some.0 some.1))

@@ -149,7 +149,8 @@ impl KeyBook {
         self.add(number, key)
     }
 
-    /// Adds the key of line `number`.
+    /// Adds the key of line `number`. Returns `TwiceNamed` if the book has a key with the same
+    /// name, and `TooMany` if the book already has 256 other keys.
     fn add(&mut self, number: u64, key: Key) -> Result<(), KeyFault>
         ensures { let next = with_key number self.old (key.name, key.hmac) in
             MatchResult result (λ _. next ≡ Ok self.new) (IsFaultOf next) }

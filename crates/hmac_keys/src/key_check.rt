@@ -33,7 +33,8 @@ fn is_key(digits: &str) -> bool
     hex::decode_to_slice(digits.as_bytes(), &mut octets[..len]).is_ok()
 }
 
-/// Returns the URI in line `number`, which is not skipped.
+/// Returns the URI in line `number`, which is not skipped, or `BadLine` if no key can be read in
+/// this line.
 fn key_uri(number: u64, line: &str) -> Result<&str, KeyFault>
     ensures { MatchResult result
         (λ uri. (key : NamedKey) × (key_in line.now ≡ Some key) × (name_of uri.now ≡ Some key.0))
@@ -51,7 +52,8 @@ fn key_uri(number: u64, line: &str) -> Result<&str, KeyFault>
     Ok(uri)
 }
 
-/// Returns whether the line has, before its last space, the name that `uri` reads as.
+/// Returns whether the line is not skipped and has, before its last space, the name that `uri`
+/// reads as.
 fn has_name(line: &str, uri: &str) -> bool
     ensures { (name : List Field) → name_of uri.now ≡ Some name
         → result ≡ line_has_name name line.now }
@@ -86,8 +88,8 @@ fn have_name(text: &str, lines: u64, uri: &str) -> bool
     false
 }
 
-/// Returns the number of keys up to and including the line `line` of a text. The `before` lines
-/// before this line have `keys` keys.
+/// Returns the number of keys up to and including the line `line` of a text, or the fault of this
+/// line. The `before` lines before this line have `keys` keys.
 fn check_line(text: &str, before: u64, keys: usize, line: &str) -> Result<usize, KeyFault>
     requires short { before < length text.now }
     requires few { keys ≤ 256 }

@@ -35,7 +35,8 @@ pub fn read_within<R: Read + Drop>(
 }
 
 /// Reads the next line of a reader, including its LF. Returns `None` if the line, including its LF,
-/// has more than `limit` octets. At the end of the reader the line is empty.
+/// has more than `limit` octets. At most `limit` + 1 octets are read, and the rest of a longer line
+/// stays in the reader. At the end of the reader the line is empty.
 pub fn read_line_within<R: BufRead>(
     alloc: Global,
     reader: &mut R,

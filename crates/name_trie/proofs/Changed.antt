@@ -339,7 +339,7 @@ module _ {V : Type 0} (k : ℕ) (h h' : Heap V) (starts : Starts k h h') (sound 
         (λ ne. absurd (let way = sound.reach j u (sym (started_up j ne) ∙ e) in let none = walk_none h way.0 in cc));
   }
 
--- ---- a node without a value and children is removed
+-- ---- a node without a value and without children is removed
 
 module _ {V : Type 0} (k : ℕ) (o : Option ℕ) (h h' : Heap V) (root : Option ℕ) (cuts : Cuts k o h h') (sound : Sound h root) (bare : IsBare h k) where
   cut_children : Node V → Node V

@@ -135,7 +135,8 @@ fn start_of(rows: &[(ComponentBuf, usize)], hint: &Hint) -> usize
     low
 }
 
-/// Searches `rows[from..to]` for a child's row. Returns the index of the row in `rows`.
+/// Searches `rows[from..to]` for a child's row. Returns the index of the row in `rows`, or `None`
+/// if the child is not found.
 fn row_within(rows: &[(ComponentBuf, usize)], child: usize, from: usize, to: usize) -> Option<usize>
     requires { to ≤ length rows.now }
     ensures found { IfSome result (λ at. (at < length rows.now)

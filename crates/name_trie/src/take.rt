@@ -89,7 +89,8 @@ pub struct End {
 }
 
 /// Lets the visitor `how` change or remove the values of a name's proper prefixes, the shortest
-/// first, and then the value of the name.
+/// first, and then the value of the name. Returns the end of the walk, or `None` if there is no
+/// root. Nodes that are left without a value are not removed.
 pub fn take_along<V: Timed + Drop, T: Take<V>>(
     nodes: &mut Slab<Node<V>>,
     root: Option<usize>,

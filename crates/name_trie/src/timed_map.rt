@@ -30,7 +30,7 @@ pub struct TimedMap<V: Timed> {
     // The reserved name, which is the name of the last prepared call, and its node. The node is not
     // removed, and calls for this name find it without a walk.
     held: Option<(NameBuf, usize)>,
-    // Whether the prepared call has not been made yet.
+    // Whether a call is prepared that has not been made yet.
     is_ready: bool,
     // The timers, one for each value. While a call is prepared, memory is reserved for one more
     // timer.

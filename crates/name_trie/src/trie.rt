@@ -56,7 +56,7 @@ impl<V> Model for NameTrie<V> {
         × IsTidy (get m.nodes) (option_map (λ p. p.1) m.held) };
 }
 
-/// Sets the value of a name.
+/// Sets the value of a name. Returns whether the name had no value.
 fn put_value<V: Drop>(
     alloc: Global,
     nodes: &mut Slab<Node<V>>,
@@ -82,6 +82,7 @@ fn put_value<V: Drop>(
 }
 
 /// Sets the value of a name to the value that `how` computes from the old one, which may be absent.
+/// Returns whether the name had no value.
 fn put_value_with<V: Drop, B: Becomes<V> + Drop>(
     alloc: Global,
     nodes: &mut Slab<Node<V>>,

@@ -35,8 +35,8 @@ read_first reading text rest octets first octet e said read h =
     let here = said_first said found.0 octets first octet found.2 h in
     (here.0, (found.0, found.1, here.1))
 
--- What the texts `a` and `b` encode begins with `x_left` and `y_left`, which have `left` octets
--- each. The values `x` and `y` are equal exactly if `x_left` and `y_left` are equal.
+-- The octets that `a` encodes begin with `x_left`, and those that `b` encodes begin with `y_left`.
+-- These two lists have `left` octets each, and are equal exactly if the values `x` and `y` are.
 pub record AreLeft (left : ℕ) (a b : ValueText) (x y : List ℕ) : Type 0 where
   pub x_left : List ℕ
   pub y_left : List ℕ

@@ -1,5 +1,5 @@
--- The functions that read a text never return the fault `Memory`: the text is the cause of each
--- fault.
+-- Definitions that read a text, such as `name_in`, never return the fault `Memory`: the text is the
+-- cause of each of their faults.
 use Rattle.std.proofs.Common.{◌≡◌, ℕ, ◌+◌, ◌*◌, ◌-◌, ◌^◌, ltb, leb, eqb, cond, length, take, List, [], ◌∷◌, Result, Ok, Err, subst, codes, bytes_eq, decimal}
 use Rattle.std.specs.Prelude.{Option, Some, None, not, ◌&&◌, ◌||◌}
 use Rattle.std.specs.List.{list_any}

@@ -35,7 +35,8 @@ pub struct ComponentText<'a> {
     pub value: ValueText<'a>,
 }
 
-/// Returns the octet that two hexadecimal digits encode.
+/// Returns the octet that two hexadecimal digits encode, or `BadUri` if `high` or `low` is not a
+/// hexadecimal digit.
 pub fn octet_of(high: u8, low: u8) -> Result<u8, NameFault>
     ensures { result ≡ read.pair_in high low }
 {
@@ -46,7 +47,8 @@ pub fn octet_of(high: u8, low: u8) -> Result<u8, NameFault>
 }
 
 /// Reads the first octet that a text with percent escapes encodes. The text is `first` followed by
-/// `after`. Returns the octet and the text after it.
+/// `after`. Returns the octet and the text after its encoding, or `BadUri` if the text begins with
+/// an invalid escape.
 #[inline(always)]
 pub fn first_octet<'a>(first: u8, after: &'a [u8]) -> Result<(u8, &'a [u8]), NameFault>
     ensures read { MatchResult result
@@ -82,7 +84,8 @@ fn count_octets(text: &[u8]) -> Result<(usize, bool), NameFault>
 }
 
 /// Returns the number of octets in a value whose text encodes `count` octets. Three octets are
-/// subtracted if all of the encoded octets are periods.
+/// subtracted if all of the encoded octets are periods. If these are fewer than three, the result
+/// is `BadUri`.
 fn unpadded_len(count: usize, has_periods_only: bool) -> Result<usize, NameFault>
     ensures shorter { IfOk result (λ len. len ≤ count) }
     ensures read { (octets : List ℕ) → count ≡ length octets
@@ -199,7 +202,8 @@ fn typed_text<'a>(type_name: &str, text: &'a str) -> Result<ComponentText<'a>, N
     }
 }
 
-/// Returns the component that `piece`, a text without slashes, reads as.
+/// Returns the component that `piece`, a text without slashes, reads as. Returns `BadUri` or
+/// `BadDigestLength` if there is no such component.
 pub fn component_text(piece: &str) -> Result<ComponentText<'_>, NameFault>
     ensures { MatchResult result
         (λ c. (field : Field) × (read.component_in piece.now ≡ Ok field) × IsTextOf field c)
@@ -243,7 +247,7 @@ fn put_hexadecimal(out: &mut Vec<u8>, text: &[u8]) -> Result<(), NameFault>
     Ok(())
 }
 
-/// Appends the value of a component.
+/// Appends the value of a component. If memory runs out, some octets may have been appended.
 pub fn put_value(out: &mut Vec<u8>, component: ComponentText<'_>) -> Result<(), NameFault>
     ensures ok { (c : Field) → IsTextOf c component.entry
         → OnOk result (out.new.items ≡ out.old.items ++ c.1) }

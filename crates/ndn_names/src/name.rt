@@ -141,7 +141,8 @@ impl<'a> Name<'a> {
         self.as_octets().is_empty()
     }
 
-    /// Returns the component at index `i`. The first component has index 0.
+    /// Returns the component at index `i`, or `None` if the name has at most `i` components. The
+    /// first component has index 0.
     pub fn component(&self, i: usize) -> Option<Component<'a>>
         ensures exact { option_map field_of result ≡ slice_get (components self.now) i }
         // In the name's octets, the components before index `i` come first, then the returned

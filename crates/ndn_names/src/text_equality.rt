@@ -42,7 +42,7 @@ fn number_octets(value: ValueText<'_>) -> [u8; 8]
 }
 
 /// Returns a text that encodes the component's value octet by octet. If the value is a number,
-/// `number` begins with the octets of the value.
+/// `number` has to begin with the octets of the value.
 fn spelled_out<'a>(component: ComponentText<'a>, number: &'a [u8; 8]) -> ValueText<'a>
     requires { IsNumberIn number.now component.value }
     ensures { (c : Field) → IsTextOf c component.entry → SaysFirst result c.1 }
@@ -53,7 +53,8 @@ fn spelled_out<'a>(component: ComponentText<'a>, number: &'a [u8; 8]) -> ValueTe
     }
 }
 
-/// Returns the first octet of a value, and the text of the octets after it.
+/// Returns the first octet of a value, and the text of the octets after it. Returns `None` if the
+/// text does not begin with an octet or its encoding. In particular, this is so for a number.
 fn first_said(value: ValueText<'_>) -> Option<(u8, ValueText<'_>)>
     ensures { (octet : ℕ) (octets : List ℕ) → SaysFirst value.entry (octet ∷ octets)
         → MatchOption result ⊥ (λ x. (x.0 ≡ octet) × SaysFirst x.1 octets) }

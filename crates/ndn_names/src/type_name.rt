@@ -10,7 +10,8 @@ use crate::component_type::{
 };
 use ndn_tlv::nni_of;
 
-/// Returns the URI type name of a component type, for example `seg`.
+/// Returns the URI type name of a component type, for example `seg`, or `None` if the type has no
+/// name.
 pub fn type_name_of(kind: u16) -> Option<&'static str>
     ensures { option_map (λ type_name. type_name.now) result ≡ spec.type_name_of kind }
 {
@@ -26,7 +27,7 @@ pub fn type_name_of(kind: u16) -> Option<&'static str>
     }
 }
 
-/// Returns the component type with this URI type name.
+/// Returns the component type with this URI type name, or `None` if no type has this name.
 pub fn kind_of(type_name: &str) -> Option<u16>
     ensures { result ≡ spec.kind_of type_name.now }
 {
@@ -42,7 +43,8 @@ pub fn kind_of(type_name: &str) -> Option<u16>
     }
 }
 
-/// Returns the number whose shortest NonNegativeInteger encoding is `value`.
+/// Returns the number whose shortest NonNegativeInteger encoding is `value`, or `None` if there is
+/// no such number.
 pub fn shortest_number(value: &[u8]) -> Option<u64>
     ensures { result ≡ spec.shortest_number value.now }
 {

@@ -207,7 +207,7 @@ same_next : (r : Result (Field × List ℕ) TlvFault) (k g : List ℕ → List I
 same_next (Ok x) k g h = ap (λ (l : List Item). Ok x.0 ∷ l) (h x refl)
 same_next (Err f) k g h = refl
 
--- `elements_within` returns the same elements for all limits that are at least the number of octets
+-- `elements_within` returns the same list for all limits that are at least the number of octets
 within_same : (n m : ℕ) (bytes : List ℕ) → length bytes ≤ n → length bytes ≤ m → elements_within n bytes ≡ elements_within m bytes
 unfolding elements_within
 within_same zero zero bytes p q = refl

@@ -352,8 +352,8 @@ number_found (b ∷ bytes) n rest fits e =
           (t.1, rw (a, spelling_nine n t.2) (ap (λ (x : List ℕ). 255 ∷ x) t.0))
     ]
 
--- octets that begin with an encoding of a number longer than its shortest encoding satisfy
--- `BeginsTooLong`
+-- if octets begin with an encoding of a number, and this number has a shorter encoding, the octets
+-- satisfy `BeginsTooLong`
 too_long : (bytes text rest : List ℕ) (n : ℕ) → bytes ≡ text ++ rest → IsForm text n → length (spelling n) < length text → BeginsTooLong bytes
 too_long bytes text rest n e form lt = (text, rest, n, e, form, λ s. omega (arith, ap length (Spells-is text n s).1))
 

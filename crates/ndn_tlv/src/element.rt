@@ -117,7 +117,8 @@ pub fn put_element(out: &mut Vec<u8>, kind: u32, value: &[u8]) -> Result<(), Mem
 }
 
 /// Law: octets are the concatenation of at most one list of elements. If there is such a list,
-/// `elements_of` returns it.
+/// `elements_of` returns it. A fault that `elements_of` returns says why no element can be read
+/// after the elements before the fault.
 pub fn elements_have_one_reading()
     ensures one { (text : List ℕ) (xs ys : List Field) → IsElements text xs → IsElements text ys
         → xs ≡ ys }

@@ -20,8 +20,8 @@ pub fn put_header(out: &mut Vec<u8>, kind: u32, value_len: usize) -> Result<(), 
     Ok(())
 }
 
-/// Appends an element whose value is a number. If memory runs out, some octets may have been
-/// appended.
+/// Appends an element whose value is the shortest NonNegativeInteger encoding of `number`. If
+/// memory runs out, some octets may have been appended.
 #[inline(always)]
 pub fn put_nni_element(out: &mut Vec<u8>, kind: u32, number: u64) -> Result<(), Memory>
     ensures { Puts out.old out.new result (element (kind, shortest_nni number)) }
@@ -57,7 +57,8 @@ pub fn put_flag(out: &mut Vec<u8>, kind: u32, set: bool) -> Result<(), Memory>
 }
 
 #[tactic(auto, using(crate::proofs::Lengths::element_lengths))]
-/// Returns the length in octets of an element whose value is a number.
+/// Returns the length in octets of an element whose value is the shortest NonNegativeInteger
+/// encoding of `number`.
 #[inline(always)]
 pub fn nni_element_len(kind: u32, number: u64) -> usize
     ensures exact { result ≡ length (element (kind, shortest_nni number)) }

@@ -7,7 +7,8 @@ ghost use Rattle.ndn_tlv.specs.Fields.{first_of, single};
 
 use crate::element::first_element;
 
-/// Returns the element's value if the octets are exactly one element of type `kind`.
+/// Returns the element's value if the octets are exactly one element of type `kind`, or `None` if
+/// they are not.
 pub fn single_element(octets: &[u8], kind: u32) -> Option<&[u8]>
     ensures exact { option_map (λ v. v.now) result ≡ single kind (elements_of octets.now) }
     ensures short { IfSome result (λ v. length v.now ≤ length octets.now) }
@@ -21,8 +22,8 @@ pub fn single_element(octets: &[u8], kind: u32) -> Option<&[u8]>
     None
 }
 
-/// Returns the value of the first field of type `kind`. The search ends at the first element that
-/// cannot be read.
+/// Returns the value of the first field of type `kind`, or `None` if the search finds no such
+/// field. The search ends at the first element that cannot be read.
 pub fn first_field(octets: &[u8], kind: u32) -> Option<&[u8]>
     ensures exact { option_map (λ v. v.now) result ≡ first_of kind (elements_of octets.now) }
     ensures short { IfSome result (λ v. length v.now ≤ length octets.now) }

@@ -1,5 +1,5 @@
--- The state of a guard: for each signer, the greatest time and the greatest number of its recorded
--- commands.
+-- The state of a guard. For each signer, it has the greatest time and the greatest number of the
+-- recorded commands. It also has the signer for which a call of `record` is prepared, if any.
 use Rattle.std.specs.Prelude.{◌≡◌, ◌⊎◌, ℕ, ◌<◌, List, [], ◌∷◌, Option, None, Some, IsSome, max, refl}
 use Rattle.std.specs.Coded.{Coded, code_by, coded×, coded_ℕ, coded_option}
 use Rattle.std.specs.declared.cmp.Ordering.{Ordering}
@@ -33,8 +33,8 @@ pub record GuardState : Type 0 where
   -- the signer for which a call of `record` is prepared
   pub prepared : Option Signer
 
--- recording a command of this signer needs no memory: some command of the signer is recorded, or
--- the call is prepared
+-- recording a command of this signer needs no more memory: some command of the signer is recorded,
+-- or a call of `record` for the signer is prepared
 abbrev pub IsPrepared : GuardState → Signer → Type 0
 IsPrepared g signer = IsSome (map.get g.latest signer) ⊎ (g.prepared ≡ Some signer)
 
