@@ -14,7 +14,7 @@ pub enum TableFault {
     TooDeep,
     /// The name is new and the table has 4,096 names, or the route is new and the table has 16,384
     /// routes.
-    #[error("the table has 4096 names")]
+    #[error("the table is full")]
     TableFull,
     /// Out of memory.
     #[error("out of memory")]
@@ -33,7 +33,7 @@ impl From<NoMemory> for TableFault {
 #[derive(Clone, Copy, Debug, PartialEq, Eq, Error)]
 pub enum PitFault {
     /// The key is new, and Interests are pending under 4,096 other keys.
-    #[error("Interests wait under 4096 keys")]
+    #[error("Interests of 4096 other keys are pending")]
     PitFull,
     /// Out of memory.
     #[error("out of memory")]
