@@ -256,7 +256,8 @@ displaced_there rows used s p at row e sound absent is =
 pub some_inserted : (rows : List Placed) (p at : ℕ) (row : Row) → lookup (nat_eq p) rows ≡ None → IsSome (lookup (nat_eq p) (insert rows at (p, row)))
 some_inserted rows p at row absent = subst IsSome (sym (lookup_inserted p row rows at absent)) refl
 
--- removing a row that was just inserted restores the list
+-- if no row of a list has the slab index of a new row, inserting the new row and then removing it
+-- restores the list
 pub removed_again : {X : Type 0} (p : ℕ) (x : X) (rows : List (ℕ × X)) (at : ℕ) → lookup (nat_eq p) rows ≡ None → remove_entry (nat_eq p) (insert rows at (p, x)) ≡ rows
 removed_again p x rows zero none = ap (λ b. cond b rows ((p, x) ∷ remove_entry (nat_eq p) rows)) (eq-eqb p p refl)
 removed_again p x [] (suc at) none = ap (λ b. cond b [] ((p, x) ∷ [])) (eq-eqb p p refl)

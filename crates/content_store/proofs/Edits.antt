@@ -60,7 +60,7 @@ lookup_shown h (q ∷ ps) p row e = split (h q) refl e (lookup_shown h ps p row)
     split None at f again = again f
     split (Some r) at f again = deeper r (eqb p q) at refl f again
 
--- a binary search for the name of a row ends at that row
+-- a binary search for the full name of a row ends at that row
 pub own_place : (h : ℕ → Option Row) (ps : List ℕ) (p at : ℕ) (row : Row) → IsRows h ps → lookup (nat_eq p) (shown h ps) ≡ Some row → IsLower (full_name_of row.entry) (shown h ps) at
     → (at < length ps) × (get_or ps at 0 ≡ p)
 own_place h ps p at row rows found lower =

@@ -151,10 +151,10 @@ impl Store {
         true
     }
 
-    /// Returns the octets of the Data with the least full name that answers an Interest of this
-    /// key. With MustBeFresh, only fresh Data count: those whose FreshnessPeriod after the arrival
-    /// has not ended at `now`, in milliseconds since 1970. The returned Data becomes the most
-    /// recently used.
+    /// Among the cached Data that answer an Interest of this key, finds the one with the least full
+    /// name and returns its octets. Returns `None` if no cached Data answers. With MustBeFresh,
+    /// only fresh Data count: those whose FreshnessPeriod after the arrival has not ended at `now`,
+    /// in milliseconds since 1970. The returned Data becomes the most recently used.
     pub fn find(&mut self, key: Key<'_>, now: u64) -> Option<&[u8]>
         ensures found { GivesData (plain_key key.entry) now self.old.cached
             (option_map (λ o. o.now) result) }

@@ -93,7 +93,7 @@ count_in text =
     then Some (digits_value 10 text) else None
 
 -- the range whose text has `low` before its comma and `high` after it; at most one of these texts
--- is empty
+-- may be empty
 abbrev pub range_by_comma : List ℕ → List ℕ → Option Bounds
 range_by_comma low high =
     if length high == 0 then (do
@@ -155,7 +155,7 @@ pub record PlainDraft : Type 0 where
   pub groups : List (ℕ × ℕ)
   pub open_group : Option OpenGroup
 
--- the draft after the atom at offset `at` is added
+-- the draft after the atom at offset `at` is added, and the remaining text
 abbrev pub with_atom : PlainDraft → ℕ → List ℕ → Result (PlainDraft × List ℕ) PatternFault
 with_atom draft at text = on_result
     (λ found.

@@ -25,7 +25,8 @@ impl Model for Captures {
 impl Captures {
     ghost use Rattle.std.specs.Prelude.{◌≡◌, ◌<◌, ◌∷◌, ◌++◌, [], length, slice_get};
 
-    /// Returns group 0: the whole name, which has `len` components.
+    /// Returns captures with group 0 only. This group is the whole name, which has `len`
+    /// components.
     pub(crate) fn of_name(len: usize) -> Captures
         ensures { result ≡ (0, len) ∷ [] }
     {
@@ -45,8 +46,8 @@ impl Captures {
     }
 
     /// Returns the index of the first component of group `i`, and the index after its last
-    /// component. The first component of a name has index 0. Group 0 is the whole name. The other
-    /// groups are numbered from 1.
+    /// component, or `None` if there is no group `i`. The first component of a name has index 0.
+    /// Group 0 is the whole name. The other groups are numbered from 1.
     pub fn group(&self, i: usize) -> Option<(usize, usize)>
         ensures { result ≡ slice_get self.now i }
     {

@@ -16,7 +16,7 @@ pub struct Repeat {
 }
 
 impl Repeat {
-    /// Returns whether the atom matches exactly one component.
+    /// Returns whether an atom with this repeat matches exactly one component.
     #[inline(always)]
     pub fn is_once(self) -> bool
         ensures { IsTrue result ↔ (bounds_of self ≡ once) }
@@ -25,7 +25,8 @@ impl Repeat {
     }
 }
 
-/// Returns the number from 0 to 64 that `text` represents in decimal digits.
+/// Returns the number from 0 to 64 that `text` represents in decimal digits, or `None` for any
+/// other text.
 fn count_of(text: &str) -> Option<u8>
     ensures { result ≡ read.count_in text.now }
 {

@@ -271,7 +271,8 @@ fn count_left(components: Components<'_>) -> usize
 
 /// Finds the greatest split of a name, in which each atom from left to right matches as many
 /// components as possible. Returns the positions before each atom and after the last atom, and the
-/// number of components. Each atom is tested against each component at most once.
+/// number of components, or `None` if there is no split. Each atom is tested against each component
+/// at most once.
 pub fn first_split(atoms: &[Atom], name: Name<'_>, tests: &mut u64) -> Option<(Starts, usize)>
     requires few { length atoms.now ≤ 34 }
     requires room { tests.old + 100000 < 2 ^ 64 }

@@ -546,7 +546,7 @@ second_noted text value i digest p v h outer found at =
               not_both d.is_last others last
         ] refl
 
--- either the last component is a digest of parameters, or it is not
+-- it can be decided whether the last component of a name is a digest of parameters
 ends_in_digest : (name : List Field) → EndsInDigest name ⊎ (EndsInDigest name → ⊥)
 ends_in_digest [] = inr (λ e. never_empty e.0 (2, e.1) (sym e.2))
 ends_in_digest (c ∷ []) =
@@ -580,8 +580,8 @@ digest_len : (digest : List ℕ) → length digest ≡ 32 → length (element (2
 unfolding spelling
 digest_len digest is = rw is (ap (λ n. suc (suc n)) is)
 
--- the value of the name has at least 34 octets, and the first covered part is this value without
--- its last 34 octets
+-- if the signature of an Interest covers two parts, the TLV-VALUE of its name has at least 34
+-- octets, and the first part is this TLV-VALUE without its last 34 octets
 pub first_is_front : (octets text first second : List ℕ) (name : List Field) → IsNameValue octets name → CoversInterest name text first second → (34 ≤ length octets) × (first ≡ take (length octets - 34) octets)
 first_is_front octets text first second name h c =
     let digest : length c.digest ≡ 32 = (all_front IsComponent c.components ((2, c.digest) ∷ []) (subst (AllByRecursion IsComponent) c.named h.1.1)).1.0.2 (omega arith) in

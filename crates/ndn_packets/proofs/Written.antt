@@ -125,7 +125,7 @@ length-value f = omega (arith, length-append (spelling f.0) (spelling (length f.
 abbrev pub IsType : ℕ → Type 0
 IsType kind = (1 ≤ kind) × (kind < 2 ^ 32)
 
--- elements in a text have valid lengths if the length of the text is below 2^64
+-- elements of valid types in a text are valid if the length of the text is below 2^64
 pub sized : (fields : List Field) → AllByRecursion (λ f. IsType f.0) fields → length (octets fields) < 2 ^ 64 → AllByRecursion IsField fields
 sized [] types short = tt
 sized (f ∷ fields) types short =

@@ -51,8 +51,8 @@ bytes_with name (f ∷ later) h =
     let digest = digest_of (f ∷ later) in
     subst IsBytes (sym (flat_map-append element name (digest ∷ []))) (IsBytes-append (octets name) (octets (digest ∷ [])) h (IsBytes-octets (digest ∷ []) (IsBytes-sha256 (octets (f ∷ later)), tt)))
 
--- if no field in `front` is ApplicationParameters, the fields from the parameters on are those of
--- `later` from the parameters on
+-- if no field in `front` is ApplicationParameters, the fields of `front ++ later` from the
+-- parameters on are those of `later` from the parameters on
 no_parameters : (front later : List Field) → AllByRecursion (λ f. f.0 ≢ 36) front → from_parameters (front ++ later) ≡ from_parameters later
 no_parameters [] later h = refl
 no_parameters (f ∷ front) later h = rw (ne_eqb f.0 36 h.0) (no_parameters front later h.1)

@@ -110,7 +110,7 @@ last_of framed [] = Ok framed
 last_of framed (Err f ∷ elements) = Err (Tlv f)
 last_of framed (Ok e ∷ elements) = Err LpField
 
--- the content of a link packet without a Fragment
+-- the content of a link packet without a Fragment; without a Fragment, a Nack is a fault
 abbrev pub no_fragment : Option (List ℕ) → Option ℕ → Result PlainFramed PacketFault
 no_fragment token None = Ok (framed_with token Idle)
 no_fragment token (Some reason) = Err BadField
@@ -144,6 +144,6 @@ framed_at text =
 unfoldable pub frame_at : List ℕ → Result PlainFrame PacketFault
 frame_at text = framed_at text >>= λ framed. Ok framed.frame
 
--- the PIT token of a frame, `None` if the text is not a frame
+-- the PIT token of a frame, or `None` if the frame has no token or the text is not a frame
 unfoldable pub token_at : List ℕ → Option (List ℕ)
 token_at text = on_result (λ framed. framed.token) (λ _. None) (framed_at text)

@@ -178,8 +178,8 @@ parameters_on (Err f ∷ elements) = []
 parameters_on (Ok e ∷ elements) =
     if e.0 == APPLICATION_PARAMETERS then Ok e ∷ elements else parameters_on elements
 
--- the octets of the elements that can be read; these are the received octets, because each number
--- has only one encoding
+-- the octets of the elements that can be read; these are the received octets, because only the
+-- shortest encoding of a number can be read
 abbrev pub octets_of_read : List (Result Field TlvFault) → List ℕ
 octets_of_read elements = flat_map element (filter_map result_ok elements)
 

@@ -22,7 +22,7 @@ use ndn_tlv::{Element, first_element, nni_of};
 #[derive(Drop)]
 pub struct FieldReader<'a> {
     rules: Rules,
-    /// The octets that begin with the field that `next` has just returned.
+    /// If `next` has just returned a field, the octets that begin with this field.
     pub here: &'a [u8],
     rest: &'a [u8],
     schema: &'a [u32],
@@ -44,8 +44,8 @@ impl<'a> FieldReader<'a> {
         }
     }
 
-    /// Returns the next field. An element that is not a field is ignored if the rules allow it, and
-    /// is otherwise refused as `CriticalUnknown`.
+    /// Returns the next field, or `None` if no field is left. An element that is not a field is
+    /// ignored if the rules allow it, and is otherwise refused as `CriticalUnknown`.
     #[inline(always)]
     pub fn next(&mut self) -> Result<Option<Element<'a>>, PacketFault>
         ensures walk { IsNextField self.old self.new result }
@@ -103,6 +103,8 @@ fn leading_value(value: &[u8]) -> Result<(&[u8], &[u8]), PacketFault>
 }
 
 /// Returns the name in the first element, which must be a Name, and the octets after this element.
+/// Returns `NoName` if the first element is missing or has another type, and `BadField` if its
+/// value is not a name.
 #[inline(always)]
 pub fn leading_name(value: &[u8]) -> Result<(Name<'_>, &[u8]), PacketFault>
     ensures exact { on_result (λ x. Ok (components x.0, elements_of x.1.now)) Err result
@@ -117,7 +119,8 @@ pub fn leading_name(value: &[u8]) -> Result<(Name<'_>, &[u8]), PacketFault>
 }
 
 /// Returns the name in the first element, which must be a Name. Also returns the first digest of
-/// parameters in this name, and the octets after the element.
+/// parameters in this name, and the octets after the element. Returns the same faults as
+/// `leading_name`.
 #[inline(always)]
 pub fn digested_name(
     value: &[u8],

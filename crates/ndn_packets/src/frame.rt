@@ -138,7 +138,8 @@ fn framed_of(octets: &[u8]) -> Result<Framed<'_>, PacketFault>
     }
 }
 
-/// Returns the element if the octets are exactly one element.
+/// Returns the element if the octets are exactly one element. Returns `BadField` if octets follow
+/// the element.
 #[inline(always)]
 pub(crate) fn only_element(octets: &[u8]) -> Result<Element<'_>, PacketFault>
     ensures exact { on_result (λ e. Ok (e.kind, e.value.now)) Err result ≡ only_element octets.now }
@@ -161,7 +162,8 @@ pub(crate) fn is_too_long(whole: &[u8]) -> bool
     whole.len() > MAX_PACKET
 }
 
-/// Reads the Interest or the Data in this element.
+/// Reads the Interest or the Data in this element. Returns `BadField` if the element has another
+/// type.
 #[inline(never)]
 pub(crate) fn packet_of(outer: Element<'_>) -> Result<Frame<'_>, PacketFault>
     ensures { on_result (λ f. Ok (plain_frame f)) Err result
@@ -174,7 +176,8 @@ pub(crate) fn packet_of(outer: Element<'_>) -> Result<Frame<'_>, PacketFault>
     }
 }
 
-/// Reads the Interest in this element, which is the Interest of a Nack.
+/// Reads the Interest in this element, and returns it with `reason` as a Nack. Returns `BadField`
+/// if the element has another type.
 pub(crate) fn nacked_of(reason: u64, outer: Element<'_>) -> Result<Frame<'_>, PacketFault>
     ensures { on_result (λ f. Ok (plain_frame f)) Err result
         ≡ nacked_of reason outer.entry.whole.now (outer.entry.kind, outer.entry.value.now) }

@@ -88,7 +88,8 @@ impl Hash for Key<'_> {
     }
 }
 
-/// Law: maps can use Interest keys in this order. Keys that compare as equal are equal.
+/// Law: maps can use the keys of Interests, in the order of `key_cmp`. Keys that compare as equal
+/// are equal.
 pub fn interest_keys_can_be_keys()
     ensures total { IsTotalOrder key_cmp }
     ensures antisymmetric { IsAntisymmetric key_cmp }

@@ -96,7 +96,8 @@ fn is_ignored_header(kind: u32) -> bool
     kind > NACK && kind <= MAX_IGNORED && kind % 4 == 0
 }
 
-/// Refuses a number above `limit`, because the packet is then one of several fragments.
+/// Refuses a number above `limit` as `Fragmented`, because the packet is then one of several
+/// fragments. Refuses a value that is not a number as `BadField`.
 fn check_at_most(limit: u64, value: &[u8]) -> Result<(), PacketFault>
     ensures { (s : LinkSoFar) → on_result (λ _. Ok s) Err result ≡ at_most limit value.now s }
 {
@@ -183,9 +184,9 @@ fn check_last(after: &[u8]) -> Result<(), PacketFault>
 }
 
 /// Appends a link packet around a packet, with the PIT token and the Nack that are given (NDNLPv2,
-/// "PIT Token", "Network Nack"). If neither is given, appends the packet alone. The token has 1 to
-/// 32 octets, and comes before the Nack. The NackReason is always written, even if it is 0. If
-/// memory runs out, nothing is appended.
+/// "PIT Token", "Network Nack"). If neither is given, appends the packet alone. The token must have
+/// 1 to 32 octets, and is written before the Nack. The NackReason of a Nack is written even if it
+/// is 0. If memory runs out, nothing is appended.
 pub fn put_lp(
     out: &mut Vec<u8>,
     token: Option<&[u8]>,
@@ -293,8 +294,8 @@ pub fn put_nack(out: &mut Vec<u8>, reason: u64, interest: &[u8]) -> Result<(), M
     put_lp(out, None, Some(reason), interest)
 }
 
-/// Appends a packet with a PIT token and a Nack. If memory runs out, some octets may have been
-/// appended.
+/// Appends a packet, inside a link packet if a PIT token or a Nack is given. If memory runs out,
+/// some octets may have been appended.
 fn put_lp_parts(
     out: &mut Vec<u8>,
     token: Option<&[u8]>,

@@ -8,7 +8,8 @@ use crate::types::{INTEREST_SIGNATURE_INFO, INTEREST_SIGNATURE_VALUE, VALIDITY_P
 /// Packet Format 0.3, "Considerations for Evolvability of TLV-Based Encoding").
 #[derive(Clone, Copy)]
 pub enum Rules {
-    /// The value of a packet after its Name: even types from 32 on are ignored.
+    /// The value of a packet after its Name, or the value of a Nack: even types from 32 on are
+    /// ignored.
     Packet,
     /// The value of a MetaInfo: the types 128 to 252 are ignored too.
     MetaInfo,

@@ -82,7 +82,7 @@ impl Used {
     }
 
     /// Returns the face at index `i` in rising order of the faces, and the number of this face. The
-    /// first index is 0.
+    /// first index is 0. Returns `None` if `i` or fewer faces have a number.
     pub fn at(&self, i: usize) -> Option<(u64, u64)>
         ensures { result ≡ slice_get (map.entries self.now) i }
     {

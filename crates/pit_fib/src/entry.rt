@@ -261,9 +261,9 @@ impl Entry {
         self.in_records.deadline()
     }
 
-    /// Adds or replaces the in-record of a face. If the face has no in-record, fewer than 64 faces
-    /// must have one. If the entry's own memory is full, the in-records move into the memory
-    /// `room`.
+    /// Adds or replaces the in-record of a face. Changes nothing if the face has no in-record and
+    /// 64 other faces have one. If the entry's own memory is full, the in-records move into the
+    /// memory `room`.
     pub fn arrive(&mut self, face: u64, in_record: InRecord, room: Room<InRecord>)
         requires { MAX_FACES ≤ room }
         ensures { self.new ≡ with_in_record face in_record self.old }

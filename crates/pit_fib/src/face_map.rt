@@ -120,7 +120,8 @@ impl<V: Drop> FaceMap<V> {
         }
     }
 
-    /// Sets the value of a face, if the map's own memory or the memory `room` suffices.
+    /// Sets the value of a face. Changes nothing if the face is new and 64 faces have values, or if
+    /// neither the map's own memory nor the memory `room` suffices.
     pub fn set(&mut self, face: u64, value: V, room: Room<V>)
         ensures { self.new ≡ set_in room face value self.old }
     {

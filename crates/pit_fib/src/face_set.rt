@@ -70,7 +70,8 @@ impl Faces {
         self.len
     }
 
-    /// Returns the face at index `i` in rising order. The first index is 0.
+    /// Returns the face at index `i` in rising order. The first index is 0. Returns `None` if the
+    /// set has `i` or fewer faces.
     pub fn get(&self, i: usize) -> Option<u64>
         ensures { result ≡ slice_get self.now i }
     {

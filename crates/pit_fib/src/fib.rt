@@ -309,8 +309,8 @@ impl Fib {
         hops_in_order(way.costs.as_slice())
     }
 
-    /// Returns all names in canonical order, each with the effective next hops that it has after
-    /// the routes that expire by `now` are removed.
+    /// Returns the names that still have an entry after the routes that expire by `now` are
+    /// removed, in canonical order. Each name comes with the effective next hops that it then has.
     pub fn list(&self, alloc: Global, now: u64) -> Result<Vec<(NameBuf, Hops)>, Memory>
         ensures { IfOk result (λ list. list.items ≡ listed (left_at now self.now.table)) }
     {
@@ -335,8 +335,8 @@ impl Fib {
         Ok(are_same(&entries, &others))
     }
 
-    /// Shows all names in canonical order, each with the effective next hops that it has after the
-    /// routes that expire by `now` are removed.
+    /// Shows the names that still have an entry after the routes that expire by `now` are removed,
+    /// in canonical order. Each name is shown with the effective next hops that it then has.
     pub fn show_all<S: Show<Hops> + Drop>(&self, now: u64, show: S) -> Result<S, Memory>
         ensures { IfOk result
             (λ s. s ≡ shown_each S.shown show (listed (left_at now self.now.table))) }

@@ -85,7 +85,7 @@ impl Hops {
         self.as_slice().len()
     }
 
-    /// Returns the hop at index `i`, counted from 0.
+    /// Returns the hop at index `i`, counted from 0, or `None` if the list has `i` or fewer hops.
     pub fn get(&self, i: usize) -> Option<Hop>
         ensures { result ≡ slice_get self.now i }
     {

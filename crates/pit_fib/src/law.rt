@@ -119,8 +119,8 @@ pub fn records_tell_the_table()
         → ((key : PlainKey) → records_at a key ≡ records_at b key) → a ≡ b }
 {}
 
-/// Law: the records after an expiry are the same, whether or not there was an expiry at the same or
-/// an earlier moment.
+/// Law: the records after an expiry are the same, whether or not an expiry at the same or an
+/// earlier moment came before it.
 pub fn expiry_may_come_twice()
     ensures { (m n : ℕ) (key : PlainKey) (r : Records) → m ≤ n
         → records_after (Expires n) key (records_after (Expires m) key r)

@@ -399,7 +399,8 @@ impl Pit {
     }
 
     /// Records the reason of a Nack that came from a face, and returns the result of this Nack. The
-    /// records are not removed, even if each face has answered with a Nack.
+    /// records are not removed, even if each face has answered with a Nack. The call ends the
+    /// preparation.
     pub fn nacked(&mut self, key: Key<'_>, face: u64, nonce: [u8; 4], reason: u64) -> Nacked
         ensures answer { result ≡ nacked_answer
             (records_at self.old.pending (plain_key key.entry)) face nonce reason }
@@ -423,7 +424,8 @@ impl Pit {
         answer_of(&self.rows, key, reason)
     }
 
-    /// Removes the in-record of a face, if there is one.
+    /// Removes the in-record of a face, if there is one. If the key then has no in-record, its
+    /// out-records are removed too.
     pub fn withdraw(&mut self, key: Key<'_>, face: u64)
         ensures pending { Follows (Withdrawn (plain_key key.entry) face)
             self.old.pending self.new.pending }
