@@ -1,4 +1,4 @@
--- The meaning of key locators and checkers.
+-- The meaning of filters, hyper-relations and key locators.
 use Rattle.std.proofs.Common.{◌≡◌, ℕ, Bool, true, List, [], ◌∷◌, length, refl, ap, subst, ◌∙◌}
 use Rattle.std.specs.Prelude.{Option, Some, None, Ok, not, codes, ◌||◌}
 use Rattle.name_patterns.specs.Pattern.{PlainPattern}

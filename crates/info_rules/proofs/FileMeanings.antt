@@ -1,4 +1,4 @@
--- The meaning of rules and rule files.
+-- The meaning of rules, trust anchors and rule files.
 use Rattle.std.proofs.Common.{◌≡◌, ℕ, ◌≤◌, Bool, true, false, cond, List, [], ◌∷◌, ◌++◌, length, refl, sym, subst, inl, inr, arith}
 use Rattle.std.specs.Prelude.{◌⊎◌, ◌≢◌, Result, IfOk, MatchResult, Option, Some, None, Ok, Err, nat_lt, bytes_eq, codes, ◌||◌}
 use Rattle.std.specs.List.{AllByRecursion, flat_map}

@@ -1,4 +1,5 @@
--- A name has at most one match, and the match expands to one name.
+-- A pattern matches a name in at most one way, and a template expands this match to at most one
+-- name.
 use Rattle.std.proofs.Common.{◌≡◌, ℕ, ◌<◌, ◌≤◌, false, List, [], ◌∷◌, ◌++◌, ◌⊎◌, inl, inr, length, subst, sym, refl, ap, ◌∙◌, arith}
 use Rattle.std.specs.Prelude.{Bool, IsTrue, ◌↔◌}
 use Rattle.ndn_tlv.specs.Element.{Field}

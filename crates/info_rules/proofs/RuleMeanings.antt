@@ -1,4 +1,4 @@
--- The meaning of checkers, rules and rule files.
+-- The meaning of checkers.
 use Rattle.std.proofs.Common.{◌≡◌, ℕ, true, false, List, [], ◌∷◌, refl, sym, ap, subst, inl, inr}
 use Rattle.std.specs.Prelude.{Option, Some, None, Ok, codes}
 use Rattle.info_rules.specs.declared.fault.RulesFaultKind.TheVariants as kinds
@@ -29,7 +29,7 @@ use Rattle.info_rules.proofs.CheckerMeanings.{ok_one, locator_means, locator_mea
 
 -- ---- checkers
 
--- the value of the key `sig-type` is this signature type; if the type is None, the key is absent
+-- the value of the key `sig-type` is this signature type; if the type is `None`, the key is absent
 abbrev Takes : Option SignatureType → List Block → Type 0
 Takes None keys = Lacks (codes "sig-type") keys
 Takes (Some HmacSha256) keys = HasValue (codes "sig-type") keys (codes "hmac-sha256")

@@ -16,7 +16,8 @@ use Rattle.info_rules.proofs.TreeSteps.{ok_is, ok_unless, word_found, open_found
 
 -- ---- the remaining entries of the open blocks
 
--- the remaining entries of the innermost open block, and those of the blocks around it
+-- the remaining entries of the innermost open block, the line of its closing brace, and then the
+-- remaining entries of the blocks around it
 data Levels : Type 0 where
   Bottom : Nodes → Levels
   Inside : Nodes → ℕ → Levels → Levels
@@ -164,8 +165,9 @@ abbrev Means : Option PlainEntry → PlainDraft → List (ℕ × Token) → List
 Means None draft tokens entries = IsBetweenEntries draft.closed draft.depth draft.ended tokens entries
 Means (Some entry) draft tokens entries = IsGoing entry draft.depth draft.ended tokens entries
 
--- `Means` holds if the remaining tokens spell the remaining entries, and `entries` are the entries
--- of the draft followed by the remaining entries
+-- `Means` holds if the remaining tokens spell the remaining entries, `entries` are the entries of
+-- the draft followed by the remaining entries, and the first remaining entry of the innermost open
+-- block is on a new line
 further : (draft : PlainDraft) (tokens : List (ℕ × Token)) (entries : List PlainEntry) (levels : Levels) → (pending : Option PlainEntry) → draft.pending ≡ pending → tokens ≡ level_tokens levels
     → (draft.pending ≡ None → StartsOff draft.closed (top levels)) → ((entry : PlainEntry) → draft.pending ≡ Some entry → BeginsOff entry.line (top levels)) → AreLevels draft.depth levels
     → entries ≡ entries_of draft ++ level_outline draft.depth levels → Means pending draft tokens entries

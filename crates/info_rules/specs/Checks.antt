@@ -14,7 +14,7 @@ use Rattle.info_rules.specs.declared.decision.Reason.TheVariants as reasons
 use Rattle.info_rules.specs.Seen.{PlainSigned}
 use Rattle.info_rules.specs.Locator.{PassesLocator}
 
--- `given` is this reason if `Fact` is false; if `Fact` is true, `Rest` holds
+-- `given` is `reason` if `Fact` is false; if `Fact` is true, `Rest` holds
 abbrev pub Unless : Type 0 → Reason → Option Reason → Type 0 → Type 0
 Unless Fact reason given Rest = ((¬ Fact) × (given ≡ Some reason)) ⊎ (Fact × Rest)
 

@@ -47,8 +47,8 @@ hierarchical_pattern = record {
   groups = (0, 1) ∷ [];
 }
 
--- the longest prefix in the key's name that KEY and one to three more components follow is also a
--- prefix of the packet's name
+-- the longest prefix of the key's name that is followed by KEY and one to three more components is
+-- also a prefix of the packet's name
 pub record IsHierarchical (key packet : List Field) : Type 0 where
   pub prefix : List Field
   pub is_key : IsKeyOf prefix key

@@ -107,8 +107,8 @@ impl Rules {
     ghost use Rattle.info_rules.specs.Decides.{Decides, MayRefuse};
     ghost use Rattle.info_rules.specs.Shown.{frame_of};
 
-    /// Returns the number of the first rule that applies to packets of this kind and name.
-    /// Allocates no memory.
+    /// Returns the position of the first rule that applies to packets of this kind and name, or
+    /// `None` if no rule applies. Allocates no memory.
     pub fn first_match(&self, kind: Kind, name: Name<'_>) -> Option<RuleNo>
         ensures { MatchOption result (NoneApplies self.now kind (components name.entry))
             (λ rule. First self.now kind (components name.entry) rule.0) }

@@ -18,7 +18,7 @@ impl RulesFaultKind {
     ghost use Rattle.std.specs.Prelude.{◌≡◌};
     ghost use Rattle.info_rules.specs.Faults.{kind_number};
 
-    /// Returns the position of the kind in the list of kinds.
+    /// Returns the position of the kind in the list of kinds. The first position is 1.
     fn number(self) -> u8
         ensures { result ≡ kind_number self }
     {

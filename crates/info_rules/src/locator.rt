@@ -105,7 +105,7 @@ fn is_hierarchical(key: Name<'_>, packet: Name<'_>) -> bool
 }
 
 /// Returns the longest prefix of the key's name that is followed by `KEY` and one to three more
-/// components.
+/// components, or `None` if there is no such prefix.
 fn prefix_of_key(key: Name<'_>) -> Option<Name<'_>>
     ensures { MatchOption result
         ((prefix : List Field) → ¬ IsKeyOf prefix (components key.entry))

@@ -85,7 +85,8 @@ pub fn read_name_word(keys: Keys<'_>, word: &str) -> Found<Option<()>>
     Err(RulesFaultKind::BadValue.at(key.own.line))
 }
 
-/// Checks the type of a trust anchor, if the block has one.
+/// Checks the type of a trust anchor, if the block has one. Returns the fault `AnyAnchor` for the
+/// type `any`, and `BadValue` for a type that no trust anchor has.
 #[tactic(auto, unfolding(crate::specs::Values::anchor_value_in))]
 pub fn read_anchor_type(keys: Keys<'_>) -> Found<Option<()>>
     ensures { result ≡ anchor_value_in (keys_of keys.entry) }

@@ -60,10 +60,11 @@ impl InfoTree {
     /// opening brace may be on a later line. An entry ends with its line, or before a `}`.
     ///
     /// On failure, returns the first of the following faults. A word or a brace where it is not
-    /// allowed is `Syntax`. A block that is not closed is `Syntax` at the line where the text ends.
-    /// A block inside eight others is `TooDeep`, or `Syntax` if the same line also has a word or a
-    /// brace where it is not allowed. A text of more than 65,536 octets is refused before all these
-    /// checks (`TooLarge`). `Memory` may be returned for any text.
+    /// allowed is `Syntax`, and so is a quote that is not closed on its line. A block that is not
+    /// closed is `Syntax` at the line where the text ends. A block inside eight others is
+    /// `TooDeep`, or `Syntax` if the same line also has a `Syntax` fault. A text of more than
+    /// 65,536 octets is refused before all these checks (`TooLarge`). `Memory` may be returned for
+    /// any text.
     pub fn read(alloc: Global, text: &str) -> Result<InfoTree, RulesFault>
         // The text spells the entries that are returned.
         ensures found { IfOk result (TreeOf text.now) }

@@ -84,7 +84,7 @@ fn quoted_len(text: &[u8]) -> Option<usize>
     None
 }
 
-/// Returns the text from the end of its first line to the end of the text.
+/// Returns the text from its first LF on, or an empty text if there is no LF.
 fn from_line_end(text: &str) -> &str
     ensures read { result.now ≡ from_line_end text.now }
     ensures shorter { length result.now ≤ length text.now }
