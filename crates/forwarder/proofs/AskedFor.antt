@@ -1,6 +1,6 @@
--- If a Data is sent to a face, this face asked for the Data. Let octets be sent to a face, and let
--- `is_data` be true of these octets. If they are not read as a Data, they are the node's own answer
--- to an Interest of this face.
+-- Let the repository be empty at the start of a run. If a Data is sent to a face, this face asked
+-- for the Data. If octets of which `is_data` is true are sent to a face, and they are not read as a
+-- Data, they are the node's own answer to an Interest of this face.
 use Rattle.std.proofs.Common.{◌≡◌, ℕ, Bool, true, false, cond, List, [], ◌∷◌, refl, sym, ap, subst, ◌∙◌, Result, Ok, Err, inl, inr}
 use Rattle.std.specs.Prelude.{◌≢◌, IfSome, Option, Some, None, Contains, IsSome, IsTrue, max}
 use Rattle.std.specs.FinMap as map

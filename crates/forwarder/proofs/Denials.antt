@@ -1,4 +1,5 @@
--- A denied event changes nothing, except that time advances to its moment.
+-- If no two keys in force have the same name, a denied event changes nothing in the policy, except
+-- that time advances to the event's moment.
 use Rattle.std.proofs.Common.{◌≡◌, ℕ, Bool, true, false, List, [], ◌∷◌, refl, sym, ap, subst, ◌∙◌, Result, Ok, Err}
 use Rattle.std.specs.Prelude.{Option, Some, None, nat_le, length, not, ◌==◌, ◌&&◌, if◌then◌else◌}
 use Rattle.hmac_keys.specs.KeyFile.{AreApart}

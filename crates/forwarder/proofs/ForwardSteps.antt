@@ -305,7 +305,8 @@ takes_key false n never =
 
 -- ---- a Nack that is sent back
 
--- a Nack around an Interest that was read is read as a Nack
+-- a Nack around an Interest that was read is read as a Nack, if its reason is below 2^64 and its
+-- token, if any, is valid
 nack_spelled : (token : Token) (reason : ℕ) (whole : List ℕ) (i : PlainInterest) → IfSome token IsToken → IfSome token AreOctets → ∥ IsInterest whole i ∥₁ → reason < 2 ^ 64
     → is_nack (lp_text token (Some reason) whole) ≡ true
 nack_spelled token reason whole i is octets spelled fits = by_nack (is_nack (lp_text token (Some reason) whole)) refl

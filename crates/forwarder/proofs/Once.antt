@@ -160,7 +160,8 @@ seen_after_event : (was new : Policy) (event : PlainEvent) (r : Recorded) → Gu
 seen_after_event was new event r (inl e) h = subst (λ (t : Table). HasSeen t r) (sym e) h
 seen_after_event was new event r (inr (whole, i, s, allows, is, e)) h = subst (λ (t : Table). HasSeen t r) (sym e) (seen_stays was.guard r s h)
 
--- `HasSeen` is true of an allowed command after the event that brings the command
+-- if no two keys in force have the same name, `HasSeen` is true of an allowed command after the
+-- event that brings the command
 seen_when_allowed : (was new : Policy) (event : PlainEvent) (whole : List ℕ) (i : PlainInterest) (r : Recorded) → AreApart was.keys → Allows was event (AnInterest whole i) → recorded_of i ≡ Some r
     → IsAfter was event new → HasSeen new.guard r
 seen_when_allowed was new event whole i r apart allows is h =
@@ -193,7 +194,8 @@ recorded_there i s (Some time) e t some = (
       ∙ ap (λ (o : Option ℕ). recorded_with s.info o) t,
 )
 
--- of two allowed commands of a signer, the later command is newer than the earlier one
+-- if no book of keys has two keys of the same name, the later of two allowed commands of a signer
+-- is newer than the earlier one
 pub newer : (first was : Policy) (run : Run) (event : PlainEvent) (whole other : List ℕ) (i j : PlainInterest) (r s : Recorded) → KeysAreApart first run → AllowedIn first run (AnInterest whole i)
     → IsPolicyOf first run was → Allows was event (AnInterest other j) → recorded_of i ≡ Some r → recorded_of j ≡ Some s → r.signer ≡ s.signer → (r.time < s.time) × NumberRises r.number s.number
 newer first was run event whole other i j r s apart allowed h allows is also same =

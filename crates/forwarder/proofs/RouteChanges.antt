@@ -76,9 +76,9 @@ module _ {V : Type 0} (read : Entry → V) (routes : Routes) (n : List Field) (e
       by true t = here ∙ ap (λ (m : List Field). cond b y (read (entry_at routes m))) (sym (same_name name n t))
       by false t = refl
 
-  -- Let `read` give `y` for the new entry `e` if `b` is true, and the value for the old entry of
-  -- `n` otherwise. Then, for the changed routes, `read` gives `y` if `name` is `n` and `b` is
-  -- true, and the old value for `name` otherwise.
+  -- For the new entry `e`, let `read` give `y` if `b` is true, and the value for the old entry of
+  -- `n` if `b` is false. Then, for the changed routes, `read` gives `y` if `name` is `n` and `b` is
+  -- true. In all other cases, it gives the old value for `name`.
   pub changed_with : (b : Bool) (y : V) → read e ≡ cond b y (read (entry_at routes n))
       → read (entry_at (map.insert routes n e) name) ≡ cond (eq_by_cmp name_cmp name n && b) y (read (entry_at routes name))
   changed_with b y = changed_there (read (entry_at (map.insert routes n e) name)) b y read_with

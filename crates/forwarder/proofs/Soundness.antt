@@ -246,10 +246,10 @@ module _ (seen : Seen) (P : ℕ → Type 0) (face : ℕ) (token : Token) (asker 
   request_passes ForRepository answer (said, is_said, is) = command_passes P seen.policy face token i said answer is
   request_passes ForData answer is = data_passes (loops (seen.records (key_of i)) face i.nonce) answer is
 
--- ---- what time and packets change in the open faces and the faces with routes
+-- ---- what time and packets change in the open faces and in the faces with next hops or routes
 
--- the open faces are the same, and if all faces with routes were open, all faces with routes are
--- still open
+-- the open faces are the same, and if all faces with next hops or routes were open, all faces with
+-- next hops or routes are still open
 abbrev KeepsOpen : Policy → Policy → Type 0
 KeepsOpen p q = (q.faces ≡ p.faces) × (AllAreUp p.routes (open_faces p) → AllAreUp q.routes (open_faces q))
 
@@ -292,7 +292,7 @@ effect_keeps : (p : Policy) (face now : ℕ) (octets : List ℕ) (new : Policy) 
 effect_keeps p face now octets new None is = subst (KeepsOpen p) (sym is) (keeps_itself p)
 effect_keeps p face now octets new (Some packet) (said, is_said, is) = subst (KeepsOpen p) (sym is) (said_keeps p face packet said)
 
--- all faces with routes are open once time has advanced to a moment
+-- in a sound node, all faces with next hops or routes are open once time has advanced to a moment
 pub later_up : (old new : NodeState) (moment : ℕ) → IsSound old → IsLater old moment new → AllAreUp new.policy.routes (open_faces new.policy)
 later_up old new moment sound later =
     subst (λ (p : Policy). AllAreUp p.routes (open_faces p)) (sym later.policy) ((moment_keeps old.policy moment).1 sound.routes)

@@ -37,8 +37,8 @@ abbrev pub IsOwnAnswer : Policy → ℕ → List ℕ → PlainInterest → List 
 IsOwnAnswer p face asked i octets =
     IsReplyToCommand p face asked i octets ⊎ IsSegmentAskedFor p face i octets
 
--- the Data `d` answers the Interest `i` and came in an earlier event that allowed it, or `whole`
--- is the node's own answer to `i`
+-- the Data `d` answers the Interest `i`, came in an event of the run `past`, and was allowed at
+-- that event; or `whole` is the node's own answer to `i`
 abbrev pub AnswersNow : Policy → Run → Policy → ℕ → List ℕ → PlainInterest → List ℕ → PlainData
     → Type 0
 AnswersNow first past p face asked i whole d =
@@ -47,10 +47,10 @@ AnswersNow first past p face asked i whole d =
     ⊎ IsOwnAnswer p face asked i whole
 
 -- After a run that leaves the policy `was`, the face asked for this Data. There are three cases.
--- The event brings and allows the Data, which answers a pending Interest of the face. Or the
--- event brings an Interest on this face, and the Data answers it and was allowed in an earlier
--- event. Or the event brings an Interest on this face, and the Data is the node's own answer to
--- it.
+-- The event brings the Data, which is allowed and answers a pending Interest of the face. Or the
+-- event brings an Interest on this face, and the Data answers it, came in an event of the run, and
+-- was allowed at that event. Or the event brings an Interest on this face, and the Data is the
+-- node's own answer to it.
 abbrev pub WasAskedFor : Policy → Run → Policy → PlainEvent → ℕ → List ℕ → PlainData → Type 0
 WasAskedFor first past was event face whole d =
     (Allows was event (AData whole d)
@@ -58,8 +58,8 @@ WasAskedFor first past was event face whole d =
     ⊎ ((asked : List ℕ) × (i : PlainInterest) × BringsPacketOn event face (AnInterest asked i)
     × AnswersNow first past (at_moment was (moment event)) face asked i whole d)
 
--- the event brings an Interest on this face, and what is sent is the node's own answer to that
--- Interest, with the Interest's token
+-- the event brings an Interest on the face of the send `sent`, and what is sent is the node's own
+-- answer to that Interest, with the Interest's token
 abbrev pub AnswersItself : Policy → PlainEvent → Send → Type 0
 AnswersItself was event sent =
     (asked packet : List ℕ) × (i : PlainInterest)

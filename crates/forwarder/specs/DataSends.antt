@@ -27,8 +27,9 @@ use Rattle.forwarder.specs.Replies.{Seen, Waits}
 use Rattle.forwarder.specs.Verdict.{Answer, passed}
 
 -- The event brings a Data that is allowed. The received octets of the Data are sent to another
--- face, which has a pending Interest that the Data answers. They are sent with the token of that
--- face's latest Interest that the Data answers.
+-- face, which has a pending Interest that the Data answers. They are sent with the token of the
+-- Interest with the latest deadline, among that face's pending Interests that the Data answers
+-- (`IsTokenFor`).
 pub record IsForwardedData (seen : Seen) (event : PlainEvent) (sent : Send) : Type 0 where
   pub face : ℕ
   pub now : ℕ

@@ -19,7 +19,8 @@ key_named (KeyName name) = Some name
 key_named Digest = None
 key_named Other = None
 
--- the signer of a command; all commands signed with DigestSha256 count as commands of one signer
+-- the signer of a command; all commands that are signed with DigestSha256, or whose KeyLocator
+-- contains no name, count as commands of one signer
 abbrev pub signer_in : PlainSignatureInfo → Signer
 signer_in info = if info.kind == DIGEST_SHA256 then None else key_named info.locator
 

@@ -30,8 +30,8 @@ strategy_for p name = unwrap_or (longest p.choices name) BestRoute
 abbrev pub hops_for : Policy → List Field → List Hop
 hops_for p name = marked (local_faces p) (longest_hops p.routes name)
 
--- the strategy's choice for an Interest of this name, where `asked` has the faces that the Interest
--- was sent to before
+-- the strategy's choice for an Interest of this name, where `asked` has the moments at which an
+-- Interest of the same key was last sent to each face
 abbrev pub choice_for : Policy → List Field → ByFace → Ask → Choice
 choice_for p name asked ask =
     chosen (selection_of (strategy_for p name)) (hops_for p name) asked ask

@@ -48,9 +48,9 @@ route_after (DataCame whole d) now name face origin was = was
 route_after (NackPassed from reason i) now name face origin was = was
 route_after (FaceClosed closed) now name face origin was = if face == closed then None else was
 
--- The route that the last register of this name, face and origin gave, if nothing has ended the
--- route since: no unregister, no closing of its face, and no later event of any kind at or after
--- the route's deadline.
+-- The route that the last register of this name, face and origin with status 200 gave, if nothing
+-- has ended the route since: no unregister, no closing of its face, and no later event of any kind
+-- at or after the route's deadline.
 abbrev pub route_of : Run → List Field → ℕ → ℕ → Option Route
 route_of Start name face origin = None
 route_of (Then before event answer) name face origin =

@@ -216,7 +216,7 @@ impl State {
     }
 
     /// Sends the Interest in `reply.fetch`, if there is one, to the faces that the strategy
-    /// chooses.
+    /// chooses. Sends nothing if the Interest cannot be encoded.
     fn fetch(&self, reply: &RepoReply, nonce: [u8; 4], out: &mut Sends) -> Result<(), Memory>
         ensures ok { OnOk result (out.new.sends
             ≡ out.old.sends ++ fetch_sends (policy_of self.entry.now) nonce reply.now.fetch) }

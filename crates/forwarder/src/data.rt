@@ -32,8 +32,8 @@ use pit_fib::{Faces, MAX_FACES};
 impl State {
     /// Handles a Data (NFD Developer's Guide, "Incoming Data Pipeline"). A Data that the rules
     /// allow is sent unchanged to each other face with a pending Interest for the Data. The Data is
-    /// cached if any face, even the incoming face, has a pending Interest for the Data. The Data is
-    /// stored if the repository wants the Data.
+    /// offered to the cache if any face, even the incoming face, has a pending Interest for the
+    /// Data. The Data is stored if the repository wants the Data.
     pub fn receive_data(
         &mut self,
         arrived: &Arrived<'_, Data<'_>>,
@@ -85,10 +85,10 @@ impl State {
         Ok(Verdict::DataAllowed(rule))
     }
 
-    /// Sends an allowed Data to the other faces with a pending Interest for the Data. Caches the
-    /// Data if any face has a pending Interest for it. Stores the Data if the repository wants it.
-    /// Memory does not run out: memory for 64 sends and their octets is already reserved, and the
-    /// offer to the repository is prepared.
+    /// Sends an allowed Data to the other faces with a pending Interest for the Data. If any face
+    /// has a pending Interest for the Data, offers it to the cache, which leaves it out if memory
+    /// runs out. Stores the Data if the repository wants it. The call never fails: memory for 64
+    /// sends and their octets is already reserved, and the offer to the repository is prepared.
     fn deliver(
         &mut self,
         face: u64,

@@ -152,7 +152,8 @@ fn segment_data<'a>(
 
 impl State {
     /// Sends a segment of a list, as the list is at this moment, to the face that requests the
-    /// segment. The segment is encoded before time advances, since memory may run out.
+    /// segment. Drops the Interest if the requested segment or version does not exist. The segment
+    /// is encoded before time advances, since memory may run out.
     pub fn send_list(
         &mut self,
         arrived: &Arrived<'_, Interest<'_>>,

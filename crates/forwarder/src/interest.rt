@@ -83,8 +83,8 @@ impl State {
         self.miss(arrived, out)
     }
 
-    /// Answers an Interest from the cache, at the index that `place_for` returned (NFD Developer's
-    /// Guide, "Content Store Hit Pipeline"), or by a Nack if the Interest loops.
+    /// Answers an Interest from the cache (NFD Developer's Guide, "Content Store Hit Pipeline"), or
+    /// by a Nack if the Interest loops. `place` is the position that `Store::place_for` returned.
     fn serve_cached(
         &mut self,
         arrived: &Arrived<'_, Interest<'_>>,
@@ -205,7 +205,8 @@ impl State {
     }
 
     /// Forwards an Interest, which neither the cache nor the repository answers, to the faces that
-    /// its strategy chooses. Sends a Nack back if no next hop may get the Interest.
+    /// its strategy chooses. If no next hop may get the Interest, removes the in-record that the
+    /// face has under this key, and sends a Nack back.
     fn forward(
         &mut self,
         face: u64,

@@ -39,7 +39,7 @@ ghost use Rattle.forwarder.specs.Kept.{IsSentBack, IsKept, IsPassed, IsSentOn};
 ghost use Rattle.forwarder.specs.Runs.{Run, Start, Then, AreLastRules, BringsData, BringsKeysApart, BringsRequest, HasNoNewRules, HasTicksForDenied, HaveOneHistory, IsPolicyOf, IsRun, KeysAreApart, MayHold, MayReply, Stands, now_of, past_causes, events_back, records_of, seen_after};
 
 /// Law: the policy after an event is a function of the event and of the policy before the event, if
-/// no two keys of the book have the same name.
+/// no two keys of the policy before the event have the same name.
 pub fn events_have_one_effect()
     ensures { (old new other : Policy) (event : PlainEvent) → AreApart old.keys
         → IsAfter old event new → IsAfter old event other → new ≡ other }
@@ -94,11 +94,11 @@ pub fn refused_steps_stand_still()
         → ChangesCacheOnly old new → Stands first past new }
 {}
 
-/// Law: if no book has two keys of the same name, two runs of the same events give the same policy.
-/// For the next event, all valid answers after both runs are equal if the event brings a command, a
-/// request for a list, or an Interest that is dropped because of its HopLimit or scope. The
-/// verdicts of these answers are equal if the event brings a Data. It follows that these statements
-/// are true at each event of two runs with the same events.
+/// Law: if no book has two keys of the same name, two runs of the same events that start from the
+/// same policy give the same policy. For the next event, all valid answers after both runs are
+/// equal if the event brings a command, a request for a list, or an Interest that is dropped
+/// because of its HopLimit or scope. The verdicts of these answers are equal if the event brings a
+/// Data. It follows that these statements are true at each event of two runs with the same events.
 pub fn histories_decide()
     ensures policy { (first p q : Policy) (past other : Run) → KeysAreApart first past
         → HaveOneHistory past other → IsPolicyOf first past p → IsPolicyOf first other q → p ≡ q }
@@ -111,8 +111,9 @@ pub fn histories_decide()
         → MayReply first past event a → MayReply first other event b → a.verdict ≡ b.verdict }
 {}
 
-/// Law: if ticks at the same moments replace some denied events of a run, the result is still a
-/// run, and the policy after the run is the same.
+/// Law: let no book of keys have two keys of the same name. If ticks at the same moments replace
+/// some denied events of a valid run, the result is still a valid run, and the policy after the run
+/// is the same.
 pub fn denied_events_change_nothing()
     ensures run { (first : Policy) (past other : Run) → KeysAreApart first past → IsRun first past
         → HasTicksForDenied past other → IsRun first other }

@@ -101,6 +101,7 @@ impl State {
 }
 
 /// Returns `room` plus the number of octets for one more Nack, whose Interest has `octets` octets.
+/// Returns `Memory` if the sum overflows.
 fn room_with(room: usize, octets: usize) -> Result<usize, Memory>
     ensures { IfOk result (λ sum. sum ≡ room + (octets + LINK_EXTRA)) }
 {

@@ -159,8 +159,9 @@ impl Node {
         self.state.now
     }
 
-    /// Returns the number and the scope of the open face at index `i`. The open faces are in rising
-    /// order of their numbers. At most 64 faces are open.
+    /// Returns the number and the scope of the open face at index `i`, or `None` if `i` or fewer
+    /// faces are open. The open faces are in rising order of their numbers. At most 64 faces are
+    /// open.
     pub fn open_face(&self, i: usize) -> Option<(u64, Scope)>
         ensures { result ≡ slice_get self.now.policy.faces i }
     {

@@ -56,7 +56,8 @@ impl OpenFaces {
         self.all.len()
     }
 
-    /// Returns the number of the open face at index `i`, in rising order of the numbers.
+    /// Returns the number of the open face at index `i`, in rising order of the numbers, or `None`
+    /// if `i` or fewer faces are open.
     pub fn get(&self, i: usize) -> Option<u64>
         ensures { result ≡ slice_get (numbers self.now) i }
     {
@@ -64,7 +65,7 @@ impl OpenFaces {
     }
 
     /// Returns the number and the scope of the open face at index `i`, in rising order of the
-    /// numbers.
+    /// numbers, or `None` if `i` or fewer faces are open.
     pub fn entry(&self, i: usize) -> Option<(u64, Scope)>
         ensures { result ≡ slice_get self.now i }
     {
@@ -83,7 +84,7 @@ impl OpenFaces {
         self.all.contains(face) && !self.local.contains(face)
     }
 
-    /// Opens a face.
+    /// Opens a face, which must not be open yet. Fewer than 64 faces must be open.
     pub fn open(&mut self, face: u64, scope: Scope)
         requires new { is_open face self.old ≡ false }
         requires room { length self.old < MAX_FACES }

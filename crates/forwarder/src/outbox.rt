@@ -46,7 +46,8 @@ impl Outbox {
         self.sends.is_empty()
     }
 
-    /// Returns the face and the octets of the send at index `i`.
+    /// Returns the face and the octets of the send at index `i`, or `None` if there are `i` or
+    /// fewer sends.
     pub fn sent(&self, i: usize) -> Option<(u64, &[u8])>
         ensures { option_map (λ sent. (sent.0, sent.1.now)) result ≡ slice_get self.now i }
     {

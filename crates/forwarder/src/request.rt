@@ -158,7 +158,8 @@ fn list_after(kind: ListKind, can_be_prefix: bool, name: Name<'_>) -> Option<Lis
     versioned(kind, numbered(SEGMENT, segment)?, version)
 }
 
-/// Returns a request for this segment of the list, in the version that the component encodes.
+/// Returns a request for this segment of the list, in the version that the component encodes, or
+/// `None` if the component encodes no version.
 fn versioned(kind: ListKind, segment: u64, version: Component<'_>) -> Option<ListAsked>
     ensures { result ≡ versioned_as kind segment (numbered VERSION (field_of version.entry)) }
 {

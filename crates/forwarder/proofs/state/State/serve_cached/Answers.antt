@@ -81,7 +81,8 @@ returns c = record {
   memory = tt;
 }
 
--- the lookup returned the index of a Data that is still in the cache
+-- `serve_at` returns a Data, since the contract requires that some cached Data can serve the
+-- Interest
 pub unreachable-requires : goal.unreachable-requires
 unreachable-requires c =
     let old = state_of c.args.self.now in
