@@ -61,7 +61,8 @@ two_ended a b = sym (append_assoc a (32 ∷ b) (10 ∷ []))
 three_ended : (a b c : List ℕ) → a ++ (32 ∷ (b ++ (32 ∷ (c ++ (10 ∷ []))))) ≡ (a ++ (32 ∷ (b ++ (32 ∷ c)))) ++ (10 ∷ [])
 three_ended a b c = ap (λ (t : List ℕ). a ++ (32 ∷ t)) (two_ended b c) ∙ two_ended a (b ++ (32 ∷ c))
 
--- if `line` spells the event and has no LF, the line with its LF is the text of this event
+-- if `line` spells the event, has no LF and has at most 20,000 octets, the line with its LF is the
+-- text of this event
 one_line : (event : PlainEvent) (line text : List ℕ) → length text ≤ 20001 → LineSpells event line → Lacks 10 line → text ≡ ended line → IsTextOf (event ∷ []) text
 one_line event line text short spells lacks e =
     let fits : length line ≤ 20000 = omega (arith, short, ap length e, length-append line (10 ∷ [])) in

@@ -38,7 +38,7 @@ use Rattle.journal.specs.Journal.{IsChosen, IsJournalOf, IsJournalled, is_journa
 use Rattle.forwarder.specs.Wanted.{brings_wanted, is_wanted_packet}
 use Rattle.journal.specs.Journalled.{is_journalled_by}
 
--- ---- answers to packets that allow nothing
+-- ---- verdicts that allow no packet
 
 abbrev allows : Verdict → Bool
 allows Passed = false

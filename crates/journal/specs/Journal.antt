@@ -30,8 +30,8 @@ is_journalled_as p packet (Allowed rule) = is_journalled_packet p packet
 is_journalled_as p packet (Denied rule reason) = false
 is_journalled_as p packet NoRule = false
 
--- Whether an event without a packet to decide is journalled. These events are: a face that can
--- open, an open face that closes, and new rules.
+-- Whether an event without a packet to decide is journalled. The journalled ones are: a face that
+-- can open, an open face that closes, and new rules.
 abbrev pub is_journalled_undecided : Policy → PlainEvent → Bool
 is_journalled_undecided p (Packet face now octets) = false
 is_journalled_undecided p (FaceUp face scope now) = can_open p face
@@ -103,8 +103,9 @@ IsBeginningOf part (Then before event answer) =
     (part ≡ Then before event answer) ⊎ IsBeginningOf part before
 
 -- The events `left` are the journal of a prefix of the run, called `part`. If `left` begins with
--- the whole journal of another prefix of the run, then that prefix is a prefix of `part`.
--- Replaying `left` from the first policy leads to the policy of `part`.
+-- the whole journal of another prefix of the run, then that prefix is a prefix of `part`. Replaying
+-- `left` from the first policy leads to a policy that equals the policy of `part` from the time of
+-- the latter on.
 pub record KeepsBeginning (first : Policy) (past : Run) (left : List PlainEvent) : Type 0 where
   pub part : Run
   pub policy : Policy

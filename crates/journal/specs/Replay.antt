@@ -15,9 +15,9 @@ use Rattle.journal.specs.declared.replaying.ReplayFault.TheVariants as fault
 use Rattle.journal.specs.Journal.{AreOneFrom, IsJournalOf}
 use Rattle.journal.specs.Text.{IsTextOf, Survives}
 
--- The events of these lines were answered in order and led from the old node to the new one. If
--- the old node agrees with a valid run, then this run followed by the events is valid, and the
--- new node agrees with the longer run.
+-- The events of these lines were answered in order and led from the old node to the new one. If the
+-- old node agrees with a valid run, the events extend this run to one that the new node agrees
+-- with, as `ExtendsRuns` states.
 pub record Plays (lines : List (List ℕ)) (events : List PlainEvent)
     (old new : NodeState) : Type 0 where
   pub are_lines : AreLines lines
@@ -76,7 +76,7 @@ pub record Restores (first : Policy) (past : Run) (left : List ℕ) (done : Repl
 
 -- `Restores` holds for each run whose journal's text begins with `left`, under two conditions: no
 -- book of keys in the run has two keys of the same name, and the old node has the run's first
--- policy and has not handled any event.
+-- policy, whose time is 0, and has not handled any event.
 abbrev pub RestoresRuns : NodeState → NodeState → List ℕ → Replayed → Type 0
 RestoresRuns old new left done =
     (first p : Policy) (past : Run) (journal : List PlainEvent) (text lost : List ℕ)

@@ -14,8 +14,9 @@ ghost use Rattle.journal.specs.Appending.{Steps};
 ghost use Rattle.journal.specs.Text.{IsCutTextOf, IsTextOf, Survives};
 ghost use Rattle.journal.specs.Journal.{AreOneFrom, IsJournalled, IsJournalOf, KeepsBeginning, events_of, with_event, with_moment};
 
-/// Law: if the keys of a policy have different names, the policy and the next event decide whether
-/// the event is journalled. An event that is not journalled only advances the policy's time.
+/// Law: let the keys of a policy have different names. Then the policy and the next event decide
+/// whether the event is journalled, and an event that is not journalled only advances the policy's
+/// time.
 pub fn other_events_bring_their_moments()
     ensures decided { (old : Policy) (event : PlainEvent) (a b : Bool) → AreApart old.keys
         → IsJournalled old event a → IsJournalled old event b → a ≡ b }

@@ -63,7 +63,8 @@ impl Survey {
     }
 
     /// Notes that stored objects answered an insert. The line of the insert needs the line of the
-    /// first of these objects, since without any object the insert would wait for a Data.
+    /// first of these objects, since without any object the insert would wait for a Data. If no
+    /// such object is known, the line needs all lines before it.
     fn note_answered(&mut self, line: u32, asked: &Asked<'_>) -> Result<(), Memory> {
         let start = key_of(self.alloc, Kind::Object, &[], asked.name.as_octets())?;
         match self.first_object(start, asked) {

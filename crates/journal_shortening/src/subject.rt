@@ -68,7 +68,7 @@ pub fn object_key(alloc: Global, data: &Data<'_>) -> Result<Vec<u8>, Memory> {
     key_of(alloc, Kind::Object, &[], name.as_octets())
 }
 
-/// Returns the full name in the key of an object.
+/// Returns the full name in the key of an object, or `None` for the key of another subject.
 pub fn full_name_in(key: &[u8]) -> Option<&[u8]> {
     let (kind, name) = key.split_first()?;
     if *kind == Kind::Object as u8 {

@@ -76,7 +76,8 @@ impl Survey {
         Ok(())
     }
 
-    /// Notes what a line did to a subject.
+    /// Notes what a line did to a subject. If `needs_next` is true for the last line on the subject
+    /// before this line, that line needs this line.
     pub fn write(&mut self, key: Vec<u8>, line: u32, effect: Effect) -> Result<(), Memory> {
         let before = self.writers.insert(key, Writer { line, effect })?;
         match before {
@@ -86,7 +87,8 @@ impl Survey {
     }
 
     /// Notes what the event of a line did. `octets` are the octets of the event's packet, if the
-    /// event has one.
+    /// event has one. The fault is `NotJournalled` for a packet that a node does not journal, or
+    /// `Memory`.
     pub fn note(&mut self, seen: Seen, octets: &[u8], line: u32) -> Result<(), ShortenFault> {
         match seen.change {
             Change::Nothing => {}
@@ -208,8 +210,8 @@ impl Survey {
     }
 
     /// Marks the lines that are needed even if no other line needs them: the line of the last
-    /// rules, the lines of open faces, the lines of wants that have not expired at the time `now`,
-    /// and the lines that set what the subjects are at this time.
+    /// rules, the lines that opened the open faces, the lines of wants that have not expired at the
+    /// time `now`, and the lines that set what the subjects are at this time.
     pub fn mark_roots(&self, now: u64, reach: &mut Reach) -> Result<(), Memory> {
         if let Some(rules) = self.rules {
             reach.mark(rules)?;

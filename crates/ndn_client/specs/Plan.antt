@@ -52,8 +52,8 @@ abbrev pub IsExplained : Bool → ExplainJob → List NamedKey → List ℕ → 
 IsExplained true asked book input text = IsExplainedInput (keys_given asked book) input text
 IsExplained false asked book input text = IsAnswer (job.Explain asked) book text
 
--- the text that is printed: the explained lines of standard input if no packet is given, and
--- otherwise the answer
+-- the text that is printed: for a job that explains standard input, its explained lines, and for
+-- any other job, the answer
 abbrev pub IsPrinted : Job → List NamedKey → List ℕ → List ℕ → Type 0
 IsPrinted (job.Explain asked) book input text =
     IsExplained (is_none asked.packet) asked book input text

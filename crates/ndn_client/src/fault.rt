@@ -35,7 +35,8 @@ pub enum Fault {
     Write,
     /// Standard input cannot be read, or is not UTF-8.
     Input,
-    /// The packet cannot be sent, or no socket can be connected to the port.
+    /// The packet cannot be sent, no free port can be bound to send it from, or the socket cannot
+    /// be connected to the port.
     Send,
     /// The local port to send from cannot be bound.
     Unbound {

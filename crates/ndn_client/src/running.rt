@@ -231,7 +231,8 @@ fn arguments_of<R: Env + AllocGlobal>(rt: &R) -> Result<Vec<String>, Fault> {
     }
 }
 
-/// Returns the time of the clock in milliseconds since 1970.
+/// Returns the time of the clock in milliseconds since 1970. The fault is `Clock` if the clock
+/// cannot be read or shows an earlier time.
 fn milliseconds<R: Clock>(rt: &R) -> Result<u64, Fault> {
     let Ok(time) = SystemTime::now(rt) else {
         return Err(Fault::Clock);

@@ -30,7 +30,7 @@ impl Subcommand {
     ghost use Rattle.std.specs.Prelude.{◌≡◌, IfOk};
     ghost use Rattle.ndn_command_line.specs.CommandLine.{HasApp, app_for, subcommand_named};
 
-    /// Returns the subcommand with this name.
+    /// Returns the subcommand with this name, or `None` if there is none.
     pub fn named(word: &str) -> Option<Subcommand>
         ensures { result ≡ subcommand_named word.now }
     {

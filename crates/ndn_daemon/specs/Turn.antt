@@ -39,8 +39,8 @@ pub record Tells (old new : NodeState) (before after : Shown) (events : ℕ) (te
   pub serves : Serves old new before after events refused failed
   pub text_is : text ≡ script_text old.policy.rules serves.arrivals serves.outcomes
 
--- each turn had an event, or the events ended before the last turn; the text of all events was
--- written
+-- each turn had an event, or the port ended and there were fewer events than turns; the text of all
+-- events was written
 abbrev pub TakesTurns : NodeState → NodeState → Shown → Shown → ℕ → Option (List ℕ)
     → Option (List ℕ) → Type 0
 TakesTurns old new before after turns held holds =
@@ -87,7 +87,7 @@ StopsTurn old new before after held holds gathered (Journal journal.Unwritten) =
     FailsToWrite old new before after × AppendsFront held holds gathered
 StopsTurn old new before after held holds gathered why = ⊥
 
--- each turn had an event, or the events ended before the last turn
+-- each turn had an event, or the port ended and there were fewer events than turns
 abbrev pub ServesTurns : NodeState → NodeState → Shown → Shown → ℕ → Type 0
 ServesTurns old new before after turns =
     (events refused failed : ℕ) × (ended : Bool) × Serves old new before after events refused failed
@@ -103,8 +103,8 @@ abbrev pub StopsQuietTurns : NodeState → NodeState → Shown → Shown → ℕ
 StopsQuietTurns old new before after turns why =
     (stop : ServeFault) × StopsServing old new before after turns stop × (why ≡ fault_of stop)
 
--- why a node stops before its last turn: no datagram can be received, an answer cannot be written,
--- memory for printing an answer ran out, or an event could not be journalled
+-- why a node stops before all its turns are done: no datagram can be received, an answer cannot be
+-- written, memory for printing an answer ran out, or an event could not be journalled
 abbrev pub EndsTurns : Fault → Type 0
 EndsTurns Unreceived = ⊤
 EndsTurns (Script Write) = ⊤

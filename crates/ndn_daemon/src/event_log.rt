@@ -107,8 +107,8 @@ impl<S: LogSink> EventLog<S> {
         self.text.is_empty()
     }
 
-    /// Appends the line of an event, if the log shows the event. A face that closes without a line
-    /// is counted.
+    /// Appends the line of an event, if the log shows the event. If the log leaves out the closing
+    /// of a face, the face is counted.
     pub fn put_event(&mut self, entry: &Entry<'_>, outcome: &Result<Verdict, Memory>, rules: &Rules)
         ensures left_out { is_left_out self.old.shows_all entry.now.came outcome.now ≡ true
             → self.new.text.items ≡ self.old.text.items }

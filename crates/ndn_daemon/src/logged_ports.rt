@@ -54,8 +54,8 @@ enum Seen {
 
 /// Ports with a log. They return the same arrivals and send the same packets as the underlying
 /// ports. Log lines are buffered. If nothing arrives soon, they are written before the ports wait.
-/// While events arrive, they are written when the first of them is a second old, or when they have
-/// at least 65,536 octets.
+/// While events arrive, the lines are written when the first of them is a second old, or when they
+/// have at least 65,536 octets.
 #[derive(Drop)]
 pub struct LoggedPorts<P: Ports + HasEndpoints + Drop, S: LogSink> {
     ports: P,

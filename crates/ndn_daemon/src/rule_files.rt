@@ -60,7 +60,8 @@ impl<'a, R: AllocGlobal + Files> RuleFiles<'a, R> {
         self.are_journalled = true;
     }
 
-    /// Reads the rules and the keys from the files.
+    /// Reads the rules and the keys from the files. After `journal` was called, files that together
+    /// do not fit into one line of a journal have the fault `LongRules`.
     pub fn read(&self) -> Result<Renewal, Fault> {
         let (rules, rule_octets) = self.read_rules()?;
         let (keys, key_octets) = self.read_keys()?;

@@ -77,7 +77,7 @@ impl<P: Ports + Drop, S: RuleSource> WatchedPorts<P, S> {
         }
     }
 
-    /// Returns the next of the first events after a restart.
+    /// Returns the next of the first events after a restart, or `None` if none is left.
     fn first(&mut self) -> Option<Arrival>
         ensures ports { self.new.ports ≡ self.old.ports }
         ensures fits { IfSome result (LiesWithin 0) }

@@ -37,7 +37,8 @@ held_name value (Some name) = name_text name
 abbrev pub strategy_text : List ℕ → List ℕ
 strategy_text value = held_name value (single NAME (elements_of value))
 
--- the words for the flags of a route (NFD Management, "RIB Management")
+-- the words for the flags of a route, given whether child-inherit is set and whether capture is set
+-- (NFD Management, "RIB Management")
 abbrev pub words_of_flags : Bool → Bool → List ℕ
 words_of_flags false false = codes "none"
 words_of_flags true false = codes "child-inherit"
@@ -164,8 +165,8 @@ node_reply_lines es = status_line STATUS_CODE es ++ body_lines (first_of CONTROL
 abbrev pub repository_reply_lines : Elements → List ℕ
 repository_reply_lines es = status_line REPO_STATUS_CODE es ++ field_lines es
 
--- the lines of a Content that is a response of the node or a response of a repository; no lines for
--- any other Content
+-- the lines of a reply, given the fields of the response of the node or the fields of the response
+-- of a repository; no lines if there is neither
 abbrev pub or_repository : Option (List ℕ) → Option (List ℕ) → List ℕ
 or_repository (Some fields) other = node_reply_lines (elements_of fields)
 or_repository None (Some fields) = repository_reply_lines (elements_of fields)

@@ -15,11 +15,11 @@ use ndn_packets::{PacketFault, read_lp};
 use ndn_tlv::Memory;
 use std::alloc::Global;
 
-/// Explains a text line by line and appends the result. A packet is replaced by its explanation. A
-/// line without a packet stays as it is, and empty lines are omitted. A packet is one or more
-/// octets in hexadecimal, alone on its line, or after the last space of a line that begins with
-/// `>`. Its signature is checked if there are keys. On `Memory`, some of the lines may have been
-/// appended.
+/// Explains a text line by line and appends the result. A packet is replaced by its explanation,
+/// and the text before it on its line becomes a line of its own. A line without a packet stays as
+/// it is, and empty lines are omitted. A packet is one or more octets in hexadecimal, alone on its
+/// line, or after the last space of a line that begins with `>`. Its signature is checked if there
+/// are keys. On `Memory`, some of the lines may have been appended.
 pub fn put_input(
     alloc: Global,
     text: &mut Vec<u8>,

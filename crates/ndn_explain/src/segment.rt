@@ -41,6 +41,7 @@ pub fn segment_of(name: Name<'_>) -> Option<u64>
 }
 
 /// Returns the number of the last segment, from the component in the FinalBlockId of the MetaInfo.
+/// Returns `None` if the octets are not a Data with such a number.
 pub fn last_segment(whole: &[u8]) -> Option<u64>
     ensures { result ≡ last_segment whole.now }
 {

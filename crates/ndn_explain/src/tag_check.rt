@@ -24,7 +24,8 @@ pub enum TagCheck {
     Unchecked,
 }
 
-/// Checks the signature of a packet, if it is signed, with the keys of a book.
+/// Checks the signature of a packet with the keys of a book. Returns `None` if the packet is not
+/// signed. For a Nack, its Interest is checked.
 pub fn check_tag(frame: &Frame<'_>, book: &KeyBook) -> Option<TagCheck>
     ensures { IsTagCheck (plain_frame frame.now) book.now result }
 {

@@ -41,9 +41,9 @@ IsListedJob now words name rows (Ask job) =
     (is_list rows ≡ true) × IsListJob now words name rows job
 IsListedJob now words name rows job = ⊥
 
--- the job that the options `rows` of the subcommand, whose name is `name`, ask for at the time
--- `now` with the words `words`; `route`, `strategy`, `cache` and `repo` are short forms of
--- `command`
+-- The job that the options `rows` of a subcommand ask for. `name` is the subcommand's name, `now`
+-- is the time, and `words` are the words of the command line. The subcommands `route`, `strategy`,
+-- `cache` and `repo` are short forms of `command`.
 abbrev pub IsJobFor : Subcommand → ℕ → List ℕ → List ℕ → List Row → Job → Type 0
 IsJobFor sub.Interest now words name rows (Interest job) = IsLinkJob rows job
 IsJobFor sub.Data now words name rows (Data job) = IsDataJob rows job

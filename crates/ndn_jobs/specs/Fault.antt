@@ -14,7 +14,8 @@ fault_of_write BadName = tool.Write BadName
 fault_of_write TooLong = tool.Write TooLong
 fault_of_write WriteMemory = tool.Memory
 
--- the exit status: 2 for a wrong command line, 3 if memory ran out, and otherwise 1
+-- the exit status: 2 for a wrong command line or a wrong standard input, 3 if memory ran out, and
+-- otherwise 1
 abbrev pub tool_status : ToolFault → ℕ
 tool_status (tool.Usage usage) = 2
 tool_status tool.NoKey = 1

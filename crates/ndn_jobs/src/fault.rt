@@ -7,14 +7,14 @@ use ndn_tlv::Memory;
 use std::alloc::AllocError;
 use std::fmt;
 
-/// What is wrong with a command line.
+/// What is wrong with a command line or with standard input.
 #[derive(Debug, Drop)]
 pub enum Usage {
     /// The arguments cannot be parsed as a command line.
     CommandLine(clap::Error),
-    /// An option or argument has an invalid value.
+    /// An option, an argument or standard input has an invalid value.
     BadValue {
-        /// The name of the option or argument, as in the help.
+        /// What has the invalid value: the name of an option or argument, or `standard input`.
         place: &'static str,
         /// What kind of value to give instead.
         wanted: &'static str,
@@ -24,13 +24,13 @@ pub enum Usage {
 /// Why a job was not done.
 #[derive(Debug, Drop)]
 pub enum ToolFault {
-    /// The command line is wrong.
+    /// The command line or standard input is wrong.
     Usage(Usage),
     /// The key is not in the key file.
     NoKey,
     /// The packet cannot be written.
     Write(WriteFault),
-    /// The octets to show are not a packet.
+    /// The octets to show or explain are not a packet.
     Packet(PacketFault),
     /// Memory could not be allocated.
     Memory,
@@ -41,7 +41,7 @@ impl ToolFault {
     ghost use Rattle.ndn_jobs.specs.Fault.{tool_status};
 
     /// Returns the exit status: 1 for a missing key, a packet that cannot be written or octets that
-    /// are not a packet, 2 for a wrong command line, 3 if memory ran out.
+    /// are not a packet, 2 for a wrong command line or a wrong standard input, 3 if memory ran out.
     pub fn exit_status(&self) -> u8
         ensures { result ≡ tool_status self.now }
     {

@@ -28,7 +28,7 @@ pub enum Job {
     Interest(LinkJob),
     /// Write a Data.
     Data(DataJob),
-    /// Write a command.
+    /// Write a command, and send it if there is a port to send it to.
     Command(CommandJob),
     /// Compute the tag of some octets.
     Tag(TagJob),
@@ -38,7 +38,8 @@ pub enum Job {
     Explain(ExplainJob),
     /// Send a packet, and print the answer to it.
     Send(SendJob),
-    /// Send an Interest, and print what its answer contains.
+    /// Send an Interest, and print what its answer contains. Without a port to send to, print the
+    /// Interest.
     Ask(AskJob),
 }
 
@@ -78,7 +79,7 @@ pub struct InterestJob {
     pub time: Option<u64>,
     /// The SignatureSeqNum of a signed Interest.
     pub seq: Option<u64>,
-    /// The key of the signature. If there is none, the Interest is not signed.
+    /// The key of the signature. If no key is named, the Interest is not signed.
     pub key: KeyChoice,
 }
 
@@ -98,7 +99,7 @@ pub struct DataJob {
     pub content: Option<Vec<u8>>,
     /// The FreshnessPeriod in milliseconds.
     pub freshness: Option<u64>,
-    /// The key of the signature. If there is none, the Data is signed with DigestSha256.
+    /// The key of the signature. If no key is named, the Data is signed with DigestSha256.
     pub key: KeyChoice,
 }
 
@@ -120,7 +121,7 @@ pub struct Stamp {
     pub time: u64,
     /// The SignatureSeqNum.
     pub seq: Option<u64>,
-    /// The key of the signature. If there is none, the command is signed with DigestSha256.
+    /// The key of the signature. If no key is named, the command is signed with DigestSha256.
     pub key: KeyChoice,
     pub ports: Ports,
 }
@@ -156,7 +157,7 @@ pub struct SendJob {
     pub from: Option<u16>,
 }
 
-/// An Interest to send, and what is printed of the answer.
+/// An Interest to send or print, and what is printed of the answer.
 #[derive(Drop)]
 pub struct AskJob {
     pub interest: InterestJob,
@@ -410,7 +411,8 @@ impl Ports {
     ghost use Rattle.ndn_jobs.specs.Value.{Reads};
     ghost use Rattle.ndn_jobs.specs.Options.{rows_in, value_at, IsPorts};
 
-    /// Returns the ports that the options `id` and `from` spell.
+    /// Returns the ports that the options `id` and `from` spell. The option `from` is refused
+    /// without the option `id`.
     fn read(options: &ArgMatches<'_>, id: &'static str) -> Result<Ports, ToolFault>
         ensures { Reads (IsPorts (value_at (rows_in options.now) id.now)
             (value_at (rows_in options.now) (codes "from"))) result }
@@ -430,8 +432,8 @@ impl AskJob {
     ghost use Rattle.ndn_jobs.specs.Options.{rows_in};
     ghost use Rattle.ndn_jobs.specs.Ask.{IsListJob, IsPeekJob};
 
-    /// Returns the list that the verb `list` of the subcommand with this name asks for. If the
-    /// Nonce is not given, it is computed from the time and the words.
+    /// Returns the Interest for the list that the verb `list` of the subcommand with this name asks
+    /// for. If the Nonce is not given, it is computed from the time and the words.
     pub fn read_list(
         alloc: Global,
         subcommand: &str,

@@ -22,7 +22,7 @@ pub fn value<'a>(options: &ArgMatches<'a>, id: &str) -> Option<&'a str>
     options.get_str(id)
 }
 
-/// Returns the value of a required option.
+/// Returns the value of a required option, or the fault `BadValue` if the option is not given.
 pub fn required<'a>(options: &ArgMatches<'a>, id: &'static str) -> Result<&'a str, ToolFault>
     ensures { MatchResult result (λ value. value_at (rows_in options.now) id.now ≡ Some value.now)
         (λ fault. IsUsage fault × (value_at (rows_in options.now) id.now ≡ None)) }

@@ -48,7 +48,7 @@ fn is_named(action: Action, subcommand: &str, verb: &str) -> bool
     }
 }
 
-/// Returns the action that the subcommand and the verb name.
+/// Returns the action that the subcommand and the verb name, or `None` if they name none.
 fn action_of(subcommand: &str, verb: &str) -> Option<Action>
     ensures { result ≡ action_of subcommand.now verb.now }
 {

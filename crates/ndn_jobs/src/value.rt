@@ -1,4 +1,5 @@
-//! The values that the texts of a command line spell.
+//! The values that the texts of a command line spell. For a text that spells no value, the fault is
+//! `BadValue` with the given `place`.
 ghost use Rattle.std.specs.Prelude.{◌≡◌, ℕ, MatchOption};
 ghost use Rattle.ndn_names.specs.ReadsAs.{ReadsAs};
 ghost use Rattle.ndn_jobs.specs.Value.{IsNumber, IsHops, IsPort, AreOctets, IsPacket, IsNonce, IsTokenText, Reads, ReadsInMemory};
@@ -45,8 +46,8 @@ fn parse_uri(
     }
 }
 
-/// Returns the octets that a text spells in hexadecimal of either case. An empty text spells no
-/// octets.
+/// Returns the octets that a text spells in hexadecimal of either case. An empty text spells the
+/// empty list of octets.
 pub fn parse_octets(alloc: Global, place: &'static str, text: &str) -> Result<Vec<u8>, ToolFault>
     ensures { ReadsInMemory (AreOctets text.now) result }
 {

@@ -1,4 +1,4 @@
-//! A Named Data Networking node that runs scripts or serves a UDP port.
+//! A Named Data Networking node: it runs a script, serves a UDP port, or shortens a journal.
 #![tactic(auto)]
 
 ghost use Rattle.std.specs.Prelude.{◌≤◌, length};

@@ -76,7 +76,7 @@ part_right P (x ∷ xs) ys all = part_right P xs ys all.1
 pub last_fits : (name : List Field) (kind : ℕ) (value : List ℕ) → IsWhole (name ++ (kind, value) ∷ []) → length value < 2 ^ 64
 last_fits name kind value whole = (part_right IsField name ((kind, value) ∷ []) whole.0.0).0.2
 
--- ---- fields whose lengths are below 2^64
+-- ---- the types and the lengths of fields
 
 -- the type of the field is a valid TLV type
 abbrev pub IsType : Field → Type 0

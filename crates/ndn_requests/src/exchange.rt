@@ -49,7 +49,7 @@ pub struct Exchange {
 /// The effect of a received datagram.
 #[derive(Drop)]
 pub enum Progress {
-    /// The datagram does not answer the request.
+    /// The datagram does not answer the request, or it is not the requested segment of a list.
     Ignored,
     /// The datagram is a segment, and the request for the next segment is to be sent.
     Next,
@@ -248,7 +248,8 @@ fn content_in(datagram: &[u8]) -> &[u8]
     }
 }
 
-/// Returns which segment an Interest asks for, and the Interest's Nonce.
+/// Returns which segment an Interest asks for, and the Interest's Nonce, or `None` if the request
+/// is not an Interest.
 fn turn_of(request: &[u8]) -> Option<Turn>
     ensures { result ≡ turn_of (frame_at request.now) }
 {

@@ -68,8 +68,8 @@ fn judge_frame(asked: &Interest<'_>, frame: &Frame<'_>, book: &KeyBook) -> Optio
     frame_outcome(asked, frame, check)
 }
 
-/// Returns the outcome of a command whose reply is too long to be read, if the reply is exactly
-/// what a node writes.
+/// Returns the outcome of a command whose reply is too long to be read. Returns `None` if the name
+/// is not that of a command, or if the datagram is not exactly the reply that a node writes.
 fn judge_written(alloc: Global, name: Name<'_>, datagram: &[u8]) -> Result<Option<Outcome>, Memory>
     ensures { IfOk result (λ outcome. outcome
         ≡ written_outcome (components name.entry)
@@ -97,7 +97,8 @@ fn frame_outcome(
     }
 }
 
-/// Returns the outcome of a request, given a Data that answers its Interest.
+/// Returns the outcome of a request, given a Data that answers its Interest. Returns `None` if the
+/// request is a command, and the Data does not have its name or has no right signature.
 fn data_outcome(asked: &Interest<'_>, packet: &Data<'_>, check: Option<TagCheck>) -> Option<Outcome>
     ensures { result ≡ data_outcome (plain_interest asked.now) (plain_data packet.now) check }
 {
@@ -201,7 +202,7 @@ fn done_if(is_done: bool) -> Outcome
 }
 
 /// Returns the number in the field of type `kind`, if the Content is a single element of the type
-/// `response`.
+/// `response`. Returns `None` if there is no such number.
 fn code_in(content: &[u8], response: u32, kind: u32) -> Option<u64>
     ensures { result ≡ code_in response kind content.now }
 {
@@ -227,7 +228,8 @@ fn is_word(component: Option<Component<'_>>, word: &str) -> bool
 }
 
 /// Appends the lines that `explain` prints for the answer to a request, also for a reply of more
-/// than 8,800 octets. If memory runs out, some of the lines may have been appended.
+/// than 8,800 octets. Appends nothing for any other datagram that is not a packet. If memory runs
+/// out, some of the lines may have been appended.
 pub fn put_explained(
     alloc: Global,
     text: &mut Vec<u8>,

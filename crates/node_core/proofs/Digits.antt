@@ -6,8 +6,8 @@ use Rattle.hex.specs.Hex.{decode_pairs, digit_or_error, hex_digit_value, is_hex_
 use Rattle.hex.proofs.Pairs.{prepend, decode_step}
 use Rattle.hex.proofs.HexLemmas.{decode_pairs-ok}
 
--- If `o` is the value of a digit, `value` is this value, which is below 16. If `o` is None, the
--- octet is not a digit, and `value` is 255.
+-- `o` is the value of an octet as a hexadecimal digit, or None if the octet is not a digit. If `o`
+-- is such a value, `value` is equal to it and below 16. If `o` is None, `value` is 255.
 abbrev pub IsValue : Option ℕ → ℕ → Type 0
 IsValue o value = MatchOption o (value ≡ 255) (λ v. (value ≡ v) × (v < 16))
 

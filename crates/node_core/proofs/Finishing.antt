@@ -42,15 +42,15 @@ pub made_of_good_parts : {N : Type 0} (P : Type 0) (Q : NodeFault → Type 0) (w
 made_of_good_parts P Q None made node is h p = p
 made_of_good_parts P Q (Some f) made node is h p = let other : Ok node ≡ Err f = sym is ∙ h in absurd cc
 
--- if a property is true of the octets that were read, followed by any octets, it is true of the
--- octets that were unread before the reading, if these are known
+-- Let a property be true of the octets that were read, whatever octets follow them. If the octets
+-- that were unread before the reading are known, the property is true of them.
 known_text : (unread left : Option (List ℕ)) (P : List ℕ → Type 0) (front : List ℕ) → Consumes unread left front → ((more : List ℕ) → P (front ++ more)) → IfSome unread P
 known_text None left P front h k = tt
 known_text (Some xs) None P front h k = absurd h
 known_text (Some xs) (Some ys) P front h k = subst P (sym h) (k ys)
 
--- if a property is true of the octets that were read, and the reader is then at its end, the
--- property is true of the octets that were unread before the reading, if those are known
+-- Let a property be true of the octets that were read, and let the reader then be at its end. If
+-- the octets that were unread before the reading are known, the property is true of them.
 known_end : (unread left : Option (List ℕ)) (P : List ℕ → Type 0) (front : List ℕ) → Consumes unread left front → IsAtEnd left → P front → IfSome unread P
 known_end None left P front h e k = tt
 known_end (Some xs) None P front h e k = absurd h

@@ -1,4 +1,4 @@
--- How writing and reading known octets in two steps amounts to one step.
+-- Two writes or two reads of known octets, one after the other, amount to one.
 use Rattle.std.proofs.Common.{ℕ, List, [], ◌++◌, refl, sym, ap, ◌∙◌, append_assoc, append-nil}
 use Rattle.std.specs.Prelude.{Option, Some, None}
 use Rattle.std.specs.Io.KnownBytes.{Appends, Consumes, Keeps}

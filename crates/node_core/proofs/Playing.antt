@@ -314,7 +314,7 @@ FeedStops-line fault.Memory stream from mid line rest front after held holds fed
 
 -- ---- answers that were gathered and are then written
 
--- if `text` was gathered, and the gathered text was then written, `text` was written
+-- if the gathered text `a` consists of `text` only, and `a` was then written, `text` was written
 gathered : (a : List ℕ) (text : List ℕ) (held holds : Option (List ℕ)) → a ≡ [] ++ text → Appends held holds a → Appends held holds text
 gathered a text held holds is written = subst (Appends held holds) is written
 

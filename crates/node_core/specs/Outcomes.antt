@@ -25,7 +25,8 @@ IsOutcome old event (Answered answer) new = IsEvent event × IsStep old event an
 IsOutcome old event NoMemory new =
     IsEvent event × ChangesCacheOnly old new × (AsksNoMemory old event → ⊥)
 
--- the outcomes of the events in order
+-- these are the outcomes of the events in order, and the events lead from the old node to the new
+-- one
 abbrev pub AreOutcomes : NodeState → List PlainEvent → List Outcome → NodeState → Type 0
 AreOutcomes old [] [] new = new ≡ old
 AreOutcomes old [] (done_as ∷ outcomes) new = ⊥
@@ -42,8 +43,8 @@ run_from past (event ∷ events) (Answered answer ∷ outcomes) =
     run_from (Then past event answer) events outcomes
 run_from past (event ∷ events) (NoMemory ∷ outcomes) = run_from past events outcomes
 
--- if the old node agrees with a valid run, then this run followed by the events and their answers
--- is valid, and the new node agrees with the longer run
+-- if the old node agrees with a valid run from a policy at time 0, then this run followed by the
+-- events and their answers is valid, and the new node agrees with the longer run
 abbrev pub ExtendsRuns : NodeState → List PlainEvent → List Outcome → NodeState → Type 0
 ExtendsRuns old events outcomes new =
     (first : Policy) (past : Run) → first.now ≡ 0 → IsRun first past → Stands first past old

@@ -62,7 +62,7 @@ IsBadAt text n events =
     × BeginsWithLines text lines (ended line ++ rest) × Lacks 10 line × (n ≡ length lines + 1)
     × SpellEvents lines events × IsBadLine line
 
--- the text that is written for the events, from the first event of this node on
+-- the text that is written for the events, if they are the first events of the node `first`
 pub record IsTextOfRun (first : NodeState) (events : List PlainEvent) (text : List ℕ) : Type 0 where
   pub outcomes : List Outcome
   pub last : NodeState

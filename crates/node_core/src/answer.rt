@@ -212,8 +212,8 @@ fn fill_digits(digits: &mut [u8], octets: &[u8])
     }
 }
 
-/// Returns the lower-case hexadecimal digit of a value below 16. The digit is computed, so that a
-/// loop over octets needs no branch and no table.
+/// Returns the lower-case hexadecimal digit of a value below 16. The digit is computed without a
+/// table.
 #[inline(always)]
 fn digit_of(value: u8) -> u8
     requires { value < 16 }

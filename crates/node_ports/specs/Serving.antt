@@ -161,18 +161,18 @@ pub record Serves (old new : NodeState) (before after : Shown)
   pub events_is : events ≡ length arrivals
   pub refused_is : refused ≡ refused_count outcomes
 
--- if the port did not reach its end, each turn had an event; otherwise the events ended before the
--- last turn
+-- if the port did not reach its end, each turn had an event; otherwise there were fewer events than
+-- turns, and no event is still to come
 abbrev pub EndsAfter : ℕ → Bool → ℕ → Option (List PlainEvent) → Type 0
 EndsAfter turns false events coming = events ≡ turns
 EndsAfter turns true events coming = (events < turns) × HasEnded coming
 
--- `Next`: after `events` events, before the last turn, the call for the next arrival failed
+-- `Next`: in the turn after the first `events` events, the call for the next arrival failed
 abbrev pub StopsServing : NodeState → NodeState → Shown → Shown → ℕ → ServeFault → Type 0
 StopsServing old new before after turns (fault.Next events) =
     (mid : Shown) × (refused failed : ℕ) × Serves old new before mid events refused failed
     × FailsNext mid after × (events < turns)
--- `Journal`: after `events` events, before the last turn, an event could not be journalled
+-- `Journal`: in the turn after the first `events` events, the event could not be journalled
 StopsServing old new before after turns (fault.Journal events) =
     (last : NodeState) × (mid : Shown) × (refused failed : ℕ)
     × Serves old last before mid events refused failed

@@ -87,7 +87,7 @@ impl Clients {
         self.rows.len()
     }
 
-    /// Returns the endpoint of a face.
+    /// Returns the endpoint of a face, or `None` if no client has it.
     pub fn endpoint_of(&self, face: u64) -> Option<SocketAddr>
         ensures { result ≡ option_map (λ client. client.endpoint)
             (find (λ client. client.face == face) self.now.rows) }
@@ -118,7 +118,7 @@ impl Clients {
     }
 
     /// If a client has this endpoint, sets the time of its last datagram to `now`, and returns its
-    /// face.
+    /// face. Otherwise returns `None`.
     pub fn hear(&mut self, endpoint: SocketAddr, now: u64) -> Option<u64>
         ensures found { IfSome result (λ face. (rows : List Client)
             × Hears self.old.rows rows endpoint now face
@@ -166,7 +166,7 @@ impl Clients {
         self.rows.as_slice()[place].face
     }
 
-    /// Returns the index of the first client with this endpoint.
+    /// Returns the index of the first client with this endpoint, or `None` if there is none.
     fn place_of(&self, endpoint: SocketAddr) -> Option<usize>
         ensures first { result ≡ position (λ client. is_at endpoint client.endpoint) self.now.rows }
         ensures within { IfSome result (λ place. place < length self.now.rows) }

@@ -54,7 +54,7 @@ impl KnownEndpoints {
         }
     }
 
-    /// Returns the endpoint of a face.
+    /// Returns the endpoint of a face, or `None` if no endpoint has it.
     pub fn endpoint_of(&self, face: u64) -> Option<SocketAddr>
         ensures { result ≡ endpoint_at self.now face }
     {

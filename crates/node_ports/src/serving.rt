@@ -27,7 +27,7 @@ pub enum Turn {
     End,
 }
 
-/// Why serving a port stopped before the last turn.
+/// Why serving a port stopped before all turns were done.
 #[derive(Clone, Copy, Debug, PartialEq, Eq, Error)]
 pub enum ServeFault {
     /// The port failed to give the next arrival, after this number of events.
@@ -47,7 +47,7 @@ pub struct Served {
     pub refused: u64,
     /// The number of failed sends, at most the greatest u64.
     pub failed_sends: u64,
-    /// Whether the port reached its end before the last turn.
+    /// Whether the port reached its end in one of the turns.
     pub ended: bool,
 }
 
@@ -306,8 +306,8 @@ fn handle_event<P: Ports>(
     }
 }
 
-// Returns whether the event brings a Data that the repository wants. Without a journal the result
-// does not matter.
+// Returns whether the event brings a Data that the repository wants. Returns `false` if the port
+// has no journal.
 fn is_wanted<P: Ports>(node: &Node, ports: &P, event: &Event<'_>) -> bool
     ensures { (text : List ℕ) → P.journal ports.now ≡ Some text
         → result ≡ brings_wanted (at_moment node.now.policy (moment (plain event.now)))

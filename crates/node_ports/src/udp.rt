@@ -180,7 +180,7 @@ impl<M: Moments> UdpPorts<M> {
     }
 
     /// Returns the endpoint of a face, or the endpoint of the datagram that waits for a face with
-    /// this number.
+    /// this number. Returns `None` if there is neither.
     pub fn endpoint_of(&self, face: u64) -> Option<SocketAddr>
         ensures { result ≡ option_or (endpoint_at self.now.known face)
             (waiting_at face self.now.waiting) }
@@ -347,10 +347,11 @@ impl<M: Moments> UdpPorts<M> {
         true
     }
 
-    /// Receives a datagram and returns its arrival, or `None` if the socket gives no datagram. A
-    /// datagram from an endpoint that is not accepted is counted. After a datagram that is counted,
-    /// returns `None` if `is_brief` is set. If it is not set, receives the next datagram.
-    /// Precondition: all peers' faces are opened, and no datagram waits for the next turn.
+    /// Receives a datagram and returns its arrival, or `None` if the socket gives no datagram or
+    /// its waiting time cannot be set. A datagram from an endpoint that is not accepted is counted.
+    /// After a datagram that is counted, returns `None` if `is_brief` is set. If it is not set,
+    /// receives the next datagram. Precondition: all peers' faces are opened, and no datagram waits
+    /// for the next turn.
     fn receive(&mut self, buffer: &mut [u8], is_brief: bool) -> Option<Arrival>
         requires { Listens self.old }
         ensures fits { IfSome result (LiesWithin (length buffer.new)) }
@@ -375,7 +376,7 @@ impl<M: Moments> UdpPorts<M> {
     }
 
     /// Receives a datagram into the start of the buffer. Returns its length in octets and its
-    /// endpoint.
+    /// endpoint, or `None` if the socket gives no datagram.
     fn receive_one(&self, buffer: &mut [u8]) -> Option<(usize, SocketAddr)>
         ensures { IfSome result (λ received. received.0 ≤ length buffer.new) }
     {
@@ -383,7 +384,7 @@ impl<M: Moments> UdpPorts<M> {
     }
 
     /// Returns the next arrival: the opening of a peer's face, a waiting datagram, or a datagram
-    /// that is received now.
+    /// that is received now. Returns `None` if `receive` does.
     fn take(&mut self, buffer: &mut [u8], is_brief: bool) -> Option<Arrival>
         ensures fits { IfSome result (LiesWithin (length buffer.new)) }
         ensures gives { IfSome result (UdpGives self.old self.new buffer.new) }

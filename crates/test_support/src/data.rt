@@ -6,6 +6,8 @@ use ndn_packets::{DataWriter, Frame, Sign, read_frame};
 use std::alloc::Global;
 
 /// Returns a Data with this URI and a Content given in hexadecimal, signed with DigestSha256.
+/// `freshness` is its FreshnessPeriod in milliseconds. Returns `None` if the Data cannot be
+/// written.
 pub fn data_of(alloc: Global, uri: &str, content: &str, freshness: Option<u64>) -> Option<Vec<u8>> {
     let name = NameBuf::from_uri(alloc, uri).ok()?;
     written_data(alloc, name.view(), &octets(alloc, content)?, freshness)
@@ -41,7 +43,7 @@ pub fn content_shown(alloc: Global, packet: Option<&[u8]>) -> Option<String> {
     }
 }
 
-/// Returns the implicit digest of a Data.
+/// Returns the implicit digest of a Data, or `None` if the packet is not a Data.
 pub fn digest_of(packet: &[u8]) -> Option<[u8; 32]> {
     match read_frame(packet).ok()? {
         Frame::Data(data) => Some(data.digest()),

@@ -3,7 +3,7 @@
 use std::alloc::Global;
 
 /// Reads octets from hexadecimal words, where `0800x64` stands for 64 repetitions of the two octets
-/// `0800`.
+/// `0800`. Returns `None` if a word is malformed or memory runs out.
 pub fn octets(alloc: Global, text: &str) -> Option<Vec<u8>> {
     let mut octets = Vec::new(alloc);
     for word in text.split_ascii_whitespace() {
@@ -62,7 +62,7 @@ pub fn first_misshown<'a>(
 
 /// Returns a row with its symbols replaced by the characters that they stand for: a tab for `␉`, an
 /// LF for `␊`, a VT for `␋`, a CR for `␍`, a unit separator for `␟`, a delete for `␡`, and a
-/// no-break space for `⍽`.
+/// no-break space for `⍽`. Returns `None` if memory runs out.
 pub fn typed(alloc: Global, row: &str) -> Option<String> {
     let mut text = String::new(alloc);
     for symbol in row.chars() {

@@ -60,7 +60,7 @@ LineSpells (NewRules rules keys now) line =
 abbrev pub IsShort : List ℕ → Type 0
 IsShort line = length line ≤ 20000
 
--- the line is empty or a comment
+-- the line is empty, or a comment, which begins with `#`
 abbrev pub SaysNothing : List ℕ → Type 0
 SaysNothing [] = Unit {0}
 SaysNothing (o ∷ line) = o ≡ 35

@@ -22,7 +22,8 @@ pub record Place : Type 0 where
 abbrev pub place_of : Player → Place
 place_of p = record { node = p.node; lines = p.lines; events = p.events }
 
--- a node before its first event, which agrees with the empty run of its own policy
+-- a node before its first event: its time is 0, and it agrees with the empty run from its own
+-- policy
 pub record IsNew (node : NodeState) : Type 0 where
   pub now : node.policy.now ≡ 0
   pub stands : Stands node.policy Start node
@@ -84,7 +85,8 @@ LineStops fault.Memory line from held holds = Keeps held holds
 LineStops fault.Read line from held holds = ⊥
 LineStops (fault.Node _) line from held holds = ⊥
 
--- the faults that appending octets to this line may have
+-- the faults that appending octets to an unfinished line may have, where `line` is the unfinished
+-- line followed by these octets
 abbrev pub AddStops : RunFault → List ℕ → Place → Type 0
 AddStops (fault.BadLine n) line from = (n ≡ from.lines + 1) × (20000 < length line)
 AddStops fault.Memory line from = Unit {0}

@@ -161,7 +161,8 @@ impl Player {
         self.add(line, rest)
     }
 
-    // Appends octets to the unfinished line.
+    // Appends octets to the unfinished line. The fault is `BadLine` if the line would have more
+    // than 20,000 octets, or `Memory`.
     fn add(&self, line: &mut Vec<u8>, octets: &[u8]) -> Result<(), RunFault>
         requires room { HasRoom (place_of self.now) 1 }
         requires short { length line.old.items ≤ 20000 }

@@ -11,7 +11,7 @@ use std::alloc::Global;
 use std::str;
 
 /// Splits the text at the first octet equal to `at`. Returns the octets before and after that
-/// octet.
+/// octet, or `None` if no octet equals `at`.
 pub fn cut(text: &[u8], at: u8) -> Option<(&[u8], &[u8])>
     ensures found { IfSome result
         (λ parts. (text.now ≡ parts.0.now ++ (at ∷ parts.1.now)) × Lacks at parts.0.now) }
@@ -25,8 +25,8 @@ pub fn cut(text: &[u8], at: u8) -> Option<(&[u8], &[u8])>
     None
 }
 
-/// Splits the text at the first LF. Returns the octets before and after that LF. Faster than `cut`
-/// for long lines.
+/// Splits the text at the first LF. Returns the octets before and after that LF, or `None` if the
+/// text has no LF. It is faster than `cut` for long lines.
 pub fn cut_line(text: &[u8]) -> Option<(&[u8], &[u8])>
     ensures found { IfSome result
         (λ parts. (text.now ≡ parts.0.now ++ (10 ∷ parts.1.now)) × Lacks 10 parts.0.now) }
@@ -37,7 +37,7 @@ pub fn cut_line(text: &[u8]) -> Option<(&[u8], &[u8])>
 }
 
 /// Splits the text at its first two spaces. Returns the words before the two spaces, and the octets
-/// after the second space.
+/// after the second space. Returns `None` if the text has fewer than two spaces.
 pub fn three_words(text: &[u8]) -> Option<(&[u8], &[u8], &[u8])>
     ensures found { IfSome result (λ p. (text.now ≡ p.0.now ++ (32 ∷ (p.1.now ++ (32 ∷ p.2.now))))
         × Lacks 32 p.0.now × Lacks 32 p.1.now) }
@@ -49,7 +49,7 @@ pub fn three_words(text: &[u8]) -> Option<(&[u8], &[u8], &[u8])>
     Some((first, second, third))
 }
 
-/// Reads a decimal number below 2 ^ 64 without leading zeros.
+/// Reads a decimal number below 2 ^ 64 without leading zeros. Returns `None` for any other word.
 pub fn parse_decimal(word: &[u8]) -> Option<u64>
     ensures found { IfSome result (λ n. word.now ≡ decimal n) }
     ensures none { IfNone result ((n : ℕ) → n < 2 ^ 64 → word.now ≡ decimal n → ⊥) }
@@ -66,7 +66,7 @@ pub fn parse_decimal(word: &[u8]) -> Option<u64>
     text.parse::<u64>().ok()
 }
 
-/// Returns the scope for the word `local` or `far`.
+/// Returns the scope for the word `local` or `far`, or `None` for any other word.
 pub fn scope_of(word: &[u8]) -> Option<Scope>
     ensures found { IfSome result (λ scope. word.now ≡ scope_word scope) }
     ensures none { IfNone result ((scope : Scope) → word.now ≡ scope_word scope → ⊥) }
@@ -77,7 +77,8 @@ pub fn scope_of(word: &[u8]) -> Option<Scope>
     (word == b"far".as_slice()).then_some(Scope::Far)
 }
 
-/// Reads octets in hexadecimal of either case. The word `-` stands for no octets.
+/// Reads octets in hexadecimal of either case. The word `-` stands for no octets. Returns `None`
+/// for any other word.
 pub fn octets_of(alloc: Global, word: &[u8]) -> Result<Option<Vec<u8>>, Memory>
     ensures found { IfOk result (λ read. IfSome read (λ octets. HexSpells octets.items word.now)) }
     ensures none { IfOk result
@@ -100,8 +101,8 @@ pub fn octets_of(alloc: Global, word: &[u8]) -> Result<Option<Vec<u8>>, Memory>
 }
 
 /// Decodes each pair of hexadecimal digits to one octet of `octets`. Returns whether each octet of
-/// `digits` is a hexadecimal digit. If one is not, the content of `octets` is unspecified. The
-/// whole text is always processed, so that the loop has no branch.
+/// `digits` is a hexadecimal digit. If one is not, the content of `octets` is unspecified. All
+/// digits are always processed, so that the loop has no early exit.
 fn fill(octets: &mut [u8], digits: &[u8]) -> bool
     requires { length digits.now ≡ 2 * length octets.old }
     ensures found { IsTrue result → decode_pairs 0 digits.now ≡ Ok octets.new }
