@@ -8,6 +8,7 @@ use std::alloc::Global;
 use std::io::{ErrorKind, Read, Write, repeat};
 use std::net::{IpAddr, Ipv4Addr, SocketAddr};
 use std::process::Abort;
+use test_support::first_misshown;
 
 /// Returns the request of a command line.
 fn asked(alloc: Global, command: &str) -> Result<Request, Fault> {
@@ -140,24 +141,79 @@ ndn_node journal --shorten j -- => error: unexpected argument '--' found
 ndn_node journals => error: unrecognized subcommand 'journals'
 ";
 
-/// Returns the journal's file and the repository's prefix as text, or `None` if the command does
-/// not shorten a journal.
-fn shortening_options_of(alloc: Global, command: &str) -> Option<String> {
-    let Ok(Request::Shorten(options)) = asked(alloc, command) else {
-        return None;
-    };
+/// Returns the request of a command as text, or `None` if the command makes no request to run a
+/// node or to shorten a journal.
+fn request_text(alloc: Global, command: &str) -> Option<String> {
+    let request = asked(alloc, command).ok()?;
+    text_of(alloc, &request)
+}
+
+/// Returns a request as text, or `None` for a request for help.
+fn text_of(alloc: Global, request: &Request) -> Option<String> {
+    match request {
+        Request::Help(_) => None,
+        Request::Script(options) => script_text(alloc, options),
+        Request::Udp(node, udp) => udp_text(alloc, node.cache, udp),
+        Request::Shorten(options) => shortening_text(alloc, options),
+    }
+}
+
+/// Returns the rule file, the key file, the repository's prefix and the cache of a script's node, in
+/// which `none` stands for an absent file.
+fn script_text(alloc: Global, options: &Options) -> Option<String> {
+    let rules = options.rules.as_deref().unwrap_or("none");
+    let keys = options.keys.as_deref().unwrap_or("none");
+    let (repo, cache) = (options.repo.view(), options.cache);
+    format!(in alloc; "{rules} {keys} {repo} {cache}").ok()
+}
+
+/// Returns the options of a node on a port: `--cache`, `--listen`, `--turns`, `--local`, `--idle`,
+/// `--log`, the peers, the word `open` if the node accepts strangers, and the word `quiet` if it
+/// prints no answers.
+fn udp_text(alloc: Global, cache: u32, udp: &UdpOptions) -> Option<String> {
+    let mut text = String::new(alloc);
+    put_udp(&mut text, cache, udp)?;
+    Some(text)
+}
+
+/// Appends the options of a node on a port.
+fn put_udp(text: &mut String, cache: u32, udp: &UdpOptions) -> Option<()> {
+    let (listen, turns, local, idle) = (udp.listen, udp.turns, udp.local, udp.idle);
+    write!(
+        text,
+        "{cache} {listen} {turns} {local} {idle} {:?}",
+        udp.log
+    )
+    .ok()?;
+    for peer in udp.peers.as_slice() {
+        write!(text, " {peer}").ok()?;
+    }
+    let open = if udp.accepts_strangers() { " open" } else { "" };
+    let quiet = if udp.quiet { " quiet" } else { "" };
+    write!(text, "{open}{quiet}").ok()
+}
+
+/// Returns the journal's file and the repository's prefix.
+fn shortening_text(alloc: Global, options: &ShorteningOptions) -> Option<String> {
     let (journal, repo) = (options.journal.as_str(), options.repo.view());
     format!(in alloc; "{journal} {repo}").ok()
+}
+
+/// Fails at the first row whose command does not make the request that the row gives as text.
+fn check_requests(rt: &(impl Abort + AllocGlobal), rows: &str) {
+    let wrong = first_misshown(rt.alloc(), rows, request_text);
+    assert!(rt; wrong.is_none(), "{wrong:?}");
 }
 
 #[test]
 fn journal_command_lines(rt: HostRuntime) {
     check_parts(&rt, 0, JOURNAL_HELP);
     check_parts(&rt, 2, JOURNAL_COMMAND_LINES);
-    let absent = shortening_options_of(rt.alloc(), "ndn_node journal --shorten j");
-    assert!(rt; absent.as_deref() == Some("j /repo"));
-    let given = shortening_options_of(rt.alloc(), "ndn_node journal --repo /a/b --shorten=d/j");
-    assert!(rt; given.as_deref() == Some("d/j /a/b"));
+    let rows = "
+ndn_node journal --shorten j -> j /repo
+ndn_node journal --repo /a/b --shorten=d/j -> d/j /a/b
+";
+    check_requests(&rt, rows);
 }
 
 /// Returns a command with this many peers. The peers' ports are numbered from 1 on.
@@ -194,102 +250,35 @@ fn udp_command_lines(rt: HostRuntime) {
     assert!(rt; is_wrong(rt.alloc(), 65));
 }
 
-/// Returns the options of a node on a port as text: `--cache`, `--listen`, `--turns`, `--local`,
-/// `--idle`, `--log`, the peers, and the word `open` if the node accepts strangers. Returns `None`
-/// if the command runs no node on a port.
-fn udp_options_of(alloc: Global, command: &str) -> Option<String> {
-    let Ok(Request::Udp(node, udp)) = asked(alloc, command) else {
-        return None;
-    };
-    let cache = node.cache;
-    let UdpOptions {
-        listen,
-        turns,
-        local,
-        idle,
-        log,
-        ..
-    } = &udp;
-    let mut text = format!(in alloc; "{cache} {listen} {turns} {local} {idle} {log:?}").ok()?;
-    for peer in udp.peers.as_slice() {
-        write!(text, " {peer}").ok()?;
-    }
-    if udp.accepts_strangers() {
-        write!(text, " open").ok()?;
-    }
-    Some(text)
-}
-
-/// Returns whether the options of a node on a port are quiet, so that no answers are printed.
-fn is_quiet(alloc: Global, command: &str) -> bool {
-    matches!(asked(alloc, command), Ok(Request::Udp(_, udp)) if udp.quiet)
-}
-
 #[test]
 fn udp_options(rt: HostRuntime) {
-    let alloc = rt.alloc();
-    let absent = udp_options_of(alloc, "ndn_node udp --listen 6363 --turns 0");
-    assert!(rt; absent.as_deref() == Some("1024 127.0.0.1:6363 0 0 600 None open"));
-    let given = udp_options_of(
-        alloc,
-        "ndn_node udp 7 --cache 5 --turns 18446744073709551615 8 --listen 065535 --local 2 --idle 09 9",
-    );
-    let wanted =
-        "5 127.0.0.1:65535 18446744073709551615 2 9 None 127.0.0.1:7 127.0.0.1:8 127.0.0.1:9 open";
-    assert!(rt; given.as_deref() == Some(wanted));
-    let loopbacks = udp_options_of(
-        alloc,
-        "ndn_node udp --listen 127.0.0.2:6363 --turns 1 --log --local 1 127.0.0.3:7 192.0.2.1:7",
-    );
-    let wanted = "1024 127.0.0.2:6363 1 1 600 Events 127.0.0.3:7 192.0.2.1:7 open";
-    assert!(rt; loopbacks.as_deref() == Some(wanted));
-    let six = "ndn_node udp --listen [2001:db8::1]:6363 --turns 1 --log all --local 1 [::1]:7";
-    let wanted = "1024 [2001:db8::1]:6363 1 1 600 All [::1]:7";
-    assert!(rt; udp_options_of(alloc, six).as_deref() == Some(wanted));
-    let here = udp_options_of(alloc, "ndn_node udp --turns 1 --listen [::1]:6363");
-    assert!(rt; here.as_deref() == Some("1024 [::1]:6363 1 0 600 None open"));
-    let opened = udp_options_of(alloc, "ndn_node udp --turns 1 --open --listen 0.0.0.0:6363");
-    assert!(rt; opened.as_deref() == Some("1024 0.0.0.0:6363 1 0 600 None open"));
-    let all = udp_options_of(
-        alloc,
-        "ndn_node udp --turns 1 --listen 0.0.0.0:7 8 192.0.2.1:7",
-    );
-    assert!(rt; all.as_deref() == Some("1024 0.0.0.0:7 1 0 600 None 127.0.0.1:8 192.0.2.1:7"));
-    assert!(rt; is_quiet(alloc, "ndn_node udp --listen 1 --quiet --turns 1 7"));
-    assert!(rt; !is_quiet(alloc, "ndn_node udp --listen 1 --turns 1 7"));
+    let rows = "
+ndn_node udp --listen 6363 --turns 0 -> 1024 127.0.0.1:6363 0 0 600 None open
+ndn_node udp 7 --cache 5 --turns 18446744073709551615 8 --listen 065535 --local 2 --idle 09 9 -> 5 127.0.0.1:65535 18446744073709551615 2 9 None 127.0.0.1:7 127.0.0.1:8 127.0.0.1:9 open
+ndn_node udp --listen 127.0.0.2:6363 --turns 1 --log --local 1 127.0.0.3:7 192.0.2.1:7 -> 1024 127.0.0.2:6363 1 1 600 Events 127.0.0.3:7 192.0.2.1:7 open
+ndn_node udp --listen [2001:db8::1]:6363 --turns 1 --log all --local 1 [::1]:7 -> 1024 [2001:db8::1]:6363 1 1 600 All [::1]:7
+ndn_node udp --turns 1 --listen [::1]:6363 -> 1024 [::1]:6363 1 0 600 None open
+ndn_node udp --turns 1 --open --listen 0.0.0.0:6363 -> 1024 0.0.0.0:6363 1 0 600 None open
+ndn_node udp --turns 1 --listen 0.0.0.0:7 8 192.0.2.1:7 -> 1024 0.0.0.0:7 1 0 600 None 127.0.0.1:8 192.0.2.1:7
+ndn_node udp --listen 1 --quiet --turns 1 7 -> 1024 127.0.0.1:1 1 0 600 None 127.0.0.1:7 open quiet
+ndn_node udp --listen 1 --turns 1 7 -> 1024 127.0.0.1:1 1 0 600 None 127.0.0.1:7 open
+";
+    check_requests(&rt, rows);
 }
 
 #[test]
 fn command_lines(rt: HostRuntime) {
-    let script = asked(rt.alloc(), "ndn_node script");
-    assert!(rt; matches!(script, Ok(Request::Script(_))));
     check_parts(&rt, 0, HELP);
     check_parts(&rt, 2, COMMAND_LINES);
 }
 
-/// Returns the rule file, the key file, the repository's prefix and the cache of a command `script`
-/// as text, in which `none` stands for an absent file. Returns `None` for any other command.
-fn options_of(alloc: Global, command: &str) -> Option<String> {
-    let Ok(Request::Script(options)) = asked(alloc, command) else {
-        return None;
-    };
-    let rules = options.rules.as_deref().unwrap_or("none");
-    let keys = options.keys.as_deref().unwrap_or("none");
-    let repo = options.repo.view();
-    let cache = options.cache;
-    format!(in alloc; "{rules} {keys} {repo} {cache}").ok()
-}
-
 #[test]
 fn options(rt: HostRuntime) {
-    let alloc = rt.alloc();
-    let absent = options_of(alloc, "ndn_node script");
-    assert!(rt; absent.as_deref() == Some("none none /repo 1024"));
-    let given = options_of(
-        alloc,
-        "ndn_node script --cache 65536 --repo=/a/b --keys k --rules r",
-    );
-    assert!(rt; given.as_deref() == Some("r k /a/b 65536"));
+    let rows = "
+ndn_node script -> none none /repo 1024
+ndn_node script --cache 65536 --repo=/a/b --keys k --rules r -> r k /a/b 65536
+";
+    check_requests(&rt, rows);
 }
 
 /// Returns the exit status and the text of the fault with which a file is refused, or `None` if the

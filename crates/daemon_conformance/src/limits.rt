@@ -3,7 +3,7 @@
 use limited_reads::{read_line_within, read_within};
 use std::alloc::Global;
 use std::io;
-use std::io::{BufReader, Read, repeat};
+use std::io::{BufRead, BufReader, Read, repeat};
 
 /// The greatest length of a rule file, in octets.
 const LIMIT: u32 = 65_536;
@@ -49,18 +49,32 @@ fn readers(rt: HostRuntime) {
 /// `wanted`. A `-` in `wanted` stands for a line that is too long. Lines after such a line are not
 /// read.
 fn lines_are(alloc: Global, text: &str, wanted: &str) -> Option<bool> {
-    let mut reader = BufReader::new(alloc, text.as_bytes()).ok()?;
     let mut lines = Vec::new(alloc);
-    for _ in 0..text.len() {
-        match read_line_within(alloc, &mut reader, 4).ok()? {
-            None => {
-                lines.extend_from_slice(b"-").ok()?;
-                return Some(lines.as_slice() == wanted.as_bytes());
-            }
+    read_lines(alloc, text, &mut lines)?;
+    Some(lines.as_slice() == wanted.as_bytes())
+}
+
+/// Appends the lines of `text` that `put_lines` reads.
+fn read_lines(alloc: Global, text: &str, lines: &mut Vec<u8>) -> Option<()> {
+    let mut reader = BufReader::new(alloc, text.as_bytes()).ok()?;
+    put_lines(alloc, &mut reader, text.len(), lines)
+}
+
+/// Reads `count` lines with a limit of four octets, and appends them. Appends a `-` for a line that
+/// is too long, and reads no further line.
+fn put_lines<R: BufRead>(
+    alloc: Global,
+    reader: &mut R,
+    count: usize,
+    lines: &mut Vec<u8>,
+) -> Option<()> {
+    for _ in 0..count {
+        match read_line_within(alloc, reader, 4).ok()? {
+            None => return lines.extend_from_slice(b"-").ok(),
             Some(line) => lines.extend_from_slice(&line).ok()?,
         }
     }
-    Some(lines.as_slice() == wanted.as_bytes())
+    Some(())
 }
 
 /// A line, including its LF, may have as many octets as the limit, but no more.
