@@ -1,7 +1,7 @@
 //! Tests of log lines as operators read them.
 
 use info_rules::{InfoTree, Kind, Reason, RuleNo, Rules};
-use ndn_log::{Came, Entry, put_closed_idle, put_event, put_failed_send, put_strangers};
+use ndn_log::{Came, Entry, put_closed, put_event, put_failed_send, put_strangers};
 use ndn_packets::PacketFault;
 use node_core::{DropReason, Scope, Verdict};
 use std::alloc::Global;
@@ -115,16 +115,16 @@ fn shown_notes(alloc: Global) -> Option<Vec<u8>> {
 
 /// Appends the four lines of `shown_notes`.
 fn put_notes(alloc: Global, text: &mut Vec<u8>) -> Option<()> {
-    put_closed_idle(alloc, text, 253_402_207_200_999, 1).ok()?;
-    put_closed_idle(alloc, text, 253_402_207_201_000, 2).ok()?;
+    put_closed(alloc, text, 253_402_207_200_999, 1).ok()?;
+    put_closed(alloc, text, 253_402_207_201_000, 2).ok()?;
     let ip = Ipv6Addr::new(0x2001, 0xdb8, 0, 0, 0, 0, 0, 1);
     let endpoint = Some(SocketAddr::V6(SocketAddrV6::new(ip, 6363, 0, 0)));
     put_failed_send(alloc, text, MOMENT, 3, endpoint, b"\x06\x82").ok()?;
     put_strangers(alloc, text, MOMENT, 1).ok()
 }
 
-const NOTES: &str = "9999-12-30T22:00:00.999Z 1 face closed idle
-253402207201000 2 faces closed idle
+const NOTES: &str = "9999-12-30T22:00:00.999Z 1 face closed
+253402207201000 2 faces closed
 2026-11-27T22:10:00.123Z send to face 3 [2001:db8::1]:6363 failed: 2 octets beginning 0682
 2026-11-27T22:10:00.123Z 1 datagram of strangers
 ";

@@ -3,11 +3,11 @@ ghost use Rattle.std.specs.Prelude.{◌≡◌, ◌↔◌, ◌++◌, ◌-◌, ◌
 ghost use Rattle.std.specs.Io.KnownBytes.{Appends};
 ghost use Rattle.node_ports.specs.Ports.{one_more};
 ghost use Rattle.ndn_log.specs.Event.{event_words};
-ghost use Rattle.ndn_log.specs.Notes.{closed_idle_words, failed_send_words, stranger_words};
+ghost use Rattle.ndn_log.specs.Notes.{closed_words, failed_send_words, stranger_words};
 ghost use Rattle.ndn_daemon.specs.EventLog.{MayLog, SaysCount, closed_with, is_left_out};
 
 use info_rules::Rules;
-use ndn_log::{Came, Entry, is_plain, put_closed_idle, put_event, put_failed_send, put_strangers};
+use ndn_log::{Came, Entry, is_plain, put_closed, put_event, put_failed_send, put_strangers};
 use ndn_tlv::Memory;
 use node_core::Verdict;
 use std::alloc::Global;
@@ -196,7 +196,7 @@ impl<S: LogSink> EventLog<S> {
           counted = self.new.counted;
         } }
         ensures says { (mid : List ℕ)
-            × SaysCount self.old.text.items mid moment (closed_idle_words self.old.closed)
+            × SaysCount self.old.text.items mid moment (closed_words self.old.closed)
             self.old.closed self.new.closed
             × SaysCount mid self.new.text.items moment
             (stranger_words (strangers - self.old.strangers))
@@ -208,7 +208,7 @@ impl<S: LogSink> EventLog<S> {
 
     fn put_closed(&mut self, moment: u64)
         ensures says { SaysCount self.old.text.items self.new.text.items moment
-            (closed_idle_words self.old.closed) self.old.closed self.new.closed }
+            (closed_words self.old.closed) self.old.closed self.new.closed }
         ensures strangers { self.new.strangers ≡ self.old.strangers }
         ensures others { self.new ≡ record self.old {
           text = self.new.text;
@@ -219,7 +219,7 @@ impl<S: LogSink> EventLog<S> {
         if self.closed == 0 {
             return;
         }
-        let put = put_closed_idle(self.alloc, &mut self.text, moment, self.closed);
+        let put = put_closed(self.alloc, &mut self.text, moment, self.closed);
         if put.is_ok() {
             self.closed = 0;
             self.counted = moment;

@@ -246,7 +246,7 @@ fn log_of(level: Option<&str>) -> Result<LogLevel, Fault>
     } else {
         Err(Fault::BadValue {
             place: "--log",
-            wanted: "all, or no value and the next option",
+            wanted: "all, events, or no value and then another option",
         })
     }
 }

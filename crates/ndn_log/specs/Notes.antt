@@ -7,8 +7,8 @@ abbrev pub failed_send_words : ℕ → Option SocketAddr → List ℕ → List �
 failed_send_words face endpoint octets =
     codes "send to " ++ (face_words face endpoint ++ (codes " failed: " ++ octets_words octets))
 
-abbrev pub closed_idle_words : ℕ → List ℕ
-closed_idle_words count = counted count (codes "face") ++ codes " closed idle"
+abbrev pub closed_words : ℕ → List ℕ
+closed_words count = counted count (codes "face") ++ codes " closed"
 
 abbrev pub stranger_words : ℕ → List ℕ
 stranger_words count = counted count (codes "datagram") ++ codes " of strangers"

@@ -12,4 +12,4 @@ mod words;
 
 pub use entry::{Came, Entry, is_plain};
 pub use event::put_event;
-pub use notes::{put_closed_idle, put_failed_send, put_strangers};
+pub use notes::{put_closed, put_failed_send, put_strangers};

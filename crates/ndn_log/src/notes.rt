@@ -3,7 +3,7 @@
 ghost use Rattle.std.specs.Prelude.{◌≡◌, ◌++◌, drop, vec_len, IfOk, OnErr, OnOk};
 ghost use Rattle.ndn_log.specs.Line.{IsLogged, IsOneLine};
 ghost use Rattle.ndn_log.specs.Words.{counted};
-ghost use Rattle.ndn_log.specs.Notes.{closed_idle_words, failed_send_words, stranger_words};
+ghost use Rattle.ndn_log.specs.Notes.{closed_words, failed_send_words, stranger_words};
 
 use crate::line::put_line;
 use crate::words::{put_count, put_face, put_octets, put_word};
@@ -30,20 +30,15 @@ pub fn put_failed_send(
     put_line(alloc, text, moment, &words)
 }
 
-/// Appends a line with the number of faces that closed because they were idle for too long. If
-/// memory runs out, nothing is appended.
-pub fn put_closed_idle(
-    alloc: Global,
-    text: &mut Vec<u8>,
-    moment: u64,
-    count: u64,
-) -> Result<(), Memory>
+/// Appends a line with the number of faces that closed without a line of their own. If memory runs
+/// out, nothing is appended.
+pub fn put_closed(alloc: Global, text: &mut Vec<u8>, moment: u64, count: u64) -> Result<(), Memory>
     ensures ok { OnOk result (IsLogged text.old.items text.new.items moment
-        (closed_idle_words count)) }
+        (closed_words count)) }
     ensures one_line { OnOk result (IsOneLine (drop (vec_len text.old) text.new.items)) }
     ensures err { OnErr result (text.new.items ≡ text.old.items) }
 {
-    put_counted(alloc, text, moment, count, "face", " closed idle")
+    put_counted(alloc, text, moment, count, "face", " closed")
 }
 
 /// Appends a line with the number of dropped datagrams from strangers, which are endpoints that are
