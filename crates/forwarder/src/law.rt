@@ -125,7 +125,8 @@ pub fn denied_events_change_nothing()
 /// Law: each Data that a valid answer sends is of one of two kinds. Either it came in this event,
 /// is allowed, and is sent to another face with a pending Interest for it. Or it answers the
 /// Interest of this event, from the cache, the repository or the node itself, and is sent back to
-/// the Interest's face. Nothing else that is sent is a Data.
+/// the Interest's face. Nothing else that is sent is a Data. The event's packet must consist of
+/// octets, as the packet of each event of a node does.
 pub fn each_send_is_explained()
     ensures { (first : Policy) (past : Run) (event : PlainEvent) (answer : Answer)
         (reply : MayReply first past event answer) → BringsOctets event
@@ -162,7 +163,8 @@ pub fn rules_in_force()
 /// it is sent to. Either the event brings the Data, the first rule that applies allows the Data,
 /// and the Data answers an Interest that is pending on that face. Or the event brings an Interest
 /// on that face. In this case, the Data answers the Interest and was allowed in an earlier event,
-/// or it is the node's own reply or segment for the Interest.
+/// or it is the node's own reply or segment for the Interest. The event's packet must consist of
+/// octets, as the packet of each event of a node does.
 pub fn every_data_sent_was_asked_for()
     ensures read { (first : Policy) (past : Run) (event : PlainEvent) (answer : Answer) (face : ℕ)
         (octets whole : List ℕ) (d : PlainData) (reply : MayReply first past event answer)
@@ -246,7 +248,8 @@ pub fn records_are_read_off_the_run()
 /// and no Nack was sent. An in-record after an event comes from that event's Interest, or was there
 /// before. If the answer is valid, there are two cases for a passed Interest. Either it becomes
 /// pending and is forwarded to other faces, possibly to none. Or one packet is sent back to its
-/// face: a Nack, or a Data from the cache, the repository or the node.
+/// face: a Nack, or a Data from the cache, the repository or the node. For these two cases, the
+/// event's packet must consist of octets, as the packet of each event of a node does.
 pub fn unanswered_interests_wait()
     ensures arrives { (now : ℕ) (event : PlainEvent) (answer : Answer) (key : PlainKey) (face : ℕ)
         (in_record : InRecord) → Contains (causes_of now event answer) (Arrives key face in_record)
