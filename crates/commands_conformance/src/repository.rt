@@ -233,6 +233,11 @@ fn put_answer(alloc: Global, shown: &mut String, repo: &mut Repo, call: &str) ->
 fn sameness(alloc: Global, row: &str) -> Option<String> {
     let (calls, others) = row.split_once("; ")?;
     let repo = repo_after(alloc, calls)?;
+    holds_same_as(alloc, &repo, others)
+}
+
+/// Shows whether a repository has the same objects and wants as one after the calls `others`.
+fn holds_same_as(alloc: Global, repo: &Repo, others: &str) -> Option<String> {
     let other = repo_after(alloc, others)?;
     truth_shown(alloc, repo.holds_same(&other))
 }
@@ -260,8 +265,13 @@ insert /A 0, offer /A 01; check /A 0 -> false
 
 /// Shows whether repositories with these prefixes have the same prefix.
 fn same_prefix(alloc: Global, row: &str) -> Option<String> {
-    let (uri, other) = row.split_once(' ')?;
-    let repo = repo_at(alloc, uri)?;
+    let (prefix, other) = row.split_once(' ')?;
+    let repo = repo_at(alloc, prefix)?;
+    has_prefix_of(alloc, &repo, other)
+}
+
+/// Shows whether a repository has the prefix of one that is created with the prefix `other`.
+fn has_prefix_of(alloc: Global, repo: &Repo, other: &str) -> Option<String> {
     let other = repo_at(alloc, other)?;
     truth_shown(alloc, repo.has_same_prefix(&other))
 }
