@@ -1,4 +1,4 @@
--- How a Data is answered once time has advanced to the moment at which it came. Also two conditions
+-- How a Data is answered once time has advanced to the moment at which it came, and two conditions
 -- under which `HandlesPacket` is true of a packet.
 use Rattle.std.proofs.Common.{◌≡◌, ℕ, true, false, not, List, [], refl, sym, ap, subst, ◌∙◌}
 use Rattle.std.specs.Prelude.{Result, Ok, Err, IfOk, IsErr, IsOk, nat_lt}
@@ -67,7 +67,7 @@ still_wanted now name digest wants some =
     any_of_part (λ w. answers name digest w.0.0 w.0.1) (λ w. nat_lt now w.1) (entries wants)
     (sym (ap (list_any (λ w. answers name digest w.0.0 w.0.1)) (entries-kept want_cmp (λ w. nat_lt now w.1) wants)) ∙ some)
 
--- ---- Data
+-- ---- the answer to a Data
 
 module _ (was new : NodeState) (face : ℕ) (token : Token) (whole : List ℕ) (d : PlainData) where
   module _ (sends : List Send) (rule : RuleNo) (here : is_out_of_scope was.policy face d.name ≡ false)

@@ -156,7 +156,7 @@ module _ (old was : NodeState) (moment face : ℕ) (token : Token) (whole : List
         cache = refl;
       }
 
-  -- ---- an Interest for Data
+  -- ---- the answer to an Interest for Data
 
   module _ (is : request_of old.policy face i ≡ ForData) where
     data_answered : (new : NodeState) (answer : Answer) → RepliesForData (seen_by was) face token whole i answer → new.policy ≡ was.policy
@@ -180,8 +180,8 @@ module _ (old was : NodeState) (moment face : ℕ) (token : Token) (whole : List
     loop_answered loop = data_answered was _ (where_true _ _ is_loop loop refl) refl (λ key. refl) later.living refl
 
     module _ (once : is_loop ≡ false) (after : StoreState) where
-      -- if the lookup of the Interest's key gives `given` and leaves the cache `after`, then
-      -- `after` is as `CacheAfter` requires for an Interest that is passed
+      -- Let the lookup of the Interest's key give `given` and leave the cache `after`. Then `after`
+      -- is as `CacheAfter` requires for an Interest that is passed.
       looked_up : (given : Option (List ℕ)) → Finds (key_of i) was.policy.now was.cache given after
           → CacheAfter was.policy.now was.pending (packet_use was.policy.now face (AnInterest whole i) Passed) was.cache after
       looked_up given found =

@@ -107,7 +107,7 @@ still_ready old new c same prepared ready =
     by_action EraseCache h = tt
 
 -- Let `routes` and `choices` be the routes and strategies that a command with this status leaves.
--- The policy with `routes`, `choices` and the next version of the lists is the policy that
+-- Then the policy with `routes`, `choices` and the next version of the lists is the policy that
 -- `after_tables` gives.
 pub after_applied : (p : Policy) (c : PlainCommand) (face status : ℕ) (routes : Routes) (choices : Choices)
     → status ≡ tables_status p face (Ok c)
@@ -184,8 +184,9 @@ pub sum_is : (o : Option ℕ) (r : Result ℕ Memory) (n sum : ℕ) (P : Type 0)
 sum_is o r n sum P fits same given =
     (subst (λ (o : Option ℕ). SomeIff o P sum) (same ∙ ap (λ (r : Result ℕ Memory). result_ok r) given) fits).1
 
--- The next two lemmas are about space that is reserved for a reply and a packet. It is enough for
--- the reply. After the reply is written, the remaining space is enough for the packet.
+-- `has_reply_room` and `has_packet_room`: let at least `room + 8800` octets of space be reserved,
+-- and let a reply have at most `room` octets. Then the space is enough for the reply. After the
+-- reply is written, the remaining space is enough for a packet of 8,800 octets.
 pub has_reply_room : (total room len space : ℕ) → total ≡ room + 8800 → len ≤ room → total ≤ space → len ≤ space
 has_reply_room total room len space is few most = omega arith
 

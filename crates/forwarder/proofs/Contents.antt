@@ -45,11 +45,11 @@ pub begins_data : (value : List ℕ) → begins 6 (element (6, value)) ≡ true
 unfolding spelling
 begins_data value = refl
 
--- ---- an Interest and a Data
+-- ---- octets that begin with the type of an Interest or of a Data
 
 -- The element of type `kind` and the octets after this element, or the fault Truncated if the
--- value is cut off. `len` is a pair: the length of the value, and the octets that begin with the
--- value.
+-- TLV-VALUE is cut off. `len` is a pair: the TLV-LENGTH, and the octets that begin with the
+-- TLV-VALUE.
 abbrev sized : ℕ → ℕ × List ℕ → Result (Field × List ℕ) TlvFault
 sized kind len = cond (ltb (length len.1) len.0) (Err Truncated) (Ok ((kind, take len.0 len.1), drop len.0 len.1))
 
@@ -89,8 +89,8 @@ five text false (Ok len) = by_size (ltb (length len.1) len.0) (take len.0 len.1)
     by_size false value [] = by_read (interest_of text value)
     by_size false value (octet ∷ rest) = (refl, refl)
 
--- `holds_data` is false for the result of reading exactly one element, if the element has the
--- type of an Interest or reading it has a fault
+-- Let octets that begin with the type of an Interest be read as exactly one element. Then
+-- `holds_data` is false for the result, which may be a fault.
 five_holds : (r : Result (ℕ × List ℕ) TlvFault) → holds_data (only (r >>= sized 5)) ≡ false
 five_holds (Err f) = refl
 five_holds (Ok len) = by_size (ltb (length len.1) len.0) (take len.0 len.1) (drop len.0 len.1)
@@ -172,7 +172,7 @@ data_is_whole (octet ∷ octets) whole d is read =
 
 -- ---- an Interest that is sent on
 
--- the index that `hop_place` gives for a non-empty text is above 0
+-- for octets that are not empty, the index that `hop_place` returns is greater than 0
 pub hop_place_is_later : (text : List ℕ) → 0 < length text → 0 < hop_place text
 hop_place_is_later text some = by_frame (frame_at text)
   where
@@ -219,9 +219,9 @@ pub none_nacked : (faces octets : List ℕ) → is_nack octets ≡ false → is_
 none_nacked [] octets other = refl
 none_nacked (f ∷ faces) octets other = ap (λ (b : Bool). b || is_nacked (to_each faces octets)) other ∙ none_nacked faces octets other
 
--- ---- a link packet
+-- ---- a link packet around a Nack
 
--- a text that is exactly one element is read as that element
+-- octets that are exactly one valid element are read as this element
 only_one : (f : Field) → IsField f → only_element (element f) ≡ Ok f
 only_one f is = ap (λ (text : List ℕ). only (element_at text)) (sym (append-nil (element f))) ∙ ap only (element_again f [] is)
 
@@ -229,8 +229,8 @@ link_is : (value : List ℕ) → link_at value ≡ link_from no_headers_yet (ele
 unfolding link_at
 link_is value = refl
 
--- if a value begins with an element, then this element is read first, and the elements of the rest
--- are read after it
+-- if octets begin with an element, then this element is read first, and after it the elements of
+-- the remaining octets
 next_element : (f : Field) (rest : List ℕ) → IsField f → elements_of (element f ++ rest) ≡ Ok f ∷ elements_of rest
 next_element f rest is = elements_of-ok (element f ++ rest) f rest (element_again f rest is)
 
@@ -253,8 +253,8 @@ is_one token is = rw (le-leb 1 (length token) is.0, le-leb (length token) 32 is.
 token_taken : (token : List ℕ) → IsToken token → take_header no_headers_yet (98, token) ≡ Ok (record no_headers_yet { token = Some token })
 token_taken token is = ap (λ (b : Bool). cond (not b) (Err LpField) (Ok (record no_headers_yet { token = Some token }))) (is_one token is)
 
--- The next items are about a Nack around `packet`, which has at most 8,800 octets. The Nack is not
--- a Data, whether it has a token or not.
+-- In this module, a Nack is put around the octets `packet`, of which there are at most 8,800. The
+-- resulting packet is not a Data, whether the Nack has a token or not.
 module _ (reason : ℕ) (packet : List ℕ) (short : length packet ≤ 8800) where
   abbrev last_part : List ℕ
   last_part = element (80, packet) ++ []
@@ -305,7 +305,8 @@ module _ (reason : ℕ) (packet : List ℕ) (short : length packet ≤ 8800) whe
       by_nack (Err f) = refl
       by_nack (Ok n) = by_element n (only_element packet)
 
-  -- a link packet whose value has at most 8,950 octets is read element by element
+  -- if the TLV-VALUE of a link packet has at most 8,950 octets, the link packet is read element by
+  -- element
   read_by : (value : List ℕ) → length value ≤ 8950 → only_element (element (100, value)) ≡ Ok (100, value)
       → frame_at (element (100, value)) ≡ (link_from no_headers_yet (elements_of value) >>= λ f. Ok f.frame)
   read_by value few one =
@@ -354,7 +355,7 @@ pub nack_is_nack : (token : Token) (reason : ℕ) (interest : List ℕ) (i : Pla
 nack_is_nack token reason interest i is fits read small =
     ap is_nack_frame (frame_of_framed (lp_text token (Some reason) interest) _ (lp_nack_read token reason interest i is fits small read))
 
--- ---- a packet with a token
+-- ---- a link packet around a packet, with a token
 
 abbrev wrapped : List ℕ → List ℕ → List ℕ
 wrapped token packet = element (100, element (98, token) ++ (element (80, packet) ++ []))
@@ -399,7 +400,8 @@ module _ (token packet : List ℕ) (is : IsToken token) (small : length (wrapped
       next_element (98, token) after_token first
       ∙ ap (λ (l : List (Result Field TlvFault)). Ok (98, token) ∷ l) (next_element (80, packet) [] second ∙ ap (λ (l : List (Result Field TlvFault)). Ok (80, packet) ∷ l) elements_of-nil)
 
-  -- a packet in a link packet with a token is read as the packet alone is read
+  -- reading a link packet with a token around a packet has the same result as reading this packet
+  -- alone
   pub wrapped_is : frame_at (wrapped token packet) ≡ (((only_element packet >>= packet_of packet) >>= λ f. Ok (framed_with (Some token) f)) >>= λ f. Ok f.frame)
   wrapped_is =
       let few = value_short in
@@ -410,8 +412,8 @@ module _ (token packet : List ℕ) (is : IsToken token) (small : length (wrapped
       ∙ ap (λ (r : Result PlainFramed PacketFault). r >>= λ f. Ok f.frame)
       (link_is value ∙ ap (link_from no_headers_yet) parts_are ∙ ap (λ (r : Result LinkSoFar PacketFault). r >>= λ s. link_from s (Ok (80, packet) ∷ [])) (token_taken token is))
 
--- if `packet` has at most 8,800 octets and is not a Nack, it is not a Nack either when it is sent
--- back, with a valid token or without a token
+-- Let `packet` have at most 8,800 octets and not be a Nack. Then it is not a Nack either when it is
+-- sent back, with a valid token or without a token.
 pub back_is_no_nack : (token : Token) (packet : List ℕ) → IfSome token IsToken → length packet ≤ 8800 → is_nack packet ≡ false → is_nack (lp_text token None packet) ≡ false
 back_is_no_nack None packet is short other = other
 back_is_no_nack (Some token) packet is short other = ap is_nack_frame (wrapped_is token packet is (wrapped_short token packet is short)) ∙ by_element (only_element packet)

@@ -20,7 +20,7 @@ use Rattle.forwarder.specs.Node.{NodeState}
 use Rattle.forwarder.specs.Handling.{seen_by}
 use Rattle.forwarder.proofs.Members.{IsRising-filter, IsIn, IsIn-filter_from, IsIn-filter_to, any_from, any_to}
 
--- ---- faces without tokens
+-- ---- a list of faces, each without a token
 
 abbrev pub bare : List ℕ → Askers
 bare faces = map {A = ℕ} {B = ℕ × Token} (λ f. (f, None)) faces
@@ -37,7 +37,7 @@ pub all_bare : (P : ℕ × Token → Type 0) → ((f : ℕ) → P (f, None)) →
 all_bare P each [] = All-nil P
 all_bare P each (f ∷ faces) = All-cons P (f, None) (bare faces) (each f) (all_bare P each faces)
 
--- ---- which faces wait
+-- ---- which faces have an in-record that the Data answers
 
 never : {A : Type 0} → false ≡ true → A
 never e = absurd cc
@@ -82,7 +82,7 @@ module _ (s : NodeState) (now : ℕ) (whole : List ℕ) (d : PlainData) (askers 
       none_has f [] few has = never has
       none_has f (g ∷ faces) few has = absurd (omega (arith, few))
 
-  -- ---- what is sent
+  -- ---- the sends of the Data to the waiting faces
 
   -- if the faces in `some` are the waiting faces except `face`, each with its token, then the
   -- sends of the Data to the faces in `some` satisfy `IsSentToAskers`
@@ -122,7 +122,7 @@ module _ (s : NodeState) (now : ℕ) (whole : List ℕ) (d : PlainData) (askers 
       here f (differs, waits) =
           has_in f others (IsIn-filter_to but f askers (in_list f askers ((all f).1 waits)) (ap not (ne_eqb f face differs)))
 
-  -- ---- what is cached
+  -- ---- the cache after a Data that some face awaits, or that no face awaits
 
   module _ (old new : StoreState) where
     pub cached : 0 < length askers → (stored : Bool) → (stored ≡ true → new ≡ with_cached old (held_from now whole d))

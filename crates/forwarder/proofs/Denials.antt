@@ -35,7 +35,7 @@ use Rattle.forwarder.specs.Runs.{is_denied}
 use Rattle.forwarder.proofs.OneEffect.{one_said}
 use Rattle.forwarder.proofs.RunSteps.{seen_with}
 
--- ---- which answers are denials
+-- ---- which answers are not denials
 
 abbrev pub Mild : Answer → Type 0
 Mild answer = is_denied answer.verdict ≡ false

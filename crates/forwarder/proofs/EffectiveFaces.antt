@@ -37,7 +37,7 @@ module _ {K X : Type 0} {R : K → K → Ordering} (order : IsTotalOrder R) wher
 -- ---- the faces of effective next hops
 
 module _ (routes : Routes) where
-  -- each face in `costs` has a next hop or a route
+  -- each face in `costs` is the face of a next hop or of a route in `routes`
   abbrev pub AllLead : ByFace → Type 0
   AllLead costs = (face : ℕ) → IsSome (map.get costs face) → LeadsTo routes face
 
@@ -91,8 +91,8 @@ module _ (routes : Routes) where
           | false ↦ all
         ])
 
-  -- The next lemmas: each face among the next hops of an entry, or among its routes, has a next
-  -- hop or a route.
+  -- In this module, `e` is the entry of `name`. Each face in the next hops of `e`, and each face in
+  -- the costs of its routes, is the face of a next hop or of a route in `routes`.
   module _ (name : List Field) (e : Entry) (there : entry_at routes name ≡ e) where
     hops_lead : AllLead e.hops
     hops_lead face some = (name, inl (subst (λ (x : Entry). IsSome (map.get x.hops face)) (sym there) some))

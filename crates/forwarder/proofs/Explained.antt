@@ -68,7 +68,7 @@ nack_explained seen event face token reason interest is short = inr (inr (nack_i
 fetch_begins : (want : Want) (nonce : List ℕ) → begins 5 (fetch_text want nonce) ≡ true
 fetch_begins want nonce = begins_interest _
 
--- ---- an Interest
+-- ---- the sends in the answer to an Interest
 
 module _ (seen : Seen) (face now : ℕ) (octets whole : List ℕ) (i : PlainInterest) (fits : AreOctets octets) (read : frame_at octets ≡ Ok (AnInterest whole i)) where
   abbrev event : PlainEvent

@@ -15,7 +15,7 @@ use Rattle.forwarder.specs.Replies.{opening_answer}
 use Rattle.forwarder.specs.State.{IsLater}
 use Rattle.forwarder.specs.Verdict.{BadFace, FaceOpen, FacesFull, NoFace, Answer, dropped, passed}
 
--- ---- a face opens
+-- ---- the step in which a face opens, or is refused
 
 opening : (old later new : NodeState) (face : ℕ) (scope : Scope) (now : ℕ) (answer : Answer) → IsLater old now later
     → answer ≡ opening_answer later.policy face → new.policy ≡ with_open later.policy face scope
@@ -54,7 +54,7 @@ module _ (old later : NodeState) (face : ℕ) (scope : Scope) (now : ℕ) (h : I
           let has_room = lt-leb MAX_FACES (length later.policy.faces) room in
           opening old later new face scope now (passed []) h (rw (is_number, closed, has_room) refl) (is ∙ rw (is_number, closed, has_room) refl) pending cache
 
--- ---- a face closes
+-- ---- the step in which a face closes
 
 module _ (old later : NodeState) (face now : ℕ) (h : IsLater old now later) where
   pub closes_none : is_open face later.policy.faces ≡ false → IsStep old (FaceDown face now) (dropped NoFace) later

@@ -153,7 +153,7 @@ has_at [] i face at = absurd cc
 has_at (f ∷ faces) zero face at = let is : f ≡ face = cc at in ap (λ (b : Bool). b || has_face face faces) (eq-eqb f face is)
 has_at (f ∷ faces) (suc i) face at = ap (λ (b : Bool). (f == face) || b) (has_at faces i face at) ∙ or_true (f == face)
 
--- ---- the face that asks
+-- ---- the records after an Interest arrives on an open face
 
 -- the records of a key are alive after an Interest of this key arrives
 pub arrived_alive : (key : PlainKey) (face : ℕ) (ask : InRecord) (r : Records) → is_alive (records_after (Arrives key face ask) key r) ≡ true
@@ -176,7 +176,7 @@ arrived_sound old new key face ask sound here same arrives = record {
   routes = subst (λ (p : Policy). AllAreUp p.routes (open_faces p)) (sym same) sound.routes;
 }
 
--- ---- the chosen faces
+-- ---- the faces that the strategy chooses
 
 faces_rise : (hops : List Hop) → IsRising (faces_of hops)
 faces_rise [] = tt
@@ -237,7 +237,7 @@ module _ (s : NodeState) (sound : IsSound s) (face : ℕ) (i : PlainInterest) (f
           refused : (b : Bool) → (not true && b) ≡ true → ⊥
           refused b e = cc e
 
--- ---- what is sent
+-- ---- the faces that the Interest is sent to
 
 sends_to : (face : ℕ) (faces octets : List ℕ) → is_answered face (to_each faces octets) ≡ has_face face faces
 sends_to face [] octets = refl
@@ -261,8 +261,8 @@ begins_spelled whole i spelled = by_octet (begins 5 whole) refl
 
 -- ---- the causes of an Interest that is sent on
 
--- if `k` equals `key` and `d` equals `deadline`, the records that follow an arrival with `k` and
--- `d` also follow the arrival with `key` and `deadline`
+-- Let `k` equal `key`, and let `d` equal `deadline`. If the new records follow from an arrival with
+-- the key `k` and the deadline `d`, they follow from the arrival with `key` and `deadline`.
 pub arrives_as : {k key : PlainKey} (face : ℕ) (token : Token) (whole nonce : List ℕ) {d deadline : ℕ} (old new : Pending) → k ≡ key → d ≡ deadline
     → Follows (Arrives k face (record { interest = whole; nonce = nonce; deadline = d; token = token })) old new
     → Follows (Arrives key face (record { interest = whole; nonce = nonce; deadline = deadline; token = token })) old new
@@ -270,8 +270,8 @@ arrives_as {k} {key} face token whole nonce {d} {deadline} old new same until ar
     subst (λ (n : ℕ). Follows (Arrives key face (record { interest = whole; nonce = nonce; deadline = n; token = token })) old new) until
     (subst (λ (q : PlainKey). Follows (Arrives q face (record { interest = whole; nonce = nonce; deadline = d; token = token })) old new) same arrives)
 
--- the causes of an Interest are its arrival and one `SentTo` for each send, if no Nack is sent and
--- no send goes to the face of the Interest
+-- Let no Nack be sent, and let no send go to the face of the Interest. Then the causes of the
+-- Interest are its arrival and one `SentTo` for each send.
 kept_causes : (now face : ℕ) (token : Token) (whole : List ℕ) (i : PlainInterest) (sends : List Send) → is_nacked sends ≡ false → is_answered face sends ≡ false
     → interest_causes now face token whole i sends
     ≡ Arrives (key_of i) face (in_record_for now token whole i) ∷ map (λ (sent : Send). SentTo (key_of i) sent.0 i.nonce now) sends
@@ -293,8 +293,8 @@ sent_on_causes now face token whole i faces old mid new spelled apart arrives se
     ∙ ap (λ (causes : List Cause). after_causes causes key (records_after arrived key (records_at old key))) (sym (sent_to_each (key_of i) i.nonce now faces octets))
     ∙ ap (λ (causes : List Cause). after_causes causes key (records_at old key)) (sym is)
 
--- if a key is alive, or fewer than 4,096 keys have records, then an Interest of this key is not
--- dropped because the PIT is full
+-- if the records of a key are alive, or fewer than 4,096 keys have records, then an Interest of
+-- this key is not dropped because the PIT is full
 pub takes_key : (alive : Bool) (n : ℕ) → ((alive ≡ false) × (4096 ≤ n) → ⊥) → (not alive && leb 4096 n) ≡ false
 takes_key true n never = refl
 takes_key false n never =

@@ -41,8 +41,8 @@ module _ (old was new : NodeState) (face now : ℕ) (octets : List ℕ) (answer 
   abbrev p : Policy
   p = at_moment old.policy now
 
-  -- The next items: if the octets came on an open face and were read as `packet`, and the packet
-  -- was answered, then the answer is one step of the node.
+  -- In this module, octets came on an open face, they were read as `packet`, and this packet was
+  -- answered. The answer is then one step of the node.
   module _ (is_here : is_open face old.policy.faces ≡ true) (packet : PlainFrame) (read : frame_at octets ≡ Ok packet)
       (answered : IsAnswered was face (token_at octets) packet answer new) where
     replies_read : RepliesToPacket (seen_in p was.pending old.cache) face (token_at octets) (frame_at octets) answer
@@ -92,7 +92,7 @@ pub needs_read : (p : Policy) (face : ℕ) (read : Result PlainFrame PacketFault
 needs_read p face read packet here is (inl closed) = cc (here, closed)
 needs_read p face read packet here is (inr needs) = subst (NeedsNoMemory p face) is needs
 
--- ---- packets that are dropped
+-- ---- the step for a packet that is dropped
 
 module _ (old new : NodeState) (face now : ℕ) (octets : List ℕ) (later : IsLater old now new) where
   same_pending : (reason : DropReason) → FollowAll (causes_by (at_moment old.policy now).now (token_at octets) [] (read_outcome face (frame_at octets) (Dropped reason))) new.pending new.pending
@@ -155,7 +155,8 @@ module _ (old new : NodeState) (face now : ℕ) (octets : List ℕ) (later : IsL
 
 -- ---- the work of a handler is one step
 
--- the node makes a step with this verdict, whose sends, appended to `before`, give `after`
+-- the node makes a step with this verdict, and appending the sends of the step to `before` gives
+-- `after`
 abbrev pub StepsBy : NodeState → NodeState → List Send → List Send → PlainEvent → code.Verdict → Type 0
 StepsBy old new before after event verdict =
     (sends : List Send) × (after ≡ before ++ sends) × IsStep old event (record { verdict = verdict_of verdict; sends = sends }) new

@@ -112,8 +112,8 @@ module _ (p : Policy) (r s : PlainKey → Records) (f g : Bool) (G H : PlainKey 
   one_verdict (Tick now) is h k = absurd is
   one_verdict (NewRules rules keys now) is h k = absurd is
 
--- The next items are about two runs with the same events, `past` and `other`, and about the
--- answers `a` and `b` that are valid after them. The policy is the same after both runs.
+-- In this module, `past` and `other` are two runs with the same events. The answer `a` is valid
+-- after `past`, and the answer `b` is valid after `other`. The policy is the same after both runs.
 module _ (first : Policy) (past other : Run) (event : PlainEvent) (a b : Answer) (apart : KeysAreApart first past) (same : HaveOneHistory past other)
     (h : MayReply first past event a) (k : MayReply first other event b) where
   was_one : k.was ≡ h.was

@@ -41,7 +41,7 @@ use Rattle.forwarder.proofs.Contents.{interest_is_neither, none_nacked, read_beg
 use Rattle.pit_fib.proofs.PendingPast.{asks_of_run}
 use Rattle.forwarder.proofs.Requests.{for_list}
 
--- ---- causes
+-- ---- which cause makes an Interest pending
 
 -- for each send, the cause that says that the Interest was sent to the face of the send
 abbrev sendings : PlainKey → List ℕ → ℕ → List Send → List Cause

@@ -89,8 +89,8 @@ keys_after (FaceDown face now) keys = keys
 keys_after (Tick now) keys = keys
 keys_after (NewRules rules new now) keys = new
 
--- The parts in `Lasting` after an event, if `p` is the policy once time has advanced to the
--- event's moment. The rules and keys are those that the event brings, if it brings any.
+-- The parts in `Lasting` after an event, where `p` is the policy once time has advanced to the
+-- event's moment. Rules and keys that the event brings replace those of `p`.
 abbrev lasting_after : PlainEvent → Policy → Lasting
 lasting_after event p = (p.now, (rules_after event p.rules, (keys_after event p.keys, p.repo)))
 

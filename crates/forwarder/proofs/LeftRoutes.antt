@@ -70,7 +70,7 @@ left_twice m n routes le =
     ∙ entry_twice m n le (map.get routes k)
     ∙ sym (get-revise name_cmp-antisymmetric (entry_left_at n) routes k))
 
--- ---- how many routes remain
+-- ---- how many routes remain at a moment
 
 module _ {K X : Type 0} (change : X → Option X) where
   fewer_revised : (es : List (K × X)) → length (revised change es) ≤ length es
@@ -105,9 +105,9 @@ count-left now routes =
     subst (λ es. total (λ (e : Entry). map.len e.registered) es ≤ route_count routes) (sym (entries-revise name_cmp (entry_left_at now) routes))
     (total_revised (entry_left_at now) (λ e. map.len e.registered) (entry_falls now) (map.entries routes))
 
--- each route is counted once: the number of routes that expire by the moment `m`, plus the number
--- of remaining routes that expire by the later moment `n`, is the number of routes that expire by
--- `n`
+-- Each route is counted once. The number of routes that expire by the moment `m`, plus the number
+-- of remaining routes that expire by the later moment `n`, is the number of all routes that expire
+-- by `n`.
 pub due_twice : (m n : ℕ) (routes : Routes) → m ≤ n → due_count m routes + due_count n (left_at m routes) ≡ due_count n routes
 due_twice m n routes le =
     let twice = ap route_count (left_twice m n routes le) in

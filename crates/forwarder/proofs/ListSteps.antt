@@ -26,8 +26,8 @@ use Rattle.forwarder.proofs.ReplyLengths.{segment_at_len, segment_is_short, segm
 use Rattle.forwarder.proofs.Requests.{for_list}
 use Rattle.forwarder.proofs.Uses.{list_use}
 
--- if the only send is `packet`, which goes back to the face that asked, has at most 8,800 octets
--- and is not a Nack, then the Interest has no causes
+-- Let `packet` have at most 8,800 octets and not be a Nack. If the only send returns `packet` to
+-- the face that asked, then the Interest has no causes.
 pub back_causes : (now face : ℕ) (token : Token) (whole : List ℕ) (i : PlainInterest) (packet : List ℕ) → IfSome token IsToken → length packet ≤ 8800 → is_nack packet ≡ false
     → interest_causes now face token whole i (sent_back face token packet ∷ []) ≡ []
 back_causes now face token whole i packet is short plain =
@@ -100,8 +100,8 @@ then_listed old p moment now due number is at ends counted = (
       ∙ sym (counted ∙ ap (λ (n : ℕ). min (old.table_number + n) (2 ^ 64 - 1)) ends),
 )
 
--- if an Interest asks for a list, then the answer that `list_answer` gives is the answer to this
--- Interest, and it leaves the node unchanged once time has advanced
+-- Let an Interest ask for a list. Then the answer that `list_answer` gives is the answer to this
+-- Interest, and it leaves the node as it is once time has advanced.
 pub list_handled : (old was : NodeState) (moment face : ℕ) (token : Token) (whole : List ℕ) (i : PlainInterest) (asked : ListAsked) (answer : Answer) → IfSome token IsToken → IsLater old moment was
     → request_of old.policy face i ≡ ForList asked → list_answer was.policy face token asked ≡ answer → IsAnswered was face token (AnInterest whole i) answer was
 list_handled old was moment face token whole i asked answer tok later is given =

@@ -94,12 +94,12 @@ any_to p x (y ∷ ys) h e =
       ]
     ] refl
 
--- ---- faces
+-- ---- the list of open faces after a face is added or removed
 
 none_is_not_some : {A : Type 0} (x : A) → None ≡ Some x → ⊥
 none_is_not_some x e = cc
 
--- if a face is not found, the first entry is not the face's entry, and the face is not found in the
+-- a face that is not found in a list is not the face of the first entry, and is not found in the
 -- other entries
 not_first : (f : ℕ) (entry : FaceEntry) (faces : List FaceEntry) → find_scope f (entry ∷ faces) ≡ None → (entry.0 ≡ f → ⊥) × (find_scope f faces ≡ None)
 not_first f entry faces e =

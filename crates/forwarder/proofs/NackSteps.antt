@@ -1,6 +1,5 @@
--- How a Nack is answered. The reserved memory is enough for the Nacks to all faces with in-records,
--- these Nacks are sent in rising order of the faces, and the reason of the received Nack is
--- recorded.
+-- How a Nack is answered. The reserved memory is enough for the Nacks to all faces with in-records.
+-- These Nacks are sent in rising order of the faces. The reason of the received Nack is recorded.
 use Rattle.std.proofs.Common.{◌≡◌, ◌⊎◌, inl, inr, ℕ, ◌+◌, ◌<◌, ◌≤◌, Bool, true, false, cond, eqb, ltb, List, [], ◌∷◌, ◌++◌, length, drop, Option, None, Some, refl, sym, ap, subst, ◌∙◌, arith}
 use lib.Dec.{T}
 use Rattle.std.specs.Prelude.{is_some, option_and_then, map, slice_get, unwrap_or, ◌||◌}
@@ -82,7 +81,7 @@ pub room_here : (asks : InRecords) (faces : List ℕ) (i face : ℕ) → slice_g
     → nack_room asks (drop i faces) ≡ room_for (get asks face) + nack_room asks (drop (i + 1) faces)
 room_here asks faces i face at = ap (nack_room asks) (drop_here faces i face at) ∙ sum_by-cons (λ f. room_for (get asks f)) face (drop (i + 1) faces)
 
--- ---- the Nacks to the faces, compared with the list of all faces that ask
+-- ---- `nacks_by` for the faces of a list, compared with `nacks_to` for all faces with in-records
 
 above : (k : ℕ) (es : List (ℕ × InRecord)) → T (below_all nat_cmp k es) → AllByRecursion (λ e. k < e.0) es
 above k [] h = tt
@@ -117,8 +116,8 @@ module _ (reason : ℕ) where
   same_nacks g h (f ∷ faces) all =
       ap (λ o. nack_for reason f o ++ nacks_by reason g faces) all.0 ∙ ap (λ l. nack_for reason f (h f) ++ l) (same_nacks g h faces all.1)
 
-  -- the lookup of a face greater than the first key `k` gives the same result without the first
-  -- entry
+  -- if all faces in `faces` are greater than the first key `k`, looking them up gives the same
+  -- results without the first entry
   found_later : (k : ℕ) (ask : InRecord) (es : List (ℕ × InRecord)) (faces : List ℕ) → AllByRecursion (λ f. k < f) faces
       → AllByRecursion (λ f. find nat_cmp f ((k, ask) ∷ es) ≡ find nat_cmp f es) faces
   found_later k ask es [] all = tt
@@ -346,7 +345,7 @@ removed_causes face reason least i old mid new alive follows removed k =
     removed k ∙ ap (records_after (Removed key) k) (follows k)
     ∙ ap (λ b. after_causes (came ∷ cond b [] (Removed key ∷ [])) k (records_at old k)) (sym (some_nacks (in_records_at old key) least alive))
 
--- ---- a Nack is answered
+-- ---- how a received Nack is answered
 
 module _ (was new : NodeState) (face : ℕ) (token : Token) (reason : ℕ) (whole : List ℕ) (i : PlainInterest) (policy : new.policy ≡ was.policy) (cache : new.cache ≡ was.cache)
     (alive : HoldsTheLiving new.pending) where

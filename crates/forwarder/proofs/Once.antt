@@ -98,14 +98,15 @@ said_guard p face packet decided.NoRule = inl refl
 
 -- ---- the table of a replay guard
 
--- if a command of the signer `r.signer` is later than the record of this signer in `table`, then
--- the command is newer than `r`
+-- each command of the signer `r.signer` that is later than the record of this signer in `table` is
+-- newer than `r`
 abbrev HasSeen : Table → Recorded → Type 0
 HasSeen table r =
     (time : ℕ) (number : Option ℕ) → IsLater (map.get table r.signer) time number → (r.time < time) × NumberRises r.number number
 
--- If a command is later than its signer's record in the table with `r` added, then it is later than
--- its signer's record in `table`, and newer than `r` if both have the same signer.
+-- Let a command be later than its signer's record in the table with `r` added. Then it is later
+-- than its signer's record in `table`. If `r` has the same signer, the command is also newer than
+-- `r`.
 added : (table : Table) (r : Recorded) (signer : Signer) (time : ℕ) (number : Option ℕ) → IsLater (map.get (with_recorded table r) signer) time number
     → IsLater (map.get table signer) time number × IsNewer signer time number r
 added table r signer time number h =
@@ -120,7 +121,7 @@ seen_stays table r s h time number k = h time number (added table s r.signer tim
 seen_now : (table : Table) (r : Recorded) → HasSeen (with_recorded table r) r
 seen_now table r time number k = (added table r r.signer time number k).1 refl
 
--- ---- runs
+-- ---- what the guard contains after a run
 
 -- an event leaves the guard unchanged, or brings an allowed command, which is recorded
 abbrev GuardAfter : Policy → PlainEvent → Policy → Type 0
@@ -221,8 +222,8 @@ IsRecordIn first run r = (whole : List ℕ) × (i : PlainInterest) × AllowedIn 
 longer_record : (first : Policy) (before : Run) (event : PlainEvent) (answer : Answer) (r : Recorded) → IsRecordIn first before r → IsRecordIn first (Then before event answer) r
 longer_record first before event answer r (whole, i, a, is) = (whole, i, inl a, is)
 
--- if the guard was empty at first, then the guard after the run is the table of some records,
--- each of which is the record of an allowed command of the run
+-- Let the guard be empty before a run. After the run, the guard is the table of some records, each
+-- of which is the record of an allowed command of the run.
 pub guard_is_of_allowed : (first p : Policy) (run : Run) → first.guard ≡ map.empty → IsPolicyOf first run p
     → (records : List Recorded) × (p.guard ≡ table_of records) × All (IsRecordIn first run) records
 guard_is_of_allowed first p Start none h = ([], ap (λ (q : Policy). q.guard) h ∙ none, All-nil (IsRecordIn first Start))

@@ -13,7 +13,7 @@ use Rattle.forwarder.specs.declared.event.Scope.TheVariants.{Local, Far}
 use Rattle.forwarder.specs.OpenFaces.{FaceEntry, is_open, find_scope, numbers, with_face, without_entry, scope_in, entries_of, AreOpen}
 use Rattle.forwarder.specs.Policy.{is_local_scope, is_far_scope}
 
--- ---- filters
+-- ---- filtered lists of numbers
 
 pub filter_alike : (p q : ℕ → Bool) (xs : List ℕ) → ((x : ℕ) → p x ≡ q x) → filter p xs ≡ filter q xs
 filter_alike p q [] h = refl
@@ -105,8 +105,8 @@ more_here f (y ∷ ys) (suc i) x e =
 one_more : (i : ℕ) → suc i ≡ i + 1
 one_more i = omega arith
 
--- if `rest` are the first `i` faces without `f`, and the face at index `i` is not `f`, then adding
--- this face to `rest` gives the first `i + 1` faces without `f`
+-- Let `rest` be the first `i` faces without `f`. If the face at index `i` is not `f`, then adding
+-- this face to `rest` gives the first `i + 1` faces without `f`.
 pub kept_here : (f : ℕ) (xs : List ℕ) (i x : ℕ) (rest new : List ℕ) → IsRising xs → slice_get xs i ≡ Some x → i < MAX_FACES → rest ≡ but_for f (take i xs) → eqb x f ≡ false → new ≡ (adding x rest).1 → new ≡ but_for f (take (i + 1) xs)
 kept_here f xs i x rest new rising at lt was apart is =
     let few : length (but_for f (take i xs)) < MAX_FACES = omega (arith, length_filter (λ g. not (eqb g f)) (take i xs), length_here xs i, lt) in
@@ -114,8 +114,8 @@ kept_here f xs i x rest new rising at lt was apart is =
     ∙ ap (λ b. but_for f (take i xs) ++ cond (not b) (x ∷ []) []) (sym apart) ∙ sym (more_here f xs i x at)
     ∙ ap (λ m. but_for f (take m xs)) (one_more i)
 
--- if `rest` are the first `i` faces without `f`, and the face at index `i` is `f`, then `rest` are
--- also the first `i + 1` faces without `f`
+-- Let `rest` be the first `i` faces without `f`. If the face at index `i` is `f`, then `rest` is
+-- also the list of the first `i + 1` faces without `f`.
 pub left_out : (f : ℕ) (xs : List ℕ) (i x : ℕ) (rest : List ℕ) → slice_get xs i ≡ Some x → rest ≡ but_for f (take i xs) → eqb x f ≡ true → rest ≡ but_for f (take (i + 1) xs)
 left_out f xs i x rest at was same =
     was ∙ sym (append-nil (but_for f (take i xs))) ∙ ap (λ b. but_for f (take i xs) ++ cond (not b) (x ∷ []) []) (sym same) ∙ sym (more_here f xs i x at)
@@ -155,7 +155,7 @@ locals_in_entries (f ∷ all) local =
       | false ↦ locals_in_entries all local
     ]
 
--- ---- a face opens
+-- ---- the lists of all open faces and of the Local faces after a face opens
 
 or_absurd : {A : Type 0} → false ≡ true → A
 or_absurd e = absurd cc
@@ -296,7 +296,7 @@ module _ (f : ℕ) (all local : List ℕ) (are : AreOpen all local) (out : has_f
 pub added_new : (f : ℕ) (xs : List ℕ) → has_face f xs ≡ false → length xs < MAX_FACES → (adding f xs).1 ≡ numbers_of.with_face f xs
 added_new f xs out lt = rw (out, lt-leb MAX_FACES (length xs) lt) refl
 
--- ---- a face closes
+-- ---- the lists of all open faces and of the Local faces after a face closes
 
 has-but_for : (g f : ℕ) (xs : List ℕ) → has_face g (but_for f xs) ≡ (not (eqb g f) && has_face g xs)
 has-but_for g f [] = none (not (eqb g f))

@@ -82,9 +82,9 @@ no_more-added octets more sends faces h some =
     let sum = sum_by-append size_of sends (map (placed (length octets) (length (octets ++ more))) faces) in
     omega (arith, h, added, sum, length-append octets more)
 
--- If `AreOctetsOf` is true of `octets` and `sends`, it is also true of `all` and `after`. Here
--- `all` is `octets` followed by `more`, which lies from `start` to `end`, and `after` is `sends`
--- followed by the sends of `more` to at least one face.
+-- Let `all` be `octets` followed by `more`, which lies from `start` to `end`. Let `after` be
+-- `sends` followed by the sends of `more` to at least one face. If `AreOctetsOf` is true of
+-- `octets` and `sends`, then it is true of `all` and `after`.
 octets_after : (octets more all : List ℕ) (sends after : List Sent) (faces : List ℕ) (start end : ℕ)
     → start ≡ length octets → end ≡ length all → all ≡ octets ++ more → after ≡ sends ++ map (placed start end) faces
     → AreOctetsOf octets sends → 0 < length faces → AreOctetsOf all after

@@ -115,7 +115,7 @@ module _ (was new : NodeState) (face : ℕ) (token : Token) (whole : List ℕ) (
       (done.policy ∙ ap (λ (r : Request). with_record (after_request was.policy face i r) (recorded_of i)) (sym is))
       done.pending (subst (λ (used : CacheUse). CacheAfter was.policy.now was.pending used was.cache new.cache) used done.cache)
 
--- ---- refusals
+-- ---- the answer to a command that is denied
 
 module _ (was : NodeState) (face : ℕ) (token : Token) (whole : List ℕ) (i : PlainInterest) (request : Request) (is : request_of was.policy face i ≡ request)
     (command : is_command request ≡ true) (living : HoldsTheLiving was.pending) where

@@ -59,7 +59,7 @@ signed_is_short name meta content =
 pub reply_is_short : (name : List Field) (content : List ℕ) → length (reply_text name content) ≤ length (octets_of name) + length content + 77
 reply_is_short name content = let le = signed_is_short name None content in omega (arith, le)
 
--- ---- segments of lists
+-- ---- the lengths of list segments and of their names
 
 meta_len : (last : ℕ) → length (octets (optional 20 (meta_of (meta_fields (Some 1000) (Some last))))) ≤ 82
 meta_len last =

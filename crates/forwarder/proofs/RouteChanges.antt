@@ -51,8 +51,8 @@ valued : (routes : Routes) (n name : List Field) (o : Option Entry) → map.get 
 valued routes n name None = get-remove name_cmp-total routes n name
 valued routes n name (Some e) = get-insert name_cmp-total routes n e name
 
--- The next lemmas: what `read` gives for the entry of `name` after the entry of `n` was set to
--- `e`.
+-- In this module, the entry of the name `n` is set to `e`. The lemmas tell what `read` then gives
+-- for the entry of the name `name`.
 module _ {V : Type 0} (read : Entry → V) (routes : Routes) (n : List Field) (e : Entry) (name : List Field) where
   by_name : (b : Bool) (o : Option Entry) → unwrap_or o no_entry ≡ e → read (unwrap_or (cond b o (map.get routes name)) no_entry) ≡ cond b (read e) (read (entry_at routes name))
   by_name true o is = ap read is
@@ -76,9 +76,9 @@ module _ {V : Type 0} (read : Entry → V) (routes : Routes) (n : List Field) (e
       by true t = here ∙ ap (λ (m : List Field). cond b y (read (entry_at routes m))) (sym (same_name name n t))
       by false t = refl
 
-  -- For the new entry `e`, let `read` give `y` if `b` is true, and the value for the old entry of
-  -- `n` if `b` is false. Then, for the changed routes, `read` gives `y` if `name` is `n` and `b` is
-  -- true. In all other cases, it gives the old value for `name`.
+  -- Let `read` give for the new entry `e` the value `y` if `b` is true, and the value for the old
+  -- entry of `n` if `b` is false. Then, for the changed routes, `read` gives `y` if `name` is `n`
+  -- and `b` is true. In all other cases, it gives the old value for `name`.
   pub changed_with : (b : Bool) (y : V) → read e ≡ cond b y (read (entry_at routes n))
       → read (entry_at (map.insert routes n e) name) ≡ cond (eq_by_cmp name_cmp name n && b) y (read (entry_at routes name))
   changed_with b y = changed_there (read (entry_at (map.insert routes n e) name)) b y read_with
@@ -91,8 +91,8 @@ module _ {V : Type 0} (read : Entry → V) (routes : Routes) (n : List Field) (e
   either_way true x = refl
   either_way false x = refl
 
-  -- if `read` gives the same value for the new entry `e` as for the old entry of `n`, then it
-  -- gives the old values for the changed routes
+  -- Let `read` give the same value for the new entry `e` and for the old entry of `n`. Then `read`
+  -- gives the same value for the entry of `name` in the changed routes and in the old routes.
   pub unread_with : read e ≡ read (entry_at routes n) → read (entry_at (map.insert routes n e) name) ≡ read (entry_at routes name)
   unread_with same = changed_with false (read (entry_at routes name)) same ∙ either_way (eq_by_cmp name_cmp name n) (read (entry_at routes name))
 
@@ -144,7 +144,7 @@ entry-without_face routes f name =
         gone true o none = refl
         gone false o none = sym none
 
--- ---- a next hop
+-- ---- the cost of one next hop after each change
 
 abbrev pub cost_in : Routes → List Field → ℕ → Option ℕ
 cost_in routes name face = map.get (costs_at routes name) face
@@ -178,7 +178,7 @@ cost_left now routes name face = ap (λ (e : Entry). map.get e.hops face) (entry
 pub cost_nowhere : (name : List Field) (face : ℕ) → cost_in map.empty name face ≡ None
 cost_nowhere name face = ap (λ (o : Option Entry). map.get (unwrap_or o no_entry).hops face) (get-empty name_cmp name) ∙ get-empty nat_cmp face
 
--- ---- a registered route
+-- ---- one registered route after each change
 
 abbrev pub route_in : Routes → List Field → RouteKey → Option Route
 route_in routes name key = map.get (registered_at routes name) key

@@ -19,7 +19,7 @@ use Rattle.forwarder.specs.Node.{NodeState, IsStep}
 use Rattle.forwarder.specs.Runs.{Run, Then, MayHold, Stands, now_of}
 use Rattle.forwarder.proofs.RunSteps.{is_waiting, now_is}
 
--- ---- lists of cached Data
+-- ---- properties of all Data in a cache
 
 -- if all Data of a list have a property, each Data in the list has the property
 all_contained : (P : CachedData → Type 0) (cs : List CachedData) (c : CachedData) → All P cs → Contains cs c → P c
@@ -51,9 +51,9 @@ module _ (now : ℕ) (waiting : Pending) (old new : StoreState) (K K' : CachedDa
     inserted c arrives (inl (awaited, inr f)) = all_forgotten K' old.cached new.cached (All-weaker K K' keep old.cached held) f.0
     inserted c arrives (inr (other, e)) = unchanged e
 
-  -- Let `K'` follow from `K` for each Data that an erase may leave: each Data whose full name does
-  -- not begin with `name`, and any Data if `count` is given. Then each Data that remains after the
-  -- erase has the property `K'`.
+  -- Let `K'` follow from `K` for each Data that an erase may leave. With a count, an erase may
+  -- leave any Data. Without a count, it may leave only Data whose full names do not begin with
+  -- `name`. Then each Data that remains after the erase has the property `K'`.
   erased : (name : List Field) (count : Option ℕ) (gone : ℕ) → ((c : CachedData) → K c → ¬ ((count ≡ None) × IsPrefix name (full_name_of c)) → K' c)
       → IsErased name count old.cached new.cached gone → All K' new.cached
   erased name count gone keep h = by_count h.2
@@ -72,7 +72,7 @@ module _ (now : ℕ) (waiting : Pending) (old new : StoreState) (K K' : CachedDa
   use_held (Inserts c) keep bring h = inserted (λ c k. keep c k (λ t. t)) c (bring c refl) h
   use_held (Erases name count) keep bring h = erased name count h.0.0 keep h.0.1
 
--- ---- one step
+-- ---- the cache after one step of a run
 
 pub cache_held : (first : Policy) (past : Run) (old new : NodeState) (event : PlainEvent) (answer : Answer) → first.now ≡ 0 → Stands first past old → IsStep old event answer new
     → All (MayHold (Then past event answer)) new.cache.cached

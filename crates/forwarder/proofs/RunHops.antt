@@ -53,7 +53,7 @@ module _ (first was p : Policy) (before : Run) (event : PlainEvent) (answer : An
       event_read see q command closing unread done closes p (records_at reply.waiting) (nat_le MAX_PENDING (map.len reply.waiting)) (MayCache before q.now)
       (policy_apart first before was apart is) answer event replies after
 
--- ---- next hops
+-- ---- the next hops after a run
 
 module _ (name : List Field) (face : ℕ) where
   cost_commanded : (q : Policy) (from : ℕ) (c : PlainCommand) → cost_in (routes_after c from q.now q.routes) name face ≡ cost_after_command (Ok c) from name face (cost_in q.routes name face)
@@ -90,7 +90,7 @@ module _ (name : List Field) (face : ℕ) where
       ∙ cost_by outcome (cost_in q.routes name face)
       ∙ ap (cost_after outcome name face) (cost_left q.now was.routes name face ∙ routes_read first was before apart.0 none is w)
 
--- ---- registered routes
+-- ---- the registered routes after a run
 
 module _ (name : List Field) (face origin : ℕ) where
   abbrev key : RouteKey

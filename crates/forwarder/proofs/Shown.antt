@@ -11,8 +11,8 @@ filter-map view p (x ∷ xs) =
       | false ↦ filter-map view p xs
     ]
 
--- applying `view` to the elements whose view passes the test `p` is the same as filtering the list
--- of all views by `p`
+-- filtering a list by the test `p` on each element's view, and then applying `view`, gives the list
+-- of all views filtered by `p`
 pub shown_filter : {A B : Type 0} (view : A → B) (p : B → Bool) (xs ys : List A) → ys ≡ filter (λ x. p (view x)) xs → map view ys ≡ filter p (map view xs)
 shown_filter view p xs ys e = ap (map view) e ∙ sym (filter-map view p xs)
 

@@ -46,13 +46,13 @@ use Rattle.forwarder.specs.State.{IsLater, IsSound}
 use Rattle.forwarder.proofs.Chosen.{chosen_up}
 use Rattle.forwarder.proofs.Members.{IsRising-with_face, IsRising-without_entry, length-with_face}
 
--- ---- open faces
+-- ---- open faces and the list of their numbers
 
 pub has_numbers : (face : ℕ) (faces : List FaceEntry) → has_face face (numbers faces) ≡ is_open face faces
 has_numbers face [] = refl
 has_numbers face (entry ∷ faces) = ap (λ (b : Bool). (entry.0 == face) || b) (has_numbers face faces)
 
--- ---- records
+-- ---- the faces to which causes and sends add records
 
 -- each face to which the causes may add a record has the property `P`
 abbrev AddOnly : (ℕ → Type 0) → List Cause → Type 0
@@ -248,8 +248,8 @@ module _ (seen : Seen) (P : ℕ → Type 0) (face : ℕ) (token : Token) (asker 
 
 -- ---- what time and packets change in the open faces and in the faces with next hops or routes
 
--- the open faces are the same, and if all faces with next hops or routes were open, all faces with
--- next hops or routes are still open
+-- The policies `p` and `q` have the same open faces. If all faces with next hops or routes are open
+-- in `p`, then all faces with next hops or routes are open in `q`.
 abbrev KeepsOpen : Policy → Policy → Type 0
 KeepsOpen p q = (q.faces ≡ p.faces) × (AllAreUp p.routes (open_faces p) → AllAreUp q.routes (open_faces q))
 
@@ -355,15 +355,15 @@ opens p face is =
       ]
     ] is
 
--- ---- a step
+-- ---- each step leaves a sound node sound
 
 module _ (old new : NodeState) (sound : IsSound old) where
   waits_open : (now : ℕ) (waiting : Pending) → Follows (Expires now) old.pending waiting
       → (f : ℕ) → HasRecord waiting f → is_open f old.policy.faces ≡ true
   waits_open now waiting expiry f has = sound.records f (had_records (Expires now) old.pending waiting (λ f none. none) expiry f has)
 
-  -- if `KeepsOpen` is true of the old and the new policy, and each face with a record in the new
-  -- node was open, then the new node is sound
+  -- Let `KeepsOpen` be true of the old and the new policy. If each face with a record in the new
+  -- node was open in the old policy, then the new node is sound.
   same_faces : KeepsOpen old.policy new.policy → ((f : ℕ) → HasRecord new.pending f → is_open f old.policy.faces ≡ true) → IsSound new
   same_faces (is, up) records = record {
     few = subst (λ (faces : List FaceEntry). length faces ≤ MAX_FACES) (sym is) sound.few;

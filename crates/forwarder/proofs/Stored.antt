@@ -41,7 +41,7 @@ use Rattle.forwarder.specs.Allowed.{Allows, AllowedIn}
 abbrev Holds : Objects → List Field → List ℕ → Type 0
 Holds objects name octets = map.get objects name ≡ Some octets
 
--- ---- commands store nothing
+-- ---- commands do not add objects to the repository
 
 if_kept_some : (test : List Field × List ℕ → Bool) (name : List Field) (o : Option (List ℕ)) (octets : List ℕ) → if_kept test name o ≡ Some octets → o ≡ Some octets
 if_kept_some test name None octets e = e
@@ -113,7 +113,7 @@ offered s whole d name octets = by_wanted (is_wanted d.name (sha256 whole) s.wan
         by_name (eq_by_cmp name_cmp name (full_name d.name (sha256 whole))) refl (sym (get-insert name_cmp-total s.objects (full_name d.name (sha256 whole)) whole name) ∙ h)
     by_wanted false h = inl h
 
--- ---- runs
+-- ---- the objects that are stored after a run
 
 -- `octets` are a Data that was allowed, and `name` is its full name
 abbrev pub IsOfAllowed : Policy → Run → List Field → List ℕ → Type 0

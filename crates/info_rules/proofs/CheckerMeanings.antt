@@ -40,7 +40,7 @@ some_one x y e = cc
 pub ok_one : {A : Type 0} (g : Found A) (x y : A) → g ≡ Ok x → g ≡ Ok y → x ≡ y
 ok_one g x y p q = cc
 
--- ---- filters
+-- ---- the meaning of filters
 
 filter_keys : (line : ℕ) (keys : List Block) (test : NameTest) → filter_of line keys ≡ Ok test → AsksOfName keys test
 unfolding filter_of table
@@ -67,7 +67,7 @@ pub filter_meant : (key : Block) (test : NameTest) → IsFilter key test → fil
 unfolding filter_in
 filter_meant key test h = block_again 2 filter_of key test h.0 (keys_filter key.0.line (blocks_of 2 key.1) test h.1)
 
--- ---- hyper-relations
+-- ---- the meaning of hyper-relations
 
 half_means : (pattern_word template_word : List ℕ) (keys : List Block) (pattern : PlainPattern) (template : List PlainPart) → others_of (named pattern_word keys) ≡ [] → others_of (named template_word keys) ≡ []
     → half_in pattern_word template_word keys ≡ Ok (Some (pattern, template)) → Has IsPattern pattern_word keys pattern × Has (IsTemplate (length pattern.groups)) template_word keys template
@@ -165,7 +165,7 @@ hyper_meant : (key : Block) (hyper : PlainHyper) → IsHyper key hyper → hyper
 unfolding hyper_in
 hyper_meant key hyper h = block_again 4 (hyper_of true) key (Some hyper) h.0 (keys_hyper key.0.line (blocks_of 4 key.1) hyper h.1)
 
--- ---- key locators
+-- ---- the meaning of key locators
 
 not_lacked : (word : List ℕ) (keys rest : List Block) (key : Block) → named word keys ≡ key ∷ rest → Lacks word keys → ⊥
 not_lacked word keys rest key is none = absurd cc
@@ -175,8 +175,8 @@ by_hyper forms.Related keys key only is = absurd (not_lacked (codes "hyper-relat
 by_hyper forms.Matching keys key only is = absurd (not_lacked (codes "hyper-relation") keys [] key is (lacks (words_by forms.Matching) (codes "hyper-relation") keys refl only))
 by_hyper forms.Hyper keys key only is = only
 
--- if the requirement `test` on a key's name is made from the name test that the keys state, then
--- `keys` mean `test`
+-- Let `keys` be the keys of a key locator's block. If the requirement `test` on the name of a
+-- signing key is made from the name test that `keys` state, then `keys` mean `test`.
 named_test : (line : ℕ) (keys : List Block) (names : Names) (asked : Option NameTest) (test : LocatorTest) → StandOnce keys → IsAsked KeyName keys names → test_of names ≡ asked → shown locators.Name (needed_one line asked) ≡ Ok test → AsksOfKey keys test
 named_test line keys names asked test once by shows e =
     let read = shown_ok locators.Name (needed_one line asked) test e in
@@ -184,8 +184,9 @@ named_test line keys names asked test once by shows e =
     let some : asked ≡ Some read.0 = cc in
     subst (AsksOfKey keys) read.2 (test_means KeyName keys names read.0 once by (shows ∙ some))
 
--- if the requirement `test` on a key's name is made from the first hyper-relation, or else from a
--- name test, then `keys` mean `test`
+-- Let `keys` be the keys of a key locator's block. If the requirement `test` on the name of a
+-- signing key is made from the first hyper-relation, or else from a name test, then `keys` mean
+-- `test`.
 locator_by : (line : ℕ) (keys : List Block) (names : Names) (asked : Option NameTest) (hypers : List (Option PlainHyper)) (test : LocatorTest) → StandOnce keys → others_of (named (codes "hyper-relation") keys) ≡ [] → IsAsked KeyName keys names → test_of names ≡ asked
     → each (hyper_in (is_hyper_alone keys)) (named (codes "hyper-relation") keys) ≡ Ok hypers → (first : Option (Option PlainHyper)) → first_of hypers ≡ first → test_by line asked first ≡ Ok test → AsksOfKey keys test
 locator_by line keys names asked hypers test once alone by shows e None is made = named_test line keys names asked test once by shows made

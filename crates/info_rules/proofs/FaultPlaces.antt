@@ -1,4 +1,4 @@
--- The line of the fault, for a text that spells no entries.
+-- The line of the fault that is reported for a text that spells no entries.
 use Rattle.std.proofs.Common.{◌≡◌, ◌≢◌, ℕ, zero, suc, ◌+◌, ◌≤◌, Bool, true, false, cond, eqb, leb, List, [], ◌∷◌, ◌++◌, Result, Ok, Err, refl, sym, ap, subst, ◌∙◌, inl, inr, arith}
 use Rattle.std.specs.Prelude.{⊤, Option, Some, None, nat_lt, length}
 use Rattle.std.specs.List.{AllByRecursion, count_by}
@@ -15,7 +15,7 @@ use Rattle.info_rules.proofs.TreeSpelling.{entries_again}
 use Rattle.info_rules.proofs.TreeSteps.{ok_is, ok_unless, word_found, open_found, close_found, block_closed, tokens_one, tokens_done, tokens_faulty}
 use Rattle.info_rules.proofs.TreeFinding.{entries_found, never_deep, whole_found}
 
--- ---- texts of whole lines
+-- ---- the tokens and the mode after whole lines
 
 -- the tokens that end within these octets
 ended : Mode → ℕ → List ℕ → List (ℕ × Token)
@@ -83,7 +83,7 @@ unfolding line_at
 line_past line [] rest = refl
 line_past line (o ∷ front) rest = line_past (line_after line o) front rest
 
--- ---- the lines of tokens
+-- ---- on which lines tokens are
 
 abbrev AllOn : (ℕ → Type 0) → List (ℕ × Token) → Type 0
 AllOn On tokens = AllByRecursion (λ (token : ℕ × Token). On token.0) tokens
@@ -117,7 +117,7 @@ from_line n mode line (o ∷ text) h =
     let next : n ≤ line_after line o = omega (arith, line_up line o) in
     one_on (λ l. n ≤ l) line (ended_by mode o) (tokens_from (mode_after mode o) (line_after line o) text) h (from_line n (mode_after mode o) (line_after line o) text next)
 
--- ---- the lines of faults
+-- ---- on which lines faults are
 
 -- `On` is true of the line of the block that is inside eight others, if there is one
 abbrev DeepOn : (ℕ → Type 0) → Option ℕ → Type 0
@@ -176,8 +176,8 @@ fitting_err draft line Close fault e = by_depth (eqb draft.depth 0) e
     by_depth false e = absurd cc
 fitting_err draft line Broken fault e = cc
 
--- if `On` is true of the line of a block inside eight others and of the line of the fault of
--- `read`, `On` is true of the line of the fault that is returned
+-- Let `On` be true of the line of a block inside eight others, if there is one, and of the line of
+-- the fault of `read`. Then `On` is true of the line of the fault that `unless_fault` returns.
 unless_deep : {A : Type 0} (On : ℕ → Type 0) (deep : Option ℕ) (line : ℕ) (read : Result A RulesFault) (fault : RulesFault) → DeepOn On deep → (read ≡ Err fault → On fault.line) → unless_fault (deep_before deep line) read ≡ Err fault → On fault.line
 unless_deep On None line read fault h behind e = behind e
 unless_deep On (Some deep) line read fault h behind e = by_test (eqb deep line) e
@@ -294,7 +294,7 @@ deep_told n line deep draft ((at, token) ∷ tokens) fault is low here all e =
     let same : too_deep deep ≡ fault = cc in
     at_fault (λ l. l ≤ n) (too_deep deep) fault same low
 
--- ---- closing the open blocks
+-- ---- a text that closes all open blocks
 
 closers : ℕ → List ℕ
 closers zero = []
@@ -338,7 +338,7 @@ begins_some n front mid h e shallow =
     let entries : entries_in text ≡ Ok (entries_of closed.final) = rw (read, closed.shallow, closed.depth) refl in
     (closers mid.depth, entries_of closed.final, entries_found text (entries_of closed.final) entries)
 
--- ---- the law
+-- ---- the lines before the fault begin a text that spells entries, those up to the fault do not
 
 end_up : (n : ℕ) (front rest : List ℕ) → AreRead n front → n + 1 ≤ end_line (front ++ rest)
 end_up n front rest h = omega (arith, h.next, line_more 1 front, line_more 1 (front ++ rest), line_past 1 front rest, line_kept (line_at 1 front) rest)

@@ -31,7 +31,7 @@ use Rattle.info_rules.proofs.WordMeanings.{kind_means, kind_meant, id_means, id_
 use Rattle.info_rules.proofs.CheckerMeanings.{ok_one, filter_means, filter_meant}
 use Rattle.info_rules.proofs.RuleMeanings.{checker_means, checker_meant}
 
--- ---- rules
+-- ---- the meaning of rules
 
 no_faults : (faults : List RulesFault) → faults ≡ [] → after None faults ≡ None
 unfolding after
@@ -84,7 +84,7 @@ pub rule_meant : (key : Block) (rule : PlainRule) → IsRule key rule → rule_i
 unfolding rule_in
 rule_meant key rule h = block_again 1 rule_of_keys key rule h.0 (keys_rule key.0.line (blocks_of 1 key.1) rule h.1)
 
--- ---- trust anchors
+-- ---- the meaning of trust anchors
 
 abbrev anchor_words : List (List ℕ)
 anchor_words = codes "file" ∷ codes "dir" ∷ codes "base64" ∷ []
@@ -158,7 +158,7 @@ unfolding each
 anchors_meant [] h = ([], refl)
 anchors_meant (key ∷ keys) h = let others = anchors_meant keys h.1 in (tt ∷ others.0, rw (anchor_meant key h.0, others.1) refl)
 
--- ---- ids
+-- ---- the ids of the rules in a file are different
 
 not_equal : (a b : List ℕ) → a ≢ b → bytes_eq a b ≡ false
 not_equal a b differ = by_test (bytes_eq a b) refl
@@ -229,7 +229,7 @@ not_less n h = grind (arith, nat_tests)
 shared_ids : (keys : List Block) → length (named (codes "rule") keys) ≤ 256 → shared_faults keys ≡ [] → id_faults keys ≡ []
 shared_ids keys few e = rw (not_less (length (named (codes "rule") keys)) few) at e
 
--- ---- files
+-- ---- the meaning of rule files
 
 pub file_means : (entries : List PlainEntry) (rules : List PlainRule) → rules_in entries ≡ Ok rules → IsRuleFile entries rules
 unfolding rules_in rules_of_keys table

@@ -10,7 +10,7 @@ use Rattle.info_rules.specs.Keys.{on_option, first_of, named, value_of}
 use Rattle.info_rules.specs.Values.{given_in, read_at, value_in}
 use Rattle.info_rules.specs.Found.{Found, both, beside, needed, then_made, shown}
 
--- ---- functions applied to values
+-- ---- functions applied to values that were read
 
 pub both_head : {A B C : Type 0} (r : A → C) (a : Found A) (b : Found B) → shown (λ (p : A × B). (r p.0, p.1)) (both a b) ≡ both (shown r a) b
 both_head r (Ok a) (Ok b) = refl

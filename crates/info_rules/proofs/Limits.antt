@@ -56,7 +56,7 @@ each_length f (key ∷ keys) all e =
     let len = each_length f keys gave.1 gave.3 in
     ap length (sym gave.4) ∙ ap (λ n. suc n) len
 
--- ---- different ids
+-- ---- rules that are read without a fault have different ids
 
 in_block : {A : Type 0} (depth : ℕ) (f : ℕ → List Block → Found A) (key : Block) (x : A) → block_in depth f key ≡ Ok x → f key.0.line (blocks_of depth key.1) ≡ Ok x
 in_block depth f key x e = by_block key.0.has_block e
@@ -133,7 +133,7 @@ own_ids (key ∷ keys) rules none e =
         let none_more = repeated_none key keys gave.0.id (id_of key gave.0 is gave.2) one in
         subst HaveOwnIds gave.4 (none_has gave.0.id keys gave.1 none_more gave.3, further gave.1 gave.3)
 
--- ---- keys without a fault
+-- ---- if no fault is reported, there are no faults
 
 pub no_fault : (faults : List RulesFault) → after None faults ≡ None → faults ≡ []
 no_fault faults e = by_fault (after None faults) (least_of faults) e

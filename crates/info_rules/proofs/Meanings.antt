@@ -19,7 +19,7 @@ use Rattle.info_rules.specs.Meaning.{IsOneOf, HasOnly, Lacks, HasValue, OpensBlo
 use Rattle.info_rules.proofs.FoundParts.{beside_ok, value_ok}
 use Rattle.info_rules.proofs.Limits.{none_of_both, head_gave, no_key, no_fault}
 
--- ---- values that were read
+-- ---- results that are values if their parts are values
 
 pub beside_again : {A : Type 0} (f : Option RulesFault) (g : Found A) (x : A) → f ≡ None → g ≡ Ok x → beside f g ≡ Ok x
 beside_again f g x p q = rw (p, q) refl
@@ -49,7 +49,7 @@ each_of f M again [] (x ∷ xs) h = absurd h
 each_of f M again (key ∷ keys) [] h = absurd h
 each_of f M again (key ∷ keys) (x ∷ xs) h = rw (again key x h.0, each_of f M again keys xs h.1) refl
 
--- ---- keys by their words
+-- ---- keys and lists of words
 
 abbrev pub words_of : List PlainForm → List (List ℕ)
 words_of forms = map (λ (f : PlainForm). f.word) forms
@@ -112,7 +112,7 @@ lacks words word (key ∷ keys) e h = by_test (bytes_eq key.0.key word) refl (la
     by_test true is none = absurd (not_among words word e (subst (IsOneOf words) ((bytes_eq-Decides key.0.key word).0 is) h.0))
     by_test false is none = none
 
--- ---- keys by the table
+-- ---- how often the table allows each key
 
 -- `keys` has no more keys that are `word` than the first argument allows
 abbrev pub Stands : Times → List ℕ → List Block → Type 0
@@ -193,7 +193,7 @@ pub fits_open_again : (block : BlockKind) (keys : List Block) → is_closed bloc
 unfolding walk_faults after
 fits_open_again block keys others often = rw (others, stand_again (table block) keys often) refl
 
--- ---- values
+-- ---- the values of the keys that are a given word
 
 pub alone : {A : Type 0} (xs : List A) (x : A) → first_of xs ≡ Some x → others_of xs ≡ [] → xs ≡ x ∷ []
 alone [] x e none = absurd cc
@@ -261,7 +261,7 @@ one_there word keys e once = by_first (first_of (named word keys)) refl e
     by_first None is e = absurd cc
     by_first (Some key) is e = (key, alone (named word keys) key is once)
 
--- ---- blocks
+-- ---- blocks that are read without a fault
 
 no_value : (key : Block) → shape_fault key ≡ None → key.0.value ≡ None
 no_value key e = by_value key.0.value refl e

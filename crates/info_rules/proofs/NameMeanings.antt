@@ -165,7 +165,7 @@ first_there tested form word (key ∷ keys) rest found may means e = by_key (for
     by_key None is further = further (by_word (bytes_eq key.0.key word) is refl e)
     by_key (Some f) is further = (key.0.line, ap (λ (g : Form). Some (g, key.0.line)) (same_form tested f form key is may.0))
 
--- ---- faults of forms
+-- ---- when the keys have no fault of their form
 
 -- all keys that belong to a form belong to the same form
 abbrev HasForm : Tested → List Block → Type 0
@@ -266,7 +266,7 @@ test_means tested keys names test once asked made = by_names names.0.0 names.0.1
     by_names (Some name) None None en er ep made = absurd cc
     by_names None r None en er ep made = absurd cc
 
--- ---- the converse
+-- ---- if keys mean a requirement on a name, this requirement is read from them
 
 may_related : (tested : Tested) (key : Block) → IsOneOf (words_by forms.Related) key.0.key → MayStand tested forms.Related key
 may_related tested key (inl e) = inl (form_type tested key e)

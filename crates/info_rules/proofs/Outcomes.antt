@@ -23,7 +23,9 @@ pub decides_shown : (rules : List PlainRule) (keys : List NamedKey) (packet : Pa
 decides_shown rules keys (packets.Interest i) decision h = h
 decides_shown rules keys (packets.Data d) decision h = h
 
--- if `n` is the position of the first rule that applies, the rule at position `n` is this rule
+-- Let the first rule for the kind and the name of a packet be at position `n`, and let `item` be
+-- the rule at this position. Then `item` is the first rule that applies to the packet as the code
+-- sees it.
 pub first_item : (all : List PlainRule) (packet : Packet) (kind : Kind) (name : List Field) (n : ℕ) (item : PlainRule) → kind ≡ (seen_of packet).kind → name ≡ (seen_of packet).name → item ≡ get_or all n item → First all kind name n
     → IsFirst all (seen_of packet).kind (seen_of packet).name n item
 first_item all packet kind name n item kind_is name_is is first =

@@ -27,7 +27,7 @@ use Rattle.info_rules.proofs.Meanings.{shown_again, fits, fits_again, has, has_a
 use Rattle.info_rules.proofs.WordMeanings.{IsCheckerType, IsSignatureType, checker_type_means, signature_means, signature_meant}
 use Rattle.info_rules.proofs.CheckerMeanings.{ok_one, locator_means, locator_meant}
 
--- ---- checkers
+-- ---- the keys of a checker that is read
 
 -- the value of the key `sig-type` is this signature type; if the type is `None`, the key is absent
 abbrev Takes : Option SignatureType → List Block → Type 0
@@ -162,7 +162,7 @@ checker_means key checker e =
     let read = is_read key.0.line (blocks_of 2 key.1) checker block.1 in
     (block.0, told key.0.line (blocks_of 2 key.1) checker read.type read.signature read.test read.type_read read.signature_read read.test_read read.clean read.there read.made)
 
--- ---- the converse
+-- ---- if keys mean a checker, this checker is read from them
 
 customized : (line : ℕ) (keys : List Block) (checker : Checker) (signature : Option SignatureType) (tests : List LocatorTest) → HasOnly (codes "type" ∷ codes "sig-type" ∷ codes "key-locator" ∷ []) keys → HasValue (codes "type") keys (codes "customized")
     → Takes signature keys → others_of (named (codes "key-locator") keys) ≡ [] → each locator_in (named (codes "key-locator") keys) ≡ Ok tests → has_locator keys (Ok (Some Customized)) (Ok signature) ≡ true

@@ -11,7 +11,7 @@ use Rattle.std.proofs.lemmas.List.{append-nil}
 use Rattle.std.proofs.Math.Seq.{drop-cons, drop-length}
 use Rattle.info_rules.specs.Words.{Token, Word, Broken, is_separator, word_token, Mode, Between, InComment, InWord, InQuotes, begun_by, is_closing, line_after, tokens_from, quoted_len, from_line_end}
 
--- ---- words
+-- ---- words at the start of a text
 
 same_line : (o : ℕ) → is_separator o ≡ false → eqb o 10 ≡ false
 unfolding is_separator
@@ -91,7 +91,7 @@ pub word_some : (text : List ℕ) → 0 < length text → is_separator (get_or t
 word_some [] some plain = absurd (omega arith)
 word_some (o ∷ text) some plain = rw plain (omega arith)
 
--- ---- the ends of lines
+-- ---- the ends of lines and of comments
 
 line_end_here : (o : ℕ) (text : List ℕ) → o ≡ 10 → from_line_end (o ∷ text) ≡ o ∷ text
 unfolding from_line_end
@@ -141,7 +141,7 @@ comment_through (o ∷ text) line =
       | inr e ↦ comment_more o text line e ∙ comment_through text line ∙ ap (tokens_from Between line) (sym (line_end_later o text e))
     ]
 
--- ---- quoted texts
+-- ---- the length and the tokens of a quoted text
 
 longer_is : (found : Option ℕ) (len : ℕ) → option_map (λ n. n + 1) found ≡ Some len → (n : ℕ) × (found ≡ Some n) × (n + 1 ≡ len)
 longer_is None len e = absurd cc
@@ -159,8 +159,8 @@ some_or_none : (found : Option ℕ) (len : ℕ) → found ≡ Some len → found
 some_or_none None len a b = absurd cc
 some_or_none (Some n) len a b = absurd cc
 
--- the next lemmas: the effect of one octet in a quoted text, for an LF, for the closing quote, and
--- for any other octet
+-- The effect of one octet in a quoted text: `quoted_lf` is about an LF, `quoted_closes` about the
+-- closing quote, and `quoted_more` about any other octet.
 quoted_lf : (escaped : Bool) (o : ℕ) (text : List ℕ) → o ≡ 10 → quoted_len escaped (o ∷ text) ≡ None
 unfolding quoted_len
 quoted_lf escaped o text e = rw (eq-eqb o 10 e) refl
@@ -261,8 +261,8 @@ broken_through (o ∷ text) escaped inner line e =
 
 -- ---- the search for the closing quote, octet by octet
 
--- the length found by searching from index `place` on, plus `place`, is the length of the whole
--- quoted text
+-- searching the closing quote from index `place` on, and adding `place` to the length that is
+-- found, gives the length of the whole quoted text
 abbrev pub IsSearched : List ℕ → ℕ → Bool → Type 0
 IsSearched text place escaped = quoted_len false text ≡ option_map (λ n. n + place) (quoted_len escaped (drop place text))
 
@@ -306,7 +306,7 @@ search_ends text escaped h =
     sym (h ∙ ap (λ (t : List ℕ). option_map (λ n. n + length text) (quoted_len escaped t)) (drop-length text)
     ∙ ap (option_map (λ n. n + length text)) (nothing_left escaped))
 
--- ---- the start of a text
+-- ---- a quoted text at the start of the remaining text
 
 pub quoted_is : (text front back rest : List ℕ) (line len : ℕ) → quoted_len false text ≡ Some len → front ≡ take len text → back ≡ drop len text → back ≡ get_or back 0 0 ∷ rest
     → tokens_from (InQuotes false []) line text ≡ (line, Word front) ∷ tokens_from Between line rest

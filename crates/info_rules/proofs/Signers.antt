@@ -19,7 +19,7 @@ use Rattle.info_rules.specs.Signer.{NamesKey, NamesSigner, NamesItsSigner}
 no_reason : {X : Type 0} (r : Reason) → None ≡ Some r → X
 no_reason r e = absurd cc
 
--- if no reason is given, both `Fact` and `Rest` are true
+-- if a check that may give the reason `r` gives none, both `Fact` and `Rest` are true
 passed : {Fact Rest : Type 0} (r : Reason) → Unless Fact r None Rest → Fact × Rest
 passed r (inl not) = no_reason r not.1
 passed r (inr is) = is

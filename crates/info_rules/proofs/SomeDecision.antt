@@ -30,7 +30,7 @@ use Rattle.info_rules.proofs.Reasons.{SoFar, one_more, all_done}
 either : (A : Type 0) → (A → ⊥) → ((A → ⊥) → ⊥) → ⊥
 either A if_so if_not = if_not if_so
 
--- ---- the first rule
+-- ---- some rule is the first that applies, or no rule applies
 
 at_end : (xs ys : List PlainRule) (y : PlainRule) → slice_get (xs ++ y ∷ ys) (length xs) ≡ Some y
 at_end [] ys y = refl
@@ -117,7 +117,7 @@ all_say keys all signed (suc left) n earlier e so_far passed denied =
         let greatest = greater_of earlier reason in
         rest (Some greatest.0) (one_more keys all signed n x earlier reason greatest.0 low is c greatest.1 so_far)
 
--- ---- decisions
+-- ---- there is some decision
 
 seen : (rules : List PlainRule) (keys : List NamedKey) (packet : SeenPacket) → ((decision : Decision) → DecideSeen rules keys packet decision → ⊥) → ⊥
 seen rules keys packet none =

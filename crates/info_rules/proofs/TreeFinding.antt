@@ -165,9 +165,9 @@ abbrev Means : Option PlainEntry → PlainDraft → List (ℕ × Token) → List
 Means None draft tokens entries = IsBetweenEntries draft.closed draft.depth draft.ended tokens entries
 Means (Some entry) draft tokens entries = IsGoing entry draft.depth draft.ended tokens entries
 
--- `Means` holds if the remaining tokens spell the remaining entries, `entries` are the entries of
--- the draft followed by the remaining entries, and the first remaining entry of the innermost open
--- block is on a new line
+-- Let the remaining tokens spell the remaining entries, and let `entries` be the entries of the
+-- draft followed by the remaining entries. If the first remaining entry of the innermost open block
+-- is on a new line, then `Means` holds.
 further : (draft : PlainDraft) (tokens : List (ℕ × Token)) (entries : List PlainEntry) (levels : Levels) → (pending : Option PlainEntry) → draft.pending ≡ pending → tokens ≡ level_tokens levels
     → (draft.pending ≡ None → StartsOff draft.closed (top levels)) → ((entry : PlainEntry) → draft.pending ≡ Some entry → BeginsOff entry.line (top levels)) → AreLevels draft.depth levels
     → entries ≡ entries_of draft ++ level_outline draft.depth levels → Means pending draft tokens entries
@@ -190,7 +190,7 @@ further draft tokens entries levels (Some entry) is spelled starts off fits list
   listed = (rw is at listed) ∙ append_assoc draft.ended (entry ∷ []) (level_outline draft.depth levels);
 }
 
--- ---- one more token
+-- ---- what the remaining tokens mean before one more token is read
 
 key_head : (line : ℕ) (word : List ℕ) (value : Option (List ℕ)) (rest : List (ℕ × Token)) → head_tokens (record { line = line; key = word; value = value }) ++ rest ≡ (line, Word word) ∷ value_tokens line value rest
 key_head line word None rest = refl
@@ -344,7 +344,7 @@ never_deep ((line, token) ∷ tokens) draft final e none =
     let p = tokens_two draft final line token tokens e in
     fitting_deep draft line token p.0 (fits_here draft line token p.0 p.1) (never_deep tokens p.0 final p.2 none)
 
--- ---- tokens in sequence
+-- ---- what all tokens of a sequence mean
 
 abbrev MeansHere : PlainDraft → List (ℕ × Token) → List PlainEntry → Type 0
 MeansHere draft tokens entries = Means draft.pending draft tokens entries
@@ -376,7 +376,7 @@ meaning ((line, token) ∷ tokens) draft final e ended none =
     let p = tokens_two draft final line token tokens e in
     one_more draft line token p.0 tokens (entries_of final) (fits_here draft line token p.0 p.1) (never_deep tokens p.0 final p.2 none) (meaning tokens p.0 final p.2 ended none)
 
--- ---- the whole text
+-- ---- the tree of a whole text
 
 pub whole_found : (line : ℕ) (draft : PlainDraft) (entries : List PlainEntry) → whole_of line draft ≡ Ok entries → (draft.depth ≡ 0) × (draft.deep ≡ None) × (entries_of draft ≡ entries)
 whole_found line draft entries e = by_depth (eqb draft.depth 0) refl (ok_unless (deep_before draft.deep line) _ entries e).1

@@ -16,7 +16,7 @@ Next = Result PlainDraft RulesFault
 abbrev taken : PlainDraft → Next
 taken draft = Ok draft
 
--- ---- one token
+-- ---- one token that may come next is added to the draft
 
 in_time : (draft next : PlainDraft) (line : ℕ) (token : Token) → draft.deep ≡ None → with_fitting draft line token ≡ Ok next → with_token draft line token ≡ Ok next
 in_time draft next line token shallow e = ap (λ (deep : Option ℕ). unless_fault (deep_before deep line) (with_fitting draft line token)) shallow ∙ e
@@ -58,7 +58,7 @@ head_read draft head tokens shallow may = by_value head.value refl
         (first ((head.line, Word value) ∷ tokens)
         ∙ tokens_one (with_key draft head.line head.key) _ head.line (Word value) tokens (in_time (with_key draft head.line head.key) _ head.line (Word value) shallow (value_added (with_key draft head.line head.key) entry value refl refl)))
 
--- ---- entries in sequence
+-- ---- the tokens of entries in sequence are read
 
 -- the first of the entries, if there is one, may begin after this draft
 abbrev Starts : PlainDraft → Nodes → Type 0
@@ -81,9 +81,9 @@ starts_opened draft entry line NoNode = tt
 starts_opened draft entry line (Leaf next others) = tt
 starts_opened draft entry line (Branch next opened block closed others) = tt
 
--- reading the tokens of the entries `nodes` from `draft` gives the draft `after`; the draft `after`
--- has as many open blocks as `draft`, no block inside eight others, and the entries of `draft`
--- followed by `nodes`
+-- Reading the tokens of the entries `nodes` from `draft` gives the draft `after`. This draft has as
+-- many open blocks as `draft`, no block inside eight others, and the entries of `draft` followed by
+-- `nodes`.
 record Passed (draft : PlainDraft) (nodes : Nodes) (tokens : List (ℕ × Token)) : Type 0 where
   after : PlainDraft
   read : with_tokens draft (tokens_of nodes ++ tokens) ≡ with_tokens after tokens

@@ -7,7 +7,7 @@ use Rattle.info_rules.specs.Tree.{PlainEntry}
 use Rattle.info_rules.specs.Words.{Token, Word, Open, Close, Broken, unescaped, tokens_in, end_line}
 use Rattle.info_rules.specs.TreeReading.{syntax, PlainDraft, entries_of, Next, with_key, with_value, is_on, with_word, with_open, with_close, with_fitting, deep_before, unless_fault, with_token, with_tokens, whole_of, entries_in, begun, IsTreeFaultOf}
 
--- ---- results without a fault
+-- ---- results that are drafts without a fault
 
 abbrev pub taken : PlainDraft → Next
 taken draft = Ok draft
@@ -94,7 +94,7 @@ close_found draft line next e =
     let p = err_unless (eqb draft.depth 0) (syntax line) (Ok (block_closed draft line)) next e in
     (eqb-false draft.depth 0 p.0, sym (ok_is (block_closed draft line) next p.1))
 
--- ---- the depth
+-- ---- the depth after one token
 
 depth_is : (a b : PlainDraft) → a ≡ b → a.depth ≡ b.depth
 depth_is a b e = ap (λ (d : PlainDraft). d.depth) e
@@ -112,7 +112,7 @@ fitting_depth draft line Broken next e = absurd cc
 pub token_depth : (draft : PlainDraft) (line : ℕ) (token : Token) (next : PlainDraft) → with_token draft line token ≡ Ok next → next.depth ≤ draft.depth + 1
 token_depth draft line token next e = fitting_depth draft line token next (ok_unless (deep_before draft.deep line) (with_fitting draft line token) next e).1
 
--- ---- tokens in sequence
+-- ---- the results for a sequence of tokens
 
 pub tokens_one : (draft next : PlainDraft) (line : ℕ) (token : Token) (tokens : List (ℕ × Token)) → with_token draft line token ≡ Ok next → with_tokens draft ((line, token) ∷ tokens) ≡ with_tokens next tokens
 unfolding with_tokens

@@ -42,7 +42,7 @@ last_at : (name : List Field) (c : Field) → is_digest (slice_get (name ++ c �
 last_at [] c = refl
 last_at (_ ∷ name) c = last_at name c
 
--- if `c` is the last component, its type tells whether the last component is a parameters digest
+-- the last component `c` of a name is a parameters digest exactly if its type is 2
 pub last_is : (n : ℕ) (front : List Component) (c : Component) → n ≡ length front → eqb c.kind 2 ≡ is_digest (slice_get (map field_of (front ++ c ∷ [])) (n + 1 - 1))
 last_is n front c e =
     let place : n + 1 - 1 ≡ length (map field_of front) = omega (arith, e, length-map front field_of) in

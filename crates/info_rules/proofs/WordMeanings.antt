@@ -27,8 +27,8 @@ use Rattle.info_rules.specs.ValueWords.{kind_in, relation_in, checker_type_in, s
 use Rattle.info_rules.specs.Values.{ok_of, id_in, name_word_in}
 use Rattle.info_rules.specs.Meaning.{IsKind, IsRelation, IsId}
 
--- the next two definitions: the words for the types of checkers, and the words for the types of
--- signatures
+-- `IsCheckerType` gives the words for the types of checkers, and `IsSignatureType` those for the
+-- types of signatures
 abbrev pub IsCheckerType : List ℕ → CheckerType → Type 0
 IsCheckerType text Customized = text ≡ codes "customized"
 IsCheckerType text Hierarchical = text ≡ codes "hierarchical"
@@ -48,7 +48,7 @@ ok_of_ok : {A E : Type 0} (r : Result A E) (x : A) → ok_of r ≡ Some x → r 
 ok_of_ok (Ok y) x e = let same : y ≡ x = cc in ap Ok same
 ok_of_ok (Err d) x e = absurd cc
 
--- ---- names, patterns and templates
+-- ---- the meaning of names, patterns and templates
 
 pub name_means : (text : List ℕ) (name : List Field) → ok_of (name_in text) ≡ Some name → ReadsAs text name
 name_means text name e = text_found text name (ok_of_ok (name_in text) name e)
@@ -68,7 +68,7 @@ template_means groups text parts e = template_found groups text parts (ok_of_ok 
 pub template_meant : (groups : ℕ) (text : List ℕ) (parts : List PlainPart) → IsTemplate groups text parts → ok_of (template_in groups text) ≡ Some parts
 template_meant groups text parts h = ap ok_of (template_again groups text parts h)
 
--- ---- words
+-- ---- the meaning of words from a fixed list
 
 pub name_word_means : (text : List ℕ) → name_word_in text ≡ Some tt → text ≡ codes "name"
 name_word_means text e = by_test (bytes_eq text (codes "name")) refl e
@@ -136,7 +136,7 @@ signature_meant text Sha256 h = rw h refl
 signature_meant text Asymmetric (inl h) = rw h refl
 signature_meant text Asymmetric (inr h) = rw h refl
 
--- ---- ids
+-- ---- the meaning of ids
 
 at_least : (o : ℕ) → nat_le 32 o ≡ true → 32 ≤ o
 at_least o e = grind (arith, nat_tests)

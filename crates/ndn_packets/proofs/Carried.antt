@@ -89,7 +89,7 @@ framed_sized text f e =
           subst (λ (g : PlainFramed). IfSome g.token IsToken) (ok_is (framed_with None q.0) f q.2) tt
     ] b.2
 
--- if `token_at` finds a token, the text is a frame with this token
+-- if `token_at` finds a PIT token in octets, these octets are read as a frame with this token
 pub framed_of_token : (text t : List ℕ) → token_at text ≡ Some t → (f : PlainFramed) × (framed_at text ≡ Ok f) × (f.token ≡ Some t)
 unfolding token_at
 framed_of_token text t e = of_result (framed_at text) refl e
@@ -133,7 +133,7 @@ token_octets text t fits e =
     let f = framed_of_token text t e in
     frame_token_octets text f.0.token f.0.frame t (framed_found text f.0 fits f.1) f.2
 
--- ---- what a reader returns
+-- ---- the frame and the token that a reader of frames returns
 
 abbrev Reads : List ℕ → Result Framed PacketFault → Type 0
 Reads text r = on_result (λ f. good (plain_framed f)) (λ fault. Err fault) r ≡ framed_at text

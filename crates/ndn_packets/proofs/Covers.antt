@@ -24,7 +24,7 @@ use Rattle.ndn_tlv.proofs.Numbers.{IsBytes, IsBytes-back}
 use Rattle.ndn_packets.proofs.Cuts.{cut_found, cut_within, cut_read, cut_is, never_cut, never_in, all_front, cut_among}
 use Rattle.ndn_packets.proofs.Places.{Others, Met, meet_parameters, meet_info, meet_signature, meet_value, Has, has_following, has_back, others_lack, earlier_others, front_fields, back_fields, fields_are, earlier_front, other_optional, hop_apart, all_both}
 
--- ---- what a reader must find
+-- ---- the octets from a field on that a reader finds, and the covered octets
 
 outer_one : (text : List ℕ) (kind : ℕ) (value other : List ℕ) → IsElement text kind value → IsElement text kind other → value ≡ other
 outer_one text kind value other a b = ap (λ (f : Field). f.1) (ok_is (kind, value) (kind, other) (sym (only_again text value kind a) ∙ only_again text other kind b))
@@ -46,8 +46,8 @@ signature_read name text value first second from from_info outer there info h =
     let same : from_info ≡ h.from_info = some_is from_info h.from_info (sym info ∙ info_read name text value first second from outer there h) in
     ap (from_first 46) same ∙ cut_read 46 h.from_info h.to_signature h.from_signature h.signature
 
--- if `from` is `to_info`, then `to_signature`, then `from_signature`, the octets of `from` before
--- its last `length from_signature` octets are `to_info ++ to_signature`
+-- Let the octets `from` consist of `to_info`, `to_signature` and `from_signature`, in this order.
+-- Then `from` without its last `length from_signature` octets is `to_info ++ to_signature`.
 pub between : (from to_info from_info to_signature from_signature : List ℕ) → from ≡ to_info ++ from_info → from_info ≡ to_signature ++ from_signature
     → take (length from - length from_signature) from ≡ to_info ++ to_signature
 between from to_info from_info to_signature from_signature info signature =
@@ -55,7 +55,7 @@ between from to_info from_info to_signature from_signature info signature =
     let len : length (to_info ++ to_signature) ≡ length from - length from_signature = omega (arith, ap length all, length-append (to_info ++ to_signature) from_signature) in
     ap (take (length from - length from_signature)) all ∙ take_at (to_info ++ to_signature) from_signature (length from - length from_signature) len
 
--- ---- a Data
+-- ---- the octets that the signature of a Data covers
 
 pub data_covered : (text : List ℕ) (d : PlainData) → IsData text d → (covered : List ℕ) × CoversData text covered
 data_covered text d h =
@@ -78,8 +78,8 @@ data_covered text d h =
           absurd (others_lack 23 _ (earlier_others [] [] 23 _ m.1) signed)
     ]
 
--- if `from` is a Data's value from its SignatureValue on, the octets of the value before `from` are
--- the octets that the signature of the Data covers
+-- Let `from` be the octets of a Data's TLV-VALUE from its SignatureValue on. Then the octets of the
+-- TLV-VALUE before `from` are those that the Data's signature covers.
 pub data_covers : (text value covered from : List ℕ) (d : PlainData) → IsData text d → IsElement text 6 value → from_first 23 value ≡ Some from → covered ≡ take (length value - length from) value → CoversData text covered
 data_covers text value covered from d h outer mark is =
     let there = data_covered text d h in
@@ -89,11 +89,11 @@ data_covers text value covered from d h outer mark is =
     let front : take (length value - length from) value ≡ there.0 = ap (take (length value - length from)) all ∙ take_at there.0 from (length value - length from) len in
     subst (CoversData text) (sym (is ∙ front)) there.1
 
--- ---- an Interest
+-- ---- the cuts in an Interest before the fields of its signature
 
--- the positions of a signature in the value of an Interest: `from_parameters` begins at the first
--- ApplicationParameters, `from_info` at the first InterestSignatureInfo after them, and
--- `from_signature` at the first InterestSignatureValue after that InterestSignatureInfo
+-- The positions of a signature in the TLV-VALUE of an Interest. `from_parameters` begins at the
+-- first ApplicationParameters, `from_info` at the first InterestSignatureInfo after them, and
+-- `from_signature` at the first InterestSignatureValue after that InterestSignatureInfo.
 record IsCutAt (value from_parameters from_info from_signature : List ℕ) : Type 0 where
   early : List ℕ
   to_info : List ℕ
@@ -109,14 +109,15 @@ abbrev HasBoth : List Field → Type 0
 HasBoth fields = Has 44 fields × Has 46 fields
 
 -- either the octets `value` can be cut for a signature, and `fields` has both an
--- InterestSignatureInfo and an InterestSignatureValue; or neither of these two statements holds
+-- InterestSignatureInfo and an InterestSignatureValue, or neither of these two statements holds
 abbrev Decided : List ℕ → List Field → Type 0
 Decided value fields = (Cuts value × HasBoth fields) ⊎ ((Cuts value → ⊥) × (HasBoth fields → ⊥))
 
 has_met : (ignores : ℕ → Bool) (kind : ℕ) (later : List ℕ) (elements fields : List Field) (m : Met ignores kind later elements fields) → Has kind fields
 has_met ignores kind later elements fields m = subst (Has kind) (sym m.fields_are) (has_following kind m.early ((kind, m.value) ∷ m.late) (inl refl))
 
--- if a field of type `k` comes after the field of type `kind`, `fields` has a field of type `k`
+-- if a field of type `k` comes after the field of type `kind` in `fields`, then `fields` has a
+-- field of type `k`
 later_met : (ignores : ℕ → Bool) (kind k : ℕ) (later : List ℕ) (elements fields : List Field) (m : Met ignores kind later elements fields) → Has k m.late → Has k fields
 later_met ignores kind k later elements fields m h = subst (Has k) (sym m.fields_are) (has_following k m.early ((kind, m.value) ∷ m.late) (inr h))
 
@@ -202,7 +203,7 @@ decided value name elements fields inner recognised =
               ]
         ]
 
--- ---- which Interests are signed
+-- ---- which Interests have the fields of a signature
 
 signed_has : (parameters info value : Option (List ℕ)) (signature : Option PlainSignature) → IsSigned info value signature → HasBoth (back_fields parameters info value) → IsSome signature
 signed_has parameters None value signature h both =
@@ -216,8 +217,9 @@ has_signed parameters None value signature h some = let none : IsSome {T = Plain
 has_signed parameters (Some v) None signature h some = let none : IsSome {T = PlainSignature} None = subst IsSome h.2 some in absurd cc
 has_signed parameters (Some v) (Some w) signature h some = (has_following 44 (optional 36 parameters) _ (inl refl), has_following 46 (optional 36 parameters) _ (inr (inl refl)))
 
--- The fields of an Interest, where `back` are the fields after the HopLimit. If the two signature
--- fields are among all fields, they are in `back`.
+-- In this module, `all_fields` are the fields of an Interest, and `back` are its fields after the
+-- HopLimit. If the InterestSignatureInfo and the InterestSignatureValue are among all fields, they
+-- are in `back`.
 module _ (prefix fresh : Bool) (hint : Option (List ℕ)) (nonce : List ℕ) (lifetime hop : Option (List ℕ)) (back : List Field) where
   abbrev all_fields : List Field
   all_fields = flag 33 prefix ++ (flag 18 fresh ++ (optional 30 hint ++ ((10, nonce) ∷ (optional 12 lifetime ++ (optional 34 hop ++ back)))))
@@ -297,7 +299,7 @@ interest_covered text i h =
       },
     )
 
--- ---- the covered octets end where the SignatureValue begins
+-- ---- the covered octets of an Interest end where its InterestSignatureValue begins
 
 -- if two lists of fields are equal, the first field of type `kind` has the same value in both
 first_value : (kind : ℕ) (xs us ys vs : List Field) (v w : List ℕ) → Others kind xs → Others kind us → xs ++ (kind, v) ∷ ys ≡ us ++ (kind, w) ∷ vs → v ≡ w
@@ -316,7 +318,8 @@ record Begins (kind : ℕ) (from : List ℕ) (fields : List Field) : Type 0 wher
   fields_are : fields ≡ early ++ (kind, value) ∷ late
   others : Others kind early
 
--- the octets from the cut on are the elements from the first field of type `kind` on
+-- if elements are cut before the first element of type `kind`, the octets from the cut on are the
+-- elements from the field of this type on
 begins : (ignores : ℕ → Bool) (kind : ℕ) (later : List ℕ) (octets before from : List ℕ) (first : Field) (elements fields : List Field) (m : Met ignores kind later elements fields) → first.0 ≢ kind
     → octets ≡ flat_map element (first ∷ elements) → AllByRecursion IsField (first ∷ elements) → IsCut kind octets before from → from ≡ flat_map element ((kind, m.value) ∷ m.back)
 begins ignores kind later octets before from first elements fields m other is sizes cut =
@@ -402,13 +405,15 @@ data_ends text d covered h c =
       | inr n ↦ absurd (never_cut 23 c.value covered c.from_signature (ap (from_first 23) (inside ∙ fields.inner.1) ∙ never_in 23 ((7, h.name_value) ∷ fields.elements) fields.inner.0 (eqb-false 7 23 refl, n.0)) c.cut)
     ]
 
--- the value of the signature is the value of the InterestSignatureValue
+-- if an Interest has a signature, the signature's value is the TLV-VALUE of the
+-- InterestSignatureValue
 signed_value : (info value : Option (List ℕ)) (signature : Option PlainSignature) (s : PlainSignature) → IsSigned info value signature → signature ≡ Some s → value ≡ Some s.value
 signed_value None value signature s h is = absurd (none_is_not_some s (sym h ∙ is))
 signed_value (Some v) None signature s h is = absurd (none_is_not_some s (sym h.2 ∙ is))
 signed_value (Some v) (Some w) signature s h is = ap (λ (t : PlainSignature). Some t.value) (some_is _ s (sym h.2 ∙ is))
 
--- the octets after the second covered part begin with the InterestSignatureValue
+-- if the signature of an Interest covers two parts, the octets after the second part begin with the
+-- InterestSignatureValue
 value_at : (text : List ℕ) (i : PlainInterest) (s : PlainSignature) (first second : List ℕ) → IsInterest text i → i.signature ≡ Some s → (c : CoversInterest i.name text first second)
     → (after : List ℕ) × (c.from_signature ≡ element (46, s.value) ++ after)
 value_at text i s first second h signed c =
@@ -432,7 +437,7 @@ value_at text i s first second h signed c =
     let same : s.value ≡ b.value = first_value 46 (early ++ later) b.early [] b.late s.value b.value others b.others are in
     (b.after, b.from_is ∙ ap (λ (v : List ℕ). element (46, v) ++ b.after) (sym same))
 
--- `from_parameters` returns the elements from the first ApplicationParameters on
+-- `from_parameters` returns the first ApplicationParameters and all fields after it
 from_met : (front back : List Field) (value : List ℕ) → Others 36 front → from_parameters (front ++ (36, value) ∷ back) ≡ (36, value) ∷ back
 from_met [] back value others = refl
 from_met (e ∷ front) back value others = rw (ne_eqb e.0 36 others.0) (from_met front back value others.1)
@@ -467,8 +472,8 @@ never_empty : {A : Type 0} (xs : List A) (x : A) → xs ++ x ∷ [] ≡ [] → �
 never_empty [] x e = cc
 never_empty (a ∷ xs) x e = cc
 
--- a digest of parameters at the end of an Interest's name is SHA-256 of the elements from the
--- ApplicationParameters on
+-- if the name of an Interest ends in a digest of parameters, this digest is SHA-256 of the elements
+-- from the ApplicationParameters on
 digest_is : (name elements components : List Field) (digest : List ℕ) (parameters : Option (List ℕ)) → name ≡ components ++ (2, digest) ∷ [] → IsDigested name elements parameters
     → digest ≡ sha256 (flat_map element (from_parameters elements))
 digest_is name elements components digest None is h =
@@ -496,7 +501,7 @@ interest_ends text i s first second h signed c =
       outer = subst (IsElement text 5) (c.parameters.octets_are ∙ ap (λ (t : List ℕ). c.early ++ t) from) c.outer;
     }
 
--- ---- the covered part that a reader of an Interest notes
+-- ---- the digest at the end of an Interest's name, and the two parts that a signature covers
 
 -- if a name ends in a digest of parameters, no component follows its last digest of parameters
 last_one : (front back components : List Field) (v d : List ℕ) → NoneOfType 2 back → front ++ (2, v) ∷ back ≡ components ++ (2, d) ∷ [] → back ≡ []
@@ -546,7 +551,7 @@ second_noted text value i digest p v h outer found at =
               not_both d.is_last others last
         ] refl
 
--- it can be decided whether the last component of a name is a digest of parameters
+-- either the last component of a name is a digest of parameters, or it is not
 ends_in_digest : (name : List Field) → EndsInDigest name ⊎ (EndsInDigest name → ⊥)
 ends_in_digest [] = inr (λ e. never_empty e.0 (2, e.1) (sym e.2))
 ends_in_digest (c ∷ []) =
@@ -590,7 +595,9 @@ first_is_front octets text first second name h c =
     let front : length first ≡ length octets - 34 = omega arith in
     (omega arith, sym (ap (take (length octets - 34)) all ∙ take_at first (element (2, c.digest)) (length octets - 34) front))
 
--- positions of a signature in the octets after the Name are also its positions in the whole value
+-- Let `p` be the octets from the ApplicationParameters on, and `v` those from the
+-- InterestSignatureValue on, both found in the octets after the Name. Then `p` and `v` are also
+-- found in the whole TLV-VALUE of the Interest.
 pub noted_after : (value rest p v : List ℕ) → ((kind : ℕ) → kind ≢ 7 → from_first kind value ≡ from_first kind rest) → IsSignedAt rest p v → IsSignedAt value p v
 noted_after value rest p v place at = (at.0, place 36 (eqb-false 36 7 refl) ∙ at.1, at.2, at.3)
 
@@ -606,7 +613,8 @@ second_within octets p v fits at =
 
 -- ---- a packet determines its covered octets
 
--- equal octets are cut before the first element of type `kind` at the same position
+-- if octets are cut twice before the first element of type `kind`, both cuts are at the same
+-- position
 one_cut : (kind : ℕ) (octets other before from front back : List ℕ) → octets ≡ other → IsCut kind octets before from → IsCut kind other front back → (before ≡ front) × (from ≡ back)
 one_cut kind octets other before from front back same cut again =
     let following : from ≡ back = cut_is kind other from front back (ap (from_first kind) (sym same) ∙ cut_read kind octets before from cut) again in

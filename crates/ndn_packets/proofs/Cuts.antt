@@ -1,4 +1,5 @@
--- Cuts before the first element of a type: there is at most one, and the reader finds it.
+-- Cuts of octets before the first element of a type: there is at most one, and `from_first` finds
+-- it.
 use Rattle.std.proofs.Common.{◌≡◌, ◌≢◌, ℕ, zero, suc, ◌<◌, ◌≤◌, true, false, cond, eqb, List, [], ◌∷◌, ◌++◌, length, Option, None, Some, Result, Ok, Err, refl, sym, ap, subst, ◌∙◌, append_assoc, arith, eq-eqb}
 use Rattle.std.specs.List.{flat_map, AllByRecursion}
 use Rattle.std.proofs.lemmas.List.{length-append}
@@ -12,7 +13,7 @@ use Rattle.ndn_tlv.proofs.Fields.{element_again, element_found, element_leaves}
 use Rattle.ndn_packets.specs.Covered.{IsCut, from_within, from_first}
 use Rattle.ndn_packets.proofs.Steps.{some_is, none_is_not_some}
 
--- ---- one step of the reader
+-- ---- one step of `from_first`
 
 abbrev step : ℕ → List ℕ → (List ℕ → Option (List ℕ)) → Result (Field × List ℕ) TlvFault → Option (List ℕ)
 step kind octets further r = on_result (λ x. cond (eqb x.0.0 kind) (Some octets) (further x.1)) (λ _. None) r
@@ -55,7 +56,7 @@ next_other kind octets e after read other = from_first-next kind octets ∙ ap (
 pub next_none : (kind : ℕ) (octets : List ℕ) (f : TlvFault) → Err f ≡ element_at octets → from_first kind octets ≡ None
 next_none kind octets f refused = from_first-next kind octets ∙ ap (step kind octets (from_first kind)) (sym refused)
 
--- ---- the reader finds the cut
+-- ---- `from_first` finds the cut
 
 cut_there : (kind : ℕ) (others : List Field) (value after : List ℕ) → AllByRecursion IsField others → IsField (kind, value) → AllByRecursion (λ e. e.0 ≢ kind) others
     → from_first kind (flat_map element others ++ (element (kind, value) ++ after)) ≡ Some (element (kind, value) ++ after)
@@ -72,20 +73,20 @@ pub cut_read : (kind : ℕ) (octets before from : List ℕ) → IsCut kind octet
 cut_read kind octets before from h =
     ap (from_first kind) (h.octets_are ∙ (λ k. h.before_is k ++ h.from_is k)) ∙ cut_there kind h.others h.value h.after h.sizes.0 h.sizes.1 h.first_one ∙ ap (λ (t : List ℕ). Some t) (sym h.from_is)
 
--- the cut that the reader finds is the only cut
+-- if `from_first` finds a cut, this is the only cut before the first element of the type
 pub cut_is : (kind : ℕ) (octets from before other : List ℕ) → from_first kind octets ≡ Some from → IsCut kind octets before other → from ≡ other
 cut_is kind octets from before other read h = some_is from other (sym read ∙ cut_read kind octets before other h)
 
 pub never_cut : (kind : ℕ) (octets before from : List ℕ) → from_first kind octets ≡ None → IsCut kind octets before from → ⊥
 never_cut kind octets before from none h = none_is_not_some from (sym none ∙ cut_read kind octets before from h)
 
--- if no element has type `kind`, the reader finds no cut
+-- if no element has type `kind`, `from_first` finds no cut
 pub never_in : (kind : ℕ) (fields : List Field) → AllByRecursion IsField fields → AllByRecursion (λ e. e.0 ≢ kind) fields → from_first kind (flat_map element fields) ≡ None
 never_in kind [] all others = from_first-next kind [] ∙ nothing_in kind (from_first kind)
 never_in kind (e ∷ fields) all others =
     next_other kind (flat_map element (e ∷ fields)) e (flat_map element fields) (sym (element_again e (flat_map element fields) all.0)) others.0 ∙ never_in kind fields all.1 others.1
 
--- ---- what the reader finds is the cut
+-- ---- what `from_first` finds is a cut
 
 cut_first : (octets : List ℕ) (e : Field) (after : List ℕ) → IsField e → octets ≡ element e ++ after → IsCut e.0 octets [] octets
 cut_first octets e after field is = record { others = []; value = e.1; after = after; sizes = (tt, field); first_one = tt; before_is = refl; from_is = is; octets_are = refl }
@@ -130,7 +131,7 @@ cut_within kind octets from fits e =
     let cut = cut_found kind octets from fits e in
     omega (arith, ap length cut.1.octets_are, length-append cut.0 from)
 
--- ---- cuts among elements
+-- ---- cuts in the octets of a list of elements
 
 pub all_front : {A : Type 0} (P : A → Type 0) (front back : List A) → AllByRecursion P (front ++ back) → AllByRecursion P front × AllByRecursion P back
 all_front P [] back h = (tt, h)

@@ -19,7 +19,7 @@ use Rattle.ndn_packets.proofs.FieldLists.{FieldsRead, fields_found, fields_again
 use Rattle.ndn_packets.proofs.MetaInfos.{meta_found, meta_again}
 use Rattle.ndn_packets.proofs.SignatureInfos.{info_found, info_again}
 
--- ---- how each field changes the state
+-- ---- how each field changes the state of the reader
 
 abbrev ReadsFreshness : Option (List ℕ) → ℕ → Type 0
 ReadsFreshness None freshness = freshness ≡ 0

@@ -13,7 +13,7 @@ use Rattle.ndn_packets.specs.Writing.{info_fields, meta_of, meta_fields, data_fi
 use Rattle.ndn_tlv.proofs.Lengths.{length-element, element_put}
 use Rattle.ndn_packets.proofs.Lengths.{sum_is_long, in_memory_is_exact}
 
--- ---- MetaInfo
+-- ---- the parts of a MetaInfo that is written
 
 pub last_is_short : (n : ℕ) → length (element (26, element (50, shortest_nni n))) ≤ 44
 last_is_short n =
@@ -40,8 +40,8 @@ meta_present (f ∷ fields) some = append-nil (element (20, octets (f ∷ fields
 pub last_is_long : (r n : ℕ) → IsLength r (element (26, element (50, shortest_nni n))) → r ≡ length (octets (optional 26 (Some (element (50, shortest_nni n)))))
 last_is_long r n is = omega (arith, is, last_is_short n, length-append (element (26, element (50, shortest_nni n))) [])
 
--- if the value of a MetaInfo has length `len` and is not empty, `old` with the parts of this
--- MetaInfo appended is `old` followed by the whole MetaInfo
+-- Let the TLV-VALUE of a MetaInfo have length `len`, and let it not be empty. Then appending the
+-- parts of the MetaInfo to the octets `old` appends the whole MetaInfo.
 pub meta_put : (old : List ℕ) (freshness last : Option ℕ) (len : ℕ) → len ≡ length (octets (meta_fields freshness last)) → (len ≡ 0 → ⊥)
     → ((old ++ (spelling 20 ++ spelling len)) ++ octets (number 25 freshness)) ++ octets (optional 26 (option_map (λ n. element (50, shortest_nni n)) last))
     ≡ old ++ octets (optional 20 (meta_of (meta_fields freshness last)))
@@ -53,7 +53,7 @@ meta_put old freshness last len is some =
     ∙ (element_put old 20 len (octets (meta_fields freshness last)) is
     ∙ ap (λ (x : List ℕ). old ++ x) (sym (meta_present (meta_fields freshness last) (λ none. some (is ∙ none))))))
 
--- ---- what the signature covers
+-- ---- the parts of a Data that its signature covers, and their lengths
 
 data_octets : (signed : Sign) (name : List Field) (meta content : Option (List ℕ)) → octets (data_fields signed name meta content)
     ≡ ((element (7, octets name) ++ octets (optional 20 meta)) ++ octets (optional 21 content)) ++ element (22, octets (info_fields signed None None))

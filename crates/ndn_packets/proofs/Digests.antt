@@ -18,7 +18,7 @@ use Rattle.ndn_packets.specs.Reading.{parameters_on, octets_of_read, digest_faul
 use Rattle.ndn_packets.proofs.Steps.{read}
 use Rattle.ndn_packets.proofs.Parameters.{parameters_octets}
 
--- ---- when the digests of a name are right
+-- ---- which digests of parameters the name of an Interest must have
 
 abbrev AreOfKind : List Field → Type 0
 AreOfKind digests = AllByRecursion (λ d. d.0 ≡ 2) digests
@@ -31,8 +31,8 @@ digests_kind (c ∷ name) =
       | false ↦ λ _. digests_kind name
     ] refl
 
--- without parameters, `digests` is empty; with parameters, `digests` has exactly one digest, and
--- this digest is `right`
+-- Without ApplicationParameters, a name must have no digest of parameters. With them, it must have
+-- exactly one digest of parameters, which is `right`.
 abbrev AreRight : Option (List ℕ) → List Field → List ℕ → Type 0
 AreRight None digests right = digests ≡ []
 AreRight (Some parameters) digests right = digests ≡ (2, right) ∷ []
@@ -74,7 +74,7 @@ digest_again name elements parameters h =
     right_again parameters (digests_in name) (sha256 (octets_of_read (parameters_on (map read elements))))
     (subst (λ (octets : List ℕ). AreRight parameters (digests_in name) (sha256 octets)) (sym (parameters_octets elements)) (right_of name elements parameters h))
 
--- ---- the first digest
+-- ---- the first digest of parameters in a name
 
 digests_none : (cs : List Field) → NoneOfType 2 cs → digests_in cs ≡ []
 digests_none [] h = refl
@@ -110,9 +110,9 @@ fault_is name (Some p) (Some d) right h =
     more [] some = absurd (some refl)
     more (e ∷ ds) some = refl
 
--- The check `fault_by` of the reader returns the same result as `digest_fault`, if the reader
--- noted the first digest of the name. With parameters, the reader must also have noted the octets
--- that this digest must cover.
+-- Let `digest` be the first digest of parameters in a name. If there are ApplicationParameters, let
+-- `from` be the octets that this digest must cover. Then the reader's check `fault_by` returns the
+-- result of `digest_fault`.
 pub fault_read : {A : Type 0} (view : A → List ℕ) (name : List Field) (parameters : Option A) (digest : Option FirstOfType) (from octets : List ℕ) → FindsFirst 2 name digest → OnSome parameters (from ≡ octets)
     → digest_fault (option_map view parameters) (digests_in name) (sha256 octets) ≡ fault_by (option_map view parameters) digest (sha256 from)
 fault_read view name None None from octets h e = fault_is name None None (sha256 octets) h

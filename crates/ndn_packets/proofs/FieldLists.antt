@@ -14,7 +14,7 @@ use Rattle.ndn_tlv.specs.Options.{on_option}
 use Rattle.ndn_packets.specs.Reading.{schema_after, fields_from, read_fields}
 use Rattle.ndn_packets.proofs.Steps.{bind_ok, good, err_is_not_ok, both_tests, read}
 
--- ---- a type in a schema
+-- ---- whether a schema has a type, and whether a field of this type may come next
 
 abbrev pub Lacks : ℕ → List ℕ → Type 0
 Lacks kind schema = AllByRecursion (λ k. k ≢ kind) schema
@@ -90,7 +90,7 @@ after_none kind schema none = found (schema_after kind schema) (after_found kind
     found None h = refl
     found (Some later) h = absurd (none later h)
 
--- ---- what a successful reading has read
+-- ---- the elements and the fields that were read without a fault
 
 pub record FieldsRead {S : Type 0} (take : S → Field → Result S PacketFault) (ignores : ℕ → Bool) (schema : List ℕ) (elements : List (Result Field TlvFault)) (s t : S) : Type 0 where
   pub plain : List Field
@@ -170,8 +170,8 @@ took_first take s t kind None fields others is e = (s, refl, subst (λ (fs : Lis
 took_first take s t kind (Some v) fields others is e =
     bind_ok (take s (kind, v)) (λ u. read_fields take u (map good others)) t (subst (λ (fs : List Field). read_fields take s (map good fs) ≡ Ok t) is e)
 
--- if reading an optional field in state `s` gives `mid`, then reading this field and `others` in
--- `s` has the same result as reading `others` in `mid`
+-- Let reading an optional field in state `s` end in state `mid`. Then reading this field and the
+-- fields `others` in `s` has the same result as reading only `others` in `mid`.
 pub took_again : {S : Type 0} (take : S → Field → Result S PacketFault) (s mid : S) (kind : ℕ) (value : Option (List ℕ)) (others : List Field) → Took take s kind value mid
     → read_fields take s (map good (optional kind value ++ others)) ≡ read_fields take mid (map good others)
 took_again take s mid kind None others took = ap (λ u. read_fields take u (map good others)) (sym took)
@@ -186,7 +186,7 @@ fields_keep P ignores schema (e ∷ plain) fields (inr h) all = fields_keep P ig
 
 -- ---- values that consist of octets
 
--- a value, if present, consists of octets
+-- an optional TLV-VALUE consists of octets if it is present
 abbrev pub MayBeBytes : Option (List ℕ) → Type 0
 MayBeBytes None = Unit {0}
 MayBeBytes (Some value) = IsBytes value

@@ -20,9 +20,9 @@ bad A d = Err d
 pub err_is : (A : Type 0) (d f : PacketFault) → bad A d ≡ bad A f → f ≡ d
 err_is A d f e = cc
 
--- If the first element is a field, and reading it and then the later elements returns a fault,
--- this fault is the first fault of all elements. A premise states that a fault of the later
--- elements is their first fault.
+-- Let the first element be a field, and let reading all elements return a fault. If a fault of the
+-- later elements would be their first fault, then the returned fault is the first fault of all
+-- elements.
 first_or_later : {S : Type 0} (take : S → Field → Result S PacketFault) (ignores : ℕ → Bool) (schema later : List ℕ) (s : S) (x : Field) (elements : List (Result Field TlvFault)) (fault : PacketFault)
     → IsSchemaAfter x.0 schema (Some later) → (r : Result S PacketFault) → take s x ≡ r → (r >>= λ t. read_fields take t (fields_from ignores later elements)) ≡ Err fault
     → ((t : S) → read_fields take t (fields_from ignores later elements) ≡ Err fault → FirstFault take ignores later t elements fault)

@@ -28,7 +28,7 @@ use Rattle.ndn_packets.proofs.PacketFaults.{bind_err, told, interest_tells, data
 use Rattle.ndn_packets.proofs.Links.{Room, no_more, nack_is, nack_of, one_token, nack_among, header_found, header_again}
 use Rattle.ndn_packets.proofs.Packets.{only_found, one_element}
 
--- ---- one element
+-- ---- octets that must be exactly one element
 
 one_fault : (r : Result (Field × List ℕ) TlvFault) (text : List ℕ) (fault : PacketFault) → element_at text ≡ r → on_result (λ x. cond (is_nil x.1) (good x.0) (Err BadField)) (λ f. Err (Tlv f)) r ≡ Err fault → OuterFault text fault
 one_fault (Err f) text fault is e = inl (f, is, err_is Field (Tlv f) fault e)
@@ -49,9 +49,10 @@ outer_fault_again text fault (inr h) = rw (h.2) (not_alone h.0 h.1 fault h.3 h.4
 alone_again : (text : List ℕ) (e : Field) → IsAlone text e → only_element text ≡ good e
 alone_again text e is = rw is refl
 
--- ---- packets
+-- ---- the fault of reading one packet
 
--- the fault of a packet is that it is too long or, if it is not too long, a fault in its value
+-- If reading a packet returns a fault, then the packet is too long, or it is not too long and the
+-- fault is in its TLV-VALUE.
 long_found : {A : Type 0} (text : List ℕ) (r : Result A PacketFault) (fault : PacketFault) (P : Type 0) → (r ≡ Err fault → P) → cond (ltb 8800 (length text)) (bad A TooLong) r ≡ Err fault → LongOr text fault P
 long_found {A} text r fault P found e =
     elim (ltb 8800 (length text)) as (λ b. ltb 8800 (length text) ≡ b → cond b (bad A TooLong) r ≡ Err fault → LongOr text fault P) [
@@ -101,10 +102,10 @@ packet_fault_again text e fault (inl h) = rw (eq-eqb e.0 5 h.0) (interest_fault_
 packet_fault_again text e fault (inr (inl h)) = rw (ne_eqb e.0 5 (apart e.0 6 5 h.0 (λ no. omega arith)), eq-eqb e.0 6 h.0) (data_fault_again text e fault h.1)
 packet_fault_again text e fault (inr (inr h)) = rw (ne_eqb e.0 5 h.0, ne_eqb e.0 6 h.1) (told PlainFrame BadField fault h.2)
 
--- ---- a Fragment
+-- ---- the fault of reading the packet in a Fragment
 
--- the packet in a Fragment that is one element; with the reason of a Nack, this packet must be an
--- Interest
+-- The result of reading the packet in a Fragment, whose octets are exactly one element. If there is
+-- a Nack reason, this packet must be an Interest.
 abbrev inside : Option ℕ → List ℕ → Field → Result PlainFrame PacketFault
 inside None text = packet_of text
 inside (Some reason) text = nacked_of reason text
@@ -180,7 +181,8 @@ record Met (s : LinkSoFar) (headers : List Field) : Type 0 where
 none_met : Met no_headers_yet []
 none_met = record { sequence = refl; frag_index = refl; frag_count = refl; token = refl; nack = refl }
 
--- `t` has the flags of `s`, and the flag of one more header field, of type `kind`
+-- the state `t` of the reader has the flags of the state `s` and, in addition, the flag of the
+-- known header field `kind`
 record Marks (s : LinkSoFar) (kind : ℕ) (t : LinkSoFar) : Type 0 where
   sequence : t.sequence ≡ (s.sequence || eqb kind 81)
   frag_index : t.frag_index ≡ (s.frag_index || eqb kind 82)
@@ -415,10 +417,10 @@ header_fault_again s headers e fault met (inr h) =
       | false ↦ λ _. value_fault_again s e fault h.1
     ] refl
 
--- ---- a link packet
+-- ---- where the reading of a link packet stops with a fault
 
--- `elements` are header fields that are accepted, and then `rest`, at which reading stops with
--- `fault`
+-- `elements` consist of accepted header fields and then of `rest`, and reading stops with `fault`
+-- at the start of `rest`
 record Stops (s : LinkSoFar) (elements : List (Result Field TlvFault)) (fault : PacketFault) : Type 0 where
   headers : List Field
   rest : List (Result Field TlvFault)
@@ -461,8 +463,8 @@ token_among (h ∷ headers) few =
     none_more [] few = refl
     none_more (f ∷ hs) few = absurd (omega arith)
 
--- if `elements` have the fault `fault` directly after the header fields of state `s`, then reading
--- `elements` in state `s` stops at the first element
+-- Let the state `s` be reached by reading header fields, and let `elements` after these header
+-- fields have the fault `fault`. Then reading `elements` in state `s` stops at the first of them.
 stops_here : (s : LinkSoFar) (elements : List (Result Field TlvFault)) (fault : PacketFault) → ((before : List Field) → Met s before → AfterHeaders before s.nack elements fault) → Stops s elements fault
 stops_here s elements fault h =
     record { headers = []; rest = elements; last = s; all = refl; allowed = λ fits. (tt, no_more s); met = λ before m. subst (Met s) (sym (append-nil before)) m; here = h }
@@ -526,8 +528,8 @@ link_again_to s before (e ∷ headers) rest token nack fault met allowed r h =
     rw (a.no_fragment, a.taken) (link_again_to a.after (before ++ e ∷ []) headers rest token nack fault (one_more_met s a.after before e met a.taken) allowed.1 a.left
     (subst (λ (hs : List Field). AfterHeaders hs nack rest fault) (sym (append_assoc before (e ∷ []) headers)) h))
 
--- if a value consists of octets, the value of its first element and the input after this element
--- consist of octets too
+-- if a TLV-VALUE consists of octets, the TLV-VALUE of its first element and the input after this
+-- element consist of octets too
 first_bytes : (value : List ℕ) (h : Field) (items : List (Result Field TlvFault)) (r : Result (Field × List ℕ) TlvFault) → element_at value ≡ r → IsBytes value → elements_of value ≡ read h ∷ items
     → (after : List ℕ) × IsBytes h.1 × IsBytes after × (elements_of after ≡ items)
 first_bytes value h items (Ok (f, after)) is fits e =
@@ -581,7 +583,7 @@ link_tells value fault fits = (
       (record { sequence = o.0; frag_index = o.1.0; frag_count = o.1.1.0; tokens = t.1; nacks = nack_among h.headers h.nack h.nacked }) h.faulty,
 )
 
--- ---- frames
+-- ---- the fault that a reader of frames returns
 
 pub framed_tells : (text : List ℕ) (fault : PacketFault) → IsBytes text → (framed_at text ≡ Err fault) ↔ FaultOf text fault
 unfolding framed_at

@@ -33,8 +33,8 @@ digest_octets : (digest : List ℕ) → length digest ≡ 32 → element (1, dig
 unfolding spelling
 digest_octets digest len = ap (λ (n : ℕ). spelling 1 ++ (spelling n ++ digest)) len
 
--- the octets of a full name are those of the name and of the digest component; all its fields are
--- valid
+-- Let a full name be made of a name and a digest of 32 octets. Then its octets are those of the
+-- name followed by the digest component, and all its components are valid.
 pub full_octets : (value digest : List ℕ) (name : List Field) → IsNameValue value name → length digest ≡ 32
     → (octets_of (full_name name digest) ≡ value ++ 1 ∷ 32 ∷ digest) × AllByRecursion IsField (full_name name digest)
 full_octets value digest name h len =
@@ -43,8 +43,8 @@ full_octets value digest name h len =
       fields_more name (1, digest) h.0.0 (omega arith, omega arith, digest_len),
     )
 
--- octets that are made of the value of a name and a digest component are those of the full name
--- with this name and this digest
+-- Let octets consist of the TLV-VALUE of a name and a digest component. Then they encode the full
+-- name with this name and this digest.
 pub made : (value digest full : List ℕ) (name : List Field) → IsNameValue value name → components_of value ≡ name → length digest ≡ 32
     → full ≡ value ++ element (1, digest) → (name_in full ≡ name) × (digest_in full ≡ digest) × IsFullName full
 made value digest full name h shown len is =
@@ -80,8 +80,8 @@ pub one_name : (a b : List Field) → AllByRecursion IsField a → AllByRecursio
 one_name a b h g e =
     name_cmp-antisymmetric a b (sym (octets_cmp a b h g) ∙ ap (λ (t : List ℕ). slice_cmp nat_cmp t (octets_of b)) e ∙ octets_cmp b b g g ∙ tied_itself name_cmp-total b)
 
--- a name is a prefix of a full name exactly if its octets are a prefix of the octets of the full
--- name
+-- a name is a prefix of a full name exactly if the octets of the name are a prefix of the octets of
+-- the full name
 pub under : (u value : List ℕ) (name : List Field) (r : Bool) → IsFullName u → IsNameValue value name → r ≡ starts_with nat_eq u value → IsTrue r ↔ IsPrefix name (full_name_in u)
 under u value name r h g e =
     let s = starts_is unsigned_Decides u value r e in (
@@ -94,9 +94,9 @@ fields_front : (name : List Field) (f : Field) → AllByRecursion IsField (name 
 fields_front [] f h = tt
 fields_front (c ∷ name) f h = (h.0, fields_front name f h.1)
 
--- The next two lemmas: the octets of a name equal those of a full name exactly if the name equals
--- the full name. They equal the octets of the full name before its digest component exactly if the
--- name equals the full name without its digest.
+-- `is_full`: the octets of a name equal those of a full name exactly if the two names are equal.
+-- `is_front`: the octets of a name equal those of a full name without its digest component exactly
+-- if the name is the full name without this component.
 pub is_full : (u value : List ℕ) (name : List Field) → IsFullName u → IsNameValue value name → (value ≡ u) ↔ (name ≡ full_name_in u)
 is_full u value name h g = (
   λ e. one_name name (full_name_in u) g.0.0 h.fields (sym g.0.1 ∙ e ∙ h.whole),
@@ -118,7 +118,7 @@ other_digests u v h g other = by (name_cmp (full_name_in u) (full_name_in v)) re
     by Equal e = absurd (other (ap digest_in (h.whole ∙ ap octets_of (name_cmp-antisymmetric (full_name_in u) (full_name_in v) e) ∙ sym g.whole)))
     by Greater e = refl
 
--- a full name compares with a name as their octets do
+-- a full name and a name compare as their octets do
 pub name_after : (u v : List ℕ) (name : List Field) → IsFullName u → IsElements v name → slice_cmp nat_cmp u v ≡ name_cmp (full_name_in u) name
 name_after u v name h g = (λ k. slice_cmp nat_cmp (h.whole k) (g.1 k)) ∙ octets_cmp (full_name_in u) name h.fields g.0
 

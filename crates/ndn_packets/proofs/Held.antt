@@ -1,4 +1,4 @@
--- The received octets of each packet in memory are that packet.
+-- Each packet in memory is the packet that its received octets encode.
 use Rattle.std.proofs.Common.{◌≡◌, ℕ, List, [], ◌-◌, ◌≤◌, length, take, ◌∙◌, ap, Option, None, Some, Ok, refl, sym, subst, inl, inr}
 use Rattle.std.specs.Prelude.{IsSome, option_map}
 use Rattle.ndn_names.specs.Name.{IsNameValue}
@@ -46,7 +46,7 @@ interest_read i = interest_held i.whole.now (plain_interest i) i.spelled
 pub data_read : (d : Data) → IsReadData d
 data_read d = data_held d.whole.now (plain_data d) d.spelled
 
--- the covered octets of a Data in memory are those that its signature covers
+-- the field `covered` of a Data in memory has the octets that the signature of this Data covers
 pub data_covered_read : (d : Data) → CoversData d.whole.now d.covered.now
 data_covered_read d =
     let there = data_covered d.whole.now (plain_data d) (data_read d) in
@@ -70,8 +70,9 @@ interest_second_read i = held (option_map (λ c. c.now) i.covered) i.covers
 pub parts_none : (i : Interest) → i.covered ≡ None → (first second : List ℕ) → CoversInterest (components i.name) i.whole.now first second → ⊥
 parts_none i none = subst (λ (covered : Option (List ℕ)). HoldsSecond (components i.name) i.whole.now covered) (ap (option_map (λ c. c.now)) none) (interest_second_read i)
 
--- if the field `covered` of an Interest in memory has a value, this value is the second part that
--- the signature covers, and the first part is the octets of the name without the last 34
+-- Let the field `covered` of an Interest in memory have a value. Then this value is the second part
+-- that the signature covers. The first part is the TLV-VALUE of the name without its last 34
+-- octets.
 pub parts_some : (i : Interest) (octets second : List ℕ) → option_map (λ c. c.now) i.covered ≡ Some second → IsNameValue octets (components i.name)
     → (34 ≤ length octets) × CoversInterest (components i.name) i.whole.now (take (length octets - 34) octets) second
 parts_some i octets second some named =

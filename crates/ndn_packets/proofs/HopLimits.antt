@@ -26,7 +26,7 @@ use Rattle.ndn_packets.proofs.Packets.{frame_found, frame_again}
 use Rattle.ndn_packets.proofs.Cuts.{all_front, cut_read, cut_among}
 use Rattle.ndn_packets.proofs.Places.{all_both, Others, hop_at, hop_apart, front_fields, back_fields, fields_are, earlier_front}
 
--- ---- the octets of the element
+-- ---- the octets of the HopLimit element
 
 hop_octets : (limit : ℕ) → element (34, limit ∷ []) ≡ 34 ∷ 1 ∷ limit ∷ []
 unfolding spelling
@@ -70,8 +70,8 @@ bytes_with limit after small fits (suc zero) = omega arith
 bytes_with limit after small fits (suc (suc zero)) = small
 bytes_with limit after small fits (suc (suc (suc i))) = fits i
 
--- the next two lemmas: the octet after the type and length of the HopLimit is its value, and
--- setting this octet changes only the value
+-- `octet_is`: the octet after the type and the length of the HopLimit is its value. `octet_set`:
+-- setting this octet changes only the value.
 octet_is : (front after : List ℕ) (limit : ℕ) → slice_index (front ++ 34 ∷ 1 ∷ limit ∷ after) (length front + 2) ≡ limit
 octet_is front after limit =
     let len : length (front ++ 34 ∷ 1 ∷ []) ≡ length front + 2 = length-append front (34 ∷ 1 ∷ []) in
@@ -82,7 +82,7 @@ octet_set front after limit other =
     let len : length (front ++ 34 ∷ 1 ∷ []) ≡ length front + 2 = length-append front (34 ∷ 1 ∷ []) in
     (λ k. slice_set (sym (append_assoc front (34 ∷ 1 ∷ []) (limit ∷ after)) k) (sym len k) other) ∙ set-append_seam (front ++ 34 ∷ 1 ∷ []) limit after other ∙ append_assoc front (34 ∷ 1 ∷ []) (other ∷ after)
 
--- ---- the Interest
+-- ---- the octet of the HopLimit in an Interest
 
 limit_is : (value : Option (List ℕ)) (limit : Option ℕ) (n : ℕ) → IsOctet value limit → limit ≡ Some n → value ≡ Some (n ∷ [])
 limit_is None limit n is there = absurd (none_is_not_some n (sym is ∙ there))
@@ -98,8 +98,8 @@ digested_same : (name elements others : List Field) (parameters : Option (List �
 digested_same name elements others None same h = h
 digested_same name elements others (Some p) same h = h ∙ ap (λ (es : List Field). (2, sha256 (flat_map element es)) ∷ []) same
 
--- in `text`, which is the Interest `i`, the octet of the HopLimit is at index `hop_place text`;
--- with any other octet there, the text is the Interest `i` with this octet as its HopLimit
+-- Let the octets `text` be the Interest `i`. The octet of the HopLimit is at index `hop_place
+-- text`. With any other octet there, `text` is the Interest `i` with that octet as its HopLimit.
 record HopStands (text : List ℕ) (i : PlainInterest) (limit : ℕ) : Type 0 where
   front : List ℕ
   after : List ℕ

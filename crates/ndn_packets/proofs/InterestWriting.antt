@@ -19,13 +19,13 @@ use Rattle.ndn_packets.proofs.Lengths.{sum_is_long}
 regrouped : (a b c d e f : List ℕ) → ((((a ++ b) ++ c) ++ d) ++ e) ++ f ≡ a ++ ((((b ++ c) ++ d) ++ e) ++ f)
 regrouped a b c d e f = simp append_assoc
 
--- ---- the name
+-- ---- the name with its digest of parameters, or with zeros in place of the digest
 
 octets_following : (name : List Field) (digest : List ℕ) → octets (name ++ (2, digest) ∷ []) ≡ octets name ++ element (2, digest)
 octets_following name digest =
     flat_map-append element name ((2, digest) ∷ []) ∙ ap (λ (x : List ℕ). octets name ++ x) (append-nil (element (2, digest)))
 
--- the name, followed by the digest of the given fields if there are any
+-- the name `name`, followed by the digest of `fields` if there are any fields
 abbrev pub with_digest : List Field → List Field → List Field
 with_digest name fields = name_with (sha256 (octets fields)) name fields
 
@@ -33,7 +33,7 @@ pub with_digest_octets : (name later : List Field) → not (is_nil later) ≡ tr
 with_digest_octets name [] some = absurd cc
 with_digest_octets name (f ∷ later) some = octets_following name (sha256 (octets (f ∷ later)))
 
--- 32 zeros, in place of the digest
+-- 32 zeros, which are written in place of the digest at first
 abbrev zeros : List ℕ
 zeros = replicate 32 0
 
@@ -74,9 +74,9 @@ zeroed_holds_digest name later some =
 pub zeroed_is_long : (n : ℕ) (name later : List Field) → IsLength n (octets (with_digest name later)) → length (octets (with_digest name later)) ≤ 8800 → n ≡ length (octets (name_with zeros name later))
 zeroed_is_long n name later is short = omega (arith, is, zeroed_length name later)
 
--- The next two lemmas are about a Name that is first written with zeros for its digest. The type,
--- the length and the components before the digest are together no longer than the whole element.
--- Appending them and the digest component appends the whole element.
+-- `zeroed_begin` and `zeroed_put` are about a Name that is first written with zeros for its digest.
+-- The type, the length and the components before the digest are together no longer than the whole
+-- element. Appending them and then the digest component appends the whole element.
 pub zeroed_begin : (name later : List Field) (n : ℕ) → n ≡ length (octets (name_with zeros name later)) → length (spelling 7 ++ spelling n) + length (octets name) ≤ length (element (7, octets (name_with zeros name later)))
 zeroed_begin name later n long =
     rw long (omega (
@@ -93,7 +93,7 @@ zeroed_put old value name later n some is long =
     append_assoc header value (element (2, zeros))
     ∙ (ap (λ (x : List ℕ). header ++ x) (ap (λ (x : List ℕ). x ++ element (2, zeros)) is.0.1 ∙ sym (zeroed_octets name later some)) ∙ element_put old 7 n (octets (name_with zeros name later)) long)
 
--- ---- optional fields
+-- ---- the lengths of optional fields
 
 pub flag_is_long : (n kind : ℕ) → IsLength n (element (kind, [])) → IsLength n (octets (flag kind true))
 flag_is_long n kind is = subst (λ (x : List ℕ). IsLength n x) (sym (append-nil (element (kind, [])))) is
@@ -147,7 +147,7 @@ pub parameters_are_sound : (parameters : Option (Bor (List ℕ))) → AreOctets 
 parameters_are_sound None sound = tt
 parameters_are_sound (Some p) sound = sound
 
--- ---- the packet
+-- ---- the TLV-VALUE of the whole Interest
 
 value_octets : (name early later : List Field) → octets ((7, octets name) ∷ (early ++ later)) ≡ (element (7, octets name) ++ octets early) ++ octets later
 value_octets name early later =
@@ -171,7 +171,7 @@ zeroed_value name early later =
 
 -- ---- the digest replaces the zeros
 
--- the octets before the digest
+-- the octets of a Name element before the 32 octets of its digest
 abbrev name_front : ℕ → List Field → List ℕ
 name_front n name = spelling 7 ++ (spelling n ++ (octets name ++ (spelling 2 ++ spelling 32)))
 

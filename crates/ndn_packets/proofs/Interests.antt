@@ -31,7 +31,7 @@ abbrev fields_with : Bool → Bool → Option (List ℕ) → List ℕ → Option
 fields_with prefix fresh hint nonce lifetime hop parameters info value =
     flag 33 prefix ++ (flag 18 fresh ++ (optional 30 hint ++ ((10, nonce) ∷ (optional 12 lifetime ++ (optional 34 hop ++ (optional 36 parameters ++ (optional 44 info ++ optional 46 value)))))))
 
--- ---- how each field changes the state
+-- ---- how each field changes the state of the reader
 
 abbrev so_far : Bool → Bool → Option (List ℕ) → ℕ → Option ℕ → InterestSoFar
 so_far prefix fresh nonce lifetime hop =
@@ -221,7 +221,7 @@ interest_fields plain fields t fit recognised taken =
       made = sym last ∙ v;
     }
 
--- ---- what is read is in the grammar
+-- ---- an Interest that is read is in the grammar
 
 nonce_there : (value : Option (List ℕ)) (nonce : List ℕ) → value ≡ Some nonce → IsFour value → length nonce ≡ 4
 nonce_there value nonce is four = subst IsFour is four
@@ -356,7 +356,8 @@ signature_again None value signature h = (None, refl, sym h)
 signature_again (Some v) None signature h = (Some h.0, (h.0, h.1, refl), sym h.2)
 signature_again (Some v) (Some w) signature h = (Some h.0, (h.0, h.1, refl), sym h.2)
 
--- reading the fields of an Interest in the grammar gives the state with their values
+-- reading the fields of an Interest in the grammar ends in the state that has the values of these
+-- fields
 fields_computed : (prefix fresh : Bool) (hint : Option (List ℕ)) (nonce : List ℕ) (lifetime hop parameters info value : Option (List ℕ)) (number limit : Option ℕ) (said : Option PlainSignatureInfo) → length nonce ≡ 4
     → IsNumber lifetime number → IsOctet hop limit → MayBeBytes info → SaysInfo info said
     → read_fields take_interest_field no_fields_yet (map good (fields_with prefix fresh hint nonce lifetime hop parameters info value))
@@ -397,7 +398,7 @@ unfolding interest_at
 interest_computes value name_value elements fields name t nonce inner name_is named right fields_are taken nonce_is =
     rw (elements_exact value ((7, name_value) ∷ elements) inner, name_again name_value name name_is, is_nil-false name named, fields_are, taken, nonce_is, right) refl
 
--- if all fields consist of octets, so does the value of the InterestSignatureInfo
+-- if all fields consist of octets, the TLV-VALUE of the InterestSignatureInfo consists of octets
 info_bytes : (prefix fresh : Bool) (hint : Option (List ℕ)) (nonce : List ℕ) (lifetime hop parameters info value : Option (List ℕ)) → AreBytes (fields_with prefix fresh hint nonce lifetime hop parameters info value) → MayBeBytes info
 info_bytes prefix fresh hint nonce lifetime hop parameters info value fit =
     let from46 = optional 46 value in

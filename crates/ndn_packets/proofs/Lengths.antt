@@ -40,7 +40,7 @@ in_memory_is_exact n octets is small = omega arith
 pub fields_are_long : (front back : List Field) → length (octets front) + length (octets back) ≡ length (octets (front ++ back))
 fields_are_long front back = rw flat_map-append (omega (arith, length-append (octets front) (octets back)))
 
--- ---- signatures
+-- ---- SignatureInfos and signature values
 
 pub length-value_of : (signed : Sign) (covered : List ℕ) → length (value_of signed covered) ≡ 32
 length-value_of sign.Digest covered = length-sha256 covered
@@ -78,7 +78,8 @@ info_after_octets old kind len signed time seq =
     regrouped : (a b c d e : List ℕ) → (((a ++ b) ++ c) ++ d) ++ e ≡ a ++ (((b ++ c) ++ d) ++ e)
     regrouped a b c d e = simp append_assoc
 
--- the appended parts are the SignatureInfo, if there are fewer than 2^63 octets
+-- if there are fewer than 2^63 octets, appending the parts of a SignatureInfo appends the whole
+-- SignatureInfo
 pub info_put : (old : List ℕ) (kind len : ℕ) (signed : Sign) (time seq : Option ℕ) (new : List ℕ) → IsLength len (octets (info_fields signed time seq)) → new ≡ info_after old kind len signed time seq → length new < 2 ^ 63
     → new ≡ old ++ element (kind, octets (info_fields signed time seq))
 info_put old kind len signed time seq new long is small =

@@ -355,7 +355,7 @@ parts_again s (e ∷ headers) fragment token nack framed allowed r holds =
     let a = header_again s e headers token nack allowed.0 r in
     rw (a.no_fragment, a.taken) (parts_again a.after headers fragment token nack framed allowed.1 a.left holds)
 
--- ---- the value of a link packet
+-- ---- the TLV-VALUE of a link packet
 
 pub record LinkValue (value : List ℕ) (framed : PlainFramed) : Type 0 where
   pub headers : List Field

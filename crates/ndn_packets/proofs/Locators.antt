@@ -1,4 +1,4 @@
--- The key that a KeyLocator names is read from its value alone.
+-- The key that a KeyLocator names is read from the KeyLocator's TLV-VALUE alone.
 use Rattle.std.proofs.Common.{◌≡◌, ◌≢◌, ℕ, true, false, cond, eqb, List, [], ◌∷◌, Some, Result, Ok, Err, refl, sym, ap, subst, ◌∙◌, arith}
 use Rattle.std.proofs.lemmas.Bool.{eqb-true, eqb-false}
 use Rattle.std.proofs.lemmas.List.{append-nil}
@@ -16,7 +16,7 @@ use Rattle.ndn_packets.specs.Grammar.{NamesKey, DigestsKey, IsLocator}
 use Rattle.ndn_packets.specs.Reading.{locator_of, locator_at}
 use Rattle.ndn_packets.proofs.Steps.{IsBytes-value}
 
--- ---- a text that is one element
+-- ---- octets that are exactly one element
 
 pub element_alone : (text value : List ℕ) (kind : ℕ) → IsElement text kind value → element_at text ≡ seen kind value []
 element_alone text value kind outer = ap element_at (outer.1 ∙ sym (append-nil (element (kind, value)))) ∙ element_again (kind, value) [] outer.0
@@ -24,9 +24,9 @@ element_alone text value kind outer = ap element_at (outer.1 ∙ sym (append-nil
 only_element : (text : List ℕ) (k : ℕ) (v r : List ℕ) → element_at text ≡ seen k v r → (kind : ℕ) (value : List ℕ) → IsElement text kind value → (k ≡ kind) × (v ≡ value) × (r ≡ [])
 only_element text k v r e kind value outer = only_read text k v r (sym e) kind value [] outer.0 (outer.1 ∙ sym (append-nil (element (kind, value))))
 
--- ---- what is read is in the grammar
+-- ---- a KeyLocator that is read is in the grammar
 
--- the value is neither exactly one Name nor exactly one KeyDigest
+-- the TLV-VALUE of a KeyLocator is neither exactly one Name nor exactly one KeyDigest
 abbrev IsKeyless : List ℕ → Type 0
 IsKeyless value = ((name : List Field) → NamesKey value name → ⊥) × (DigestsKey value → ⊥)
 
@@ -78,7 +78,7 @@ locator_found value fits = says (element_at value) refl
     says (Ok x) e = element_says value x.0 x.1 fits e
     says (Err f) e = keyless_refused value f e
 
--- ---- what is in the grammar is read
+-- ---- a KeyLocator in the grammar is read
 
 pub locator_again : (value : List ℕ) (locator : PlainLocator) → IsBytes value → IsLocator (Some value) locator → locator_at value ≡ locator
 unfolding locator_at

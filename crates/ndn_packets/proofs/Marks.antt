@@ -1,4 +1,4 @@
--- The readers of packets note where fields begin: at the first element of their type.
+-- Where a reader of packets finds that a field begins: at the first element of the field's type.
 use Rattle.std.proofs.Common.{◌≡◌, ◌≢◌, ℕ, true, false, cond, eqb, List, [], ◌∷◌, ◌++◌, Option, None, Some, Ok, refl, sym, ap, subst, ◌∙◌, eq-eqb}
 use Rattle.std.specs.Prelude.{IsSome, OnSome, option_map}
 use Rattle.std.specs.List.{AllByRecursion}
@@ -21,15 +21,15 @@ skipped kind k schema whole value octets after none same comes read =
     next_other kind octets (k, value) after read
     (λ is. let no : IsSome {T = List ℕ} None = subst IsSome (ap (λ j. schema_after j whole) (sym is) ∙ ap (schema_after k) (sym same) ∙ sym none) comes in absurd cc)
 
--- ---- a schema
+-- ---- the types that may come before and after a type in a schema
 
 -- a type that does not need the previous field cannot come next in `later`
 abbrev pub IsTail : List ℕ → Type 0
 IsTail later = (k : ℕ) → needs_previous_field k ≡ false → schema_after k later ≡ None
 
--- What the reader needs to note where the field of type `kind` begins. A type that does not need
--- the previous field cannot come next in `later`. A type that satisfies `P` is not `kind`. If
--- `kind` needs the previous field, no type satisfies `P`.
+-- Conditions under which the reader finds where the field of type `kind` begins. A type that does
+-- not need the previous field cannot come next in `later`. A type that satisfies `P` is not `kind`.
+-- If `kind` needs the previous field, no type satisfies `P`.
 pub record IsMark (P : ℕ → Type 0) (kind : ℕ) (later : List ℕ) : Type 0 where
   pub tail : IsTail later
   pub apart : (k : ℕ) → P k → k ≢ kind
@@ -42,7 +42,8 @@ pub record Ahead (P : ℕ → Type 0) (kind : ℕ) (later schema : List ℕ) : T
   pub others : AllByRecursion P front
 
 module _ (P : ℕ → Type 0) (kind : ℕ) (later : List ℕ) (m : IsMark P kind later) where
-  -- a field of another type that comes next satisfies `P`, and `kind` may still come after it
+  -- if a field of a type other than `kind` comes next, its type satisfies `P`, and `kind` may still
+  -- come after it
   other_met : (k : ℕ) (front after : List ℕ) → AllByRecursion P front → k ≢ kind → schema_after k (front ++ kind ∷ later) ≡ Some after → P k × Ahead P kind later after
   other_met k [] after all other e =
       elim (needs_previous_field k) as (λ b. needs_previous_field k ≡ b → cond b None (schema_after k later) ≡ Some after → P k × Ahead P kind later after) [
@@ -75,9 +76,10 @@ module _ (P : ℕ → Type 0) (kind : ℕ) (later : List ℕ) (m : IsMark P kind
         | false ↦ λ _. rw (ne_eqb j kind (m.apart j all.0)) (comes front all.1)
       ] refl
 
--- ---- the reader
+-- ---- a reader that waits for the field of a type
 
--- no element of type `kind` has been passed yet, and `kind` may still come
+-- the reader `fields` has passed no element of type `kind` yet, and a field of this type may still
+-- come
 pub record Awaits (P : ℕ → Type 0) (kind : ℕ) (later text : List ℕ) (fields : FieldReader) : Type 0 where
   pub ahead : Ahead P kind later fields.schema.now
   pub left : from_first kind text ≡ from_first kind fields.rest.now
@@ -94,7 +96,7 @@ awaits_still P kind later text before after e m here other h =
     (met.0, record { ahead = met.1; left = placed P kind later text before after e m here h ∙ next_other kind after.here.now (e.kind, e.value.now) after.rest.now here.here other })
 
 -- if the reader awaits `kind` and returns a field of this type, the types in `later` remain, and
--- the reader has noted where the field begins
+-- the reader's `here` is the input from the first element of this type on
 pub awaits_met : (P : ℕ → Type 0) (kind : ℕ) (later text : List ℕ) (before after : FieldReader) (e : Element) → IsMark P kind later → StandsHere before after e → e.kind ≡ kind → Awaits P kind later text before
     → (after.schema.now ≡ later) × (from_first kind text ≡ Some after.here.now)
 awaits_met P kind later text before after e m here is h = (
@@ -115,7 +117,7 @@ awaits_next kind later after e before here other schema = record {
 pub nothing_comes : (before after : FieldReader) (e : Element) → StandsHere before after e → before.schema.now ≡ [] → ⊥
 nothing_comes before after e here none = none_is_not_some after.schema.now (ap (schema_after e.kind) (sym none) ∙ here.schema)
 
--- ---- a Data
+-- ---- what the reader of a Data has found so far
 
 -- the types of MetaInfo, Content and SignatureInfo
 abbrev IsEarly : ℕ → Type 0
@@ -124,8 +126,8 @@ IsEarly k = (k ≢ 23) × (k ≢ 20 → k ≢ 21 → k ≢ 22 → ⊥)
 value_mark : IsMark IsEarly 23 []
 value_mark = record { tail = λ k loose. refl; apart = λ k early. early.0; near = λ near k early. absurd cc }
 
--- before the SignatureValue, the reader of a Data awaits it; after the SignatureValue, no more
--- fields may come, and the reader has noted the octets from the SignatureValue on
+-- Before the SignatureValue, the reader of a Data awaits it. After the SignatureValue, no more
+-- fields may come, and `from` is the input from the SignatureValue on.
 abbrev pub DataMark : List ℕ → FieldReader → Option (List ℕ) → List ℕ → Type 0
 DataMark text fields None from = Awaits IsEarly 23 [] text fields
 DataMark text fields (Some value) from = (fields.schema.now ≡ []) × (from_first 23 text ≡ Some from)
@@ -153,7 +155,7 @@ data_value text before after e None from here a b c h =
     ] refl
 data_value text before after e (Some value) from here a b c h = absurd (nothing_comes before after e here h.0)
 
--- ---- an Interest
+-- ---- what the reader of an Interest has found so far
 
 -- a type other than ApplicationParameters that does not need the previous field
 abbrev IsFront : ℕ → Type 0
@@ -175,9 +177,9 @@ info_mark = record { tail = λ k loose. none_after k 46 [] refl loose refl; apar
 signature_mark : IsMark Never 46 []
 signature_mark = record { tail = λ k loose. refl; apart = λ k never. absurd never; near = λ near k never. never }
 
--- the reader of an Interest awaits the next of the last three fields; once the
--- ApplicationParameters and the InterestSignatureValue are read, the reader has noted the octets
--- from each of them on
+-- The reader of an Interest awaits the next of the last three fields. Once it has read the
+-- ApplicationParameters, `p` is the input from them on. Once it has read the
+-- InterestSignatureValue, `v` is the input from that field on.
 abbrev pub InterestMark : List ℕ → FieldReader → Option (List ℕ) → Option PlainSignatureInfo → Option (List ℕ) → List ℕ → List ℕ → Type 0
 InterestMark text fields None None None p v = Awaits IsFront 36 (44 ∷ 46 ∷ []) text fields
 InterestMark text fields None None (Some value) p v = ⊥
@@ -254,7 +256,9 @@ interest_value text before after e (Some q) (Some i) None p v here is h =
     (met.0, (h.0, h.1, h.2, met.1))
 interest_value text before after e (Some q) (Some i) (Some w) p v here is h = absurd (nothing_comes before after e here h.0)
 
--- after the last field, the reader has noted the positions of the fields that are present
+-- After the last field, what follows from the position `p` of the ApplicationParameters holds if
+-- they are present. If the InterestSignatureValue is present, `p` and `v` are the positions of a
+-- signature.
 pub interest_last : {A B C : Type 0} (f : A → List ℕ) (g : B → PlainSignatureInfo) (k : C → List ℕ) (text : List ℕ) (fields : FieldReader) (a : Option A) (b : Option B) (c : Option C) (p v : List ℕ)
     → InterestMark text fields (option_map f a) (option_map g b) (option_map k c) p v → (X : Type 0) → (from_first 36 text ≡ Some p → X) → OnSome a X × OnSome c (IsSignedAt text p v)
 interest_last f g k text fields None None None p v h X there = (tt, tt)

@@ -24,9 +24,9 @@ link_parts headers packet value_len is =
       length-append (spelling 100) (spelling (length value)),
     ))
 
--- ---- a Nack
+-- ---- the parts of a link packet with a Nack
 
--- the value of a link packet with a Nack
+-- the TLV-VALUE of a link packet with a Nack
 abbrev pub nack_value : ℕ → List ℕ → List ℕ
 nack_value reason interest = nack_field reason ++ element (80, interest)
 

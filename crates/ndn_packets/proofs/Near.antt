@@ -64,7 +64,7 @@ between (n ∷ name) (c ∷ u) (d ∷ v) flag e low high =
         let here : is_eq (component_cmp n c) ≡ true = ap is_eq o in
         (λ k. (here k && s.0 k) && s.1 k)
 
--- ---- the full names that follow a name
+-- ---- the octets of a full name after the octets of a name that is its prefix
 
 pub after_front : (name rest : List Field) → drop (length name) (name ++ rest) ≡ rest
 after_front [] rest = refl

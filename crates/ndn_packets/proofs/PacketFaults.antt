@@ -22,7 +22,7 @@ use Rattle.ndn_packets.proofs.FieldLists.{IsSchemaAfter, after_found, after_agai
 use Rattle.ndn_packets.proofs.Digests.{digest_found, digest_again}
 use Rattle.ndn_packets.proofs.FirstFaults.{bad, err_is, ok_is_not_err, tells_first_fault}
 
--- ---- steps that fail
+-- ---- a sequence of steps of which one fails
 
 pub bind_err : {A B : Type 0} (r : Result A PacketFault) (f : A → Result B PacketFault) (fault : PacketFault) → (r >>= f) ≡ Err fault → (r ≡ Err fault) ⊎ ((x : A) × (r ≡ Ok x) × (f x ≡ Err fault))
 bind_err (Ok x) f fault e = inr (x, refl, e)
@@ -31,7 +31,7 @@ bind_err {A} {B} (Err d) f fault e = inl (ap (bad A) (sym (err_is B d fault e)))
 pub told : (A : Type 0) (d fault : PacketFault) → fault ≡ d → bad A d ≡ bad A fault
 told A d fault e = ap (bad A) (sym e)
 
--- ---- fields that all pass
+-- ---- fields that are all read without a fault
 
 pub all_passed : {S : Type 0} (take : S → Field → Result S PacketFault) (ignores : ℕ → Bool) (schema : List ℕ) (elements : List (Result Field TlvFault)) (s t : S)
     → read_fields take s (fields_from ignores schema elements) ≡ Ok t → (plain : List Field) × AllPass take ignores schema s elements plain t
@@ -64,7 +64,7 @@ pub passed_again : {S : Type 0} (take : S → Field → Result S PacketFault) (i
 passed_again take ignores schema s t elements plain a =
     ap (λ (es : List (Result Field TlvFault)). read_fields take s (fields_from ignores schema es)) a.0 ∙ passed_plain take ignores schema a.1.0 s t plain a.1.1
 
--- ---- a SignatureInfo
+-- ---- the fault of reading a SignatureInfo
 
 none_found : {A B : Type 0} (d fault : PacketFault) (o : Option A) (f : A → B) → (found_or d o >>= λ x. good (f x)) ≡ Err fault → (o ≡ None) × (fault ≡ d)
 none_found {A} {B} d fault None f e = (refl, err_is B d fault e)
@@ -95,7 +95,7 @@ info_tells value fault = (
   ],
 )
 
--- ---- the Name
+-- ---- the fault of reading the Name at the beginning of a packet
 
 abbrev Named : Type 0
 Named = List Field × List (Result Field TlvFault)
@@ -126,7 +126,7 @@ name_fault_again (Ok x ∷ elements) fault (inr h) = rw (eq-eqb x.0 7 h.0) (valu
 lead_again : (elements : List (Result Field TlvFault)) (name : List Field) (later : List (Result Field TlvFault)) → Leads elements name later → leading_name_at elements ≡ good {A = Named} (name, later)
 lead_again elements name later h = ap leading_name_at h.front ∙ rw (h.name_is) refl
 
--- ---- the digests of parameters
+-- ---- the fault of checking the digests of parameters
 
 without_fault : (digests : List Field) (right : List ℕ) (fault : PacketFault) → digest_fault None digests right ≡ Some fault → (digests ≢ []) × (fault ≡ DigestWithout)
 without_fault [] right fault e = absurd (none_is_not_some fault e)
@@ -170,7 +170,7 @@ digests_again name plain (Some p) fault (inr h) = decided (digest_fault (Some p)
           | inr g ↦ ap (λ (f : PacketFault). Some f) (g.1 ∙ sym h.2)
         ]
 
--- ---- an Interest
+-- ---- the fault of reading an Interest
 
 abbrev interest_end : List Field → List (Result Field TlvFault) → InterestSoFar → Result PlainInterest PacketFault
 interest_end name later s =
@@ -251,7 +251,7 @@ interest_tells value fault = (
   ],
 )
 
--- ---- a Data
+-- ---- the fault of reading a Data
 
 abbrev data_fields : List (Result Field TlvFault) → Result DataSoFar PacketFault
 data_fields later = read_fields take_data_field nothing_yet (fields_from is_even_high data_schema later)

@@ -17,7 +17,7 @@ use Rattle.ndn_packets.proofs.Steps.{read, some_is, none_is_not_some}
 use Rattle.ndn_packets.proofs.FieldLists.{fields_found}
 use Rattle.ndn_packets.proofs.Cuts.{next_is, next_other, never_in}
 
--- ---- the octets
+-- ---- the octets of the elements from the ApplicationParameters on
 
 parameters_read : (fields : List Field) → parameters_on (map read fields) ≡ map read (from_parameters fields)
 parameters_read [] = refl

@@ -7,7 +7,7 @@ use Rattle.ndn_tlv.specs.Writing.{optional, flag}
 use Rattle.ndn_packets.specs.Fields.{Counts, Fields, needs_previous_field, interest_schema, data_schema}
 use Rattle.ndn_packets.proofs.FieldLists.{Lacks}
 
--- ---- a type in a schema
+-- ---- the types of fields, and the types before and after a type of a schema
 
 abbrev pub Others : ℕ → List Field → Type 0
 Others kind fields = AllByRecursion (λ f. f.0 ≢ kind) fields
@@ -40,7 +40,8 @@ not_nothing (k ∷ front) later kind e = cc
 around_counts : (before later : List ℕ) (kind : ℕ) → IsAround before kind later → Counts kind later (before ++ kind ∷ later)
 around_counts before later kind h = (before, refl, lacks_kind kind later before h.apart, h.near)
 
--- the next two definitions: the type `k` comes before `kind` in the schema, or after `kind`
+-- `StandsBefore`: the type `k` comes before the type `kind` in a schema. `StandsAfter`: the type
+-- `k` comes after the type `kind`.
 abbrev StandsBefore : List ℕ → ℕ → List ℕ → List ℕ → ℕ → List ℕ → Type 0
 StandsBefore before kind later front k after = (between : List ℕ) × (before ≡ front ++ k ∷ between) × (after ≡ between ++ kind ∷ later)
 
@@ -81,7 +82,7 @@ before_is before later front between kind k around is =
 abbrev pub AllNeedPrevious : List ℕ → Type 0
 AllNeedPrevious kinds = AllByRecursion (λ k. needs_previous_field k ≡ true) kinds
 
--- the first element of type `kind` is the field of that type
+-- some element has type `kind`, and the first such element is the field of this type
 pub record Met (ignores : ℕ → Bool) (kind : ℕ) (later : List ℕ) (elements fields : List Field) : Type 0 where
   pub front : List Field
   pub value : List ℕ
@@ -94,7 +95,7 @@ pub record Met (ignores : ℕ → Bool) (kind : ℕ) (later : List ℕ) (element
   pub earlier : Earlier (kind ∷ later) early
   pub following : Fields ignores later back late
 
--- there is no element of type `kind`, and no field of that type or of a later type
+-- no element has type `kind`, and no field has this type or a later type of the schema
 abbrev pub Missed : ℕ → List ℕ → List Field → List Field → Type 0
 Missed kind later elements fields = Others kind elements × Earlier (kind ∷ later) fields
 
@@ -238,7 +239,7 @@ field_at ignores before later kind value (e ∷ elements) fields early late arou
       again = λ w. inr (h.0, h.1, r.again w);
     }
 
--- ---- known types
+-- ---- whether a type is in a schema
 
 lacks : ℕ → List ℕ → Bool
 lacks kind [] = true
@@ -270,7 +271,7 @@ all_lack-true (k ∷ kinds) schema e =
     let g = guard (lacks k schema) (all_lack kinds schema) e in
     (lacks-true k schema g.0, all_lack-true kinds schema g.1)
 
--- ---- fields of a type
+-- ---- whether some field has a type
 
 abbrev pub Has : ℕ → List Field → Type 0
 Has kind [] = ⊥

@@ -1,4 +1,4 @@
--- What each successful step of a reader has found.
+-- What follows if a step of a reader succeeds.
 use Rattle.std.proofs.Common.{◌≡◌, ◌≢◌, ℕ, ◌≤◌, Bool, true, false, cond, eqb, List, [], ◌∷◌, ◌++◌, length, Option, Some, None, Result, Ok, Err, refl, ap, subst, ◌∙◌}
 use Rattle.std.specs.List.{AllByRecursion, flat_map}
 use Rattle.std.proofs.lemmas.Bool.{eqb-true}
@@ -15,7 +15,7 @@ use Rattle.ndn_packets.specs.Reading.{name_value_at, leading_name_at, is_nil, fo
 use Rattle.ndn_packets.specs.PacketFaults.{Leads}
 use Rattle.ndn_packets.proofs.Rules.{is_nil-true}
 
--- ---- steps that may fail
+-- ---- the results of steps that may fail
 
 pub bind_ok : {A B : Type 0} (r : Result A PacketFault) (f : A → Result B PacketFault) (y : B) → (r >>= f) ≡ Ok y → (x : A) × (r ≡ Ok x) × (f x ≡ Ok y)
 bind_ok (Ok x) f y e = (x, refl, e)
@@ -57,7 +57,7 @@ not_nil xs e is = both_tests (is_nil xs) e (is_nil-true xs is)
 abbrev pub read : Field → Result Field TlvFault
 read f = Ok f
 
--- ---- octets
+-- ---- parts of octets are octets
 
 pub IsBytes-front : (xs ys : List ℕ) → IsBytes (xs ++ ys) → IsBytes xs
 IsBytes-front xs ys h = subst IsBytes (take_at xs ys (length xs) refl) (IsBytes-take (length xs) (xs ++ ys) h)

@@ -24,7 +24,7 @@ holds_one (AData whole d) a b p q = sym p ∙ q
 holds_one (ANack reason whole i) a b p q = absurd p
 holds_one Idle a b p q = absurd p
 
--- ---- a packet
+-- ---- a packet that is not in a link packet
 
 packet_holds : (text : List ℕ) (x : Field) (f : PlainFrame) → packet_of text x ≡ Ok f → Holds f text × (length text ≤ 8800) × (eqb x.0 100 ≡ false)
 packet_holds text x f e =
@@ -51,11 +51,11 @@ packet_alone text f e =
     let h = packet_holds text b.0 f b.2 in
     (h.0, h.1, rw (le-ltb 9000 (length text) (omega (arith, h.1)), b.1, h.2, b.2) refl)
 
--- the octets are exactly the packet
+-- reading exactly the octets `own` gives the packet `f`
 abbrev IsAlone : List ℕ → PlainFrame → Type 0
 IsAlone own f = (only_element own >>= packet_of own) ≡ Ok f
 
--- ---- a link packet
+-- ---- a packet in a link packet
 
 nack_holds : (reason : ℕ) (text own : List ℕ) (f : PlainFrame) → (only_element text >>= nacked_of reason text) ≡ Ok f → Holds f own → ⊥
 nack_holds reason text own f e h =
@@ -94,7 +94,7 @@ link_alone s (Ok x ∷ elements) own f e h =
           link_alone b.0 elements own f b.2 h
     ] e
 
--- ---- a frame
+-- ---- the packet in any frame
 
 framed_alone : (text own : List ℕ) (f : PlainFramed) → framed_at text ≡ Ok f → Holds f.frame own → IsAlone own f.frame
 unfolding framed_at link_at

@@ -30,7 +30,7 @@ use Rattle.ndn_packets.proofs.Steps.{both_tests}
 use Rattle.ndn_packets.proofs.Lengths.{info_is_long}
 use Rattle.ndn_packets.proofs.FieldLists.{MayBeBytes, AreBytes}
 
--- ---- octets
+-- ---- what is written consists of octets
 
 IsBytes-cons : (b : ℕ) (bytes : List ℕ) → b < 256 → IsBytes bytes → IsBytes (b ∷ bytes)
 IsBytes-cons b bytes lt h zero = lt
@@ -86,7 +86,7 @@ IsBytes-shortest n =
     (IsBytes-test n (2 ^ 16) (to_be_bytes w16 n) _ (λ _. IsBytes-wide w16 n)
     (IsBytes-test n (2 ^ 32) (to_be_bytes w32 n) _ (λ _. IsBytes-wide w32 n) (IsBytes-wide w64 n)))
 
--- an element consists of octets if its value does
+-- an element consists of octets if its TLV-VALUE does
 pub IsBytes-element : (f : Field) → IsBytes f.1 → IsBytes (element f)
 IsBytes-element f h = IsBytes-append (spelling f.0) (spelling (length f.1) ++ f.1) (IsBytes-spelling f.0) (IsBytes-append (spelling (length f.1)) f.1 (IsBytes-spelling (length f.1)) h)
 
@@ -94,7 +94,7 @@ pub IsBytes-octets : (fields : List Field) → AreBytes fields → IsBytes (octe
 IsBytes-octets [] h = bytes_of_nothing
 IsBytes-octets (f ∷ fields) h = IsBytes-append (element f) (octets fields) (IsBytes-element f h.0) (IsBytes-octets fields h.1)
 
--- ---- lists of fields
+-- ---- properties of all fields of a list
 
 pub all_append : (P : Field → Type 0) (fields others : List Field) → AllByRecursion P fields → AllByRecursion P others → AllByRecursion P (fields ++ others)
 all_append P [] others h g = g
@@ -114,7 +114,7 @@ pub bytes_of_value : (value : Option (Bor (List ℕ))) → IfSome value (λ v. I
 bytes_of_value None h = tt
 bytes_of_value (Some v) h = h
 
--- ---- lengths
+-- ---- elements whose types and lengths are valid
 
 pub length-element : (f : Field) → length (element f) ≤ length f.1 + 18
 length-element f = omega (arith, length-append (spelling f.0) (spelling (length f.1) ++ f.1), length-append (spelling (length f.1)) f.1, length-spelling_nine f.0, length-spelling_nine (length f.1))
@@ -125,7 +125,7 @@ length-value f = omega (arith, length-append (spelling f.0) (spelling (length f.
 abbrev pub IsType : ℕ → Type 0
 IsType kind = (1 ≤ kind) × (kind < 2 ^ 32)
 
--- elements of valid types in a text are valid if the length of the text is below 2^64
+-- if elements have valid types and together fewer than 2^64 octets, they are valid
 pub sized : (fields : List Field) → AllByRecursion (λ f. IsType f.0) fields → length (octets fields) < 2 ^ 64 → AllByRecursion IsField fields
 sized [] types short = tt
 sized (f ∷ fields) types short =
@@ -173,8 +173,8 @@ counts_following first kind later schema p h =
     let other = (all_following (λ k. k ≢ first) h.0 kind later (subst (AllByRecursion (λ k. k ≢ first)) h.1 p.0)).0 in
     (first ∷ h.0, ap (λ (ks : List ℕ). first ∷ ks) h.1, ((λ same. other (sym same)), h.2), λ follows. absurd (both_tests (needs_previous_field kind) (subst IsLoose (h.1 ∙ ap (λ (front : List ℕ). front ++ kind ∷ later) (h.3 follows)) p.1) follows))
 
--- the next two lemmas: fields in order stay in order if an optional field of an earlier type, or a
--- flag of an earlier type, is put before them
+-- `maybe` and `flagged`: fields in order stay in order if an optional field of an earlier type, or
+-- a flag of an earlier type, is put before them
 pub maybe : (schema : List ℕ) (kind : ℕ) (value : Option (List ℕ)) (fields : List Field) → Precedes kind schema → InOrder schema fields → InOrder (kind ∷ schema) (optional kind value ++ fields)
 maybe schema kind (Some v) fields p h = leads schema kind v fields h
 maybe schema kind None [] p h = tt
@@ -188,7 +188,7 @@ pub last : (schema : List ℕ) (kind : ℕ) (value : Option (List ℕ)) → InOr
 last schema kind None = tt
 last schema kind (Some v) = leads schema kind v [] tt
 
--- ---- numbers
+-- ---- NonNegativeIntegers that are written
 
 pub is_number : (n : Option ℕ) → IfSome n (λ k. k < 2 ^ 64) → IsNumber (option_map shortest_nni n) n
 is_number None h = refl
@@ -202,7 +202,7 @@ pub number_fits : (kind : ℕ) (n : Option ℕ) → IsType kind → AllByRecursi
 number_fits kind None is = tt
 number_fits kind (Some k) is = ((is.0, is.1, omega (arith, length-shortest_eight k)), tt)
 
--- ---- names
+-- ---- names that are written
 
 name_types : (name : List Field) → AllByRecursion IsComponent name → AllByRecursion (λ f. IsType f.0) name
 name_types [] h = tt
@@ -211,7 +211,7 @@ name_types (c ∷ name) h = ((h.0.0, omega (arith, h.0.1)), name_types name h.1)
 pub name_written : (name : List Field) → IsName name → length (octets name) < 2 ^ 64 → IsNameValue (octets name) name
 name_written name is short = ((sized name (name_types name is.1) short, refl), is)
 
--- ---- SignatureInfo
+-- ---- a SignatureInfo that is written
 
 bytes_of_locator : (signed : Sign) → IsSoundSign signed → MayBeBytes (locator_value signed)
 bytes_of_locator sign.Digest is = tt
@@ -266,7 +266,7 @@ info_written signed time seq time_fits seq_fits short =
       seq = is_number seq seq_fits;
     }
 
--- ---- packets
+-- ---- what an Interest and a Data that are written have in common
 
 -- if the elements of a written packet are in the order of the schema and the packet has at most
 -- 8,800 octets, the packet is in the grammar
@@ -285,7 +285,7 @@ packet_written kind schema name_value elements fields is types order same fits s
       octets = IsBytes-element (kind, value) (IsBytes-octets ((7, name_value) ∷ elements) fits);
     }
 
--- ---- Data
+-- ---- a Data that is written
 
 -- a written MetaInfo, which may be absent, is in the grammar
 meta_written : (freshness final_block : Option ℕ) → IfSome freshness (λ k. k < 2 ^ 64) → IsMetaInfo (octets (meta_fields freshness final_block)) (unwrap_or freshness 0)
@@ -323,7 +323,8 @@ bytes_of_meta freshness final_block = of_fields (meta_fields freshness final_blo
     of_fields [] h = tt
     of_fields (f ∷ fields) h = IsBytes-octets (f ∷ fields) h
 
--- if no field in `before` has type `kind`, the cut in what is written is directly after `before`
+-- if no field in `before` has type `kind`, the cut before the first element of this type is
+-- directly after the octets of `before`
 pub cut_written : (kind : ℕ) (value : List ℕ) (before following : List Field) → AllByRecursion IsField (before ++ (kind, value) ∷ following) → AllByRecursion (λ f. f.0 ≢ kind) before
     → IsCut kind (octets (before ++ (kind, value) ∷ following)) (octets before) (octets ((kind, value) ∷ following))
 cut_written kind value before following fit first =
@@ -339,8 +340,8 @@ cut_written kind value before following fit first =
       octets_are = flat_map-append element before ((kind, value) ∷ following);
     }
 
--- the next two definitions: the elements of a Data after its Name, and the same elements as fields
--- of the schema
+-- `data_elements` are the elements of a Data after its Name, and `data_grouped` are the same
+-- elements as fields of the schema
 abbrev data_elements : Sign → List Field → Option (List ℕ) → Option (List ℕ) → List Field
 data_elements signed name meta content = (optional 20 meta ++ (optional 21 content ++ (22, octets (info_fields signed None None)) ∷ [])) ++ (23, data_value signed name meta content) ∷ []
 

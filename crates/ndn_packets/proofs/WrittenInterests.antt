@@ -51,8 +51,8 @@ bytes_with name (f ∷ later) h =
     let digest = digest_of (f ∷ later) in
     subst IsBytes (sym (flat_map-append element name (digest ∷ []))) (IsBytes-append (octets name) (octets (digest ∷ [])) h (IsBytes-octets (digest ∷ []) (IsBytes-sha256 (octets (f ∷ later)), tt)))
 
--- if no field in `front` is ApplicationParameters, the fields of `front ++ later` from the
--- parameters on are those of `later` from the parameters on
+-- if no field in `front` is ApplicationParameters, the fields from the ApplicationParameters on are
+-- the same in `front ++ later` and in `later`
 no_parameters : (front later : List Field) → AllByRecursion (λ f. f.0 ≢ 36) front → from_parameters (front ++ later) ≡ from_parameters later
 no_parameters [] later h = refl
 no_parameters (f ∷ front) later h = rw (ne_eqb f.0 36 h.0) (no_parameters front later h.1)
@@ -117,7 +117,7 @@ is_octet : (limit : Option ℕ) → IsOctet (option_map (λ n. n ∷ []) limit) 
 is_octet None = refl
 is_octet (Some n) = (n, refl, refl)
 
--- ---- an Interest
+-- ---- an Interest that is written, and the octets that its signature covers
 
 interest_types : AllByRecursion IsType interest_schema
 interest_types = search rules
@@ -178,8 +178,8 @@ interest_written i lifetime later ends fits short =
       signature = ends.signed;
     }
 
--- if the last three fields are all present, the signature covers the components before the digest,
--- and the ApplicationParameters and the InterestSignatureInfo
+-- If an Interest has ApplicationParameters, InterestSignatureInfo and InterestSignatureValue, its
+-- signature covers the components before the digest and the first two of these fields.
 interest_covered : (i : PlainInterest) (lifetime : Option ℕ) (name : List Field) (digest p info value : List ℕ) → i.name ≡ name ++ (2, digest) ∷ []
     → (ends : Ends i ((36, p) ∷ (44, info) ∷ (46, value) ∷ [])) → Fits i lifetime → length (text_of i lifetime ((36, p) ∷ (44, info) ∷ (46, value) ∷ [])) ≤ 8800
     → CoversInterest i.name (text_of i lifetime ((36, p) ∷ (44, info) ∷ (46, value) ∷ [])) (octets name) (octets ((36, p) ∷ (44, info) ∷ []))

@@ -31,7 +31,7 @@ bare_text packet = refl
 pub bare_nack_text : (reason : ℕ) (packet : List ℕ) → lp_text None (Some reason) packet ≡ nack_text reason packet
 bare_nack_text reason packet = refl
 
--- ---- a Nack's reason
+-- ---- the reason of a Nack that is written
 
 abbrev reason_text : ℕ → List ℕ
 reason_text reason = octets (number 801 (Some reason))
@@ -113,7 +113,7 @@ both_written token reason sizes bytes fits = record {
   few = omega (arith, length-two (98, token) (800, reason_text reason), length-reason_text reason, sizes);
 }
 
--- ---- a link packet
+-- ---- a link packet that is written
 
 length-link : (headers : List Field) (packet : List ℕ) → length (octets (headers ++ (80, packet) ∷ [])) ≤ length (octets headers) + (length packet + 18)
 length-link headers packet = rw flat_map-append (omega (arith, length-append (octets headers) (octets ((80, packet) ∷ [])), length-one (80, packet)))
@@ -142,7 +142,7 @@ link_written headers token nack packet w short fits =
       octets = IsBytes-element (100, value) (IsBytes-octets (headers ++ (80, packet) ∷ []) (bytes_both headers ((80, packet) ∷ []) w.bytes (fits, tt)));
     }
 
--- ---- a frame
+-- ---- a packet that is written, alone or in a link packet
 
 pub interest_written : (token : Option (List ℕ)) (nack : Option ℕ) (whole : List ℕ) (i : PlainInterest) → IfSome token IsToken → IfSome token AreOctets → IsU64 nack → IsInterest whole i
     → IsFramed (lp_text token nack whole) (framed_with token (interest_frame nack whole i))
@@ -161,12 +161,13 @@ data_written None None whole d sizes bytes is none = (is, inl (refl, refl))
 data_written (Some token) None whole d sizes bytes is none =
     (is, inr (link_written ((98, token) ∷ []) (Some token) None whole (token_written token sizes bytes) is.fields.short is.fields.octets))
 
--- a property of a borrowed token holds for its value
+-- if a property holds for the octets of an optional borrowed token, it holds for the optional token
+-- as a plain value
 pub token_now : (P : List ℕ → Type 0) (token : Option (Bor (List ℕ))) → IfSome token (λ t. P t.now) → IfSome (option_map (λ t. t.now) token) P
 token_now P None h = tt
 token_now P (Some t) h = h
 
--- ---- reading what was written
+-- ---- reading a link packet that was written
 
 pub lp_interest_read : (token : Option (List ℕ)) (whole : List ℕ) (i : PlainInterest) → IfSome token IsToken → IfSome token AreOctets → IsInterest whole i
     → framed_at (lp_text token None whole) ≡ Ok (framed_with token (AnInterest whole i))

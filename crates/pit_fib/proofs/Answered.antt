@@ -25,8 +25,8 @@ use Rattle.pit_fib.proofs.KeptTables.{both_equal, row_changes}
 
 -- ---- the keys that a walk along the Data's name finds
 
--- whether a Data of this name answers a key, judged by their names alone: the names are equal, or
--- the key has CanBePrefix and its name is a proper prefix of the Data's name
+-- Whether a Data of this name answers a key, judged by the names alone. It does if the names are
+-- equal, or if the key has CanBePrefix and its name is a proper prefix of the Data's name.
 abbrev pub along : List Field → List Field → Bool → Bool
 along [] [] can_be_prefix = true
 along [] (c ∷ name) can_be_prefix = can_be_prefix
@@ -100,7 +100,7 @@ below_stays own below [] c = refl
 below_stays own below (d ∷ name) c =
     elim (eq_by_cmp component_cmp d d) as (λ b. cond b (changed_along own below (name ++ c ∷ []) name) Some ≡ Some) [ true ↦ below_stays own below name c | false ↦ refl ]
 
--- ---- the faces with an in-record that a Data answers
+-- ---- the faces that have an in-record under a key that a Data answers
 
 pub some-any : {X : Type 0} (f : ℕ) (es : List (ℕ × X)) → is_some (find nat_cmp f es) ≡ list_any (λ e. eqb e.0 f) es
 some-any f [] = refl
@@ -223,8 +223,8 @@ module _ (P : ℕ → Type 0) (few : AtMost64 P) where
 
 -- ---- the faces with an in-record along a name
 
--- the face has an in-record under a key whose name is `front` followed by some `t`, where `t` and
--- the key's CanBePrefix pass the test
+-- the face has an in-record under a key whose name is `front` followed by some components `t`,
+-- where `t` and the key's CanBePrefix pass the test
 abbrev pub AsksAt : (List Field → Option Row) → List Field → (List Field → Bool → Bool) → ℕ → Type 0
 AsksAt value front test f = (t : List Field) × (g : Flags) × IsTrue (test t g.can_be_prefix) × IsTrue (asks_in (kept_in (value (front ++ t)) g) f)
 

@@ -28,15 +28,15 @@ or_so true b h = refl
 or_so false b (inl e) = absurd cc
 or_so false b (inr e) = e
 
--- if the face has an in-record, or fewer than 64 faces have one, the arrival of an Interest sets
--- the face's in-record, and changes nothing else in the entry
+-- Let the face have an in-record, or let fewer than 64 faces have one. Then the arrival of an
+-- Interest sets the face's in-record, and changes nothing else in the entry.
 pub asked_is : (face : ℕ) (in_record : InRecord) (s : Kept) → IsSome (get s.records.in_records face) ⊎ (len s.records.in_records < 64)
     → with_in_record face in_record s ≡ record { records = record { in_records = map.insert s.records.in_records face in_record; out_records = s.records.out_records }; is_wide = s.is_wide }
 asked_is face in_record s room =
     let holds = or_so (contains_key s.records.in_records face) (ltb (len s.records.in_records) 64) (elim room [ (inl some) ↦ inl some | (inr less) ↦ inr (less_so _ less) ]) in
     ap (λ b. cond b (record { records = record { in_records = map.insert s.records.in_records face in_record; out_records = s.records.out_records }; is_wide = s.is_wide }) s) holds
 
--- ---- the value of one face is set
+-- ---- setting the value of one face
 
 module _ {X : Type 0} (room face : ℕ) (x : X) (f : Faced X) where
   set_known : contains_key f.values face ≡ true → set_in room face x f ≡ with_face_value face x f
@@ -55,8 +55,8 @@ module _ {X : Type 0} (room face : ℕ) (x : X) (f : Faced X) where
   made_wide few place more =
       (λ i. cond (not_wide _ few i) (false, f) (cond (place i) (true, f) (cond (wide _ more i) (true, record { values = f.values; is_wide = true }) (false, f))))
 
-  -- If the face has a value or fewer than 64 faces have one, and the map's own memory or the
-  -- supplied memory suffices, then setting the value inserts it. The map has memory for 64 values
+  -- Let the face have a value, or let fewer than 64 faces have one. Let the map's own memory or the
+  -- supplied memory suffice. Then setting the value inserts it. The map has memory for 64 values
   -- afterwards if it had this memory before, or if its own memory did not suffice.
   pub set_is : IsSome (get f.values face) ⊎ (len f.values < 64) → ((contains_key f.values face || has_place f) ≡ false → 64 ≤ room)
       → ((set_in room face x f).values ≡ map.insert f.values face x)
@@ -84,7 +84,7 @@ module _ {X : Type 0} (room face : ℕ) (x : X) (f : Faced X) where
       fewer (inl some) is = absurd (differ (sym some ∙ is))
       fewer (inr less) is = less
 
--- ---- the memory for out-records
+-- ---- the memory for the prepared calls after an arrival or a sending
 
 wide_or_not : (n : ℕ) → (64 ≤ n) ⊎ (n < 64)
 wide_or_not n = elim (leb 64 n) as (λ b. leb 64 n ≡ b → (64 ≤ n) ⊎ (n < 64)) [ true ↦ λ e. inl (leb-true 64 n e) | false ↦ λ e. inr (leb-false 64 n e) ] refl

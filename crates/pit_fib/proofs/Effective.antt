@@ -300,7 +300,7 @@ module _ (routes : Routes) (name : List Field) (f c : ℕ) where
             })
       ]
 
-  -- ---- the effective next hops
+  -- ---- the reasons why a face has a cost among the effective next hops
 
   abbrev any : Route → Bool
   any _ = true

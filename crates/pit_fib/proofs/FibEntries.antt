@@ -29,7 +29,7 @@ left_is e part is =
       | false ↦ λ f. ((let same : e ≡ part = cc in sym same), refl)
     ] is
 
--- ---- maps from which values were removed
+-- ---- values that are left in a map after others were removed
 some_kept : {X : Type 0} (b : Bool) (o : Option X) → IsSome (cond b None o) → IsSome o
 some_kept true o some = absurd cc
 some_kept false o some = some
@@ -122,7 +122,7 @@ module _ (face : ℕ) where
   alike : (q x : RouteKey) → route_cmp q x ≡ Equal → other x ≡ other q
   alike q x tie = ap other (sym (route_cmp-antisymmetric q x tie))
 
-  -- removing the routes of the face does not increase the number of routes
+  -- removing the routes of a face does not increase the number of routes
   fewer_keys : (m : Registered) → len (retain_keys m other) ≤ len m
   fewer_keys m =
       let whole : from_sorted {R = route_cmp} (entries m) ≡ m = same_entries_map _ _ (entries-from_sorted route_cmp (entries m) (entries_sorted m)) in
@@ -174,8 +174,8 @@ some_in total m k x =
     positive : (n : ℕ) → 0 < n → eqb n 0 ≡ false
     positive n less = elim (eqb n 0) as (λ b. eqb n 0 ≡ b → b ≡ false) [ true ↦ λ e. (let zero = eqb-true n 0 e in absurd (omega (arith, zero, less))) | false ↦ λ e. refl ] refl
 
--- Let the value `o` be replaced by `x` if `b` is true, and let `A` follow from `b`. If there is a
--- value afterwards, `o` is a value, or `A` is true.
+-- Let the optional value `o` be replaced by the value `x` if the test `b` is true, and let the
+-- statement `A` follow from `b`. If there is a value afterwards, then `o` is a value, or `A` holds.
 set_or : {X : Type 0} (b : Bool) (x : X) (o : Option X) {A : Type 0} → (b ≡ true → A) → IsSome (cond b (Some x) o) → IsSome o ⊎ A
 set_or true x o is some = inr (is refl)
 set_or false x o is some = inl some
@@ -229,7 +229,7 @@ no_route key =
     vacant_none (record no_entry { registered = remove no_entry.registered key }) (len-empty nat_cmp ℕ)
     (none_less _ _ _ (len-remove route_cmp-total no_entry.registered key) (len-empty route_cmp Route))
 
--- ---- the number of routes
+-- ---- the number of all routes after the entry of one name is changed
 
 vacant_is : (a b : Bool) → (a && b) ≡ true → b ≡ true
 vacant_is true b e = e
@@ -245,8 +245,8 @@ size_left e =
       | false ↦ λ v. refl
     ] refl
 
--- if the entry of a name is changed to `e`, the number of all routes decreases by the name's old
--- number of routes, and increases by the number of routes in `e`
+-- Let the entry of a name be changed to `e`. Then the number of all routes decreases by the name's
+-- old number of routes, and increases by the number of routes in `e`.
 pub count_changed : (t : Routes) (name : List Field) (e : Entry) → route_count (with_value t name (unless_vacant e)) + len (registered_at t name) ≡ route_count t + len e.registered
 count_changed t name e =
     elim (unless_vacant e) as (λ o. unless_vacant e ≡ o → route_count (with_value t name o) + len (registered_at t name) ≡ route_count t + len e.registered) [

@@ -43,8 +43,8 @@ way_along s f front (c ∷ rest) =
     way_along (taken past_at s (f front)) f (front ++ c ∷ []) rest
     ∙ ap (λ (w : Inheriting). taken_along past_entry past_entry w f (front ++ c ∷ []) rest) (way_kept s (f front))
 
--- after a walk along a name that has the entry `e`, the field `is_left` is true exactly if `e`
--- remains after an expiry at the moment of the walk
+-- Let a walk along a name pass the name's entry `e`. After the walk, the field `is_left` is true
+-- exactly if `e` remains after an expiry at the moment of the walk.
 left_along : (s : AtName) (f : List Field → Option Entry) (front rest : List Field) (e : Entry) → f (front ++ rest) ≡ Some e
     → (taken_along past_at past_at s f front rest).is_left ≡ is_some (entry_left_at s.now e)
 left_along s f front [] e is = ap (λ o. (taken past_at s o).is_left) (ap f (sym (append-nil front)) ∙ is)

@@ -40,8 +40,8 @@ leads_nowhere : {A : Type 0} (f : ℕ) → EntryLeads no_entry f → A
 leads_nowhere f (inl some) = no_some _ (get-empty nat_cmp f) some
 leads_nowhere f (inr way) = no_some _ (get-empty route_cmp (record { face = f; origin = way.0 })) way.1
 
--- `part` has next hops or routes, it has no more routes than `whole`, each of its routes is a route
--- of `whole`, and each face that it leads to is a face that `whole` leads to
+-- `part` has next hops or routes, and no more routes than `whole`. Each route of `part` is a route
+-- of `whole`, and each face that `part` leads to is a face that `whole` leads to.
 pub record IsPartOf (part whole : Entry) : Type 0 where
   pub some : is_vacant part ≡ false
   pub fewer : len part.registered ≤ len whole.registered
@@ -82,7 +82,7 @@ shrunk_within t new within shrunk names fewer = record {
 pub shrunk_later : (t new : Routes) (moment : ℕ) → IsShrunk t new → NoneEndsBefore moment t → NoneEndsBefore moment new
 shrunk_later t new moment shrunk later q e is key r there = (let s = shrunk q e is in later q s.0 s.1 key r (s.2.kept key r there))
 
--- ---- one entry is changed
+-- ---- the table after one entry is changed or removed
 
 sum : Routes → ℕ
 sum t = route_count t
@@ -168,7 +168,7 @@ module _ (t : Routes) (within : IsWithinFib t) (name : List Field) where
   pub within_one : (g : Entry → Option Entry) → ((whole part : Entry) → g whole ≡ Some part → IsPartOf part whole) → IsWithinFib (Changed g)
   within_one g parts = shrunk_within t (Changed g) within (shrunk_one g parts) (limits_one g) (count_one g parts)
 
--- ---- all entries are changed
+-- ---- the table after all entries are changed or removed
 
 pub shrunk_all : (t : Routes) (g : Entry → Option Entry) → ((whole part : Entry) → g whole ≡ Some part → IsPartOf part whole) → IsShrunk t (revise g t)
 shrunk_all t g parts q part is =
@@ -212,7 +212,7 @@ pub shrunk_room : (t new : Routes) (room : ℕ) (p : Option (List Field)) → Is
 shrunk_room t new room None shrunk fits = tt
 shrunk_room t new room (Some q) shrunk fits = (let fewer = fewer_there t new shrunk q in omega (arith, fewer, fits))
 
--- ---- one entry is set
+-- ---- the table after one entry is set
 
 module _ (t : Routes) (within : IsWithinFib t) (name : List Field) (e : Entry) where
   leads_set : {A : Type 0} (f : ℕ) → (EntryLeads e f → EntryLeads (entry_at t name) f ⊎ A) → LeadsTo (insert t name e) f → LeadsTo t f ⊎ A
@@ -255,16 +255,16 @@ module _ (t : Routes) (within : IsWithinFib t) (name : List Field) (e : Entry) w
       before None at was = absent (get (empty {X = Route} {R = route_cmp}) key) r (get-empty route_cmp key) (sym (ap (λ o. get (unwrap_or o no_entry).registered key) at) ∙ was)
       before (Some y) at was = later name y at key r (sym (ap (λ o. get (unwrap_or o no_entry).registered key) at) ∙ was)
 
--- if no route expires before the later moment, none expires before the earlier one
+-- if no route expires before a moment, none expires before an earlier moment
 pub earlier_none : (t : Routes) (early late : ℕ) → early ≤ late → NoneEndsBefore late t → NoneEndsBefore early t
 earlier_none t early late le later q e is key r there deadline ends = (let after = later q e is key r there deadline ends in omega (arith, le, after))
 
--- if the table has room for the face, the face has a next hop at this name, or fewer than 64 faces
--- have a next hop at this name
+-- Let the table have room for the face. Then the face has a next hop at this name, or fewer than 64
+-- faces have a next hop at this name.
 pub hop_room : (t : Routes) (name : List Field) (face : ℕ) → HasRoomFor t face → IsSome (get (entry_at t name).hops face) ⊎ (len (entry_at t name).hops < 64)
 hop_room t name face room = room_in (entry_at t name).hops face (at_most (λ f has. elim has as (λ _. LeadsTo t f ⊎ (f ≡ face)) [ (inl some) ↦ inl (name, inl some) | (inr is) ↦ inr is ]) room)
 
--- ---- the empty table
+-- ---- the empty table is within its limits
 
 pub count_empty : route_count (empty {X = Entry} {R = name_cmp}) ≡ 0
 count_empty = ap (total (λ (e : Entry). len e.registered)) (no_entries name_cmp)

@@ -137,7 +137,7 @@ none_due t now moment some later less =
     entry_of : Entry → Option Entry
     entry_of e = cond (is_vacant e) None (Some e)
 
--- ---- how many routes remain
+-- ---- how many routes remain after an expiry
 
 pub left_total : (now : ℕ) (es : List (List Field × Entry)) → total size (revised (entry_left_at now) es) ≡ total (λ (e : Entry). left_of now (entries e.registered)) es
 left_total now [] = refl

@@ -90,7 +90,7 @@ module _ (P : ℕ → Type 0) (few : AtMost64 P) where
   among_set : (m : ByFace) (k x : ℕ) → Among m → P k → Among (set_within m k x)
   among_set m k x among here = subst Among (sym (set_fits m k x among here)) (among_with m k x among here)
 
-  -- ---- costs written over others
+  -- ---- a list of costs written over the costs of a map
 
   abbrev laid : ByFace → List (ℕ × ℕ) → ByFace
   laid acc es = fold {A = ℕ × ℕ} {B = ByFace} (λ costs e. set_within costs e.0 e.1) acc es
@@ -198,7 +198,7 @@ module _ (P : ℕ → Type 0) (few : AtMost64 P) where
 
 -- ---- the walk passes one more entry
 
--- the routes of an entry; if a moment is given, without the routes that expire by this moment
+-- all routes of an entry if there is no moment, otherwise those that do not expire by the moment
 abbrev live_map : Option ℕ → Registered → Registered
 live_map None m = m
 live_map (Some now) m = revise (until_due now) m
@@ -320,7 +320,8 @@ handed_prefix : (t : Routes) (name : List Field) (n m : ℕ) → m ≤ n → han
 handed_prefix t name n zero le = refl
 handed_prefix t name n (suc m) le = λ i. passed_on (get t (take_less m n name (omega (arith, le)) i)) (handed_prefix t name n m (omega (arith, le)) i)
 
--- the table; if a moment is given, without the routes that expire by this moment
+-- the whole table if there is no moment, otherwise the table without the routes that expire by the
+-- moment
 abbrev live_table : Option ℕ → Routes → Routes
 live_table None t = t
 live_table (Some now) t = left_at now t

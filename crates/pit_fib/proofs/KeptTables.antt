@@ -102,7 +102,8 @@ step_follows cause rows new dead step k =
           | false ↦ refl
         ]
 
--- if `living` returns an entry, the entry has an in-record, and the same memory as the argument
+-- if `living` returns an entry, this entry has an in-record, and the same `is_wide` as the argument
+-- of `living`
 left_alive : (t s : Kept) → living t ≡ Some s → (is_alive s.records ≡ true) × (s.is_wide ≡ t.is_wide)
 left_alive t s e =
     elim (is_alive t.records) as (λ b. is_alive t.records ≡ b → cond b (Some t) None ≡ Some s → (is_alive s.records ≡ true) × (s.is_wide ≡ t.is_wide)) [
@@ -244,7 +245,7 @@ kept_where_alive rows k alive = at (kept_at rows k) refl
     at None e = absurd (never (sym alive ∙ ap is_alive (records_kept rows k ∙ ap records_in e) ∙ dead_none))
     at (Some s) e = (s, e, records_kept rows k ∙ ap records_in e)
 
--- ---- rows that change
+-- ---- the entry of a key after rows change
 
 pub row_changes : (change : Flags → Kept → Option Kept) (row : Option Row) (f : Flags) → kept_in (option_and_then (changed_row change) row) f ≡ option_and_then (change f) (kept_in row f)
 row_changes change None f = refl
@@ -362,7 +363,7 @@ module _ (cause : Cause) (key : PlainKey) (s : Kept) (rows new : Rows) (alive : 
       by_key None e (inl some) = absurd cc
       by_key None e (inr less) = omega (arith, e, less)
 
--- ---- what a lookup shows
+-- ---- what a lookup in the rows shows of the records
 
 none_in : (rows : Rows) → rows ≡ empty → (k : PlainKey) → kept_at rows k ≡ None
 none_in rows is k = ap (λ (t : Rows). kept_at t k) is ∙ ap (λ o. kept_in o (flags_of k)) (get-empty name_cmp k.name)
@@ -414,7 +415,7 @@ new_where_absent rows pending key (Some entry) alive is finds b e many h =
     differ : true ≡ false → ⊥
     differ e = absurd cc
 
--- ---- Nacks
+-- ---- the answer to a Nack, read off the entry of its key
 
 pub was_sent_shown : (o : Option Kept) (face : ℕ) (nonce : List ℕ) → was_sent (get (records_in o).out_records face) nonce ≡ was_sent_in o face nonce
 was_sent_shown None face nonce = ap (λ (s : Option OutRecord). was_sent s nonce) (get-empty nat_cmp face)

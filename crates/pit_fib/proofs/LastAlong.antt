@@ -25,8 +25,8 @@ seen_own face last None = refl
 seen_own face last (Some row) = refl
 
 module _ (rows : Rows) (face : ℕ) (name : List Field) where
-  -- the walk from index `n` on, started with the last in-record that was found before index `n`,
-  -- finds the same in-record as the whole walk
+  -- Let a walk start at index `n` with the last in-record of the face before index `n`. Then it
+  -- finds the same in-record as the walk along the whole name.
   walked : (n : ℕ) → n ≤ length name
       → taken_along (last_seen true) (last_seen false) (face, last_above rows face name n) (get rows) (take n name) (drop n name)
       ≡ taken_along (last_seen true) (last_seen false) (face, None) (get rows) [] name

@@ -26,7 +26,7 @@ use Rattle.pit_fib.specs.Tokens.{IsNotAfter, IsTokenFor}
 use Rattle.pit_fib.proofs.Answered.{along, answers_along, not_true, or_cases}
 use Rattle.pit_fib.proofs.KeptTables.{makes, records_in, records_kept}
 
--- ---- there is at most one token
+-- ---- at most one token is sent to a face with a Data
 
 reversed : (o p : Ordering) → o ≢ Greater → p ≢ Greater → o ≡ ordering_reverse p → o ≡ Equal
 reversed Equal p n m e = refl
@@ -60,8 +60,8 @@ one_token records name digest face a b (inr some) (inr other) =
 
 -- ---- the last in-record under the keys that were searched
 
--- the last argument is the last of the in-records under the keys in `Seen`, or None if there is no
--- such in-record
+-- the last argument is the last of the in-records under the keys in `Seen`, or None if there are no
+-- in-records under these keys
 abbrev pub IsLastOf : (PlainKey → Option InRecord) → (PlainKey → Type 0) → Option InRecord → Type 0
 IsLastOf at Seen None = (k : PlainKey) (r : InRecord) → Seen k → at k ≡ Some r → ⊥
 IsLastOf at Seen (Some best) =
@@ -83,8 +83,9 @@ not_greater o e g = cc
 not_itself : (k key : PlainKey) → k ≡ key → key_cmp k key ≢ Greater
 not_itself k key e g = let tied : key_cmp k key ≡ Equal = ap (key_cmp k) (sym e) ∙ tied_itself key_cmp-total k in cc
 
--- Let the deadline of `b` be at most the deadline of `s`, and the key of `r` at most the key of
--- `s`. If the in-record `r` does not come after `b`, it does not come after `s`.
+-- Let `r`, `b` and `s` be in-records. Let the deadline of `b` be at most the deadline of `s`, and
+-- the key of `r` at most the key of `s`. If `r` does not come after `b`, it does not come after
+-- `s`.
 moved : (k key new : PlainKey) (r b s : InRecord) → b.deadline ≤ s.deadline → key_cmp k new ≢ Greater → IsNotAfter k r key b → IsNotAfter k r new s
 moved k key new r b s le order (inl less) = inl (omega arith)
 moved k key new r b s le order (inr same) =
@@ -153,7 +154,7 @@ module _ (at : PlainKey → Option InRecord) where
         )
       ] refl
 
--- ---- names and their prefixes
+-- ---- the keys along a name, and the proper prefixes of the name
 
 prefix_of : (m : ℕ) (l : List Field) → m < length l → IsProperPrefix (take m l) l
 prefix_of m [] h = absurd (omega arith)

@@ -24,7 +24,7 @@ some_before : {X : Type 0} (change : X → Option X) (o : Option X) → IsSome (
 some_before change None some = none_there (option_and_then change None) refl some
 some_before change (Some x) some = refl
 
--- ---- names
+-- ---- tables by name that are within their limits
 
 module _ {X : Type 0} where
   pub limits_empty : IsWithinLimits (empty {X = X} {R = name_cmp})

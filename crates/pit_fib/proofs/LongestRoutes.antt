@@ -16,7 +16,7 @@ use Rattle.pit_fib.specs.Tables.{ByFace}
 use Rattle.pit_fib.specs.Tally.{left_of}
 use Rattle.pit_fib.proofs.FibTally.{left_count}
 
--- ---- the longest prefix
+-- ---- the longest prefix that has an entry
 
 at_most_itself : (n k : ℕ) → n ≤ suc k → (n ≡ suc k) ⊎ (n ≤ k)
 at_most_itself n k le = elim (leb n k) as (λ b. leb n k ≡ b → (n ≡ suc k) ⊎ (n ≤ k)) [

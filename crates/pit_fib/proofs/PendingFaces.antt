@@ -36,7 +36,7 @@ Adds (Closed face) f = ⊥
 never : {A : Type 0} → false ≡ true → A
 never e = absurd cc
 
--- ---- a value that is still in the map was there before
+-- ---- a value that is in a map after a change was there before, or was put there
 module _ {X : Type 0} (A : Type 0) (was : Option X) where
   gone : (b : Bool) → IsSome (cond b None was) → IsSome was ⊎ A
   gone true e = never e
@@ -155,8 +155,8 @@ pub stays_few : (cause : Cause) (old new : Pending) → ((f : ℕ) → Adds caus
 stays_few cause old new none follows few =
     at_most (λ f has. elim (had_record cause old new follows f has) [ (inl was) ↦ was | (inr adds) ↦ absurd (none f adds) ]) few
 
--- if a cause gives no face except `face` a record, and at most 64 faces are `face` or have records
--- before the cause, then at most 64 faces have records after it
+-- Let a cause give no face except `face` a record, and let at most 64 faces be `face` or have
+-- records before the cause. Then at most 64 faces have records after the cause.
 pub grows_few : (cause : Cause) (old new : Pending) (face : ℕ) → ((f : ℕ) → Adds cause f → f ≡ face) → Follows cause old new
     → AtMost64 (λ f. HasRecord old f ⊎ (f ≡ face)) → AtMost64 (HasRecord new)
 grows_few cause old new face one follows room =
@@ -215,8 +215,8 @@ all_with P f [] h all = (h, tt)
 all_with P f (g ∷ faces) h all =
     elim (ltb f g) as (λ b. AllByRecursion P (cond b (f ∷ g ∷ faces) (g ∷ with_face f faces))) [ true ↦ (h, all) | false ↦ (all.0, all_with P f faces h all.1) ]
 
--- if at most 64 faces are `f` or have the property `P`, a rising list of faces that all have the
--- property `P`, but without `f`, has fewer than 64 faces
+-- Let at most 64 faces be `f` or have the property `P`. Then a rising list of faces that all have
+-- the property `P`, but without `f`, has fewer than 64 faces.
 pub room_in_list : (P : ℕ → Type 0) (f : ℕ) (faces : List ℕ) → AtMost64 (λ g. P g ⊎ (g ≡ f)) → IsRising faces → AllByRecursion P faces → has_face f faces ≡ false → length faces < 64
 room_in_list P f faces few rising all out =
     let more = few (with_face f faces) (with_rises f faces rising out) (all_with (λ g. P g ⊎ (g ≡ f)) f faces (inr refl) (all_before (λ g h. inl h) faces all)) in

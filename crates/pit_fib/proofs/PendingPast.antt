@@ -17,7 +17,7 @@ use Rattle.pit_fib.specs.Past.{records_after_all, in_record_of, in_record_after,
 use Rattle.name_trie.proofs.Revised.{get-revise}
 use Rattle.pit_fib.proofs.PendingTables.{dead_none, dead_after_expiry}
 
--- ---- after one cause
+-- ---- the record of one face after one cause
 
 differ : (b : Bool) → b ≡ true → b ≡ false → ⊥
 differ b p q = absurd cc
@@ -92,7 +92,7 @@ alive_of_run run k = (
   λ (face, some). some_has (records_after_all run k).in_records face (subst (λ (o : Option InRecord). IsSome o) (sym (asks_of_run run k face)) some),
 )
 
--- ---- the out-records
+-- ---- the out-record of one face after causes
 
 module _ (face : ℕ) (nonce : List ℕ) (reason : ℕ) (out_records : OutRecords) where
   reason_here : (o : Option OutRecord) → get out_records face ≡ o → get (with_reason face nonce reason out_records o) face ≡ option_map (nacked_with nonce reason) (get out_records face)

@@ -15,7 +15,7 @@ use Rattle.pit_fib.specs.Cause.{Expires, Satisfied, NackCame, Withdrawn, Removed
 use Rattle.name_trie.proofs.Revised.{revise-empty}
 use Rattle.ndn_packets.specs.Key.{key_cmp-total, key_cmp-antisymmetric}
 
--- ---- keys
+-- ---- keys that compare as equal
 
 equal : (o : Ordering) → is_eq o ≡ true → o ≡ Equal
 equal Less e = absurd cc

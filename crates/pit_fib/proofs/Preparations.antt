@@ -47,8 +47,8 @@ not_sendings p key (inl some) e = at p.arrival some (ap room_in e)
     at None some e = absurd cc
     at (Some r) some e = absurd cc
 
--- if an `arrive` is prepared, and the prepared calls are calls of this key, they begin with an
--- `arrive` of this key with memory for some number `room` of octets
+-- Let an `arrive` be prepared, and let the prepared calls be calls of this key. Then they begin
+-- with an `arrive` of this key, with memory for some number `room` of octets.
 pub is_arrival : (p : Prepared) (key : PlainKey) → is_some p.arrival ≡ true → same_key p.key key ≡ true → (room : ℕ) × (calls_of (Some p) ≡ Some (key, Some room))
 is_arrival p key some same =
     let found = at p.arrival some in (found.0, λ i. Some (one_key p.key key same i, found.1 i))

@@ -104,8 +104,8 @@ more_in_order hop (h ∷ hops) order apart =
 
 -- ---- the hops of a list of costs
 
--- if a face is not found in a list of costs, it is not the face of the first item, and is not found
--- in the items after it
+-- if a list of costs has no cost for a face, this face is not the face of the first item, and the
+-- items after it have no cost for this face
 not_first : (face : ℕ) (e : ℕ × ℕ) (costs : List (ℕ × ℕ)) → find nat_cmp face (e ∷ costs) ≡ None → (face ≢ e.0) × (find nat_cmp face costs ≡ None)
 not_first face e costs none =
     elim (eq_by_cmp nat_cmp face e.0) as (λ b. eq_by_cmp nat_cmp face e.0 ≡ b → cond b (Some e.1) (find nat_cmp face costs) ≡ None → (face ≢ e.0) × (find nat_cmp face costs ≡ None)) [

@@ -7,7 +7,8 @@ use Rattle.info_rules.specs.Found.{Found, both, shown}
 use Rattle.info_rules.specs.HyperBlock.{HasGroups, groups_of, half_in}
 use Rattle.info_rules.proofs.hyper_block.read_half.Goals as goal
 
--- the template uses only groups that the pattern has, if both are present
+-- if both the pattern and the template are present, the template uses only groups that the pattern
+-- has
 with_groups : (pattern : Found (Option PlainPattern)) (template : Found (Option (List PlainPart))) → IfOk template (λ t. IfSome t (NeedAtMost (groups_of pattern)))
     → IfOk (shown (λ (p : Option PlainPattern × Option (List PlainPart)). option_zip p.0 p.1) (both pattern template)) HasGroups
 with_groups (Ok (Some p)) (Ok (Some t)) h = h

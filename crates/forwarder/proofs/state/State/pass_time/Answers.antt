@@ -8,8 +8,8 @@ use Rattle.forwarder.specs.Policy.{Policy, at_moment}
 use Rattle.forwarder.specs.State.{policy_of}
 use Rattle.forwarder.proofs.state.State.pass_time.Goals as goal
 
--- if the time, version, routes and wants of the policy `p` are replaced by their values at a
--- moment, the result is the policy that `at_moment` gives for this moment
+-- Let the time, version, routes and wants of the policy `p` be replaced by their values at a
+-- moment. The result is the policy that `at_moment` gives for this moment.
 moved : (p : Policy) (moment now number gone : ℕ) (routes : Routes) (was repo : RepoState) → was.start ≡ p.repo → was.held ≡ p.held → now ≡ max p.now moment
     → routes ≡ left_at now p.routes → gone ≡ due_count now p.routes → number ≡ min (p.table_number + gone) (2 ^ 64 - 1)
     → repo ≡ record was { held = record was.held { wants = wants_after now was.held.wants } }

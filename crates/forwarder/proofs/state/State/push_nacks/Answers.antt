@@ -30,7 +30,7 @@ loop-i-preserved-in_default c =
 pub push_nack-requires : goal.push_nack-requires
 push_nack-requires c = token_there IsToken c.token_of.result c.token_of.ensures.sizes
 
--- one more Nack fits, so memory does not run out
+-- memory does not run out, because the reserved memory is enough for one more Nack
 refused_never : goal.After-from_residual → ⊥
 refused_never c =
     let asks = in_records_at c.args.self.now.pit.pending (plain_key c.args.key) in

@@ -35,7 +35,7 @@ loop-i-init c = record {
 pub push_back-requires : goal.push_back-requires
 push_back-requires c = token_there IsToken c.token_for-token.result c.token_for-token.ensures.sizes
 
--- one more send fits, so memory does not run out
+-- memory does not run out, because the reserved memory is enough for one more send
 refused_never : goal.After-from_residual → ⊥
 refused_never c =
     let k = length c.args.packet.now.whole.now + LINK_EXTRA in

@@ -56,8 +56,8 @@ is_read c =
 pub returns-clause-exact : goal.returns-clause-exact
 returns-clause-exact c = sym (is_read c.before)
 
--- what holds if there is an InterestSignatureValue also holds if there is a signature, because
--- each signature has an InterestSignatureValue
+-- if a statement holds when there is an InterestSignatureValue, it also holds when there is a
+-- signature, because each signature has an InterestSignatureValue
 noted : {A B C : Type 0} (f : A → PlainSignature) (g : B → PlainSignatureInfo) (h : C → List ℕ) (s : Option A) (info : Option B) (value : Option C) (X : Type 0) → option_map f s ≡ signature_of (option_map g info) (option_map h value) → OnSome value X
     → OnSome s X × OnSome (option_map f s) X
 noted f g h None info value X is at = (tt, tt)

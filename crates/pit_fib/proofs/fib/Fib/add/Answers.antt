@@ -12,7 +12,7 @@ use Rattle.pit_fib.proofs.Refusals.{room_if_taken, shallow_if_taken}
 use Rattle.pit_fib.proofs.Within.{set_in_room}
 use Rattle.pit_fib.proofs.fib.Fib.add.Goals as goal
 
--- the new table is the old table with the next hop, which the limit of 64 faces permits
+-- the new table is the old table with the next hop set, because the limit of 64 faces permits this
 put : (c : goal.In_ok-put_with) → c.put_with.new.self.table ≡ with_next_hop c.self.inside.entries.table (components c.args.name) c.args.face c.args.cost
 put c =
     let t = c.self.inside.entries.table in
