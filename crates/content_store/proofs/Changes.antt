@@ -20,7 +20,7 @@ use Rattle.content_store.specs.Uses.{evicted, PutsNew, with_held, cached_by, hel
 use Rattle.content_store.proofs.Shown.{some_is}
 use Rattle.content_store.proofs.Uses.{all_map, all_removed, all_found, lookup_other, others_left, distinct_removed, length_front, taken_out, alone_in}
 
--- ---- lists
+-- ---- properties of lists, and lookups after an insertion
 pub all_both : {X : Type 0} (P Q : X → Type 0) (xs : List X) → AllByRecursion P xs → AllByRecursion Q xs → AllByRecursion (λ x. P x × Q x) xs
 all_both P Q [] h k = tt
 all_both P Q (x ∷ xs) h k = ((h.0, k.0), all_both P Q xs h.1 k.1)
@@ -54,7 +54,7 @@ lookup_beside q p x rows zero ne = ap (λ b. cond b (Some x) (lookup (nat_eq q) 
 lookup_beside q p x [] (suc at) ne = ap (λ b. cond b (Some x) None) ne
 lookup_beside q p x (r ∷ rows) (suc at) ne = ap (λ o. cond (eqb q r.0) (Some r.1) o) (lookup_beside q p x rows at ne)
 
--- ---- the cached Data
+-- ---- the list of cached Data that serial numbers lead to
 pub cached_kept : (g f : ℕ → Option CachedData) (us : List (ℕ × ℕ)) → AllByRecursion (λ u. f u.1 ≡ g u.1) us → cached_by f us ≡ cached_by g us
 unfolding cached_by
 cached_kept g f [] h = refl

@@ -22,14 +22,14 @@ use Rattle.content_store.proofs.Changes.{cached_fewer, length_held, sound_fewer}
 use Rattle.content_store.proofs.Edits.{forgotten}
 use Rattle.content_store.proofs.Taken.{one_taken}
 
--- The state of an erase after `gone` Data were removed: they were those with the least full names
--- that begin with `name`, and the rows and the LRU order are sound (`Sound`).
+-- The state of an erase after `gone` Data were removed. The removed Data had the least full names
+-- that begin with `name`. The rows and the LRU order are sound (`Sound`).
 pub record TakenSoFar (name : List Field) (rows : List Placed) (used : LruCache ℕ ℕ) (rows' : List Placed) (used' : LruCache ℕ ℕ) (next gone : ℕ) : Type 0 where
   pub sound : Sound rows' used'.entries next
   pub fewer : length used'.entries ≤ length used.entries
   pub taken : TakesLeast name (cached_in rows used.entries) (cached_in rows' used'.entries) gone
 
--- ---- ranges of lists
+-- ---- removing a range of a list
 
 pub range_one : {X : Type 0} (xs : List X) (s e : ℕ) → s ≤ e → e < length xs → remove (without_range s e xs) s ≡ without_range s (e + 1) xs
 range_one [] s e le lt = absurd (omega arith)
@@ -55,7 +55,7 @@ there_at h order start end rows le lt =
     subst (λ (p : ℕ). IsSome (h p)) (range_at order start end le lt)
     (all_there (λ p. IsSome (h p)) (without_range start end order) start rows.there (omega (arith, range_len order start end le (omega arith))))
 
--- ---- the rows that remain
+-- ---- the rows that remain after an erase
 
 below_or : (m n : ℕ) → (m < n) ⊎ (n ≤ m)
 below_or m n = grind arith

@@ -25,21 +25,21 @@ use Rattle.ndn_packets.proofs.Answering.{prefix_is}
 use Rattle.ndn_packets.proofs.Near.{after_front, small_none, small_some}
 use Rattle.content_store.specs.Entry.{IsHead, OrdersFullNames, digest_octets}
 
--- ---- orders
+-- ---- comparisons in sequence
 
 then_assoc : (o p q : Ordering) → ordering_then (ordering_then o p) q ≡ ordering_then o (ordering_then p q)
 then_assoc Less p q = refl
 then_assoc Equal p q = refl
 then_assoc Greater p q = refl
 
--- if the first comparison does not give Equal, it decides
+-- if the first of two comparisons does not give Equal, both in sequence give its result
 pub decided : (o p : Ordering) → (o ≡ Equal → ⊥) → o ≡ ordering_then o p
 decided Less p never = refl
 decided Equal p never = absurd (never refl)
 decided Greater p never = refl
 
--- if `v` is at most as long as `u`, then `u` extended by at least one element compares with `v` as
--- `u` does, or is greater if `u` equals `v`
+-- Let the list `v` be at most as long as the list `u`. Then `u`, extended by at least one element,
+-- compares with `v` as `u` does, or is greater if `u` equals `v`.
 pub cmp_longer : (u v : List ℕ) (x : ℕ) (t : List ℕ) → length v ≤ length u → slice_cmp nat_cmp (u ++ x ∷ t) v ≡ ordering_then (slice_cmp nat_cmp u v) Greater
 cmp_longer [] [] x t le = refl
 cmp_longer [] (b ∷ v) x t le = absurd (omega arith)
@@ -47,8 +47,8 @@ cmp_longer (a ∷ u) [] x t le = refl
 cmp_longer (a ∷ u) (b ∷ v) x t le =
     ap (ordering_then (nat_cmp a b)) (cmp_longer u v x t (omega arith)) ∙ sym (then_assoc (nat_cmp a b) (slice_cmp nat_cmp u v) Greater)
 
--- if `u` and `v` are equally long, comparing `u ++ x` with `v ++ y` is comparing `u` with `v`, and
--- then `x` with `y` if `u` equals `v`
+-- Let `u` and `v` be lists of the same length. Then `u ++ x` compares with `v ++ y` as `u` does
+-- with `v`, or, if `u` equals `v`, as `x` does with `y`.
 pub cmp_split : (u v x y : List ℕ) → length u ≡ length v → slice_cmp nat_cmp (u ++ x) (v ++ y) ≡ ordering_then (slice_cmp nat_cmp u v) (slice_cmp nat_cmp x y)
 cmp_split [] [] x y e = refl
 cmp_split [] (b ∷ v) x y e = absurd (omega arith)
@@ -70,7 +70,7 @@ cmp_tie (a ∷ u) (b ∷ v) e = by (nat_cmp a b) refl e (cmp_tie u v)
     by Equal o e again = (let first = nat_tie a b o in let rest = again e in λ k. first k ∷ rest k)
     by Greater o e again = absurd cc
 
--- ---- a full name and a name
+-- ---- comparing a full name with a name
 
 module _ (u octets v : List ℕ) (name other : List Field) (h : IsNameValue u name) (g : IsNameValue v other) where
   full : name_cmp (full_name name (sha256 octets)) other ≡ slice_cmp nat_cmp (u ++ digest_octets (sha256 octets)) v
@@ -91,7 +91,7 @@ module _ (u octets v : List ℕ) (name other : List Field) (h : IsNameValue u na
   differs_from front rest is len o e never =
       decided o (slice_cmp nat_cmp (digest_octets (sha256 octets)) rest) never ∙ ap (λ p. ordering_then p (slice_cmp nat_cmp (digest_octets (sha256 octets)) rest)) e ∙ in_parts front rest is len
 
--- ---- two full names
+-- ---- comparing two full names
 
 pub same_length : (u v d e : List ℕ) (name other : List Field) → IsNameValue u name → IsNameValue v other → length d ≡ 32 → length e ≡ 32 → length u ≡ length v
     → ordering_then (slice_cmp nat_cmp u v) (slice_cmp nat_cmp d e) ≡ name_cmp (full_name name d) (full_name other e)
@@ -118,8 +118,9 @@ then_less Greater cs = refl
 digest_field : (d : List ℕ) → length d ≡ 32 → octets_of ((1, d) ∷ []) ≡ digest_octets d
 digest_field d len = let o = full_octets [] d [] ((tt, refl), (omega arith, tt)) len in o.0
 
--- comparing a digest component with `rest` followed by a digest component gives the same result as
--- comparing it with `rest` alone, or Less if it equals `rest`
+-- Let `d` and `e` be digests, and `rest` one or more components. The component of `d` compares with
+-- `rest` followed by the component of `e` as it compares with `rest` alone. If the component of `d`
+-- equals `rest`, the result is Less.
 digest_before : (rest : List Field) (d e : List ℕ) → AllByRecursion IsField rest → 0 < length (octets_of rest) → length d ≡ 32 → length e ≡ 32
     → slice_cmp nat_cmp (digest_octets d) (octets_of rest ++ digest_octets e) ≡ ordering_then (slice_cmp nat_cmp (digest_octets d) (octets_of rest)) Less
 digest_before [] d e h some dl el = absurd (omega arith)
@@ -149,8 +150,9 @@ module _ (u v front rest d e : List ℕ) (name other : List Field) (h : IsNameVa
       ∙ (λ k. slice_cmp nat_cmp (o.0 k) ((p.0 ∙ ap (λ (t : List ℕ). t ++ digest_octets e) is ∙ append_assoc front rest (digest_octets e)) k))
       ∙ cmp_split u front (digest_octets d) (rest ++ digest_octets e) (sym len)
 
-  -- if the octets `u` equal `front`, comparing a digest component with `rest` followed by a digest
-  -- component gives the same result as comparing it with `rest` alone, or Less if it equals `rest`
+  -- Let the octets `u` of the first name equal `front`. The component of the digest `d` compares
+  -- with `rest` followed by the component of the digest `e` as it compares with `rest` alone. If
+  -- the component of `d` equals `rest`, the result is Less.
   behind : u ≡ front → slice_cmp nat_cmp (digest_octets d) (rest ++ digest_octets e) ≡ ordering_then (slice_cmp nat_cmp (digest_octets d) rest) Less
   behind same =
       let p = begins_with name other rest h.0.0 g.0.0 (sym g.0.1 ∙ is ∙ ap (λ (t : List ℕ). t ++ rest) (sym same ∙ h.0.1)) in
@@ -216,8 +218,8 @@ tie_is a b o is = (
   λ e. (Equal-is o).1 (is ∙ ap (λ (n : List Field). name_cmp n b) (sym e) ∙ tied_itself name_cmp-total b),
 )
 
--- if `m` is a prefix of `n`, then `starts_small` is the same for what follows `m` in a full name of
--- `n` and for what follows `m` in `n`
+-- Let the name `m` be a prefix of the name `n`. Then `starts_small` is the same for the components
+-- after `m` in `n` as for the components after `m` in a full name of `n`.
 pub small_full : (n m : List Field) (d : List ℕ) → IsPrefix m n → starts_small (drop (length m) (n ++ (1, d) ∷ [])) ≡ starts_small (drop (length m) n)
 small_full n m d p =
     ap (λ (t : List Field). starts_small (drop (length m) (t ++ (1, d) ∷ []))) p.1 ∙ ap (λ (t : List Field). starts_small (drop (length m) t)) (append_assoc m p.0 ((1, d) ∷ []))
@@ -255,10 +257,10 @@ module _ (u v : List ℕ) (n m : List Field) (d : List ℕ) (flag : Bool) (h : I
         | inr e ↦ near_by true (ap (λ (t : List Field). starts_small (drop (length m) t)) (sym e) ∙ nothing_after m)
       ]
 
--- ---- heads
+-- ---- comparing names by their first octets
 
--- if the first `n` octets of `u` and `v` differ, `u ++ x` compares with `v ++ y` as these first
--- octets do
+-- if the octets `u` and `v` differ in their first `n` octets, `u ++ x` compares with `v ++ y` as
+-- these first octets do
 first_decide : (n : ℕ) (u v x y : List ℕ) (o : Ordering) → n ≤ length u → n ≤ length v → o ≡ slice_cmp nat_cmp (take n u) (take n v) → (o ≡ Equal → ⊥) → o ≡ slice_cmp nat_cmp (u ++ x) (v ++ y)
 first_decide n u v x y o lu lv e never =
     let parts = λ (w z : List ℕ). ap (λ (t : List ℕ). t ++ z) (sym (take-append-drop n w)) ∙ append_assoc (take n w) (drop n w) z in

@@ -32,7 +32,8 @@ module _ (h : ℕ → Option Row) where
       let r = some_is (h p) a.0 in
       ap (λ o. length (with_slot p o (shown h ps))) r.1 ∙ ap (λ n. suc n) (length-shown ps a.1)
 
-  -- the list shows at position `k` its slab index and the row at this slab index
+  -- at position `k`, the list shows the slab index at this position and the slab's row at this slab
+  -- index
   pub shown_at : (ps : List ℕ) (k : ℕ) (row : Row) → AllByRecursion (λ q. IsSome (h q)) ps → k < length ps → h (get_or ps k 0) ≡ Some row
       → (d : Placed) → get_or (shown h ps) k d ≡ (get_or ps k 0, row)
   unfolding shown

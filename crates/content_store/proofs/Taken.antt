@@ -48,8 +48,8 @@ others_greater name ys c least =
       | inr (inr greater) ↦ absurd (not_less greater)
     ]
 
--- if `TakesLeast` is true for `n` removed Data, it is true for n + 1 removed Data after the Data
--- with the least full name that begins with `name` is removed too
+-- Let `TakesLeast` be true for n removed Data, and let the Data with the least full name that
+-- begins with `name` be removed too. Then `TakesLeast` is true for n + 1 removed Data.
 pub one_taken : (name : List Field) (xs ys : List CachedData) (n : ℕ) (c : CachedData) → TakesLeast name xs ys n → IsLeast (λ d. IsPrefix name (full_name_of d)) ys c
     → length (without (full_name_of c) ys) + 1 ≡ length ys → TakesLeast name xs (without (full_name_of c) ys) (n + 1)
 one_taken name xs ys n c h least fewer =

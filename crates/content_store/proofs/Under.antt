@@ -28,8 +28,8 @@ under_not_less (c ∷ n) (d ∷ a) p e =
     let tie : component_cmp d c ≡ Equal = ap (λ x. component_cmp d x) (sym first) ∙ tied_itself component_cmp-total d in
     under_not_less n a (p.0, after) (sym (ap (λ o. ordering_then o (name_cmp a n)) tie) ∙ e)
 
--- if `a` is not less than `n`, and is less than some name that begins with `n`, then `a` begins
--- with `n` too
+-- if the name `a` is not less than the name `n`, and is less than a name `b` that begins with `n`,
+-- then `a` also begins with `n`
 pub convex : (n a b : List Field) → (name_cmp a n ≡ Less → ⊥) → name_cmp a b ≡ Less → IsPrefix n b → IsPrefix n a
 convex [] a b low less p = (a, refl)
 convex (c ∷ n) [] b low less p = absurd (low refl)
@@ -57,7 +57,8 @@ convex (c ∷ n) (d ∷ a) (e ∷ b) low less p = by (component_cmp d c) refl (c
 same_or_after : (a b : ℕ) → a ≤ b → (a ≡ b) ⊎ (a < b)
 same_or_after a b le = grind arith
 
--- if a row is not less than a name and does not begin with it, no later row begins with it
+-- Let the full name of a row be not less than a name, and not begin with this name. Then no later
+-- row has a full name that begins with this name.
 pub none_after : (n : List Field) (rows : List Placed) (at : ℕ) → Rising rows → at < length rows → ((d : Placed) → name_cmp (name_at (get_or rows at d)) n ≡ Less → ⊥)
     → ((d : Placed) → IsPrefix n (name_at (get_or rows at d)) → ⊥) → (k : ℕ) (d : Placed) → at ≤ k → k < length rows → IsPrefix n (name_at (get_or rows k d)) → ⊥
 none_after n rows at rising lt low never k d ge within p =
@@ -69,8 +70,8 @@ none_after n rows at rising lt low never k d ge within p =
 not_greater : (a b : List Field) → name_cmp a b ≡ Less → name_cmp a b ≡ Greater → ⊥
 not_greater a b less greater = (let clash = sym less ∙ greater in cc)
 
--- if the full name of a row is neither less than a name nor near this name (see `is_near`), no
--- later row has a full name that is near this name
+-- Let the full name of a row be neither less than a name nor near this name (see `is_near`). Then
+-- no later row has a full name that is near this name.
 pub far_after : (n : List Field) (flag : Bool) (rows : List Placed) (at : ℕ) → Rising rows → at < length rows → ((d : Placed) → name_cmp (name_at (get_or rows at d)) n ≡ Less → ⊥)
     → ((d : Placed) → is_near n flag (name_at (get_or rows at d)) ≡ true → ⊥) → (k : ℕ) (d : Placed) → at ≤ k → k < length rows → is_near n flag (name_at (get_or rows k d)) ≡ true → ⊥
 far_after n flag rows at rising lt low never k d ge within near =

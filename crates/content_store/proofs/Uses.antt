@@ -21,7 +21,7 @@ use Rattle.content_store.specs.Store.{CachedData, full_name_of, without}
 use Rattle.content_store.specs.Rows.{Placed, name_at, Rising}
 use Rattle.content_store.specs.Uses.{with_held, cached_by, held_in, cached_in, LeadsTo, Sound}
 
--- ---- names
+-- ---- equality of names
 pub is_same : (a b : List Field) → eq_by_cmp name_cmp a b ≡ true → a ≡ b
 is_same a b e = name_cmp-antisymmetric a b ((Equal-is (name_cmp a b)).0 e)
 
@@ -35,7 +35,7 @@ differ a b never = split (eq_by_cmp name_cmp a b) refl
     split true e = absurd (never (is_same a b e))
     split false e = e
 
--- ---- lists
+-- ---- lists with keys, and the removal of a key
 pub all_map : {X : Type 0} (P Q : X → Type 0) → ((x : X) → P x → Q x) → (xs : List X) → AllByRecursion P xs → AllByRecursion Q xs
 all_map P Q f [] h = tt
 all_map P Q f (x ∷ xs) h = (f x h.0, all_map P Q f xs h.1)
@@ -118,7 +118,8 @@ length_front s p (u ∷ us) e = split (eqb s u.0) e (length_front s p us)
 
 -- ---- one element removed from the LRU order
 module _ (g : ℕ → Option CachedData) (s : ℕ) (name : List Field) where
-  -- if the Data at the slab index in `u` has this full name, the serial number in `u` is `s`
+  -- if the Data at the slab index of the element `u` has the full name `name`, the serial number of
+  -- `u` is `s`
   abbrev pub Alone : ℕ × ℕ → Type 0
   Alone u = (d : CachedData) → g u.1 ≡ Some d → (full_name_of d) ≡ name → u.0 ≡ s
 
@@ -156,7 +157,7 @@ module _ (g : ℕ → Option CachedData) (s : ℕ) (name : List Field) where
           ap (λ l. with_held (g u.1) l) (again f)
           ∙ sym (with_other (g u.1) (cached_by g us) (λ d here same. (let e = eqb-false s u.0 t (sym (alone.0 d here same)) in e)))
 
--- ---- rows
+-- ---- rows and their full names
 pub one_row : (rows : List Placed) → Rising rows → (p q : ℕ) (a b : Row) → lookup (nat_eq p) rows ≡ Some a → lookup (nat_eq q) rows ≡ Some b → (full_name_of a.entry) ≡ (full_name_of b.entry) → a ≡ b
 one_row rows rising p q a b pa qb same =
     let i = place_from_lookup (nat_eq p) rows a pa in

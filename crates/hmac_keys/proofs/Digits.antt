@@ -10,13 +10,13 @@ use Rattle.hex.proofs.Pairs.{cons_byte, decode_pairs-ok_pair}
 use Rattle.ndn_names.specs.ReadsAs.{IsHexPair, IsHex}
 use Rattle.ndn_names.proofs.TextReading.{hex_length}
 
--- ---- digits
+-- ---- reading one digit
 
 digit_again : (c : ℕ) → digit_value c < 16 → hex_digit_value c ≡ Some (digit_value c)
 digit_again c h = grind arith
 
--- the characters 0 to 9 have a digit value below 16; the next two lemmas prove this for the letters
--- A to F and a to f
+-- the characters 0 to 9 have a digit value below 16; by `upper_digit` and `lower_digit`, so have
+-- the letters A to F and a to f
 decimal_digit : (c : ℕ) → 48 ≤ c → c < 58 → digit_value c < 16
 decimal_digit c a b = grind arith
 
@@ -61,7 +61,7 @@ pair_again : (high low i octet : ℕ) → IsHexPair high low octet → pair_valu
 pair_again high low i octet h =
     rw (digit_again high h.0, digit_again low h.1) (ap (λ (n : ℕ). Ok n) (omega arith))
 
--- ---- texts
+-- ---- reading a text of digits
 
 pairs_found : (i : ℕ) (text octets : List ℕ) → decode_pairs i text ≡ Ok octets → IsHex text octets
 unfolding decode_pairs

@@ -26,8 +26,8 @@ key_after (first ∷ before) keys line key (inl h) kept is = inl (h.0, key_after
 key_after (first ∷ before) keys line key (inr h) kept is =
     inr (h.0, (h.1.0, h.1.1 ++ key ∷ [], ap (λ (k : List NamedKey). k ++ key ∷ []) h.1.2, h.1.3, key_after before h.1.1 line key h.1.4 kept is))
 
--- if one reading returns the fault `found` and also the fault `told`, and the lines have the fault
--- `found`, they have the fault `told`
+-- Let one result be both the fault `found` and the fault `told`. If lines have the fault `found`,
+-- they have the fault `told`.
 is_told : (lines : List (List ℕ)) (found told : KeyFault) → (r : Result (List NamedKey) KeyFault) → r ≡ Err found → r ≡ Err told → FaultIn lines found → FaultIn lines told
 is_told lines found told r e f h = let same : Err found ≡ Err told = sym e ∙ f in subst (FaultIn lines) (cc) h
 

@@ -82,8 +82,9 @@ key_is_added n keys more line kept e = from_key (key_in line) refl (sym (rw kept
 pub line_skipped : (n : ℕ) (keys : List NamedKey) (line : List ℕ) → is_skipped line ≡ true → after_line n keys line ≡ Ok keys
 line_skipped n keys line skipped = rw skipped refl
 
--- the next two lemmas: a skipped line in front of the lines changes no keys; a line with a key in
--- front of the lines puts this key before the keys in the lines
+-- The next two lemmas are about a line in front of lines whose keys are known. If it is a skipped
+-- line, the keys stay the same. If it is a line with a key, this key comes before the keys in the
+-- lines.
 skipped_before : (line : List ℕ) (lines : List (List ℕ)) (keys all : List NamedKey) → is_skipped line ≡ true → AreRead lines keys all → AreRead (line ∷ lines) keys all
 skipped_before line lines keys all skipped rest =
     record { new = rest.new; whole = rest.whole; are = inl (skipped, rest.are); apart = rest.apart; few = rest.few }
@@ -117,7 +118,7 @@ keys_read n (line ∷ lines) keys all e apart few =
           key_before line lines keys all added.key kept added.read (keys_read (n + 1) lines more all rest (apart_more keys added.key apart added.other) short)
     ]
 
--- a property of all keys holds for each key in the list
+-- if all keys of a list have a property, each single key in the list has it
 all_at : (P : NamedKey → Type 0) (front : List NamedKey) (key : NamedKey) (back : List NamedKey) → AllByRecursion P (front ++ key ∷ back) → P key
 all_at P [] key back h = h.0
 all_at P (first ∷ front) key back h = all_at P front key back h.1
@@ -150,7 +151,7 @@ keys_through n (line ∷ lines) rest keys new (inr h) apart few =
     rw (h.0, key_again line key h.1.3, key_added n keys key lacks room)
     (tail ∙ ap (λ (k : List NamedKey). keys_from (n + 1 + length lines) k rest) (sym whole) ∙ ap (λ (m : ℕ). keys_from m (keys ++ new) rest) at)
 
--- ---- the whole text
+-- ---- the keys in the whole text
 
 pub found : (text : List ℕ) (keys : List NamedKey) → keys_in text ≡ Ok keys → KeysOf text keys
 found text keys e =

@@ -133,7 +133,7 @@ have_none name (suc left) rest e = rw e (nothing left)
     nothing zero = refl
     nothing (suc k) = refl
 
--- ---- one more line
+-- ---- checking one more line
 
 after_key : (n : ℕ) (all : List NamedKey) (line : List ℕ) (key : NamedKey) → is_skipped line ≡ false → key_in line ≡ Some key → after_line n all line ≡ with_key n all key
 after_key n all line key kept e = rw (kept, e) refl
@@ -151,7 +151,7 @@ pub one_more : (n : ℕ) (all : List NamedKey) (line : List ℕ) (key : NamedKey
     → after_line n all line ≡ Ok (all ++ key ∷ [])
 one_more n all line key b kept e is f room = after_key n all line key kept e ∙ key_added n all key (sym is ∙ f) room
 
--- ---- all lines
+-- ---- the lines that have been checked so far
 
 -- The first `before` lines of the text have been read without a fault, and have `keys` keys, at
 -- most 256. `rest` is the text after these lines.
@@ -176,8 +176,8 @@ cut_here (suc n) [] line others e = absurd cc
 cut_here (suc n) (first ∷ lines) line others e =
     let here = cut_here n lines line others e in (ap (λ (ls : List (List ℕ)). first ∷ ls) here.0, here.1)
 
--- after a line has been read without a fault, a name is among the names of the keys exactly if it
--- was among them before, or the line has this name
+-- Let a line be read without a fault. Afterwards, a name is among the names of the keys exactly if
+-- it was among them before, or the line has this name.
 line_name : (n : ℕ) (all more : List NamedKey) (line : List ℕ) → after_line n all line ≡ Ok more → (name : List Field) → has_name name more ≡ (has_name name all || line_has_name name line)
 line_name n all more line e name = elim (cases_Bool (is_skipped line)) [
   | inl skipped ↦
@@ -238,7 +238,7 @@ checked_line before keys count text rest line after h begins some read few = fur
 pub checked_all : (before keys : ℕ) (text rest : List ℕ) → HasChecked before keys text rest → rest ≡ [] → (all : List NamedKey) × (keys_in text ≡ Ok all)
 checked_all before keys text rest h none = (h.all, h.read ∙ no_line (before + 1) h.all rest none)
 
--- ---- the whole text
+-- ---- the result for the whole text
 
 pub weak : (text : List ℕ) (r : Result (List NamedKey) KeyFault) → MatchResult r (λ keys. keys_in text ≡ Ok keys) (IsFaultBeforeMemory (keys_in text)) → MatchResult r (λ keys. keys_in text ≡ Ok keys) (IsFaultOf (keys_in text))
 weak text (Ok keys) h = h

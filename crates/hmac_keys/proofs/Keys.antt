@@ -52,7 +52,7 @@ name_again uri name h some = ap (on_result not_empty (λ _. None)) (text_again u
     kept [] some = absurd (some refl)
     kept (c ∷ cs) some = refl
 
--- The digits encode these octets, and there are 1 to 256 of them.
+-- The text `digits` encodes `octets`, which are 1 to 256 octets.
 pub record AreOctets (digits octets : List ℕ) : Type 0 where
   pub hex : IsHex digits octets
   pub some : 1 ≤ length octets

@@ -14,7 +14,7 @@ lacks_from_places : (octet : ℕ) (text : List ℕ) → ((i : ℕ) → i < lengt
 lacks_from_places octet [] h = tt
 lacks_from_places octet (o ∷ text) h = (h 0 (omega arith), lacks_from_places octet text (λ i lt. h (suc i) (omega arith)))
 
--- ---- lines
+-- ---- the lines of a text
 
 line_before : (line after : List ℕ) → Lacks 10 line → lines_of (line ++ 10 ∷ after) ≡ line ∷ lines_of after
 unfolding lines_of
@@ -36,7 +36,7 @@ lines_parts text line after split =
 pub lines_whole : (text : List ℕ) → IsSplitOnceResult 10 text None → lines_of text ≡ text ∷ []
 lines_whole text split = last_line text (lacks_from_places 10 text (split_parts 10 text None split (omega arith)))
 
--- ---- the last space
+-- ---- the last space of a line
 
 no_space : (line : List ℕ) → Lacks 32 line → at_last_space line ≡ None
 unfolding at_last_space
@@ -48,8 +48,8 @@ unfolding at_last_space
 space_again [] digits h = rw (no_space digits h) refl
 space_again (o ∷ uri) digits h = rw (space_again uri digits h) refl
 
--- the texts before and after the last space of `o ∷ line`, or `None` if there is no space; `rest`
--- is this result for `line`
+-- The texts before and after the last space of `o ∷ line`, or `None` if there is no space. The last
+-- argument `rest` is this result for `line`, without the octet `o`.
 abbrev with_octet : ℕ → List ℕ → Option (List ℕ × List ℕ) → Option (List ℕ × List ℕ)
 with_octet o line rest = on_option (λ x. Some (o ∷ x.0, x.1)) (cond (eqb o 32) (Some ([], line)) None) rest
 

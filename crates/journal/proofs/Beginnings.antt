@@ -31,7 +31,8 @@ fewer_with : (chosen : Bool) (left earlier lost journal : List PlainEvent) (even
 fewer_with true left earlier lost journal event x grows e = fewer left earlier lost event x (sym grows ∙ e)
 fewer_with false left earlier lost journal event x grows e = record { rest = x ∷ lost; is = sym grows ∙ e }
 
--- if `left` begins with `written`, then `written` is not `left` followed by at least one event
+-- if the events `left` begin with the events `written`, then `written` is not `left` followed by at
+-- least one event
 too_long : (left written more lost : List PlainEvent) (x : PlainEvent) → left ≡ written ++ more → written ≡ left ++ (x ∷ lost) → ⊥
 too_long left written more lost x e f = omega (arith, ap length e, ap length f, length-append written more, length-append left (x ∷ lost))
 

@@ -16,7 +16,7 @@ use Rattle.journal.specs.LastFiles.{HasLastFiles, HasNoFiles, HaveLastRules, Hav
 use Rattle.journal.proofs.Lines.{lines_once}
 use Rattle.journal.proofs.Replays.{all_read, joined_one}
 
--- ---- one line
+-- ---- whether one line is a line of new rules
 
 kind_lacks : Lacks 32 (codes "rules")
 kind_lacks = Lacks-from_test 32 (codes "rules") refl
@@ -55,7 +55,7 @@ same_kind kind word found compared is = (slice_eq-Decides Decides-eqb kind word 
     not_false true h = refl
     not_false false h = cc h
 
--- ---- several lines
+-- ---- the last line of new rules among several lines
 
 pub none_then_other : (lines : List (List ℕ)) (line : List ℕ) → HaveNoRules lines → ((files : List ℕ) → IsRulesLine line files → ⊥) → HaveNoRules (lines ++ (line ∷ []))
 none_then_other [] line none other = (other, tt)
@@ -82,7 +82,7 @@ last_once (line ∷ lines) a b (inl h) (inr k) = absurd (not_both lines b h.1 k)
 last_once (line ∷ lines) a b (inr h) (inl k) = absurd (not_both lines a k.1 h)
 last_once (line ∷ lines) a b (inr h) (inr k) = last_once lines a b h k
 
--- ---- the text
+-- ---- the files in the last line of new rules of a text
 
 pub last_files_once : (text a b : List ℕ) → HasLastFiles text a → HasLastFiles text b → a ≡ b
 last_files_once text a b h k =
@@ -94,7 +94,7 @@ no_files_or_last text files h k =
     let same = lines_once h.0 k.0 h.1 k.1 h.2 k.2 h.3 k.3 (sym h.4 ∙ k.4) in
     not_both k.0 files (subst HaveNoRules same h.5) k.5
 
--- ---- the loop
+-- ---- the loop over the lines of the text
 
 -- The lines that were read so far. `last` is the text of the files in the last line of new rules
 -- among these lines, or None if there is no such line.
@@ -135,7 +135,7 @@ read_all items (Some text) between left cut None h is rest lacks =
 read_all items (Some text) between left cut (Some files) h is rest lacks =
     (h.lines, cut, h.are_lines, lacks, (all_read (Some text) between left (joined h.lines) cut h.read is rest lacks).0, h.has)
 
--- ---- a comparison
+-- ---- comparing the found files with other files
 
 -- if no line of new rules was found, then `files` are not the last files of the text
 pub are_none : {A : Type 0} (items : A → List ℕ) (unread : Option (List ℕ)) (last : Option A) (files : List ℕ) → last ≡ None
@@ -145,8 +145,8 @@ are_none items None last files none h = tt
 are_none items (Some text) None files none h = (λ no. absurd cc, λ is. absurd (no_files_or_last text files h is))
 are_none items (Some text) (Some found) files none h = absurd cc
 
--- if a line of new rules was found, then `files` are the last files of the text exactly if the
--- comparison of the found files with `spelled` finds no difference
+-- Let a line of new rules have been found. Then `files` are the last files of the text exactly if
+-- comparing the found files with `spelled`, the octets of `files`, finds no difference.
 pub are_last : {A : Type 0} (items : A → List ℕ) (unread : Option (List ℕ)) (last : Option A) (found : A) (spelled files : List ℕ) (same : Bool) → last ≡ Some found
     → same ≡ pointwise eqb (items found) spelled → spelled ≡ files
     → IfSome unread (λ text. MatchOption last (HasNoFiles text) (λ found. HasLastFiles text (items found)))

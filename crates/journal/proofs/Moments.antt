@@ -22,8 +22,8 @@ at_greatest p m =
     let same : max p.now (max p.now m) ≡ max p.now m = omega arith in
     ap (with_time p) same
 
--- if two policies are the same from a time on, and one of them is advanced to a later time, then
--- they are the same from that later time on
+-- Let two policies be the same from a time on, and let one of them be advanced to a later time.
+-- Then they are the same from that later time on.
 pub one_later : (was q : Policy) (m : ℕ) → AreOneFrom was.now q was → AreOneFrom (max was.now m) q (at_moment was m)
 one_later was q m one n le =
     let after : was.now ≤ n = omega arith in

@@ -61,7 +61,7 @@ short_line line [] h = h.0.0
 short_line line (event ∷ events) (inl h) = h.0.0
 short_line line (event ∷ events) (inr h) = h.0.0
 
--- ---- the loop
+-- ---- the loop over the lines
 
 -- `number` lines were replayed. They have `events` events and `whole` octets.
 pub record SoFar (old new : NodeState) (unread left : Option (List ℕ)) (number events whole : ℕ) : Type 0 where
@@ -175,7 +175,7 @@ stops_reading fault.Read old node unread between left number events whole rest h
 stops_reading fault.Memory old node unread between left number events whole rest h read is =
     (h.lines, h.said, rest, node, h.plays, unharmed node, Consumes-then unread between left (joined h.lines) rest h.read read)
 
--- ---- the end
+-- ---- the end of the text
 
 -- if the octets read up to the next LF contain no LF, they are all the remaining octets
 all_through : (text : List ℕ) → Lacks 10 (take_through 10 text) → (take_through 10 text ≡ text) × (drop_through 10 text ≡ [])

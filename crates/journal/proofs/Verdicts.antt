@@ -95,7 +95,7 @@ quiet_nack seen face reason i answer h = by_scope (is_out_of_scope seen.policy f
     by_scope true e = quiet_is answer _ e refl
     by_scope false e = quiet_is answer _ e (quiet_nacked (seen.records (key_of i)).in_records (nacked_answer (seen.records (key_of i)) face i.nonce reason))
 
--- ---- packets
+-- ---- the answer to a packet
 
 module _ (seen : Seen) (answer : Answer) (face now : ℕ) (octets : List ℕ) where
   abbrev Says : Bool → Option PlainFrame → Type 0
@@ -160,7 +160,7 @@ module _ (seen : Seen) (answer : Answer) (face now : ℕ) (octets : List ℕ) wh
       by_open true h = says_packet (token_at octets) (frame_at octets) h
       by_open false h = says_none (is_wanted_packet seen.policy (frame_at octets)) (quiet_is answer _ h refl)
 
--- ---- events
+-- ---- the answer to any event
 
 opens : (event : PlainEvent) (a b c : Bool) → is_journalled_by event false (passed []).verdict ≡ true
     → is_journalled_by event false (if a then dropped BadFace else (if b then dropped FaceOpen else (if c then dropped FacesFull else passed []))).verdict

@@ -22,7 +22,8 @@ all_in_rest x y (z ∷ xs) ys lt above h =
     let first = above.0 in
     (in_rest z y ys (omega (arith, first)) h.0, all_in_rest x y xs ys lt above.1 h.1)
 
--- if all faces of `xs` are greater than `x` and in the list `x ∷ ys`, they are in `ys`
+-- if all faces of the list `xs` are greater than the face `x` and are in the list `x ∷ ys`, they
+-- are in the list `ys`
 same_first : (x : ℕ) (xs ys : List ℕ) → AllByRecursion (λ m. x < m) xs → AreIn xs (x ∷ ys) → AreIn xs ys
 same_first x [] ys above h = tt
 same_first x (z ∷ xs) ys above h = (in_rest z x ys above.0 h.0, same_first x xs ys above.1 h.1)
@@ -63,8 +64,8 @@ no_longer (x ∷ xs) (y ∷ ys) rx ry h =
           omega (arith, le)
     ]
 
--- if at most 64 faces are up, and each face that has a next hop or a route is up, then the table
--- has room for each face that is up
+-- Let at most 64 faces be up, and let each face that has a next hop or a route be up. Then the
+-- table has room for each face that is up.
 pub has_room : (routes : Routes) (face : ℕ) (up : List ℕ) → length up ≤ 64 → IsRising up → has_face face up ≡ true → AllAreUp routes up → HasRoomFor routes face
 has_room routes face up small rising there all faces rises each =
     let le = no_longer faces up rises rising (are_in faces each) in

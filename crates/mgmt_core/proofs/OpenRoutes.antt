@@ -103,7 +103,7 @@ module _ (up : List ℕ) where
   valued_up routes k None all here = removed_up routes k all
   valued_up routes k (Some e) all here = inserted_up routes k e all here
 
-  -- ---- one entry
+  -- ---- the faces of one entry
 
   with_hop_up : (e : Entry) (face cost : ℕ) → AreUp e up → has_face face up ≡ true → AreUp (entry_with_hop face cost e) up
   with_hop_up e face cost all is f (inl some) =
@@ -135,7 +135,7 @@ module _ (up : List ℕ) where
       still_left (eq_by_cmp route_cmp k key) (map.get e.registered k) (λ _ there. all f (inr (origin, there)))
       (subst (λ (o : Option Route). IsSome o) (get-remove route_cmp-total e.registered key k) some)
 
-  -- ---- commands
+  -- ---- commands leave all faces up
 
   either_up : (b : Bool) (after before : Routes) → AllAreUp after up → AllAreUp before up → AllAreUp (cond b after before) up
   either_up true after before done left = done
@@ -145,8 +145,8 @@ module _ (up : List ℕ) where
   not_refused true e = refl
   not_refused false e = absurd cc
 
-  -- if adding a next hop or a route on a face that is up leaves all faces up, then the command that
-  -- adds it leaves all faces up, whatever its status
+  -- Let adding a next hop or a route on a face that is up leave all faces up. Then the command that
+  -- adds it leaves all faces up, whatever its status.
   if_added : (too_long not_open full : Bool) (after before : Routes) → (not_open ≡ false → AllAreUp after up) → AllAreUp before up
       → AllAreUp (if_done (cond too_long 414 (cond not_open 410 (cond full 503 200))) after before) up
   if_added true not_open full after before done left = left
@@ -181,7 +181,7 @@ module _ (up : List ℕ) where
         | EraseCache ↦ all
       ]
 
--- ---- closings and expiry
+-- ---- a face is closed, or routes expire
 
 -- In this module, `change` is applied to each entry; if all faces of an entry are in `up`, all
 -- faces of the changed entry are in `rest`.
@@ -237,7 +237,7 @@ module _ (now : ℕ) (up : List ℕ) where
       revised_up up up (entry_left_at now)
       (λ e all. unless_vacant_up up (record e { registered = revise (until_due now) e.registered }) (until_due_up e all))
 
--- ---- openings
+-- ---- a face is opened
 
 later : (a b : Bool) → b ≡ true → (a || b) ≡ true
 later true b e = refl
@@ -247,7 +247,7 @@ either : (a b c : Bool) → (b ≡ true → c ≡ true) → (a || b) ≡ true �
 either true b c f e = refl
 either false b c f e = f e
 
--- the other faces stay up after a face is added
+-- a face that is up is still up after a face is added to the faces that are up
 still_there : (f face : ℕ) (up : List ℕ) → has_face f up ≡ true → has_face f (with_face face up) ≡ true
 still_there f face [] e = absurd cc
 still_there f face (g ∷ up) e = placed (nat_lt face g) (λ rest. still_there f face up rest)

@@ -51,7 +51,7 @@ up_to segment more le =
     let all : 4096 ≡ length segment + room = omega (arith, le) in
     ap (λ l. segment ++ l) (take_min room more) ∙ sym (ap (λ n. take n (segment ++ more)) all ∙ take-append-add segment more room)
 
--- ---- the whole text
+-- ---- the segment of a text that is written in parts
 
 kept_more : (from : ℕ) (text more : List ℕ) → with_more (kept_of from text) more ≡ kept_of from (text ++ more)
 kept_more from text more =

@@ -32,7 +32,7 @@ unfolding is_closed
 passed_inside [] back ends = refl
 passed_inside (o ∷ front) back ends = rw (ne_eqb o 62 ends.0) (passed_inside front back ends.1)
 
--- ---- tests
+-- ---- the search for a closing parenthesis skips a test
 
 quoted_passed : (text : List ℕ) (quoted : List ℕ × List ℕ) → quoted_in text ≡ Some quoted → is_closed false text ≡ is_closed false quoted.1
 unfolding is_closed
@@ -102,7 +102,7 @@ test_passed (o ∷ text) found e =
       | inr other ↦ quoted_test_passed (o ∷ text) found (rw (ne_eqb o 91 other) at e)
     ]
 
--- ---- repeats
+-- ---- the search for a closing parenthesis skips a repeat
 
 -- a text without `)` and without `<`
 abbrev IsPlain : List ℕ → Type 0

@@ -48,9 +48,8 @@ pub some_step : (passed after begins split least n : ℕ) → ((p : ℕ) → has
 some_step passed after begins split least n are some low p =
     rw (add-one, le-ltb n least low) (in_either split begins p ∙ rw (some p, are p) refl)
 
--- If `n` is below `least`, and `split` is the set of positions at which `takes_some` is true of
--- `least` and `n`, then `split` is also the set of positions at which `takes_some` is true of
--- `least` and `n + 1`.
+-- Let `n` be below `least`. If `split` is the set of positions at which `takes_some` is true of
+-- `least` and `n`, it is also the set for `least` and `n + 1`.
 pub few_step : (passed after split least n : ℕ) → ((p : ℕ) → has_place split p ≡ takes_some passed after p least n) → n < least
     → (p : ℕ) → has_place split p ≡ takes_some passed after p least (n + 1)
 few_step passed after split least n some few p =
@@ -122,8 +121,8 @@ passing test cs passed place are there =
       | inr above ↦ absurd (true≢false (sym there ∙ (are place ∙ passes_no_end test cs place above)))
     ]
 
--- if `takes` is true of the position `place` and the count `k`, at least `k` components in a row
--- pass from `place` on, and the later atoms have a split after these `k` components
+-- Let `takes` be true of the position `place` and the count `k`. Then at least `k` components in a
+-- row pass from `place` on, and the later atoms have a split after these `k` components.
 taken_of_run : (test : PlainTest) (cs : List Field) (passed after place k : ℕ) → ArePassed test cs passed → takes passed after place k ≡ true
     → (k ≤ run_of test (drop place cs)) × (has_place after (place + k) ≡ true)
 taken_of_run test cs passed after place zero are e = let is : place + 0 ≡ place = omega arith in (omega arith, rw is e)

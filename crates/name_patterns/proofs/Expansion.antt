@@ -49,8 +49,8 @@ is_short captures cs parts h e =
     let few : sum_by (part_len captures) parts ≤ 64 = ltb-false 64 _ (sym e) in
     omega (arith, few, expansion_length captures cs parts h)
 
--- if the parts before a part leave room for only `room` of 64 components, and this part is longer
--- than `room`, all parts together have more than 64 components
+-- Let the parts before a part leave room for only `room` of 64 components. If this part is longer
+-- than `room`, all parts together have more than 64 components.
 pub over_room : {X : Type 0} (len : PlainPart → ℕ) (shown : X → PlainPart) (xs : List X) (i : ℕ) (x : X) (room : ℕ) → i < length xs → x ≡ get_or xs i x
     → room + sum_by len (map shown (take i xs)) ≡ 64 → room < len (shown x) → 64 < sum_by len (map shown xs)
 over_room len shown xs i x room lt is sum over =

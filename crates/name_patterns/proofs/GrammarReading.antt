@@ -16,7 +16,7 @@ use Rattle.name_patterns.proofs.GrammarSteps.{bind_some, given, given_is, ok_is,
 use Rattle.name_patterns.proofs.TestGrammar.{IsTestAt, test_found, test_again, BeginsTest, test_begins}
 use Rattle.name_patterns.proofs.RepeatReading.{IsRepeatAt, repeat_found, repeat_again, repeat_none}
 
--- ---- atoms
+-- ---- reading an atom
 
 abbrev IsAtomAt : List ℕ → FrontPart PlainAtom → Type 0
 IsAtomAt text found = (front : List ℕ) × (text ≡ front ++ found.rest) × IsAtom front found.part
@@ -108,8 +108,8 @@ record IsRest (atoms : List PlainAtom) (written : ℕ) (groups : List (ℕ × �
   few_atoms : written + length (flat_map item_atoms items) ≤ 32
   few_groups : length pattern.groups ≤ 9
 
--- `text` begins inside a group that has `first` atoms before it: the remaining atoms of the group
--- and its closing parenthesis are followed by text that completes the pattern
+-- `text` begins inside a group that has `first` atoms before it. It consists of the remaining atoms
+-- of the group, the closing parenthesis, and text that completes the pattern.
 abbrev IsInGroup : ℕ → List PlainAtom → ℕ → List (ℕ × ℕ) → List ℕ → PlainPattern → Type 0
 IsInGroup first atoms written groups text pattern =
     (inner rest : List ℕ) × (more : List PlainAtom) × (text ≡ inner ++ (41 ∷ rest)) × AreAtoms inner more
@@ -119,8 +119,8 @@ abbrev IsLeft : PlainDraft → Option OpenGroup → List ℕ → PlainPattern �
 IsLeft draft None text pattern = IsRest draft.atoms draft.written draft.groups text pattern
 IsLeft draft (Some group) text pattern = IsInGroup group.first draft.atoms draft.written draft.groups text pattern
 
--- if `text` is an atom followed by `rest`, and `rest` completes the pattern after this atom is
--- added, then `text` completes the pattern
+-- Let `text` be an atom followed by `rest`. If `rest` completes the pattern (`IsRest`) once this
+-- atom is added, then `text` completes the pattern.
 atom_before : (atoms : List PlainAtom) (written : ℕ) (groups : List (ℕ × ℕ)) (text front rest : List ℕ) (atom : PlainAtom) (pattern : PlainPattern)
     → text ≡ front ++ rest → IsAtom front atom → IsRest (atoms ++ atom ∷ []) (written + 1) groups rest pattern → IsRest atoms written groups text pattern
 atom_before atoms written groups text front rest atom pattern is h r =
@@ -138,8 +138,8 @@ atom_before atoms written groups text front rest atom pattern is h r =
       few_groups = r.few_groups;
     }
 
--- if `text` completes the pattern inside a group that begins after all `atoms`, then `(` followed
--- by `text` completes the pattern
+-- if `text` completes the pattern inside a group that begins after all `atoms` (`IsInGroup`), then
+-- `(` followed by `text` completes the pattern (`IsRest`)
 group_before : (atoms : List PlainAtom) (written : ℕ) (groups : List (ℕ × ℕ)) (text : List ℕ) (pattern : PlainPattern)
     → IsInGroup (length atoms) atoms written groups text pattern → IsRest atoms written groups (40 ∷ text) pattern
 group_before atoms written groups text pattern h =
@@ -161,8 +161,8 @@ group_before atoms written groups text pattern h =
       few_groups = r.few_groups;
     }
 
--- inside a group, if `text` is an atom followed by `rest`, and `rest` completes the pattern after
--- this atom is added, then `text` completes the pattern
+-- Let `text`, inside a group, be an atom followed by `rest`. If `rest` completes the pattern
+-- (`IsInGroup`) once this atom is added, then `text` completes the pattern.
 atom_inside : (first : ℕ) (atoms : List PlainAtom) (written : ℕ) (groups : List (ℕ × ℕ)) (text front rest : List ℕ) (atom : PlainAtom) (pattern : PlainPattern)
     → text ≡ front ++ rest → IsAtom front atom → IsInGroup first (atoms ++ atom ∷ []) (written + 1) groups rest pattern → IsInGroup first atoms written groups text pattern
 atom_inside first atoms written groups text front rest atom pattern is h g =
@@ -177,8 +177,8 @@ atom_inside first atoms written groups text front rest atom pattern is h g =
           (append_assoc atoms (atom ∷ []) g.2) counted,
     )
 
--- if `text` completes the pattern after a group has been closed, then `)` followed by `text`
--- completes the pattern inside this group
+-- if `text` completes the pattern after a group is closed (`IsRest`), then `)` followed by `text`
+-- completes the pattern inside this group (`IsInGroup`)
 group_end : (first : ℕ) (atoms : List PlainAtom) (written : ℕ) (groups : List (ℕ × ℕ)) (text : List ℕ) (pattern : PlainPattern)
     → IsRest atoms written (groups ++ (first, length atoms) ∷ []) text pattern → IsInGroup first atoms written groups (41 ∷ text) pattern
 group_end first atoms written groups text pattern r =
@@ -418,8 +418,8 @@ not_end o text h =
     let some : eqb (length (o ∷ text)) 0 ≡ false = ne_eqb (length (o ∷ text)) 0 (omega arith) in
     rw (some, ne_eqb o 36 h) refl
 
--- if the text after an atom begins neither with `^` nor with a repeat, and the draft has fewer than
--- 32 written atoms, `with_atom` reads the atom and adds it to the draft
+-- Let the text after an atom begin neither with `^` nor with a repeat. If the draft has fewer than
+-- 32 written atoms, `with_atom` reads the atom and adds it to the draft.
 one_again : (draft : PlainDraft) (at : ℕ) (front rest : List ℕ) (atom : PlainAtom) → IsAtom front atom → begins_other rest ≡ false → draft.written < 32
     → with_atom draft at (front ++ rest) ≡ Ok (with_one draft atom, rest)
 one_again draft at front rest atom h free few =

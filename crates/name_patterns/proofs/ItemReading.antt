@@ -67,7 +67,7 @@ never_closed (suc n) len draft text group is_open never =
         let p = item_inside draft (len - length text) text next.0 next.1 group e is_open never in
         further next.0 next.1 p.0 p.1
 
--- ---- items in order
+-- ---- reading items in order
 
 -- reading `items` from the draft `begun` has the same result as reading `rest` from `draft`
 abbrev pub HasItems : ℕ → PlainDraft → List ℕ → PlainDraft → List ℕ → Type 0
@@ -123,7 +123,7 @@ pub told : (read given : Result PlainPattern PatternFault) → read ≡ given �
 told read (Ok pattern) e = e
 told read (Err fault) e = inl e
 
--- ---- the whole text
+-- ---- reading the whole text
 
 pub pattern_unanchored : (len : ℕ) (text : List ℕ) → BeginsNot 94 text → pattern_after len text ≡ items_in len (with_implied begun) text
 pattern_unanchored len [] other = refl

@@ -46,7 +46,8 @@ parts_one groups parts text rest after part (suc n, few, h) shorter e =
     moved (Ok others) = ap (λ (ps : List PlainPart). Ok ps) (sym (append_assoc parts (part ∷ []) others))
     moved (Err fault) = refl
 
--- if the part at the front of `rest` is faulty, its fault is the result
+-- if reading the part at the front of `rest` has a fault, reading all parts of `rest` has this
+-- fault
 parts_stop : (n groups len : ℕ) (rest : List ℕ) (fault : PatternFault) → 0 < length rest → part_in groups (len - length rest) rest ≡ Err fault
     → parts_within (suc n) groups len rest ≡ Err fault
 unfolding parts_within

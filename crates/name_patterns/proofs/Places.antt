@@ -12,7 +12,7 @@ use Rattle.ndn_tlv.specs.Element.{Field}
 use Rattle.name_patterns.specs.Pattern.{PlainTest, Anything}
 use Rattle.name_patterns.specs.Greedy.{passes, run_of, greatest, has_place, passes_there, ArePassed}
 
--- ---- one position
+-- ---- one position of a set
 
 is_there : (places place : ℕ) → bit_at places place ≡ 1 → has_place places place ≡ true
 is_there places place e = eq-eqb (bit_at places place) 1 e
@@ -29,8 +29,8 @@ no_place place = is_not_there 0 place (bit_at-zero place)
 pub no_place_from : (places k place : ℕ) → places < 2 ^ k → k ≤ place → has_place places place ≡ false
 no_place_from places k place small from = is_not_there places place (bit_at_above places k place small from)
 
--- the next two lemmas: after the position `k` is added to a set, `k` is in the set, and each other
--- position is in the set exactly if it was in the set before
+-- The next two lemmas are about a set to which the position `k` is added. Then `k` is in the set,
+-- and each other position is in the set exactly if it was in the set before.
 pub added_same : (places k : ℕ) → k < 128 → has_place (bit_or places (1 * 2 ^ k % 2 ^ 128)) k ≡ true
 added_same places k low = is_there _ k (bit_at_set_same w128 places k low)
 
@@ -74,7 +74,7 @@ in_either a b place = rw (bit_at_or a b place) (of_bits (bit_at a place) (bit_at
     of_bits zero (suc (suc y)) low high = absurd (omega arith)
     of_bits (suc zero) (suc (suc y)) low high = absurd (omega arith)
 
--- ---- the positions after a given one
+-- ---- the positions of a set from a position on
 
 bit_of_shr : (n k i : ℕ) → bit_at (n / 2 ^ k) i ≡ bit_at n (k + i)
 bit_of_shr n k i = ap (λ (m : ℕ). m % 2) (shr-shr n k i)
@@ -132,7 +132,7 @@ run_at test cs passed place small low are =
     both_ways : true ≡ false → ⊥
     both_ways e = cc
 
--- ---- the greatest number
+-- ---- the greatest number that passes a test
 
 pub greatest_is : (can : ℕ → Bool) (least n k : ℕ) → least ≤ k → k ≤ n → can k ≡ true → ((j : ℕ) → k < j → j ≤ n → can j ≡ false) → greatest can least n ≡ Some k
 unfolding greatest
@@ -216,8 +216,8 @@ none_later places end place low high skips =
     is_not_there places place
     (rw place_is at (sym (bit_of_shl places (127 - end) (127 - end + place) (omega arith) (omega arith)) ∙ none))
 
--- the greatest count from `least` to `most` that leads from `place` to a position in the set is
--- `most` minus `skipped places (place + most)`, if this difference is at least `least`
+-- Let `most` minus `skipped places (place + most)` be at least `least`. Then this difference is the
+-- greatest count from `least` to `most` that leads from `place` to a position in the set `places`.
 pub greatest_taken : (places place least most : ℕ) → place + most ≤ 64 → skipped places (place + most) ≤ most → least ≤ most - skipped places (place + most)
     → greatest (λ count. has_place places (place + count)) least most ≡ Some (most - skipped places (place + most))
 greatest_taken places place least most low skips enough =
@@ -233,7 +233,7 @@ greatest_not_taken places place least most low skips =
     greatest_none (λ count. has_place places (place + count)) least most
     (λ j from high. none_later places (place + most) (place + j) low (omega arith) (omega arith))
 
--- ---- all components
+-- ---- the test that each component passes
 
 pub all_passed : (cs : List Field) (len : ℕ) → len ≤ 64 → len ≡ length cs → ArePassed Anything cs (1 * 2 ^ len % 2 ^ 128 - 1)
 all_passed cs len low len_is place =

@@ -13,7 +13,7 @@ use Rattle.name_patterns.specs.Grammar.{IsCount, IsRange, IsRepeat}
 use Rattle.name_patterns.specs.PatternReading.{◌>>=◌, count_in, range_by_comma, range_by_cut, range_in, begins_repeat, braced_in, repeat_in}
 use Rattle.name_patterns.proofs.GrammarSteps.{bind_some, given, given_is, given_to, passed}
 
--- ---- counts
+-- ---- reading a count
 
 count_found : (text : List ℕ) (n : ℕ) → count_in text ≡ Some n → IsCount text n
 count_found text n e =
@@ -32,7 +32,7 @@ count_again text n h =
 count_lacks : (octet : ℕ) → (octet < 48) ⊎ (57 < octet) → (text : List ℕ) (n : ℕ) → IsCount text n → Lacks octet text
 count_lacks octet out text n h = digits-Lacks octet out text h.0.1
 
--- ---- ranges
+-- ---- reading a range
 
 abbrev IsRangeOf : List ℕ → Bounds → Type 0
 IsRangeOf text bounds = IsRange text bounds.least bounds.most
@@ -119,7 +119,7 @@ range_no_brace text least (Some most) (inr (inr h)) =
     subst (Lacks 125) (sym h.2)
     (Lacks-append 125 h.0 (44 ∷ h.1) (count_no_brace h.0 least h.3) (comma_no_brace h.1 (count_no_brace h.1 most h.4)))
 
--- ---- repeats
+-- ---- reading a repeat
 
 -- a repeat, or an empty text, which stands for one component
 abbrev pub IsRepeatOrNone : List ℕ → Bounds → Type 0

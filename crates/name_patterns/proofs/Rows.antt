@@ -37,8 +37,8 @@ pub nil_at_end : (cs : List Field) → first_count [] (drop (length cs) cs) ≡ 
 unfolding first_count
 nil_at_end cs = rw (drop-length cs) refl
 
--- if the end of the name is the only position in the set `places`, this set has the positions from
--- which the empty list of atoms has a split
+-- if the end of the name is the only position in the set `places`, the empty list of atoms has a
+-- split from exactly the positions in this set
 pub last_split : (cs : List Field) (len places : ℕ) → length cs ≡ len → has_place places len ≡ true
     → ((place : ℕ) → place ≢ len → has_place places place ≡ false) → AreSplit [] cs places
 last_split cs len places len_is there other place low =
@@ -122,14 +122,13 @@ pushed test cs c places next place are len there others p =
     not_at_end t (y ∷ xs) x zero apart = refl
     not_at_end t (y ∷ xs) x (suc i) apart = not_at_end t xs x i (λ e. apart (ap suc e))
 
--- ---- tables
+-- ---- the rows of the table
 
 drop_map_end : {X Y : Type 0} (f : X → Y) (xs : List X) → drop (length xs) (map f xs) ≡ []
 drop_map_end f [] = refl
 drop_map_end f (x ∷ xs) = drop_map_end f xs
 
--- the positions from which the empty list of atoms has a split are those from which the atoms after
--- the last one have a split
+-- dropping all atoms of a list leaves the empty list, and both have a split from the same positions
 pub after_all : {X : Type 0} (f : X → PlainAtom) (xs : List X) (cs : List Field) (places : ℕ) → AreSplit [] cs places → AreSplit (drop (length xs) (map f xs)) cs places
 after_all f xs cs places are = rw (drop_map_end f xs) are
 
@@ -145,8 +144,8 @@ drop_map f (y ∷ xs) (suc at) x h is = rw next (drop_map f xs at x (omega arith
     next : suc at + 1 ≡ suc (at + 1)
     next = omega arith
 
--- if the row at index `at` is set to a row with the property `P`, and the rows after it up to index
--- `n` have it, then all rows from `at` to `n` have it
+-- Let the rows after index `at`, up to index `n`, have the property `P`. If the row at index `at`
+-- is set to a row with this property, all rows from `at` to `n` have it.
 pub table_step : {X : Type 0} (P : ℕ → X → Type 0) (rows : List X) (at n : ℕ) (row : X) → at < length rows → P at row
     → ((k : ℕ) → at + 1 ≤ k → k ≤ n → IsSomeAnd (slice_get rows k) (P k)) → (k : ℕ) → at ≤ k → k ≤ n → IsSomeAnd (slice_get (slice_set rows at row) k) (P k)
 table_step P rows at n row room here following k from low =

@@ -12,7 +12,7 @@ use Rattle.name_patterns.specs.Pattern.{PlainTest, Anything, OneOf, NoneOf, Plai
 use Rattle.name_patterns.specs.Match.{IsAmong, Passes, IsAtMost, IsSplit, HasNoSplit, IsGreatestSplit}
 use Rattle.name_patterns.specs.Greedy.{is_among, passes, at_most, run_of, greatest, first_count, greedy, after_counts}
 
--- ---- tests
+-- ---- the test of one component
 
 same : (a c : Field) → Decides (eqb a.0 c.0 && bytes_eq a.1 c.1) (a ≡ c)
 same a c = (
@@ -80,7 +80,7 @@ bound_again : (most : Option ℕ) (n k : ℕ) → IsAtMost k most → k ≤ n �
 bound_again None n k a b = b
 bound_again (Some most) n k a b = omega arith
 
--- ---- the greatest number
+-- ---- the greatest number that passes a test
 
 none_here : (k : ℕ) → Some k ≡ None → ⊥
 none_here k e = cc
@@ -162,7 +162,7 @@ some_greatest can least (suc n) k e =
           ]
     ]
 
--- ---- splits
+-- ---- the split that `greedy` finds
 
 -- without a first count there is no split, and `greedy` returns `None`; with a first count,
 -- `greedy` returns the greatest split
@@ -182,8 +182,8 @@ some_splits atoms cs (Some k) counts h split = refl
 abbrev AreSearched : List PlainAtom → Type 0
 AreSearched atoms = (cs : List Field) → IsSearched atoms cs (first_count atoms cs)
 
--- the first count of a split is at most the atom's greatest number and at most its run of passing
--- components, and the other atoms have a split of the components after this count
+-- The first count of a split is at most the greatest number of the first atom, and at most the run
+-- of components that pass. The other atoms have a split of the components after this count.
 taken : (atom : PlainAtom) (atoms : List PlainAtom) (cs : List Field) (count : ℕ) (counts : List ℕ) → AreSearched atoms → IsSplit (atom ∷ atoms) cs (count ∷ counts)
     → (count ≤ at_most atom.bounds.most (run_of atom.test cs)) × (is_some (first_count atoms (drop count cs)) ≡ true)
 taken atom atoms cs count counts following split = (
@@ -200,8 +200,8 @@ no_split atom atoms cs following e (count ∷ counts) split =
     let t = taken atom atoms cs count counts following split in
     no_greatest (λ n. is_some (first_count atoms (drop n cs))) atom.bounds.least (at_most atom.bounds.most (run_of atom.test cs)) e count split.0 t.0 t.1
 
--- if `k` is the greatest possible first count, and `best` is the greatest split of the components
--- after it, every split is equal to `k ∷ best` or less than `k ∷ best`
+-- Let `k` be the greatest possible first count, and `best` the greatest split of the components
+-- after the first `k`. Then every split is equal to `k ∷ best` or less than `k ∷ best`.
 not_greater : (atom : PlainAtom) (atoms : List PlainAtom) (cs : List Field) (k : ℕ) (best : List ℕ) → AreSearched atoms
     → IsGreatest (λ n. is_some (first_count atoms (drop n cs))) atom.bounds.least (at_most atom.bounds.most (run_of atom.test cs)) k
     → IsGreatestSplit atoms (drop k cs) best
@@ -322,8 +322,8 @@ single_first atom atoms c cs once_is is =
     let most : min 1 (1 + run_of atom.test cs) ≡ 1 = omega arith in
     rw (once_is, run, most) (greatest_one (λ count. is_some (first_count atoms (drop count (c ∷ cs)))))
 
--- if an atom matches exactly one component and the first component passes, `greedy` returns the
--- count 1 for this atom, followed by the counts for the other atoms and components
+-- Let the first atom match exactly one component, and let the first component pass. Then `greedy`
+-- returns the count 1, followed by the counts for the other atoms and components.
 pub single_taken : (done : List ℕ) (atom : PlainAtom) (atoms : List PlainAtom) (c : Field) (cs : List Field) → atom.bounds ≡ once → passes atom.test c ≡ true
     → after_counts done (greedy (atom ∷ atoms) (c ∷ cs)) ≡ after_counts (done ++ 1 ∷ []) (greedy atoms cs)
 single_taken done atom atoms c cs once_is is = by_rest (first_count atoms cs) refl

@@ -5,7 +5,7 @@ use Rattle.name_patterns.specs.declared.fault.PatternFault.TheVariants.{Syntax}
 use Rattle.name_patterns.specs.Faults.{IsFaultOf, read_at}
 use Rattle.name_patterns.specs.PatternReading.{◌>>=◌}
 
--- a fault of the first step is a fault of the sequence
+-- a fault of the first of two steps is also a fault of the sequence of both steps
 pub fault_on : {A B : Type 0} (at : ℕ) (first : Option A) (next : A → Option B) (fault : PatternFault)
     → IsFaultOf (read_at at first) fault → IsFaultOf (read_at at (first >>= next)) fault
 fault_on at None next fault (inl e) = inl cc
@@ -13,7 +13,7 @@ fault_on at None next fault (inr memory) = inr memory
 fault_on at (Some x) next fault (inl e) = absurd cc
 fault_on at (Some x) next fault (inr memory) = inr memory
 
--- if the first step returns nothing, the fault of the sequence is `Syntax`
+-- if the first of two steps returns nothing, the fault of the sequence of both steps is `Syntax`
 pub fault_at : {A B : Type 0} (at : ℕ) (first : Option A) (next : A → Option B) → first ≡ None → IsFaultOf (read_at at (first >>= next)) (Syntax at)
 fault_at at first next none = rw none (inl refl)
 

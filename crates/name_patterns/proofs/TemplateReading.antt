@@ -15,7 +15,7 @@ use Rattle.name_patterns.specs.TemplateReading.{digit_in, group_in, single_in, s
 use Rattle.name_patterns.proofs.GrammarSteps.{bind_some, given, given_is, given_to, passed, ok_is, read_is, done_is, done_to, not_refused}
 use Rattle.name_patterns.proofs.QuotedReading.{text_again, text_none, quoted_again, quoted_front, single_found}
 
--- ---- parts
+-- ---- reading a part
 
 digit_found : (text : List ℕ) (digit : ℕ × List ℕ) → digit_in text ≡ Some digit → (text ≡ (48 + digit.0) ∷ digit.1) × (digit.0 ≤ 9)
 digit_found [] digit e = absurd cc
@@ -94,7 +94,7 @@ part_again groups at front rest (Single c) h =
     ap (λ (t : List ℕ). part_in groups at (t ++ rest)) f.1 ∙ ap (λ (t : List ℕ). single_part_in at (t ++ rest)) (sym f.1) in
     begins ∙ single_again at front rest c h
 
--- ---- templates
+-- ---- reading a template
 
 shorter : (groups : ℕ) (text : List ℕ) (found : PlainPart × List ℕ) → IsFront groups text found → length found.1 < length text
 shorter groups text found h = let size = ap length h.1 ∙ length-append h.0 found.1 in let some = h.2 in omega arith

@@ -10,7 +10,7 @@ use Rattle.name_patterns.specs.PatternReading.{◌>>=◌, FrontPart, has_special
 use Rattle.name_patterns.proofs.GrammarSteps.{bind_some, given, given_is, given_to, passed, failed}
 use Rattle.name_patterns.proofs.QuotedReading.{text_again, text_none, text_some, quoted_found, quoted_again, quoted_front, single_found}
 
--- ---- lists of texts
+-- ---- reading a list of quoted texts
 
 abbrev IsListed : List ℕ → FrontPart (List Field) → Type 0
 IsListed text found = (inner : List ℕ) × (text ≡ inner ++ (93 ∷ found.rest)) × AreQuoted inner found.part
@@ -101,7 +101,7 @@ list_again test inner rest cs some h =
     let other : eqb (length cs) 0 ≡ false = ne_eqb (length cs) 0 (λ none. some (nil_from_length cs none)) in
     rw (listed_again (length (inner ++ (93 ∷ rest))) inner rest cs (omega arith) h, other) refl
 
--- ---- tests
+-- ---- reading a test
 
 abbrev pub IsTestAt : List ℕ → FrontPart PlainTest → Type 0
 IsTestAt text found = (front : List ℕ) × (text ≡ front ++ found.rest) × IsTestText front found.part

@@ -53,8 +53,8 @@ module _ {V : Type 0} (own below : V → Option V) where
   before_itself [] = refl
   before_itself (c ∷ name) = ap (λ f. cond (eq_by_cmp component_cmp c c) f Some) (before_itself name) ∙ sym (same_either (eq_by_cmp component_cmp c c))
 
-  -- if the name `front` leads to no node, a walk along `front ++ rest` changes each value in the
-  -- same way as a walk along `front` that stops before the node of `front`
+  -- Let the name `front` lead to no node. Then a walk along `front ++ rest` changes each value in
+  -- the same way as a walk along `front` that stops before the node of `front`.
   pub cut_short : (h : Heap V) (o : Option ℕ) (front rest : List Field) → walk h o front ≡ None → (q : List Field)
       → option_and_then (changed_along own below q (front ++ rest)) (lookup h o q) ≡ option_and_then (before q front) (lookup h o q)
   cut_short h o [] rest none q =

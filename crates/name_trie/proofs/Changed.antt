@@ -162,7 +162,7 @@ module _ {V : Type 0} (k : ℕ) (h : Heap V) (root : Option ℕ) (h' : Heap V) (
   pub walks_before : (q : List Field) (j : ℕ) → walk h' root' q ≡ Some j → walk h root q ≡ Some j
   walks_before q j e = (unless_some k (walk h root q) j (sym (walks_lacking q) ∙ e)).0
 
--- ---- a value is set
+-- ---- walks and lookups after a value is set
 
 module _ {V : Type 0} (k : ℕ) (v : Option V) (h h' : Heap V) (sets : Sets k v h h') where
   same_children : (a : ℕ) (c : Field) → child h' a c ≡ child h a c
@@ -192,7 +192,7 @@ module _ {V : Type 0} (k : ℕ) (v : Option V) (h h' : Heap V) (sets : Sets k v 
     others = value_kept;
   }
 
--- ---- a child is added
+-- ---- walks and lookups after a child is added
 
 module _ {V : Type 0} (k at : ℕ) (c : Field) (h h' : Heap V) (joins : Joins k at c h h') where
   at_apart : at ≢ k
@@ -299,7 +299,7 @@ module _ {V : Type 0} (k at : ℕ) (c : Field) (h h' : Heap V) (joins : Joins k 
           (λ ne. let way = sound.reach j u (sym (up_other j ne) ∙ e) in (way.0, way.1, walks_before k h' root h root lacks_joined way.0 j way.2));
     }
 
--- ---- a root is added
+-- ---- walks and lookups after a root is added
 
 module _ {V : Type 0} (k : ℕ) (h h' : Heap V) (starts : Starts k h h') (sound : Sound h None) where
   started_child : (a : ℕ) (d : Field) → child h' a d ≡ child h a d

@@ -23,8 +23,8 @@ others_stay child (x ∷ rows) all =
     ap (λ o. with_entry x.0 o (revised (unless_is child) rows)) (unless_is_other child x.1 (all 0 x (omega arith))) ∙ ap (λ l. x ∷ l) rest
 
 module _ {K : Type 0} {R : K → K → Ordering} (total : IsTotalOrder R) (anti : IsAntisymmetric R) (child : ℕ) where
-  -- if all keys of `rows` are greater than the key of `x`, and a lookup of `k` in `rows` finds the
-  -- child, a lookup of `k` in `x ∷ rows` finds the child too
+  -- Let all keys of `rows` be greater than the key of the row `x`. If a lookup of the key `k` in
+  -- `rows` finds the child, a lookup of `k` in `x ∷ rows` finds the child too.
   found_more : (x : K × ℕ) (rows : List (K × ℕ)) → T (below_all R x.0 rows) → (k : K) → find R k rows ≡ Some child → find R k (x ∷ rows) ≡ Some child
   found_more x rows below k found =
       elim (eq_by_cmp R k x.0) as (λ b. eq_by_cmp R k x.0 ≡ b → cond b (Some x.1) (find R k rows) ≡ Some child) [

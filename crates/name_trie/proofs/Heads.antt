@@ -35,8 +35,8 @@ pub next : (n : ℕ) (octets : List ℕ) → head (n + 1) octets ≡ head n octe
 unfolding head
 next n octets = rw add-one refl
 
--- if there are at most n octets, the head of n + 1 octets is the head of n octets times 256, since
--- positions after the last octet count as zeros
+-- Positions after the last octet count as zeros. If there are at most n octets, the head of n + 1
+-- octets is therefore the head of n octets times 256.
 pub past : (n : ℕ) (octets : List ℕ) → length octets ≤ n → head (n + 1) octets ≡ head n octets * 256
 past n octets le =
     let none : slice_index octets n ≡ 0 = get_or_past octets n 0 le in
@@ -93,8 +93,8 @@ less (suc n) a b are bare lt =
     ] in
     by (nat_cmp (head n a) (head n b)) refl
 
--- comparing two lists of octets first by their heads and then octet by octet gives the same result
--- as comparing them octet by octet
+-- comparing two lists of octets first by their heads, and then octet by octet, gives the same
+-- result as comparing them only octet by octet
 pub by_head : (n : ℕ) (a b : List ℕ) → AreOctets a → AreOctets b → ordering_then (nat_cmp (head n a) (head n b)) (slice_cmp nat_cmp a b) ≡ slice_cmp nat_cmp a b
 by_head n a b are bare =
     let by : (o : Ordering) → o ≡ nat_cmp (head n a) (head n b) → ordering_then o (slice_cmp nat_cmp a b) ≡ slice_cmp nat_cmp a b = λ o.

@@ -41,8 +41,8 @@ Writes-cut a b c text gathered h k = subst (AppendsFront a c) (sym h.1) (Appends
 pub AppendsFront-longer : (a b : Option (List ℕ)) (text more : List ℕ) → AppendsFront a b text → AppendsFront a b (text ++ more)
 AppendsFront-longer a b text more h = (h.0, h.1 ++ more, ap (λ (l : List ℕ). l ++ more) h.2 ∙ append_assoc h.0 h.1 more, h.3)
 
--- If `number` turns were taken, all of their text but `gathered` was written, and the next turn
--- stops with the fault `why`, then the turns stop with this fault.
+-- Let `number` turns be taken, and let all of their text but `gathered` be written. If the next
+-- turn stops with the fault `why`, then the turns stop with this fault.
 pub stops_turns : (old mid new : NodeState) (before between after : Shown) (turns number : ℕ) (a b c : Option (List ℕ)) (text gathered : List ℕ) (why : Fault)
     → Tells old mid before between number text → Writes a b text gathered → number < turns → StopsTurn mid new between after b c gathered why → StopsTurns old new before after turns a c why
 stops_turns old mid new before between after turns number a b c text gathered Unreceived told writes less h = (

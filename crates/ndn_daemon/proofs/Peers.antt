@@ -84,8 +84,8 @@ module _ (texts : List (List ℕ)) (i : ℕ) (text : List ℕ) (is : (d : List �
       one_endpoint text _ _ (subst (λ t. IsEndpoint t (slice_index_or endpoints i e)) (is []) (spelled_at texts endpoints are i e inside)) spells in
       are.different k i e below (omega (arith, are.many, inside)) (first ∙ sym second)
 
-  -- if the first `i` texts spell `so_far`, and the next text spells an endpoint `e` that is not in
-  -- `so_far`, then the first `i + 1` texts spell `so_far` followed by `e`
+  -- Let the first `i` texts spell `so_far`. If the next text spells an endpoint `e` that is not in
+  -- `so_far`, then the first `i + 1` texts spell `so_far` followed by `e`.
   pub pushed : (e : SocketAddr) (so_far : List SocketAddr) → SoFar texts i so_far → IsEndpoint text e
       → ((k : ℕ) (d : SocketAddr) → k < length so_far → (socket.ghosts).eq (slice_index_or so_far k d) e ≡ false)
       → SoFar texts (i + 1) (so_far ++ e ∷ [])

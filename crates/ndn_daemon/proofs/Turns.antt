@@ -51,7 +51,7 @@ Tells-more old mid new before between after number more text done_as h k =
           ∙ sym (ap (λ (es : List PlainEvent). script_text rules es s.0.outcomes) s.1 ∙ ap (script_text rules (h.serves.arrivals ++ (k.event ∷ []))) s.2);
     }
 
--- If `text` is the text of the first `number` events, and one more turn brings an event, then
+-- Let `text` be the text of the first `number` events, and let one more turn bring an event. Then
 -- `text` followed by the text of this turn is the text of the first `number + 1` events.
 pub Tells-turn : (old mid new : NodeState) (before between after : Shown) (number : ℕ) (text : List ℕ) (sends : List Send) (rules : List PlainRule) (turn : Turn) → (turn ≡ End → ⊥) → (turn ≡ Unwritten → ⊥)
     → Tells old mid before between number text → IsTurn mid new between after sends turn → rules ≡ new.policy.rules
@@ -88,9 +88,9 @@ no_fault (Err why) P h = let no : ⊥ = cc in absurd no
 pub turns_served : (old new : NodeState) (before after : Shown) (turns : ℕ) (held holds : Option (List ℕ)) → TakesTurns old new before after turns held holds → ServesTurns old new before after turns
 turns_served old new before after turns held holds t = (t.0, t.3.refused, t.3.failed, t.1, t.3.serves, t.4)
 
--- The next two lemmas are about turns that were taken, and turns that were served: if a success
--- means that they left the ports in the state `after`, then it means that they left the ports in
--- some state.
+-- The next two lemmas are about what the success of a call means. If it means that turns were
+-- taken, or served, up to the state `after` of the ports, it means that this happened up to some
+-- state of the ports.
 pub taken_until : (old new : NodeState) (before after : Shown) (turns : ℕ) (held holds : Option (List ℕ)) (r : Result (Unit {0}) Fault)
     → OnOk r (TakesTurns old new before after turns held holds) → OnOk r ((last : Shown) × TakesTurns old new before last turns held holds)
 taken_until old new before after turns held holds (Ok done) h = (after, h)

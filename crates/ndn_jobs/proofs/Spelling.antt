@@ -61,8 +61,8 @@ module _ {A : Type 0} (Spell : A → Type 0) (none : (x : A) → Spell x → ⊥
 pub lacks : {A : Type 0} (Spells : List ℕ → A → Type 0) (said : Option (List ℕ)) → said ≡ None → (x : A) → Has said Spells x → ⊥
 lacks Spells said e x h = let both : None ≡ Some h.0 = sym e ∙ h.1 in absurd cc
 
--- By the next lemmas, reading `value` is the same as reading the option, if the option is given
--- with the value `value`.
+-- The next lemmas are about an option whose value is `value`. What `value` spells is what the
+-- option spells.
 
 module _ {A : Type 0} (Spells : List ℕ → A → Type 0) (said : Option (List ℕ)) (value : List ℕ) (there : Some value ≡ said) where
   same : (w : List ℕ) → said ≡ Some w → w ≡ value

@@ -13,7 +13,8 @@ use Rattle.ndn_names.specs.declared.fault.NameFault.TheVariants.{BadUri}
 use Rattle.ndn_names.specs.UriReading.{number_in, type_in}
 use Rattle.ndn_tlv.specs.Reading.{◌>>=◌}
 
--- if not all of three tests pass, the conditional equals its second alternative
+-- if at least one of three tests fails, a conditional that needs all three equals its second
+-- alternative
 unless_all : {A : Type 0} (a b c : Bool) (x y : A) → (a ≡ true → b ≡ true → c ≡ true → ⊥) → cond (a && (b && c)) x y ≡ y
 unless_all false b c x y h = refl
 unless_all true false c x y h = refl

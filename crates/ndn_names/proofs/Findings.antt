@@ -34,7 +34,7 @@ abbrev pub FoundSoFar : ℕ → List Field → List ℕ → Option FirstOfType �
 FoundSoFar kind front rest None = NoneOfType kind front
 FoundSoFar kind front rest (Some first) = FirstSoFar kind front rest first
 
--- n components of `value` have been read, the octets `rest` are still to be read, and `found` is
+-- n components of `value` have been read, and the octets `rest` are still to be read. `found` is
 -- the first of the n components that has type `kind`, or `None`.
 pub record IsFinding (kind n : ℕ) (rest value : List ℕ) (found : Option FirstOfType) : Type 0 where
   pub front : List Field
@@ -44,7 +44,8 @@ pub record IsFinding (kind n : ℕ) (rest value : List ℕ) (found : Option Firs
 pub begins_finding : (kind : ℕ) (value : List ℕ) → IsFinding kind 0 value value None
 begins_finding kind value = record { front = []; reads = reads_none value; first = tt }
 
--- the search result is still correct after a component of another type is read
+-- a search result for type `kind` is still correct after one more component is read, if this
+-- component has another type
 found_past : (kind : ℕ) (front : List Field) (rest after : List ℕ) (c : Field) (found : Option FirstOfType) → rest ≢ [] → c.0 ≢ kind → FoundSoFar kind front rest found → FoundSoFar kind (front ++ c ∷ []) after found
 found_past kind front rest after c None some other h = all_and kind front c h other
 found_past kind front rest after c (Some first) some other h = record {
@@ -56,7 +57,8 @@ found_past kind front rest after c (Some first) some other h = record {
   last = (λ t. absurd (some (h.last.0 t).1), λ e. absurd (never_empty h.after c e.0));
 }
 
--- after a component of type `kind` is read, the search result that `Further` describes is correct
+-- if a search result is correct, and then a component of type `kind` is read, the new result that
+-- `Further` describes is correct
 found_more : (kind : ℕ) (front : List Field) (rest after : List ℕ) (c : Field) (found : Option FirstOfType) (is_last : Bool) (first : FirstOfType) → rest ≢ [] → c.0 ≡ kind → (IsTrue is_last ↔ (after ≡ [])) → Further found c.1 is_last first
     → FoundSoFar kind front rest found → FoundSoFar kind (front ++ c ∷ []) after (Some first)
 found_more kind front rest after c None is_last first some is last f h = record {

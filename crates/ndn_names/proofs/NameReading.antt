@@ -51,8 +51,8 @@ named_one count cs text rest piece after c h room split e =
     moved cs (Ok ds) = ap (λ (t : List Field). Ok t) (sym (append_assoc cs (c ∷ []) ds))
     moved cs (Err fault) = refl
 
--- appending the octets of `cs` and then the octets of `c` is the same as appending the octets of
--- the list `cs` with `c` added at its end
+-- appending the octets of the components `cs`, and then those of the component `c`, appends the
+-- octets of the list `cs ++ c ∷ []`
 pub octets_more : (old now next : List ℕ) (cs : List Field) (c : Field) → now ≡ old ++ octets_of cs → next ≡ now ++ element c → next ≡ old ++ octets_of (cs ++ c ∷ [])
 octets_more old now next cs c e put =
     put ∙ ap (λ (t : List ℕ). t ++ element c) e ∙ append_assoc old (octets_of cs) (element c)
@@ -72,7 +72,7 @@ value_shown text value cs read e short =
     let is = (text_found text cs read).7 in
     is_shown value cs ((short_fields cs is.1 (omega (arith, ap length e)), e), is)
 
--- ---- the text before the pieces
+-- ---- the first slash of a text after the scheme
 
 pub no_slash : (text path : List ℕ) → path ≡ without_scheme text → ((rest : List ℕ) → path ≢ 47 ∷ rest) → name_in text ≡ Err BadUri
 unfolding name_in

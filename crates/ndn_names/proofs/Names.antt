@@ -32,8 +32,8 @@ read_element f = Ok f
 pub done_is : {A : Type 0} (x y : A) → done x ≡ done y → x ≡ y
 done_is x y e = cc
 
--- if the tests in `component_of` return the component `d`, it is the tested component `c`, and no
--- test has found a fault
+-- if the tests of the component `c` return a component `d`, then `d` is `c`, and no test has found
+-- a fault
 passed : (none wide small long : Bool) (c d : Field) → cond (none || wide) (Err BadComponent) (cond (small && not long) (Err BadDigestLength) (Ok c)) ≡ done d → (c ≡ d) × (none ≡ false) × (wide ≡ false) × (small ≡ true → long ≡ true)
 passed true wide small long c d e = absurd cc
 passed false true small long c d e = absurd cc
@@ -63,7 +63,7 @@ component_again c h =
     let narrow = h.1 in
     passes (eqb c.0 0) (ltb 65535 c.0) (leb c.0 2) (eqb (length c.1) 32) c (ne_eqb c.0 0 (omega arith)) (le-ltb 65535 c.0 (omega arith)) (λ e. eq-eqb (length c.1) 32 (h.2 (leb-true c.0 2 e)))
 
--- ---- lists of elements
+-- ---- reading a list of elements as components
 
 element_found : (n : ℕ) (x : Result Field TlvFault) (c : Field) → component_after n x ≡ Ok c → (n < 64) × (x ≡ read_element c) × IsComponent c
 element_found n x c e =
@@ -76,8 +76,9 @@ element_found n x c e =
     at_found (Err f) c e = absurd cc
     at_found (Ok d) c e = let p = component_found d c e in (ap read_element p.0, p.1)
 
--- if a list is read as the components that come after n others, the list has no fault, all its
--- elements are valid components, and together with the n others they are at most 64
+-- Let a list of results be read as components that come after n others. Then the list has no fault,
+-- all its elements are valid components, and there are at most 64 components together with the n
+-- others.
 pub components_found : (n : ℕ) (es : List (Result Field TlvFault)) (cs : List Field) → n ≤ 64 → components_after n es ≡ Ok cs → (es ≡ map read_element cs) × (n + length cs ≤ 64) × AllByRecursion IsComponent cs
 components_found n [] cs le e = subst (λ (ds : List Field). ([] ≡ map read_element ds) × (n + length ds ≤ 64) × AllByRecursion IsComponent ds) (done_is [] cs e) (refl, omega arith, tt)
 components_found n (x ∷ es) cs le e =
@@ -105,9 +106,9 @@ filter_map-read (c ∷ cs) = ap (λ (ds : List Field). c ∷ ds) (filter_map-rea
 filter_map-ok : (es : List (Result Field TlvFault)) (cs : List Field) → es ≡ map read_element cs → filter_map result_ok es ≡ cs
 filter_map-ok es cs e = ap (filter_map result_ok) e ∙ filter_map-read cs
 
--- ---- names
+-- ---- reading octets as a name
 
--- octets that are read as a name are the value of that name
+-- if octets are read as a name, they are the TLV-VALUE of this name
 pub name_found : (value : List ℕ) (cs : List Field) → IsBytes value → name_at value ≡ Ok cs → IsNameValue value cs
 unfolding name_at
 name_found value cs fits e =
@@ -115,7 +116,7 @@ name_found value cs fits e =
     let whole = elements_read value cs fits read.0 in
     (whole, (omega (arith, read.1), read.2))
 
--- the value of a name is read as that name
+-- the TLV-VALUE of a name is read as this name
 pub name_again : (value : List ℕ) (cs : List Field) → IsNameValue value cs → name_at value ≡ Ok cs
 unfolding name_at
 name_again value cs h =
@@ -131,7 +132,7 @@ components_of-found value cs fits e =
     let is = components_of-is value cs found in
     (is, subst (IsNameValue value) (sym is) found)
 
--- ---- reading in a loop
+-- ---- reading a name in a loop
 
 -- n components of `value` have been read: `value` reads as some components, followed by the
 -- components that `rest` reads as after n others
@@ -234,7 +235,7 @@ pub name_at-caused : (value : List ℕ) → name_at value ≡ Err Memory → ⊥
 unfolding name_at
 name_at-caused value e = subst IsCaused e (components_caused 0 (elements_of value))
 
--- ---- the value of a name, component by component
+-- ---- the TLV-VALUE of a name, component by component
 
 pub is_shown : (value : List ℕ) (cs : List Field) → IsNameValue value cs → (components_of value ≡ cs) × IsNameValue value (components_of value)
 is_shown value cs h = let is = components_of-is value cs h in (is, subst (IsNameValue value) (sym is) h)
@@ -256,8 +257,9 @@ push_shown value after c h room is short e =
     let text : after ≡ octets_of (cs ++ c ∷ []) = e ∙ ap (λ (t : List ℕ). t ++ element c) h.0.1 ∙ ap (λ (t : List ℕ). octets_of cs ++ t) (sym (append-nil (element c))) ∙ sym (flat_map-append element cs (c ∷ [])) in
     is_shown after (cs ++ c ∷ []) ((AllByRecursion-push IsField cs c h.0.0 field, text), (omega (arith, length-append cs (c ∷ [])), AllByRecursion-push IsComponent cs c h.1.1 is))
 
--- the components of a name are its first component `c`, followed by the components of the remaining
--- octets `after`, which are also the TLV-VALUE of a name
+-- Let the TLV-VALUE `rest` of a name be the component `c` followed by the octets `after`. Then
+-- `after` is also the TLV-VALUE of a name, and `rest` has the component `c` followed by the
+-- components of `after`.
 pub front_shown : (rest after : List ℕ) (c : Field) → IsNameValue rest (components_of rest) → rest ≡ element c ++ after → elements_of rest ≡ read_element c ∷ elements_of after
     → (components_of rest ≡ c ∷ components_of after) × IsNameValue after (components_of after)
 unfolding components_of
@@ -303,8 +305,8 @@ is_empty-shown value b (c ∷ cs) h e =
       λ n. absurd cc,
     )
 
--- the octets of a name are the octets of the components before index i, then those of the component
--- at index i, and then those of the components after it
+-- A name has three parts: the components before index i, the component at index i, and the
+-- components after index i. The octets of the name are the octets of these parts in this order.
 pub place_of : (cs : List Field) (i : ℕ) (c : Field) → slice_get cs i ≡ Some c → octets_of cs ≡ octets_of (take i cs) ++ (element c ++ octets_of (drop (suc i) cs))
 place_of [] i c e = absurd cc
 place_of (d ∷ cs) zero c e = let same : d ≡ c = cc in ap (λ (f : Field). element f ++ octets_of cs) same

@@ -52,7 +52,8 @@ digit u v b c hb hc =
     (λ d k. let lt : v * 256 + c < u * 256 + b = omega arith in rw (e, d, nat_more _ _ lt) refl))
     (λ e h. let lt : v * 256 + c < u * 256 + b = omega arith in rw (e, nat_more _ _ lt) refl)
 
--- the number whose digits in base 256 are those of `u`, followed by these octets
+-- the number whose digits in base 256 are those of the number `u`, followed by the octets of the
+-- list
 abbrev number_after : ℕ → List ℕ → ℕ
 number_after u [] = u
 number_after u (b ∷ bs) = number_after (u * 256 + b) bs
@@ -105,16 +106,16 @@ wide_order w m n p q len =
 abbrev Sorts : List ℕ → List ℕ → ℕ → ℕ → Type 0
 Sorts s t m n = (x y : List ℕ) → slice_cmp nat_cmp (s ++ x) (t ++ y) ≡ ordering_then (nat_cmp m n) (slice_cmp nat_cmp x y)
 
--- if `m` is less than `n`, and the first octet `a` of the encoding of `m` is less than the first
--- octet `b` of the encoding of `n`, the encodings have the order of the numbers
+-- Let `a` be the first octet of the encoding of the number `m`, and `b` that of the number `n`. If
+-- `m` is less than `n`, and `a` is less than `b`, the encodings have the order of the numbers.
 apart_less : (a b : ℕ) (s t : List ℕ) (m n : ℕ) → a < b → m < n → Sorts (a ∷ s) (b ∷ t) m n
 apart_less a b s t m n h k x y = rw (nat_less a b h, nat_less m n k) refl
 
 apart_more : (a b : ℕ) (s t : List ℕ) (m n : ℕ) → b < a → n < m → Sorts (a ∷ s) (b ∷ t) m n
 apart_more a b s t m n h k x y = rw (nat_more a b h, nat_more m n k) refl
 
--- if two encodings have the same first octet and the same length, the encodings have the order of
--- the numbers
+-- if the encodings of `m` and `n` have the same first octet and the same length, the encodings have
+-- the order of `m` and `n`
 alike : (a : ℕ) (w : Width) (m n : ℕ) → IsSpelled w m → IsSpelled w n → length (to_be_bytes w m) ≡ length (to_be_bytes w n) → Sorts (a ∷ to_be_bytes w m) (a ∷ to_be_bytes w n) m n
 alike a w m n p q len x y =
     ap (λ (o : Ordering). ordering_then o (slice_cmp nat_cmp (to_be_bytes w m ++ x) (to_be_bytes w n ++ y))) (tied_itself nat_cmp_total a)
@@ -163,7 +164,7 @@ sorts_by_form m n hm hn (nine a e) (nine b f) = rw (e, f) (alike 255 w64 m n (sp
 sorts : (m n : ℕ) → m < 2 ^ 64 → n < 2 ^ 64 → Sorts (spelling m) (spelling n) m n
 sorts m n hm hn = sorts_by_form m n hm hn (form_of m) (form_of n)
 
--- ---- components and names
+-- ---- the order of components and names
 
 tail_order : (a b x y : List ℕ) → ordering_then (nat_cmp (length a) (length b)) (slice_cmp nat_cmp (a ++ x) (b ++ y))
     ≡ ordering_then (ordering_then (nat_cmp (length a) (length b)) (slice_cmp nat_cmp a b)) (slice_cmp nat_cmp x y)

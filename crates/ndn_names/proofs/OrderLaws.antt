@@ -20,7 +20,7 @@ then_less Lt p e = inl refl
 then_less Equal p e = inr (refl, e)
 then_less Greater p e = absurd cc
 
--- ---- lists: what Less means
+-- ---- a list that is less than another list
 
 -- if the list `a` is less than the list `b`, then `x ∷ a` is less than `x ∷ b`
 later : {X : Type 0} {Below : X → X → Type 0} (x : X) (a b : List X) → IsProperPrefix a b ⊎ DiffersBelow Below a b → IsProperPrefix (x ∷ a) (x ∷ b) ⊎ DiffersBelow Below (x ∷ a) (x ∷ b)
@@ -49,7 +49,7 @@ pub cmp_from_differs : {X : Type 0} {R : X → X → Ordering} {Below : X → X 
 cmp_from_differs {X = X} {R = R} total less a b d =
     ap (λ (t : List X). slice_cmp R t b) d.5 ∙ ap (slice_cmp R (d.0 ++ d.3 ∷ d.1)) d.6 ∙ cmp_after total d.0 (d.3 ∷ d.1) (d.4 ∷ d.2) ∙ ap (λ (o : Ordering). ordering_then o (slice_cmp R d.1 d.2)) (less d.3 d.4 d.7)
 
--- ---- octets
+-- ---- the order of octets
 
 nat_below : (x y : ℕ) → nat_cmp x y ≡ Lt → x < y
 nat_below x y e = ranked x y Lt (sym e)
@@ -67,7 +67,7 @@ octets_below a b len e =
       | inr d ↦ d
     ]
 
--- ---- components
+-- ---- the order of components
 
 pub component_below : (x y : Field) → component_cmp x y ≡ Lt → ComponentLess x y
 component_below x y e =
@@ -87,7 +87,7 @@ component_less x y (inl lt) = rw (nat_less x.0 y.0 lt) refl
 component_less x y (inr (inl p)) = rw (nat_ties x.0 y.0 p.0, nat_less (length x.1) (length y.1) p.1) refl
 component_less x y (inr (inr p)) = rw (nat_ties x.0 y.0 p.0, nat_ties (length x.1) (length y.1) p.1, cmp_from_differs nat_cmp_total nat_less x.1 y.1 p.2) refl
 
--- ---- names
+-- ---- the order of names
 
 pub less-name_cmp : (a b : List Field) → name_cmp a b ≡ Lt → Less a b
 less-name_cmp a b e = differs_from_cmp component_below component_cmp-antisymmetric a b e

@@ -16,7 +16,7 @@ use Rattle.ndn_names.proofs.Names.{bind_ok, done, done_is}
 use Rattle.ndn_names.proofs.TextReading.{test_passed, Lacks}
 use Rattle.ndn_names.proofs.PieceReading.{piece_found, piece_again, piece_shape}
 
--- ---- lists of pieces
+-- ---- reading a list of pieces as components
 
 pub counted_found : (n : ℕ) (r : Result Field NameFault) (c : Field) → cond (ltb n 64) r (Err TooManyComponents) ≡ Ok c → (n < 64) × (r ≡ Ok c)
 counted_found n r c e =
@@ -121,7 +121,7 @@ joined_again (o ∷ text) =
         let back : text ≡ (p ++ joined pieces) ++ h.0 = cc (h.1) in
         (h.0, ap (λ (t : List ℕ). 47 ∷ o ∷ t) back, h.2)
 
--- ---- names
+-- ---- reading the text of a name
 
 -- pieces that read as components are not empty and contain no slash
 each_piece : (pieces : List (List ℕ)) (cs : List Field) → ReadsEach pieces cs → AllByRecursion IsPiece pieces

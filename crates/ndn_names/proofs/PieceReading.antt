@@ -45,7 +45,7 @@ pub cut_lacking : (octet : ℕ) (text : List ℕ) → Lacks octet text → cut_a
 cut_lacking octet [] h = refl
 cut_lacking octet (o ∷ text) h = rw (ne_eqb o octet h.0, cut_lacking octet text h.1) refl
 
--- ---- values of each form
+-- ---- reading a value in each form
 
 plain_found : (kind : ℕ) (text : List ℕ) (c : Field) → Lacks 47 text → plain_in kind text ≡ Ok c → (c.0 ≡ kind) × IsValueText text c.1 × IsComponent c
 plain_found kind text c slash e =
@@ -79,7 +79,7 @@ numbered_found kind text c e =
 numbered_again : (text : List ℕ) (c : Field) → IsNumeral 10 text → digits_value 10 text < 2 ^ 64 → c.1 ≡ shortest_nni (digits_value 10 text) → numbered_in c.0 text ≡ Ok c
 numbered_again text c h small is = rw (number_again text h small) (ap (λ (v : List ℕ). Ok (c.0, v)) (sym is))
 
--- ---- components
+-- ---- reading a piece as a component
 
 -- if a piece with an equals sign is read as a component, the grammar `ReadsComponent` allows this
 -- reading
@@ -118,8 +118,9 @@ piece_found piece c slash e =
           typed_found piece parts.0 parts.1 c lacking.1.1 cut.0 e
     ] (cut_found 61 piece) e
 
--- if `type_name` contains no equals sign, `component_in` returns for the piece made of `type_name`,
--- an equals sign and `text` what `typed_in` returns for `type_name` and `text`
+-- Let a piece consist of `type_name`, an equals sign and `text`, where `type_name` contains no
+-- equals sign. Then `component_in` returns for this piece what `typed_in` returns for `type_name`
+-- and `text`.
 piece_cut : (piece type_name text : List ℕ) → piece ≡ type_name ++ 61 ∷ text → Lacks 61 type_name → component_in piece ≡ typed_in type_name text (kind_of type_name)
 unfolding component_in
 piece_cut piece type_name text is lacking = ap (component_by_cut piece) (ap (cut_at 61) is ∙ cut_again 61 type_name text lacking)

@@ -58,7 +58,7 @@ length-hexadecimal : (is_upper : Bool) (octets : List ℕ) → length (flat_map 
 length-hexadecimal is_upper [] = refl
 length-hexadecimal is_upper (o ∷ octets) = omega (arith, length-hexadecimal is_upper octets)
 
--- ---- values
+-- ---- the text of a value reads as this value
 
 escaped_reads : (o : ℕ) → o < 256 → IsOctetText (escaped o) o
 escaped_reads o lt =
@@ -100,7 +100,7 @@ escaped_lack (o ∷ octets) h =
     (LacksEquals-from_test (escaped o) (passes_below (λ n. is_without_equals (escaped n)) 256 o refl h.0))
     (escaped_lack octets h.1)
 
--- ---- numbers
+-- ---- values that are the shortest encoding of a number
 
 IsBytes-from_below : (octets : List ℕ) → AreBelow256 octets → IsBytes octets
 IsBytes-from_below [] h i = omega arith
@@ -131,7 +131,7 @@ shortest_number_found value n h e = found (nni_at value) refl e
         (IsNni-below value m (nni_found value m (IsBytes-from_below value h) read), sym same)
     found (Err f) read e = absurd cc
 
--- ---- components
+-- ---- the text of a component reads as this component
 
 plain_reads : (c : Field) → IsComponent c → AreBelow256 c.1 → ReadsComponent (plain_text c) c
 plain_reads c is h =
@@ -159,7 +159,7 @@ text_reads c is h (Some type_name) named =
     (λ e. digest_reads c type_name is h named (leb-true c.0 2 e))
     (λ e. number_reads c type_name is h named (leb-false c.0 2 e) (shortest_number c.1) refl)
 
--- ---- names
+-- ---- the text of a name reads as this name
 
 components_read : (cs : List Field) → AllByRecursion IsComponent cs → AreOctets cs → ReadsEach (map component_text cs) cs
 components_read [] are h = tt
@@ -169,7 +169,7 @@ pub name_reads : (cs : List Field) → IsName cs → AreOctets cs → ReadsAs (u
 name_reads cs is h =
     ([], [], map component_text cs, sym (append-nil (uri_of cs)), inl refl, inl refl, components_read cs is.1 h, is)
 
--- ---- octets that are the value of a name
+-- ---- octets that are the TLV-VALUE of a name
 
 IsBytes-front : (xs ys : List ℕ) → IsBytes (xs ++ ys) → IsBytes xs
 IsBytes-front xs ys h = subst IsBytes (take_at xs ys (length xs) refl) (IsBytes-take (length xs) (xs ++ ys) h)

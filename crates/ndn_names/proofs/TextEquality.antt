@@ -16,10 +16,10 @@ use Rattle.ndn_names.proofs.ComponentTexts.{before_found}
 use Rattle.ndn_names.proofs.PathReading.{counted_found, pieces_none, text_found, text_again}
 use Rattle.ndn_names.proofs.NameReading.{named, HasNamed, named_full}
 
--- ---- octets
+-- ---- comparing the octets that two texts read as
 
--- if `said` is `first` followed by `rest`, and `said` also begins with `octet` followed by
--- `octets`, then `first` equals `octet`, and `rest` begins with `octets`
+-- Let `said` be the octet `first` followed by the octets `rest`. If `said` also begins with `octet`
+-- followed by `octets`, then `first` equals `octet`, and `rest` begins with `octets`.
 pub said_first : (said rest octets : List ℕ) (first octet : ℕ) → said ≡ first ∷ rest → take (suc (length octets)) said ≡ octet ∷ octets → (first ≡ octet) × (take (length octets) rest ≡ octets)
 said_first said rest octets first octet e h =
     let both : first ∷ take (length octets) rest ≡ octet ∷ octets = sym (ap (take (suc (length octets))) e) ∙ h in
@@ -110,7 +110,7 @@ none_left left a b x y h none = h.same.1 (empty h.x_left h.y_left h.a_long h.b_l
     empty [] (p ∷ ys) a_long b_long = absurd (omega arith)
     empty (o ∷ xs) ys a_long b_long = absurd (omega arith)
 
--- ---- components
+-- ---- equality of components
 
 pub fields_apart : (x y : Field) → ((x.0 ≡ y.0) → (x.1 ≡ y.1) → ⊥) → x ≢ y
 fields_apart x y h e = h (ap (λ (f : Field). f.0) e) (ap (λ (f : Field). f.1) e)
@@ -118,7 +118,7 @@ fields_apart x y h e = h (ap (λ (f : Field). f.0) e) (ap (λ (f : Field). f.1) 
 pub same_field : (x y : Field) → x.0 ≡ y.0 → x.1 ≡ y.1 → x ≡ y
 same_field x y kinds values = λ i. (kinds i, values i)
 
--- ---- pieces
+-- ---- comparing names piece by piece
 
 named_ok : (cs : List Field) (r : Result (List Field) NameFault) (all : List Field) → named cs r ≡ Ok all → (ds : List Field) × (r ≡ Ok ds) × (all ≡ cs ++ ds)
 named_ok cs (Ok ds) all e = (ds, refl, sym (done_is (cs ++ ds) all e))
@@ -166,8 +166,8 @@ pieces_apart count cs a b a_rest b_rest a_piece b_piece a_after b_after ha hb sa
 some_long : (c : Field) (ds all : List Field) → done (c ∷ ds) ≡ Ok all → 0 < length all
 some_long c ds all e = let whole : length (c ∷ ds) ≡ length all = ap length (done_is (c ∷ ds) all e) in omega arith
 
--- if two texts begin with the same components `cs`, and after these components text remains only in
--- the second one, the two texts do not read as the same name
+-- Let two texts begin with the same components `cs`. If text remains after these components in the
+-- second text only, the two texts do not read as the same name.
 pub longer : (count : ℕ) (cs : List Field) (a b a_rest b_rest : List ℕ) → HasNamed count cs a a_rest → HasNamed count cs b b_rest → a_rest ≡ [] → b_rest ≢ [] → (all : List Field)
     → components_in 0 (pieces_of a) ≡ Ok all → components_in 0 (pieces_of b) ≡ Ok all → ⊥
 longer count cs a b a_rest b_rest ha hb none some all ea eb = further (pieces_of b_rest) refl
@@ -183,7 +183,7 @@ longer count cs a b a_rest b_rest ha hb none some all ea eb = further (pieces_of
         let others = bind_ok (components_in (count + 1) pieces) (λ ds. Ok (here.0 ∷ ds)) read.0 here.2 in
         omega (arith, some_long here.0 others.0 read.0 others.2, ap length is, ap length read.2, length-append cs read.0)
 
--- ---- texts
+-- ---- comparing the whole texts of names
 
 pub both_named : (a b a_path b_path : List ℕ) → name_in a ≡ components_in 0 (pieces_of a_path) → name_in b ≡ components_in 0 (pieces_of b_path) → (cs : List Field) → ReadsAs a cs → ReadsAs b cs → AreOne a_path b_path
 both_named a b a_path b_path ea eb cs ra rb = (cs, sym ea ∙ text_again a cs ra, sym eb ∙ text_again b cs rb)
@@ -191,7 +191,7 @@ both_named a b a_path b_path ea eb cs ra rb = (cs, sym ea ∙ text_again a cs ra
 pub one_name : (a b a_path b_path : List ℕ) → name_in a ≡ components_in 0 (pieces_of a_path) → name_in b ≡ components_in 0 (pieces_of b_path) → AreOne a_path b_path → (cs : List Field) × ReadsAs a cs × ReadsAs b cs
 one_name a b a_path b_path ea eb one = (one.0, text_found a one.0 (ea ∙ one.1), text_found b one.0 (eb ∙ one.2))
 
--- ---- values
+-- ---- the octets that the text of a value reads as
 
 pub value_said : (len : ℕ) (value : ValueText) (octets : List ℕ) → ((n : ℕ) → value ≡ Number n → ⊥) → len ≡ length octets → value_in len value ≡ Ok octets → SaysFirst value octets
 value_said len (Plain text) octets other long e = (text.now, refl, ap (take (length octets)) (done_is text.now octets e) ∙ take_all (length octets) octets (omega arith))

@@ -13,7 +13,7 @@ use Rattle.ndn_names.proofs.Names.{bind_ok, done, done_is}
 use Rattle.ndn_names.specs.ReadsAs.{IsHexPair, IsHex, IsOctetText, StandsFor}
 use Rattle.ndn_names.specs.UriReading.{pair_in, before, hex_in, octets_in, unpadded}
 
--- ---- steps
+-- ---- steps of a reading that may fail
 
 -- if `cond b r (Err BadUri)` is `Ok y`, the test `b` has passed, and `r` is `Ok y`
 pub test_passed : {A : Type 0} (b : Bool) (r : Result A NameFault) (y : A) → cond b r (Err BadUri) ≡ Ok y → (b ≡ true) × (r ≡ Ok y)
@@ -81,8 +81,8 @@ plain_found a text octets e sign slash found =
     let b = before_found a (octets_in text) octets (sym (octets_plain a text sign) ∙ e) in
     subst (StandsFor (a ∷ text)) (sym b.2) (a ∷ [], text, refl, inl (refl, sign, slash), found b.0 b.1)
 
--- if a text begins with an escape and reads as `octets`, and the text after the escape stands for
--- whatever it reads as, the whole text stands for `octets`
+-- Let a text begin with an escape and read as `octets`. If the text after the escape stands for
+-- whatever octets it reads as, the whole text stands for `octets`.
 escaped_found : (a b c : ℕ) (text octets : List ℕ) → octets_in (a ∷ b ∷ c ∷ text) ≡ Ok octets → a ≡ 37
     → ((others : List ℕ) → octets_in text ≡ Ok others → StandsFor text others) → StandsFor (a ∷ b ∷ c ∷ text) octets
 escaped_found a b c text octets e is found =

@@ -57,8 +57,8 @@ type_again kind some narrow =
 
 -- ---- type names for types
 
--- if `cond b (Some x) others` is `Some y`, then `y` has the property `P`; the premises are that `x`
--- has this property if `b` is true, and that the value in `others` has it
+-- Let `x` have the property `P` if `b` is true, and let the value in `others` have this property.
+-- If `cond b (Some x) others` is `Some y`, then `y` has this property.
 tested : {A : Type 0} (b : Bool) (x : A) (others : Option A) (y : A) (P : A → Type 0) → (b ≡ true → P x) → (others ≡ Some y → P y) → cond b (Some x) others ≡ Some y → P y
 tested true x others y P here after e = let same : x ≡ y = cc in subst P same (here refl)
 tested false x others y P here after e = after e

@@ -16,7 +16,7 @@ use Rattle.ndn_names.specs.Reading.{name_at}
 use Rattle.ndn_names.proofs.Names.{name_again}
 use Rattle.ndn_requests.specs.Commands.{IsWhole, as_read, fields_read}
 
--- ---- elements
+-- ---- reading elements that were written
 
 -- the first element is read, whatever follows it
 pub front_read : (f : Field) (rest : List ℕ) → IsField f → elements_of (element f ++ rest) ≡ as_read f ∷ elements_of rest
@@ -32,7 +32,7 @@ one_read f ok = ap elements_of (sym (append-nil (element f)) ∙ sym (flat_map-c
 pub value_fits : (kind : ℕ) (value : List ℕ) → length (element (kind, value)) < 2 ^ 64 → length value < 2 ^ 64
 value_fits kind value lt = omega (arith, lt, length-element kind value)
 
--- ---- fields
+-- ---- reading fields that were written
 
 pub first_other : (kind k : ℕ) (value : Option (List ℕ)) (rest : List Field) → (k == kind) ≡ false → first_of kind (fields_read (optional k value ++ rest)) ≡ first_of kind (fields_read rest)
 first_other kind k None rest apart = refl
@@ -50,7 +50,7 @@ pub last_other : (kind k : ℕ) (value : Option (List ℕ)) → (k == kind) ≡ 
 last_other kind k None apart = refl
 last_other kind k (Some v) apart = rw apart refl
 
--- ---- values
+-- ---- reading values that were written
 
 pub number_read : (n : ℕ) → n < 2 ^ 64 → nni_at (shortest_nni n) ≡ Ok n
 number_read n lt = shortest_again n lt
@@ -65,7 +65,7 @@ at_right [] ys i k is = ap (slice_get ys) (is ∙ zero-add k)
 at_right (x ∷ xs) ys zero k is = absurd (omega arith)
 at_right (x ∷ xs) ys (suc i) k is = at_right xs ys i k (omega arith)
 
--- ---- names
+-- ---- names that are written
 
 -- if all members of `xs ++ ys` have a property, then all members of `ys` have it
 pub part_right : {X : Type 0} (P : X → Type 0) (xs ys : List X) → AllByRecursion P (xs ++ ys) → AllByRecursion P ys

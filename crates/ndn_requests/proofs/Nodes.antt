@@ -59,7 +59,7 @@ optional_strategy None whole fit = refl
 optional_strategy (Some name) whole fit =
     rw (one_read (7, octets_of name) (lit≤ tt, lit< tt, value_fits 7 (octets_of name) fit), name_read name whole) refl
 
--- ---- the parameters
+-- ---- the parameters of the command
 
 abbrev asked_from : Action → List Field → Option ℕ → Option ℕ → Option ℕ → Option ℕ → Option ℕ → Option (List Field) → Option ℕ → PlainCommand
 asked_from action n f o c g e s k = record {
@@ -191,7 +191,7 @@ module _ (action : Action) (p : Parameters) where
       ∙ ap (λ (ok : Bool). answer action ok (name_in es) (number_in 105 es) (number_in 111 es) (number_in 106 es) (number_in 108 es) (number_in 109 es) (strategy_in es) (number_in 132 es)) (ap₂ (λ (a b : Bool). a && b) first second)
       ∙ rw (name, faces, origins, costs, flagged, periods, strategies, counts) (chosen (list_all (λ kind. takes kind row) (kinds p)) (list_all (λ kind. has kind (kinds p)) row.needs) (is_root p.name && not row.takes_root) (asked_of action p))
 
--- ---- the name
+-- ---- the name of the command
 
 place : (action : Action) (p : Parameters) (digest : List ℕ) → command_at (signed_name (node_name action) p digest) ≡ or_status 400 (single 104 (elements_of (element (104, octets (node_fields p)))) >>= (λ parameters. command_of action (elements_of parameters)))
 unfolding command_before_digest action_at parameters_at

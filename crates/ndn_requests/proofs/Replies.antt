@@ -29,7 +29,7 @@ use Rattle.ndn_requests.specs.Reply.{code_in, content_outcome, done_if, is_inser
 use Rattle.ndn_requests.specs.Shown.{fields_shown, flags_shown, node_shown, repository_shown, status_shown, strategy_shown}
 use Rattle.ndn_requests.proofs.Back.{IsType, all_read, first_here, first_other, fields_fit, front_read, last_here, last_other, name_read, number_read, one_read, optional_all, value_fits}
 
--- ---- values as text
+-- ---- the values of fields as text
 
 number_is : (n : ℕ) → n < 2 ^ 64 → number_text (shortest_nni n) ≡ decimal n
 number_is n lt = rw (number_read n lt) refl
@@ -83,7 +83,7 @@ strategies_are : (strategy : Option StrategyId) → option_map (form_text Strate
 strategies_are None = refl
 strategies_are (Some s) = ap (λ t. Some t) (strategy_is s)
 
--- ---- the fields in a reply of the node
+-- ---- the text of the fields in a reply of the node
 
 given_fits : (taken : Bool) (n : Option ℕ) → Fits64 n → Fits64 (if taken then n else None)
 given_fits true n fit = fit

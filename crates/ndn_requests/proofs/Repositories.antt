@@ -32,7 +32,7 @@ verb_again Insert = refl
 verb_again Delete = refl
 verb_again Check = refl
 
--- ---- parameters
+-- ---- the parameters of the command
 
 all_can : (fields : List Field) → list_all can_be_read (fields_read fields) ≡ true
 all_can [] = refl
@@ -57,7 +57,7 @@ types name false None = ((lit≤ tt, lit< tt), tt)
 types name true (Some n) = ((lit≤ tt, lit< tt), ((lit≤ tt, lit< tt), ((lit≤ tt, lit< tt), tt)))
 types name false (Some n) = ((lit≤ tt, lit< tt), ((lit≤ tt, lit< tt), tt))
 
--- ---- names
+-- ---- the name of the command
 
 abbrev tail_of : Verb → List ℕ → List ℕ → List Field
 tail_of verb value digest = (8, (verb_row verb).word) ∷ (8, value) ∷ (2, digest) ∷ []

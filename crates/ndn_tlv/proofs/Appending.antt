@@ -9,8 +9,8 @@ use Rattle.ndn_tlv.specs.declared.memory.Memory.{Memory}
 use Rattle.ndn_tlv.specs.Writing.{Puts}
 use Rattle.ndn_tlv.proofs.Lengths.{begins_more}
 
--- a call satisfies `Puts` if it appends all of `octets` when it succeeds and nothing when it fails,
--- succeeds if the capacity suffices, and does not reduce the capacity
+-- Let a call append all of `octets` if it succeeds, and nothing if it fails. If it also succeeds
+-- whenever the capacity suffices, and does not reduce the capacity, it satisfies `Puts`.
 pub puts_one : (old new : Vec ℕ) (result : Result (Unit {0}) Memory) (octets : List ℕ)
     → OnOk result (new.items ≡ old.items ++ octets) → OnErr result (new.items ≡ old.items)
     → (vec_len old + length octets ≤ vec_capacity old → IsOk result)
@@ -28,8 +28,8 @@ puts_one old new (Err fault) octets ok err room capacity = record {
   capacity = capacity;
 }
 
--- if a call succeeds and satisfies `Puts` for the octets `front`, and the next call satisfies
--- `Puts` for the octets `back`, the two calls together satisfy `Puts` for `front ++ back`
+-- Let a call satisfy `Puts` for the octets `front` and succeed, and let the next call satisfy
+-- `Puts` for the octets `back`. Then both calls together satisfy `Puts` for `front ++ back`.
 pub puts_both : (old mid new : Vec ℕ) (before : Unit {0}) (result : Result (Unit {0}) Memory) (front back : List ℕ)
     → Puts old mid (Ok before) front → Puts mid new result back → Puts old new result (front ++ back)
 puts_both old mid new before (Ok done) front back p q = record {
@@ -45,7 +45,8 @@ puts_both old mid new before (Err fault) front back p q = record {
   capacity = omega (arith, p.capacity, q.capacity);
 }
 
--- if `octets` and `others` are equal, `Puts` for `octets` implies `Puts` for `others`
+-- if `octets` equals `others`, a call that satisfies `Puts` for `octets` also satisfies `Puts` for
+-- `others`
 pub puts_same : (old new : Vec ℕ) (result : Result (Unit {0}) Memory) (octets others : List ℕ)
     → octets ≡ others → Puts old new result octets → Puts old new result others
 puts_same old new result octets others same p = subst (λ (x : List ℕ). Puts old new result x) same p

@@ -26,7 +26,7 @@ done x = Ok x
 done_is : {A : Type 0} (x y : A) → done x ≡ done y → x ≡ y
 done_is x y e = cc
 
--- ---- types
+-- ---- reading the type of an element
 
 abbrev checked : ℕ × List ℕ → Result (ℕ × List ℕ) TlvFault
 checked kind = cond (eqb kind.0 0) (Err TypeZero) (cond (ltb kind.0 (2 ^ 32)) (Ok kind) (Err TypeTooLarge))
@@ -69,7 +69,7 @@ type_found bytes x fits e =
     let n = number_found bytes b.0.0 b.0.1 fits b.1 in
     subst (λ (y : ℕ × List ℕ). (1 ≤ y.0) × (y.0 < 2 ^ 32) × (bytes ≡ spelling y.0 ++ y.1)) c.0 (c.1, c.2, n.1)
 
--- ---- elements
+-- ---- reading the first element
 
 abbrev sized : ℕ → ℕ × List ℕ → Result (Field × List ℕ) TlvFault
 sized kind len = cond (ltb (length len.1) len.0) (Err Truncated) (Ok ((kind, take len.0 len.1), drop len.0 len.1))
@@ -110,7 +110,7 @@ element_found bytes f rest fits e =
     let whole : bytes ≡ element (kind.0, value) ++ after = t.2 ∙ ap (λ (x : List ℕ). spelling kind.0 ++ x) (inner ∙ sym (append_assoc (spelling (length value)) value after)) ∙ sym (append_assoc (spelling kind.0) (spelling (length value) ++ value) after) in
     subst (λ (y : Field × List ℕ). IsField y.0 × (bytes ≡ element y.0 ++ y.1)) (done_is made (f, rest) g.1) ((t.0, t.1, omega (arith, size, n.0)), whole)
 
--- ---- octets at which no element can be read
+-- ---- octets that do not begin with an element
 
 number_faults : (bytes : List ℕ) (f : TlvFault) → NumberFault bytes f → ElementFault bytes f
 number_faults bytes Truncated h = inl h
@@ -158,7 +158,7 @@ element_fault bytes f fits e =
           ]
     ]
 
--- ---- elements in sequence
+-- ---- reading elements in sequence
 
 -- if both alternatives of a conditional have a property, the conditional has this property
 chosen : {R : Type 0} (c : Bool) (x y : R) (P : R → Type 0) → P x → P y → P (cond c x y)
@@ -187,7 +187,8 @@ number_leaves (b ∷ bytes) x e =
     let all = chosen (ltb b 253) (done (b, bytes)) (cond (eqb b 253) (long_number_at w16 253 bytes) (cond (eqb b 254) (long_number_at w32 (2 ^ 16) bytes) (long_number_at w64 (2 ^ 32) bytes))) (Leaves (length bytes)) one more in
     omega (arith, all x e)
 
--- if `element_at` returns an element, fewer octets follow the element than the whole text has
+-- if `element_at` reads an element from `bytes`, the octets after this element are fewer than the
+-- octets in `bytes`
 pub element_leaves : (bytes : List ℕ) (x : Field × List ℕ) → element_at bytes ≡ Ok x → length x.1 < length bytes
 element_leaves bytes x e =
     let a = bind_ok (type_at bytes) valued x (sym (element_is bytes) ∙ e) in
@@ -282,8 +283,8 @@ reads_same (f ∷ fs) (g ∷ gs) e =
     let others = reads_same fs gs is.1 in
     cc
 
--- if `elements_of` returns elements and no fault, the text is the concatenation of these elements,
--- and all of them are valid
+-- if `elements_of` returns elements and no fault, all of them are valid, and the octets that were
+-- read are the concatenation of these elements
 pub elements_read : (bytes : List ℕ) (fields : List Field) → IsBytes bytes → elements_of bytes ≡ map (λ f. read f) fields → IsElements bytes fields
 elements_read [] [] fits e = (tt, refl)
 elements_read [] (f ∷ fields) fits e = let no = elements_of-nil in absurd cc
@@ -305,7 +306,7 @@ elements_exact bytes fields p = ap elements_of p.1 ∙ elements_again fields p.0
 pub elements_same : (fs gs : List Field) → AllByRecursion IsField fs → AllByRecursion IsField gs → flat_map element fs ≡ flat_map element gs → fs ≡ gs
 elements_same fs gs p q e = reads_same fs gs (sym (elements_again fs p) ∙ ap elements_of e ∙ elements_again gs q)
 
--- ---- the result of a reader of the first element
+-- ---- functions that return the same as `element_at`
 
 abbrev pub seen : ℕ → List ℕ → List ℕ → Result (Field × List ℕ) TlvFault
 seen kind value rest = Ok ((kind, value), rest)
@@ -364,8 +365,8 @@ next_refused (Err f) fault e = let same : f ≡ fault = cc in ap (λ (d : TlvFau
 not_nothing : (b : ℕ) (bytes : List ℕ) → b ∷ bytes ≡ [] → ⊥
 not_nothing b bytes e = cc
 
--- The text is the valid elements `fields`, followed by at least one more octet. `fault` is the
--- reason why no element can be read after `fields`.
+-- `text` consists of the valid elements `fields` and at least one more octet. `fault` is the reason
+-- why no element can be read after `fields`.
 pub record EndsInFault (text : List ℕ) (fields : List Field) (fault : TlvFault) : Type 0 where
   pub rest : List ℕ
   pub parts : text ≡ flat_map element fields ++ rest

@@ -1,5 +1,5 @@
 -- NonNegativeIntegers: `nni_at` reads exactly the valid encodings, and `shortest_nni` is the
--- shortest one.
+-- shortest encoding.
 use Rattle.std.proofs.Common.{◌≡◌, ℕ, ◌^◌, ◌<◌, ◌≤◌, ◌⊎◌, Bool, true, false, cond, eqb, List, [], ◌∷◌, length, get_or, Result, Ok, Err, refl, sym, ap, ◌∙◌, arith, inl, inr}
 use Rattle.std.specs.Prelude.{IfOk, IfErr}
 use Rattle.std.specs.Int.{Width, w16, w32, w64, byte_len, from_be_bytes, to_be_bytes}
@@ -89,7 +89,7 @@ nni_again bytes n (inr (inr (inr p))) = ap nni_at p.1 ∙ nni_at-eight n ∙ ap 
 pub nni_alone : (bytes : List ℕ) (n m : ℕ) → IsNni bytes n → IsNni bytes m → n ≡ m
 nni_alone bytes n m p q = integer_is n m (sym (nni_again bytes n p) ∙ nni_again bytes m q)
 
--- ---- the shortest form
+-- ---- the shortest encoding of a NonNegativeInteger
 
 shortest_one : (n : ℕ) → n < 2 ^ 8 → shortest_nni n ≡ n ∷ []
 unfolding shortest_nni
@@ -155,7 +155,7 @@ shortest_is_least n text (inr (inr (inr p))) = omega (arith, length-shortest_eig
 pub shortest_again : (n : ℕ) → n < 2 ^ 64 → nni_at (shortest_nni n) ≡ Ok n
 shortest_again n h = nni_again (shortest_nni n) n (nni_of_shortest n h)
 
--- ---- the result of a reader of a NonNegativeInteger
+-- ---- functions that return the same as `nni_at`
 
 pub nni_of-found : (bytes : List ℕ) (r : Result ℕ TlvFault) → IsBytes bytes → r ≡ nni_at bytes → IfOk r (IsNni bytes)
 nni_of-found bytes (Ok n) fits e = nni_found bytes n fits (sym e)

@@ -23,12 +23,13 @@ number_fits kind n lt =
     let one = length-spelling_one (length (shortest_nni n)) (omega (arith, few)) in
     omega (arith, few, one, length-element kind (shortest_nni n), length-spelling_one kind lt)
 
--- if the type, the length and then the value are appended, an element has been appended
+-- appending a type, the length of a value, and then this value appends the element with this type
+-- and value
 pub element_put : (old : List ℕ) (kind len : ℕ) (value : List ℕ) → len ≡ length value → (old ++ (spelling kind ++ spelling len)) ++ value ≡ old ++ element (kind, value)
 element_put old kind len value is = rw is (simp append_assoc)
 
--- if the octets `front` begin with the octets `old`, and `new` begins with `front`, then `new`
--- begins with `old`
+-- if the octets `new` begin with the octets `front`, and `front` begins with the octets `old`, then
+-- `new` begins with `old`
 pub begins_more : (old front new tail : List ℕ) (n m : ℕ) → n ≡ length old → m ≡ length front → front ≡ old ++ tail → take m new ≡ front → take n new ≡ old
 begins_more old front new tail n m at following is begins =
     let short : n ≤ m = omega (arith, ap length is, length-append old tail) in

@@ -83,7 +83,7 @@ wide64 = record {
   below = λ bytes fits. omega (arith, fits 0, fits 1, fits 2, fits 3, fits 4, fits 5, fits 6, fits 7);
 }
 
--- ---- the shortest form
+-- ---- the shortest encoding of a number
 
 spelling_one : (n : ℕ) → n < 253 → spelling n ≡ n ∷ []
 unfolding spelling
@@ -187,7 +187,8 @@ form_beats text n (inr (inr (inr f))) =
       | inr a ↦ beats_same text n (f.1 ∙ sym (spelling_nine n a))
     ]
 
--- a text that `Spells` a number is the `spelling` of the number
+-- if octets encode a number by `Spells`, this number is below 2^64, and the octets are its
+-- `spelling`
 pub Spells-is : (text : List ℕ) (n : ℕ) → Spells text n → (n < 2 ^ 64) × (text ≡ spelling n)
 Spells-is text n s =
     let below = form_below text n s.0 in
@@ -201,8 +202,9 @@ Spells-spelling n h = (form_of_spelling n h, λ other f. (form_beats other n f).
 pub Spells-from : (text : List ℕ) (n : ℕ) → (n < 2 ^ 64) × (text ≡ spelling n) → Spells text n
 Spells-from text n p = rw p.1 (Spells-spelling n p.0)
 
--- the shortest encoding of a number is, depending on the size of the number, the number itself in
--- one octet, or an octet 253, 254 or 255 followed by the number in 2, 4 or 8 octets
+-- The form of the shortest encoding depends on the size of the number. A number below 253 is
+-- encoded as itself in one octet. For a greater number, an octet 253, 254 or 255 is followed by the
+-- number in 2, 4 or 8 octets.
 pub spelling_head : (n : ℕ) (x : List ℕ) → ((n < 253) × (spelling n ++ x ≡ n ∷ x)) ⊎ (((253 ≤ n) × (n < 2 ^ 16) × (spelling n ++ x ≡ 253 ∷ (to_be_bytes w16 n ++ x))) ⊎ (((2 ^ 16 ≤ n) × (n < 2 ^ 32) × (spelling n ++ x ≡ 254 ∷ (to_be_bytes w32 n ++ x))) ⊎ ((2 ^ 32 ≤ n) × (spelling n ++ x ≡ 255 ∷ (to_be_bytes w64 n ++ x)))))
 spelling_head n x =
     elim (cases_lt n 253) [
@@ -216,7 +218,7 @@ spelling_head n x =
       ]
     ]
 
--- ---- reading
+-- ---- reading a number from the first octets
 
 -- if `cond b (Err d) r` equals `Ok y`, the condition `b` is false, and `r` equals `Ok y`
 pub guard_ok : {A : Type 0} (b : Bool) (d : TlvFault) (r : Result A TlvFault) (y : A) → cond b (Err d) r ≡ Ok y → (b ≡ false) × (r ≡ Ok y)
@@ -241,8 +243,8 @@ long_again w limit wide least n rest lt le =
     let long : ltb (length (to_be_bytes w n ++ rest)) (byte_len w) ≡ false = le-ltb _ _ (omega (arith, length-append (to_be_bytes w n) rest)) in
     rw (long, take_at (to_be_bytes w n) rest (byte_len w) len, drop_at (to_be_bytes w n) rest (byte_len w) len, wide.again n lt, le-ltb n least le) refl
 
--- if there are at least `byte_len w` octets, the number that the first `byte_len w` of them encode
--- is below `limit`, and these octets are the big-endian encoding of this number
+-- Let there be at least `byte_len w` octets. Then the first `byte_len w` of them encode a number
+-- below `limit`, and are the big-endian encoding of this number.
 long_front : (w : Width) (limit : ℕ) (wide : IsWide w limit) (bytes : List ℕ) → IsBytes bytes → byte_len w ≤ length bytes → (from_be_bytes w (take (byte_len w) bytes) < limit) × (bytes ≡ to_be_bytes w (from_be_bytes w (take (byte_len w) bytes)) ++ drop (byte_len w) bytes)
 long_front w limit wide bytes fits long =
     let front = wide.back (take (byte_len w) bytes) (omega (arith, length-take (byte_len w) bytes)) (IsBytes-take (byte_len w) bytes fits) in
@@ -259,8 +261,8 @@ long_found w limit wide least bytes n rest fits e =
     let least_is : least ≤ v = ltb-false _ _ h.0 in
     (subst (λ (m : ℕ). bytes ≡ to_be_bytes w m ++ rest) is.0 (subst (λ (r : List ℕ). bytes ≡ to_be_bytes w v ++ r) is.1 front.1), rw (← is.0) front.0, rw (← is.0) least_is)
 
--- why octets that follow a first octet of 253, 254 or 255 cannot be read as a number: `Truncated`
--- if octets are missing, or `NotShortest` if the number is below `least`
+-- Why no number can be read from the octets after a first octet of 253, 254 or 255. The fault is
+-- `Truncated` if octets are missing, or `NotShortest` if the number is below `least`.
 abbrev LongFault : Width → ℕ → ℕ → List ℕ → TlvFault → Type 0
 LongFault w limit least bytes f =
     ((f ≡ Truncated) × ((missing : List ℕ) × (n : ℕ) × (missing ≢ []) × (n < limit) × (bytes ++ missing ≡ to_be_bytes w n)))

@@ -22,8 +22,8 @@ flat_map-take_next f (y ∷ ys) (suc i) x h =
 pub appended : (a b c d e : List ℕ) → a ≡ b ++ c → b ≡ d ++ e → a ≡ d ++ (e ++ c)
 appended a b c d e h k = h ∙ ap (λ (t : List ℕ). t ++ c) k ∙ append_assoc d e c
 
--- if memory runs out for one element, after the texts of the elements before it were appended,
--- `Puts` with this fault holds for the texts of all elements
+-- Let the texts of the first `i` elements be appended, and let memory run out for the next element.
+-- Then `Puts` with this fault holds for the texts of all elements.
 pub puts_refused : {X : Type 0} (f : X → List ℕ) (xs : List X) (i : ℕ) (x : X) (old mid new : Vec ℕ) (e : Memory) → slice_get xs i ≡ Some x
     → mid.items ≡ old.items ++ flat_map f (take i xs) → vec_capacity old ≤ vec_capacity mid → Puts mid new (Err e) (f x) → Puts old new (Err e) (flat_map f xs)
 puts_refused f xs i x old mid new e is text capacity p =

@@ -25,7 +25,7 @@ abbrev pub SpellSoFar : List ℕ → List ℕ → ℕ → ℕ → Type 0
 SpellSoFar digits octets i greatest =
     greatest < 16 → decode_pairs 0 digits ≡ prepend (take i octets) (decode_pairs (2 * i) (drop (2 * i) digits))
 
--- if the greatest value is 16 or more, some octet is not a digit
+-- if the greatest value of the digits read so far is 16 or more, some octet is not a digit
 abbrev pub HasNoDigit : List ℕ → ℕ → Type 0
 HasNoDigit digits greatest = 16 ≤ greatest → (k : ℕ) × (k < length digits) × (is_hex_digit (slice_index digits k) ≡ false)
 

@@ -36,7 +36,8 @@ first_is_new rules keys repo cache = record {
   stands = new_stands (first_policy rules keys repo) cache;
 }
 
--- if a node was created, then `why` is None, so `MatchOption why P Q` is true if `P` is true
+-- `why` is the fault because of which no node can be created, or None if there is no such fault. If
+-- a node was created, and `P` is true, then `MatchOption why P Q` is true.
 pub made_of_good_parts : {N : Type 0} (P : Type 0) (Q : NodeFault → Type 0) (why : Option NodeFault) (made : Result N NodeFault) (node : N) → made ≡ Ok node
     → MatchOption why (IfErr made (λ f. f ≡ Memory)) (λ f. made ≡ Err f) → P → MatchOption why P Q
 made_of_good_parts P Q None made node is h p = p

@@ -26,7 +26,7 @@ use Rattle.forwarder.proofs.LaterMoments.{after_rules}
 use Rattle.node_core.proofs.Outcomes.{AreOutcomes-append}
 use Rattle.node_core.proofs.Known.{Keeps-from_none, Appends-start, Appends-then, AppendsFront-all}
 
--- ---- one answer
+-- ---- the answer to one event
 
 pub record HasOutcome (old new : NodeState) (event : PlainEvent) (outcome : Result Verdict Memory) (out : List Send) : Type 0 where
   pub done_as : Outcome
@@ -95,7 +95,7 @@ PlaysEvent-from_step from to event outcome rules held out none ok err quiet is s
       events = events;
     }
 
--- ---- one line
+-- ---- the run of one line
 
 pub Plays-skipped : (line : List ℕ) (from to : Place) → Lacks 10 line → IsSkipped line → to.node ≡ from.node → to.lines ≡ from.lines + 1 → to.events ≡ from.events → Plays (line ∷ []) from to []
 Plays-skipped line from to lacks skipped node lines events = record {
@@ -135,7 +135,7 @@ pub LineStops-cut : (result : Result (Unit {0}) RunFault) (line : List ℕ) (fro
 LineStops-cut (Ok done) line from to text held holds plays cut is = tt
 LineStops-cut (Err f) line from to text held holds plays cut is = rw is (to, text, plays, cut)
 
--- ---- several lines
+-- ---- the run of several lines
 
 pub AreLines-append : (a b : List (List ℕ)) → AreLines a → AreLines b → AreLines (a ++ b)
 AreLines-append [] b ha hb = hb
@@ -261,8 +261,8 @@ Fed-start place line rest held =
 shape_line : (j l f a : List ℕ) → j ++ (l ++ (f ++ (10 ∷ a))) ≡ (j ++ ((l ++ f) ++ (10 ∷ []))) ++ a
 shape_line j l f a = simp append_assoc
 
--- if an LF comes among the unread octets, the stream has three parts: the finished lines, the
--- unfinished line with the unread octets before this LF, and the octets from this LF on
+-- Let there be an LF among the unread octets. Then the stream has three parts: the finished lines,
+-- the unfinished line with the unread octets before this LF, and the octets from this LF on.
 Fed-line_is : (stream : List ℕ) (from to : Place) (line rest front after : List ℕ) (held holds : Option (List ℕ)) → (fed : Fed stream from to line rest held holds)
     → rest ≡ front ++ (10 ∷ after) → stream ≡ joined fed.lines ++ ((line ++ front) ++ (10 ∷ after))
 Fed-line_is stream from to line rest front after held holds fed is =
@@ -322,8 +322,8 @@ gathered_front : (a text : List ℕ) (held holds : Option (List ℕ)) → Append
 gathered_front a text held holds h k =
     (k.0, k.1 ++ h.1, h.2 ∙ ap (λ (t : List ℕ). t ++ h.1) (sym h.3 ∙ k.2) ∙ append_assoc k.0 k.1 h.1, k.3)
 
--- if `xs` followed by `a` begins with `ys` and has at least one more octet, then `xs` begins with
--- `ys`
+-- Let the octets `xs`, followed by one more octet, begin with the octets `ys` and be longer than
+-- `ys`. Then `xs` begins with `ys`.
 init_after : (xs ys zs : List ℕ) (a z : ℕ) → xs ++ (a ∷ []) ≡ ys ++ (z ∷ zs) → (rest : List ℕ) × (xs ≡ ys ++ rest)
 init_after xs [] zs a z h = (xs, refl)
 init_after [] (y ∷ ys) zs a z h = absurd (let e = ap length h in omega (arith, e, length-append ys (z ∷ zs)))

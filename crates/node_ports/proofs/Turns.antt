@@ -51,7 +51,7 @@ Takes-then (Some xs) b c x y h k =
     let t : Takes (Some (xs ++ x)) c y = subst (λ (o : Option (List Send)). Takes o c y) h k in
     t ∙ ap (λ (l : List Send). Some l) (append_assoc xs x y)
 
--- ---- failures
+-- ---- counting failures
 
 pub count_after-add : (n a b : ℕ) → count_after (count_after n a) b ≡ count_after n (a + b)
 count_after-add n a zero = let e : a + 0 ≡ a = omega arith in rw e refl
@@ -98,7 +98,7 @@ Gives-none_same None new size h = h
 Gives-none_same (Some []) new size h = h.1
 Gives-none_same (Some (first ∷ rest)) new size h = absurd cc
 
--- ---- outcomes
+-- ---- the outcomes of successive turns
 
 pub all_sends-append : (a b : List Outcome) → all_sends (a ++ b) ≡ all_sends a ++ all_sends b
 all_sends-append [] b = refl
@@ -109,7 +109,7 @@ refused_count-append [] b = sym (zero-add _)
 refused_count-append (Answered answer ∷ a) b = refused_count-append a b
 refused_count-append (NoMemory ∷ a) b = let e = refused_count-append a b in omega (arith, e)
 
--- ---- journals
+-- ---- the journals of successive turns
 
 pub run_from-append : (old mid : NodeState) (past : Run) (es fs : List PlainEvent) (rs ss : List Outcome) → AreOutcomes old es rs mid
     → run_from past (es ++ fs) (rs ++ ss) ≡ run_from (run_from past es rs) fs ss
@@ -140,8 +140,8 @@ module _ (old new : NodeState) (event : PlainEvent) (v : PlainVerdict) (sends : 
   abbrev pub answer : Answer
   answer = record { verdict = v; sends = sends }
 
-  -- If `text` is the text of the journal of a run, then the run followed by the event has a
-  -- journal, whose text is `text` followed by the text that is appended for the event.
+  -- Let `text` be the text of the journal of a run. Then the run followed by the event has a
+  -- journal. Its text is `text` followed by the text that is appended for the event.
   grows : (text : List ℕ) → before ≡ Some text → (is_journalled_entry coming.entry coming.is_wanted v ≡ true → IsLineAt time coming.entry) → (first : Policy) (past : Run) (journal : List PlainEvent) → Stands first past old
       → IsJournalOf first past journal → IsTextOf journal text
       → (longer : List PlainEvent) × IsJournalOf first (Then past event answer) longer
@@ -171,7 +171,7 @@ module _ (old new : NodeState) (event : PlainEvent) (v : PlainVerdict) (sends : 
       let f : FailsToJournal (Some text) after time coming v = subst (λ (b : Option (List ℕ)). FailsToJournal b after time coming v) known fails in
       front_of text known f.0 f.1 first past journal stands is_journal lines
 
--- ---- turns
+-- ---- successive turns
 
 -- in 0 turns, the node and the ports are unchanged, and there are no events and no outcomes
 
@@ -251,15 +251,15 @@ Serves-end old new last before between after events refused failed h k same =
     let shown_same : after ≡ between = λ i. record { failures = k.failures i; coming = Gives-none_same between.coming after.coming _ k.coming i; taken = k.taken i; journal = k.journal i } in
     rw (same, shown_same) h
 
--- ---- sends
+-- ---- sends that are made one after another
 
 pub take-next : (xs : List Send) (i : ℕ) (x : Send) → slice_get xs i ≡ Some x → take (suc i) xs ≡ take i xs ++ (x ∷ [])
 take-next [] i x h = cc h
 take-next (y ∷ ys) zero x h = let same : y ≡ x = cc h in ap (λ (t : Send). t ∷ []) same
 take-next (y ∷ ys) (suc i) x h = ap (λ (t : List Send). y ∷ t) (take-next ys i x h)
 
--- if the first `i` sends were made, and then the send at index `i`, then the first `i + 1` sends
--- were made, and the numbers of failed sends add up
+-- Let the first `i` sends be made, and then the send at index `i`. Then the first `i + 1` sends
+-- were made, and the numbers of failed sends add up.
 pub sent_next : (xs : List Send) (i failed more : ℕ) (x : Send) (y : List Send) (a b c : Option (List Send)) → slice_get xs i ≡ Some x
     → ((taken : List Send) × AreSendsTaken (take i xs) failed taken × Takes a b taken) → AreSendsTaken (x ∷ []) more y → Takes b c y
     → (taken : List Send) × AreSendsTaken (take (i + 1) xs) (failed + more) taken × Takes a c taken

@@ -95,8 +95,8 @@ pub push_is_insert : (k : Signer) (v : Latest) (es : List Row) → find signer_c
     → from_entries {R = signer_cmp} (es ++ (k, v) ∷ []) ≡ map.insert (from_entries es) k v
 push_is_insert k v es h = from_entries_push signer_cmp-total signer_cmp-antisymmetric es k v h
 
--- if `spare` is the signer `k` and also the signer `s`, comparing `s` with `k` does not return
--- false
+-- if the prepared signer `spare` is the signer `k`, and is also the signer `s`, then comparing `s`
+-- with `k` does not return false
 pub other_spare : (spare : Option Signer) (k s : Signer) (b : Bool) → spare ≡ Some k → spare ≡ Some s → b ≡ same s k → b ≡ false → ⊥
 other_spare spare k s b h e is other = (let one : k ≡ s = cc in let tied = same_signer s k (sym one) in cc)
 

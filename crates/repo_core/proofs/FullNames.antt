@@ -57,7 +57,8 @@ answers_alone name n d = (
 pub is_answers_alone : (name n : List Field) (d : List ℕ) (r : Bool) → IsTrue r ↔ ((name ≡ n) ⊎ (name ≡ full_name n d)) → r ≡ full_name_answers name false (full_name n d)
 is_answers_alone name n d r is = same_from_decides r (full_name_answers name false (full_name n d)) is (answers_alone name n d)
 
--- a full name answers an Interest if and only if the Data with this name and digest does
+-- a full name answers an Interest exactly if the Data with the name and the digest of this full
+-- name answers the Interest
 pub as_data : (name n : List Field) (d : List ℕ) (flag : Bool) → full_name_answers name flag (full_name n d) ≡ answers n d name flag
 as_data name n d false =
     is_answers n name d false (full_name_answers name false (full_name n d)) (

@@ -130,8 +130,8 @@ candidates_are name flag rows rest start place is =
     ∙ ap (filter test) (sym is)
     )
 
--- if the row at index `at` is the first row that passes the test, the rows that pass the test are
--- this row, followed by the later rows that pass the test
+-- Let the row at index `at` be the first row that passes the test. Then the rows that pass are this
+-- row, followed by the later rows that pass.
 pub first_is : (test : List Field × List ℕ → Bool) (rows : Rows) (at : ℕ) (row : List Field × List ℕ) → at < length rows → row ≡ get_or rows at row → filter test (take at rows) ≡ [] → test row ≡ true
     → filter test rows ≡ row ∷ filter test (drop (suc at) rows)
 first_is test rows at row lt is none passes =

@@ -94,8 +94,7 @@ module _ {K X : Type 0} {R : K → K → Ordering} (total : IsTotalOrder R) wher
         let s = stands rows at has.0 in
         ap is_some (find_found R k rows at s.0 has.0 s.1 place.before (tied s.0 (has.1 s.0 s.1)))
 
-    -- if the key of this row is neither less than `k` nor equal to `k`, then `k` is less than that
-    -- key
+    -- if the key of a row is neither less than `k` nor equal to `k`, then `k` is less than this key
     other : (o : Ordering) (row : K × X) → R k row.0 ≡ o → o ≢ Greater → (R k row.0 ≡ Equal → ⊥) → R k row.0 ≡ Less
     other Less row e not_gt not_eq = e
     other Equal row e not_gt not_eq = absurd (not_eq e)
@@ -125,7 +124,7 @@ module _ {K X : Type 0} {R : K → K → Ordering} (total : IsTotalOrder R) wher
     find_at true sorted is = sym (find_there (is.0 refl))
     find_at false sorted is = sym (find_new sorted (λ has. let t = is.1 has in cc))
 
--- after a successful insertion, the list is the new one
+-- if an insertion succeeds, the list after it is the list `new`
 pub inserted : {X A E : Type 0} (r : Result A E) (new old : List X) → IsOk r → (if is_ok r then new else old) ≡ new
 inserted (Ok u) new old h = refl
 inserted (Err e) new old h = absurd cc

@@ -10,7 +10,8 @@ use Rattle.ndn_names.specs.Order.{name_cmp}
 use Rattle.ndn_names.specs.Key.{name_cmp-total}
 use Rattle.repo_core.specs.declared.want_names.Names.{Names}
 
--- if `spare` contains copies of `name`, comparing its key with `name` gives Equal
+-- if `spare` contains the names `k`, and the key in `spare` is `name`, then comparing `name` with
+-- the key of `k` gives Equal
 pub other_spare : (spare : Option Names) (k : Names) (name : List Field) → spare ≡ Some k → option_map (λ n. n.key) spare ≡ Some name → is_eq (name_cmp name k.key) ≡ false → ⊥
 other_spare spare k name h e other =
     (let one : Some k.key ≡ Some name = ap (λ o. option_map (λ n. n.key) o) h' ∙ e in let same : k.key ≡ name = cc in let tied = ap is_eq (ap (λ (n : List Field). name_cmp name n) same ∙ tied_itself name_cmp-total name) in cc)

@@ -45,7 +45,7 @@ put_objects objects full octets is h name found e =
         subst (λ (o : List ℕ). IsObject name o) same (subst (λ (n : List Field). IsObject n octets) (here t) is)
     by false t e = h name found e
 
--- an entry that remains after the removal was present before it
+-- a value that is present after a removal was present before the removal
 left : (test : List Field × List ℕ → Bool) (name : List Field) (found : List ℕ) (o : Option (List ℕ)) → if_kept test name o ≡ Some found → o ≡ Some found
 left test name found None e = e
 left test name found (Some x) e = by (test (name, x)) e

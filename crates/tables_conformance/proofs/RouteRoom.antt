@@ -68,7 +68,7 @@ room_ours routes face all here faces rising each = omega (arith, spread 0 faces 
     ours [] h = tt
     ours (f ∷ l) h = (one f h.0, ours l h.1)
 
--- ---- one entry
+-- ---- the faces of one entry
 
 -- the entry has a next hop or a route on this face
 abbrev Leads : Entry → ℕ → Type 0
@@ -167,7 +167,7 @@ until_due_ours now e all f (inr (origin, some)) =
     was_there (until_due now) (map.get e.registered k) (λ there. all f (inr (origin, there)))
     (subst (λ (o : Option Route). IsSome o) (get-revise route_cmp-antisymmetric (until_due now) e.registered k) some)
 
--- ---- tables
+-- ---- the faces of a table
 
 entry_ours : (routes : Routes) → AreOurs routes → (n : List Field) → Ours (entry_at routes n)
 entry_ours routes all n = λ face leads. all face (n, leads)
@@ -241,9 +241,9 @@ left_ours now =
     revised_ours (entry_left_at now)
     (λ e all. unless_vacant_ours (record e { registered = revise (until_due now) e.registered }) (until_due_ours now e all))
 
--- Let a call that is refused leave the table unchanged. If all faces of the table before the call,
--- and of the table after a successful call, are below 63 or the greatest face number, then all
--- faces of the table after the call are, too.
+-- Let a call that is refused leave the table unchanged. If all faces satisfy `IsOurs` in the table
+-- before the call, and in the table after a successful call, they satisfy it after the call in any
+-- case.
 pub either_ours : {X Y : Type 0} (answer : Result X Y) (old new after : Routes) → OnOk answer (new ≡ after) → OnErr answer (new ≡ old) → AreOurs old → AreOurs after → AreOurs new
 either_ours (Ok x) old new after ok err all done = subst AreOurs (sym ok) done
 either_ours (Err y) old new after ok err all done = subst AreOurs (sym err) all

@@ -27,8 +27,8 @@ loop-next-preserved g c =
           ∙ ap (taken_along own below c.loop-next.look (lookup h root) path.0) (sym c.in-Some-next.ensures.steps) ∙ path.3,
     )
 
--- the visitor has seen all values along the name, since the walk stopped at a prefix that leads to
--- no node, and no name that begins with this prefix has a value
+-- The visitor has seen all values along the name. The walk stopped at a prefix that leads to no
+-- node, so no name that begins with this prefix has a value.
 pub returns : goal.returns
 returns g c =
     let own = g.L.Look.seen true in

@@ -17,8 +17,8 @@ put_timed-requires-clause-node g c =
 pub put_timed-requires-clause-empty : goal.put_timed-requires-clause-empty
 put_timed-requires-clause-empty g c = c.take_timed-old.ensures.turns.here
 
--- memory for the timer is available: if the node had no value, the memory was reserved, and if the
--- node had a value, the removal of the old value's timer freed memory
+-- Memory for the timer is available. If the node had no value, this memory was reserved. If the
+-- node had a value, the removal of the old value's timer freed it.
 pub put_timed-requires-clause-room : goal.put_timed-requires-clause-room
 put_timed-requires-clause-room g c =
     elim c.take_timed-old.result as (λ o. c.take_timed-old.result ≡ o → set.len c.take_timed-old.new.timers.timers < c.take_timed-old.new.timers.capacity) [

@@ -2,8 +2,8 @@ use Rattle.std.proofs.Common.{◌≤◌, length}
 use Rattle.ndn_names.proofs.Findings.{IsFinding}
 use Rattle.ndn_names.proofs.first_of_type.first_of_type.Given as goal
 
--- `count` components, at most 64, have been read, `found` is the first of them that has type
--- `kind`, or `None`, and the octets `rest` are still to be read
+-- `count` components, at most 64, have been read, and the octets `rest` are still to be read.
+-- `found` is the first of the `count` components that has type `kind`, or `None`.
 abbrev pub invariant-loop-rest : goal.invariant-loop-rest
 invariant-loop-rest l = (l.count ≤ 64) × IsFinding l.kind l.count l.rest l.octets l.found
 

@@ -20,7 +20,7 @@ other : (c : Else-is_full) → (d : Placed) → c.place_for-at.result < length c
     → name_at (get_or c.self.inside.rows c.place_for-at.result d) ≢ full_name_of (cached_at c.args.packet.now c.args.arrival)
 other c = λ d lt same. c.is_full.ensures.no c.if-is_full.false d lt same
 
--- if the search does not find the full name, no cached Data has it
+-- if the search does not find the full name of the packet, no cached Data has this full name
 absent : (c : Else-is_full) → (d : CachedData) → Contains c.args.self.now.cached d → full_name_of d ≢ full_name_of (cached_at c.args.packet.now c.args.arrival)
 absent c d held =
     let name = full_name_of (cached_at c.args.packet.now c.args.arrival) in
