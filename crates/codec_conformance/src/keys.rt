@@ -7,16 +7,16 @@ use std::alloc::Global;
 use std::test::*;
 use test_support::octets;
 
-/// Returns the HMAC of a text under a key. Returns `None` if the HMAC of the text in two parts, or
-/// the HMAC that an `HmacKey` computes, is different.
+/// Returns the HMAC of a text under a key in hexadecimal. Returns `None` if hashing the text in two
+/// parts, or with an `HmacKey`, gives another HMAC.
 fn tag(alloc: Global, input: &str) -> Option<String> {
     let (key, text) = input.split_once(" | ")?;
     let tag = tag_of_both(alloc, key, text)?;
     hex::encode(alloc, tag.as_slice()).ok()
 }
 
-/// Returns the HMAC of a text under a key, as `tag` does. The key and the text are given in
-/// hexadecimal.
+/// Returns the HMAC of a text under a key, or `None` where `tag` returns `None`. The key and the
+/// text are given in hexadecimal.
 fn tag_of_both(alloc: Global, key: &str, text: &str) -> Option<[u8; 32]> {
     let text = octets(alloc, text)?;
     let key = octets(alloc, key)?;
@@ -105,7 +105,8 @@ fn equal_tags(rt: HostRuntime) {
     check_rows(&rt, rt.alloc(), rows, is_tag);
 }
 
-/// Returns the number of keys in a key file and the key with a name, or the fault of the file.
+/// Returns the number of keys in a key file, followed by the key with the name `uri` if there is
+/// one. Returns the fault of the file if it is refused.
 fn found(alloc: Global, file: &str, uri: &str) -> Option<String> {
     match KeyBook::read(alloc, file) {
         Ok(book) => found_in(alloc, &book, uri),
@@ -129,8 +130,9 @@ fn key_shown(alloc: Global, len: usize, key: &[u8]) -> Option<String> {
     format!(in alloc; "{len}: {key}").ok()
 }
 
-/// Returns the result of looking up a name in a key file. The file has the keys /0, /1 and so on,
-/// as many as the number before the bar says, followed by the lines after the bar.
+/// Returns the result of looking up a name, or `/` if the row has no name, in a key file. The file
+/// has the keys /0, /1 and so on, as many as the number before the bar says, followed by the lines
+/// after the bar.
 fn key_file(alloc: Global, input: &str) -> Option<String> {
     let (count, rest) = input.split_once('|').unwrap_or(("0", input));
     let (end, uri) = rest.split_once(" ? ").unwrap_or((rest, "/"));
@@ -296,8 +298,8 @@ fn fault_text(alloc: Global, fault: &str) -> Option<String> {
 #[test]
 fn texts_of_faults(rt: HostRuntime) {
     let rows = "
-BadLine 7 -> BadLine 7: line 7 is not a name and the octets of a key, as /ops/KEY/1 6b6579
-TwiceNamed 8 -> TwiceNamed 8: line 8 has the name of an earlier key, and each needs its own
+BadLine 7 -> BadLine 7: line 7 does not have a name and the octets of a key, such as /ops/KEY/1 6b6579
+TwiceNamed 8 -> TwiceNamed 8: line 8 has the name of an earlier key, but each key needs its own name
 TooMany -> TooMany 0: a file has at most 256 keys
 Memory -> Memory 0: out of memory
 ";

@@ -263,8 +263,8 @@ fn words_of_numbers(rt: HostRuntime) {
     check_rows(&rt, rt.alloc(), rows, octets_of);
 }
 
-/// Returns the octets of the name that a URI text reads as, or the fault. Also checks that
-/// `uri_len` returns the number of components, or the same fault.
+/// Returns the octets of the name that a URI text reads as, or the fault. Returns `None` if
+/// `uri_len` does not return the number of components, or the same fault.
 fn octets_of(alloc: Global, input: &str) -> Option<String> {
     match NameBuf::from_uri(alloc, input) {
         Ok(name) => octets_counted(alloc, name.view(), uri_len(input)),
@@ -296,7 +296,8 @@ fn fault_counted(
     fault_text(alloc, fault)
 }
 
-/// Returns whether two URI texts read as the same name, if the result is the same in either order.
+/// Returns whether two URI texts read as the same name, or `None` if swapping the texts changes the
+/// result.
 fn are_equal(alloc: Global, input: &str) -> Option<String> {
     let (a, b) = input.split_once(' ')?;
     let equal = uris_are_equal(a, b);
@@ -715,10 +716,10 @@ fn text_of_fault(alloc: Global, fault: &str) -> Option<String> {
 #[test]
 fn texts_of_faults(rt: HostRuntime) {
     let rows = "
-BadComponent -> a component has to be a whole element of a type from 1 to 65535
-BadDigestLength -> a digest, a component of type 1 or 2, has to be 32 octets long
+BadComponent -> a component must be a complete element with a type from 1 to 65535
+BadDigestLength -> the value of a digest component, which has type 1 or 2, must have 32 octets
 TooManyComponents -> a name has at most 64 components
-BadUri -> the text is not a name such as /A/seg=5
+BadUri -> the text is not the URI of a name, such as /A/seg=5
 Memory -> out of memory
 ";
     check_rows(&rt, rt.alloc(), rows, text_of_fault);
@@ -797,8 +798,8 @@ fn is_copied_or_memory(alloc: Global, name: &NameBuf) -> bool {
     }
 }
 
-/// Returns whether a sixth component is appended to a name, or memory runs out and the name is
-/// unchanged.
+/// Returns whether a sixth component is appended to a name, or memory runs out and the name keeps
+/// its five components.
 fn appends_or_memory(name: &mut NameBuf) -> bool {
     match name.append(8, &[0; 300]) {
         Ok(()) => name.view().len() == 6,
@@ -811,7 +812,7 @@ fn is_refused(alloc: Global, text: &str, fault: NameFault) -> bool {
     NameBuf::from_uri(alloc, text).err() == Some(fault)
 }
 
-/// Memory that runs out is reported only if the text reads as a name.
+/// Memory that runs out is reported only if the text reads as a name or a component.
 #[test]
 fn faults_come_before_memory(rt: HostRuntime) {
     assert!(rt; is_refused(rt.alloc(), "/A/%4", NameFault::BadUri));

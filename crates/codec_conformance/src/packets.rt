@@ -75,13 +75,14 @@ fn cut_shown(alloc: Global, octets: &[u8]) -> Option<String> {
     String::from_str(alloc, outcome).ok()
 }
 
-/// Returns the octets of the packet in a frame, with the reason of a Nack.
+/// Returns the kind and the octets of the packet in a frame, with the reason of a Nack, or `Idle`
+/// if the frame has no packet.
 fn carried(alloc: Global, input: &str) -> Option<String> {
     let octets = packet(alloc, input)?;
     carried_in(alloc, &octets)
 }
 
-/// Returns the octets of the packet in the frame of these octets, with the reason of a Nack.
+/// Returns what `carried` returns, for the frame in these octets.
 fn carried_in(alloc: Global, octets: &[u8]) -> Option<String> {
     match read_frame(octets).ok()? {
         Frame::Interest(interest) => packet_shown(alloc, "Interest", interest.whole),

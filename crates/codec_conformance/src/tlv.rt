@@ -35,15 +35,14 @@ fn number_spellings(rt: HostRuntime) {
     check_rows(&rt, rt.alloc(), rows, spelling);
 }
 
-/// Returns the type and the lengths of the element at the front of some octets and the number of
-/// octets after it, or the fault.
+/// Returns the type of the first element in some octets, the lengths of its value and of the whole
+/// element, and the number of octets after it. Returns the fault if there is no such element.
 fn first(alloc: Global, input: &str) -> Option<String> {
     let octets = octets(alloc, input)?;
     first_in(alloc, &octets)
 }
 
-/// Returns the type and the lengths of the element at the front of these octets and the number of
-/// octets after it, or the fault.
+/// Returns what `first` returns, for these octets.
 fn first_in(alloc: Global, octets: &[u8]) -> Option<String> {
     match first_element(octets) {
         Ok((element, rest)) => {
@@ -63,7 +62,7 @@ fn written(alloc: Global, input: &str) -> Option<String> {
     element_shown(alloc, kind, &value)
 }
 
-/// Returns the octets of an element in hexadecimal.
+/// Returns the octets of an element in hexadecimal, or `None` for the type 0.
 fn element_shown(alloc: Global, kind: u32, value: &[u8]) -> Option<String> {
     if kind == 0 {
         return None;
@@ -132,10 +131,10 @@ fn fault_text(alloc: Global, fault: &str) -> Option<String> {
 fn texts_of_faults(rt: HostRuntime) {
     let rows = "
 Truncated -> the octets end inside a number or an element
-NotShortest -> a number has a shorter form, as 0b in place of fd000b
-TypeZero -> a type is 0, and has to be from 1 to 4294967295
-TypeTooLarge -> a type is above 4294967295, the greatest
-BadInteger -> an integer has to be 1, 2, 4 or 8 octets long
+NotShortest -> a number is not in its shortest form, such as fd000b in place of 0b
+TypeZero -> a type is 0, but must be from 1 to 4294967295
+TypeTooLarge -> a type is above the limit of 4294967295
+BadInteger -> a NonNegativeInteger must have 1, 2, 4 or 8 octets
 Memory -> out of memory
 ";
     check_rows(&rt, rt.alloc(), rows, fault_text);

@@ -11,10 +11,10 @@ use thiserror::Error;
 pub enum KeyFault {
     /// The line is not the URI of a nonempty name, a space, and 1 to 256 octets in hexadecimal. The
     /// number 0 means that the file is not UTF-8.
-    #[error("line {0} is not a name and the octets of a key, as /ops/KEY/1 6b6579")]
+    #[error("line {0} does not have a name and the octets of a key, such as /ops/KEY/1 6b6579")]
     BadLine(u64),
     /// The line has the name of an earlier line's key.
-    #[error("line {0} has the name of an earlier key, and each needs its own")]
+    #[error("line {0} has the name of an earlier key, but each key needs its own name")]
     TwiceNamed(u64),
     /// The line has the 257th key.
     #[error("a file has at most 256 keys")]

@@ -13,16 +13,16 @@ use thiserror::Error;
 #[derive(Clone, Copy, Debug, PartialEq, Eq, Error)]
 pub enum NameFault {
     /// The type of a component is 0 or above 65535, or an element cannot be read.
-    #[error("a component has to be a whole element of a type from 1 to 65535")]
+    #[error("a component must be a complete element with a type from 1 to 65535")]
     BadComponent,
     /// A digest, a component of type 1 or 2, is not 32 octets long.
-    #[error("a digest, a component of type 1 or 2, has to be 32 octets long")]
+    #[error("the value of a digest component, which has type 1 or 2, must have 32 octets")]
     BadDigestLength,
     /// A name has more than 64 components.
     #[error("a name has at most 64 components")]
     TooManyComponents,
     /// A text is not the URI of a name.
-    #[error("the text is not a name such as /A/seg=5")]
+    #[error("the text is not the URI of a name, such as /A/seg=5")]
     BadUri,
     /// Memory could not be allocated.
     #[error("out of memory")]

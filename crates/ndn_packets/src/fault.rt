@@ -40,10 +40,10 @@ pub enum PacketFault {
     DigestMissing,
     /// An Interest has ApplicationParameters, but its name has more than one digest of them, or the
     /// digest is not SHA-256 of the octets from the ApplicationParameters on.
-    #[error("the name's digest is not the one of the ApplicationParameters")]
+    #[error("the digest in the name is not that of the ApplicationParameters")]
     DigestWrong,
     /// An Interest has no ApplicationParameters, but its name has a digest of parameters.
-    #[error("the name has a digest of ApplicationParameters that are not there")]
+    #[error("the name has a digest of ApplicationParameters, but the Interest has none")]
     DigestWithout,
     /// A link packet is one of several fragments: its FragIndex is above 0, or its FragCount above
     /// 1.
@@ -55,7 +55,7 @@ pub enum PacketFault {
     #[error("the link packet has a header field that it may not have")]
     LpField,
     /// The frame has more than 9,000 octets, or a packet has more than 8,800 octets.
-    #[error("the packet is longer than 8800 octets, or the frame than 9000")]
+    #[error("the packet is longer than 8800 octets, or the link packet is longer than 9000")]
     TooLong,
 }
 
@@ -96,7 +96,7 @@ pub enum WriteFault {
     #[error("the Interest's name is empty, or has a digest of ApplicationParameters")]
     BadName,
     /// The name would have more than 64 components, or the packet more than 8,800 octets.
-    #[error("the name is longer than 64 components, or the packet than 8800 octets")]
+    #[error("the name has more than 64 components, or the packet has more than 8800 octets")]
     TooLong,
     /// Memory could not be allocated.
     #[error("out of memory")]

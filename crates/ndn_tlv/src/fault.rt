@@ -10,15 +10,15 @@ pub enum TlvFault {
     #[error("the octets end inside a number or an element")]
     Truncated,
     /// A number takes more octets than necessary.
-    #[error("a number has a shorter form, as 0b in place of fd000b")]
+    #[error("a number is not in its shortest form, such as fd000b in place of 0b")]
     NotShortest,
     /// A TLV-TYPE is 0.
-    #[error("a type is 0, and has to be from 1 to 4294967295")]
+    #[error("a type is 0, but must be from 1 to 4294967295")]
     TypeZero,
     /// A TLV-TYPE is 2^32 or more.
-    #[error("a type is above 4294967295, the greatest")]
+    #[error("a type is above the limit of 4294967295")]
     TypeTooLarge,
     /// A NonNegativeInteger is not 1, 2, 4 or 8 octets long.
-    #[error("an integer has to be 1, 2, 4 or 8 octets long")]
+    #[error("a NonNegativeInteger must have 1, 2, 4 or 8 octets")]
     BadInteger,
 }

@@ -8,13 +8,13 @@ use std::alloc::Global;
 use std::test::*;
 use test_support::{digest_of, octets};
 
-/// Returns the two parts that a packet's signature covers.
+/// Returns the two parts that a packet's signature covers, or `none` if there are no such parts.
 fn covered(alloc: Global, input: &str) -> Option<String> {
     let octets = packet(alloc, input)?;
     covered_in(alloc, &octets)
 }
 
-/// Returns the two parts that the signature of the packet in these octets covers.
+/// Returns what `covered` returns, for the packet in these octets.
 fn covered_in(alloc: Global, octets: &[u8]) -> Option<String> {
     let parts = match read_frame(octets).ok()? {
         Frame::Interest(interest) => interest.signed_parts(),

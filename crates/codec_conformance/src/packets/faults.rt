@@ -51,16 +51,16 @@ CriticalUnknown -> an element is unknown or out of order, and may not be ignored
 BadField -> a field is missing, or its value is malformed
 NoNonce -> the Interest has no Nonce
 DigestMissing -> the name has no digest of the ApplicationParameters
-DigestWrong -> the name's digest is not the one of the ApplicationParameters
-DigestWithout -> the name has a digest of ApplicationParameters that are not there
+DigestWrong -> the digest in the name is not that of the ApplicationParameters
+DigestWithout -> the name has a digest of ApplicationParameters, but the Interest has none
 Fragmented -> the packet is one of several fragments
 LpField -> the link packet has a header field that it may not have
-TooLong -> the packet is longer than 8800 octets, or the frame than 9000
+TooLong -> the packet is longer than 8800 octets, or the link packet is longer than 9000
 ";
     check_rows(&rt, rt.alloc(), rows, read_fault);
     let rows = "
 BadName -> the Interest's name is empty, or has a digest of ApplicationParameters
-TooLong -> the name is longer than 64 components, or the packet than 8800 octets
+TooLong -> the name has more than 64 components, or the packet has more than 8800 octets
 Memory -> out of memory
 ";
     check_rows(&rt, rt.alloc(), rows, write_fault);

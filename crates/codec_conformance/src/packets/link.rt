@@ -66,8 +66,8 @@ fn link_packets(rt: HostRuntime) {
     check_rows(&rt, rt.alloc(), rows, cut);
 }
 
-/// Sequence, FragIndex, FragCount and PitToken, in any order. Most rows of header fields come in
-/// pairs, with a Fragment and without a Fragment. Both rows of a pair have the same outcome.
+/// Sequence alone, and Sequence, FragIndex, FragCount and PitToken in two orders. Each link packet
+/// is read with a Fragment and without one.
 #[test]
 fn header_fields(rt: HostRuntime) {
     let rows = "
@@ -81,7 +81,8 @@ fn header_fields(rt: HostRuntime) {
     check_rows(&rt, rt.alloc(), rows, outcome);
 }
 
-/// FragIndex must be 0, and FragCount at most 1.
+/// A link packet is refused if its FragIndex is not 0 or its FragCount is above 1. A FragIndex or
+/// FragCount that is not a NonNegativeInteger is a `BadField`.
 #[test]
 fn only_whole_packets_are_read(rt: HostRuntime) {
     let rows = "
@@ -151,7 +152,7 @@ fn octets_in_a_link_packet(rt: HostRuntime) {
     assert!(rt; wraps(rt.alloc(), Some(b"\xa1\xb2"), wrapped));
 }
 
-/// A link packet is refused if a header field that this profile knows occurs twice.
+/// A link packet is refused if its Sequence, FragIndex, FragCount or PitToken occurs twice.
 #[test]
 fn a_known_field_twice(rt: HostRuntime) {
     let rows = "
@@ -196,8 +197,8 @@ fn other_header_fields(rt: HostRuntime) {
     check_rows(&rt, rt.alloc(), rows, outcome);
 }
 
-/// Of two faulty header fields, the fault of the first one is reported, in either order of the
-/// fields.
+/// Of two faulty header fields, the fault of the first one is reported. A header field that is not
+/// a valid TLV element has the fault of its TLV, even if its type is unknown.
 #[test]
 fn the_first_header_fault(rt: HostRuntime) {
     let rows = "

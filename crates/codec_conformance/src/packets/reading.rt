@@ -142,7 +142,8 @@ fn digests_without_parameters(rt: HostRuntime) {
     check_rows(&rt, rt.alloc(), rows, outcome);
 }
 
-/// Interests with ApplicationParameters whose digest is between two name components.
+/// Interests with ApplicationParameters, whose digest in the name is between two components. Also,
+/// Interests with a signature but without ApplicationParameters.
 #[test]
 fn parameters_of_interests(rt: HostRuntime) {
     let rows = "
@@ -218,8 +219,8 @@ fn signed_interest(rt: HostRuntime) {
     check_rows(&rt, rt.alloc(), rows, cut);
 }
 
-/// Returns the outcome of a packet in which the octet at index `place` is replaced by `octet`, or
-/// `None` if the two octets are equal.
+/// Returns the outcome of a packet in which the octet at index `place` is replaced by `octet`.
+/// Returns `None` if the two octets are equal, or if the packet has no octet at this index.
 fn outcome_with(packet: &mut [u8], place: usize, octet: u8) -> Option<&'static str> {
     let one = packet.get_mut(place)?;
     let old = *one;
@@ -280,7 +281,7 @@ fn changed(alloc: Global, input: &str) -> Option<String> {
     outcomes_shown(alloc, &mut command, &change)
 }
 
-/// Shows the outcomes of a changed packet.
+/// Shows what `outcomes` returns for a packet and a change.
 fn outcomes_shown(alloc: Global, packet: &mut [u8], change: &Change<'_>) -> Option<String> {
     match outcomes(packet, change) {
         Ok(count) => format!(in alloc; "{count}").ok(),

@@ -8,9 +8,9 @@ use std::alloc::Global;
 use std::test::*;
 use test_support::octets;
 
-/// Returns the octets that a writer appended to the octet 9, or the writer's fault if the writer
-/// appended nothing. If there are more than 1,000 octets, returns their number and the outcome of
-/// reading them.
+/// Returns the octets that a writer appended to the octet 9, or the writer's fault. If the writer
+/// failed but appended octets, returns a text that says so. If a writer without a fault appended
+/// more than 1,000 octets, returns their number and the outcome of reading them.
 fn appended(alloc: Global, fault: Option<&str>, out: &[u8]) -> Option<String> {
     let written = out.strip_prefix(&[9])?;
     match fault {
@@ -317,8 +317,8 @@ fn put_both(out: &mut Vec<u8>, name: Name<'_>) -> Option<()> {
     data.write(out).ok()
 }
 
-/// Appends the packets of all writers to an empty output. Returns its length and its capacity if
-/// the first and the last packet are the right ones.
+/// Appends an Interest, a Data, a reply and a Nack to an empty output. Returns the output's length
+/// and capacity if it begins with `PLAIN` and ends with `NACK`.
 fn fill(out: &mut Vec<u8>) -> Option<(usize, usize)> {
     let name = Name::read(b"\x08\x01A").ok()?;
     put_both(out, name)?;
@@ -327,15 +327,15 @@ fn fill(out: &mut Vec<u8>) -> Option<(usize, usize)> {
     (out.starts_with(PLAIN) && out.ends_with(NACK)).then_some((out.len(), out.capacity()))
 }
 
-/// Returns the length and the capacity of an output with a capacity of 200 octets, after all
-/// writers have appended to it.
+/// Returns the length and the capacity of an output that had a capacity of 200 octets before `fill`
+/// appended its packets.
 fn filled_room(alloc: Global) -> Option<(usize, usize)> {
     let mut out = Vec::with_capacity(alloc, 200).ok()?;
     fill(&mut out)
 }
 
-/// The earlier octets of an output stay unchanged. If the output has enough capacity, nothing is
-/// allocated.
+/// The writers leave the first packet of an output unchanged. An output with enough capacity keeps
+/// this capacity.
 #[test]
 fn room_is_used(rt: HostRuntime) {
     assert!(rt; filled_room(rt.alloc()) == Some((13 + 49 + 49 + 26, 200)));
