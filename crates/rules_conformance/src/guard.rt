@@ -1,4 +1,4 @@
-//! Tests of the replay guard, which decides whether a signed command is new.
+//! Tests of the replay guard, which decides whether a signed command is fresh.
 
 mod replay_windows;
 
@@ -55,7 +55,8 @@ fn is_fresh(alloc: Global, guard: &Guard, command: &str) -> Option<bool> {
     Some(guard.check(signer_of(&key), time, number, now))
 }
 
-/// Shows whether a command is fresh after the commands that were recorded before it.
+/// Shows `fresh` or `no`: whether a command is fresh after the commands that were recorded before
+/// it.
 fn freshness(alloc: Global, row: &str) -> Option<String> {
     let (past, command) = row.split_once("? ")?;
     let answer = if is_fresh_after(alloc, past, command)? {
@@ -165,7 +166,8 @@ prepare /k, /l 0 0, /k 0 0, ? /l 0 1 0 -> no
     check_rows(&rt, rt.alloc(), rows, freshness);
 }
 
-/// If two recordings are prepared, the second preparation replaces the first.
+/// After preparations for two signers, a recording for either signer records the command of this
+/// signer only.
 #[test]
 fn the_second_of_two_preparations_counts(rt: HostRuntime) {
     let rows = "
@@ -176,8 +178,9 @@ prepare /k, prepare /l, /k 0 0, ? /k 0 1 0 -> no
     check_rows(&rt, rt.alloc(), rows, freshness);
 }
 
-/// Returns whether a prepared recording and a second recording of the same signer succeed. If the
-/// preparation fails, returns whether the guard is unchanged.
+/// Returns whether a prepared recording and a second recording of the same signer succeed, and the
+/// first command is not fresh once it is recorded. If the preparation fails, returns whether the
+/// first command is still fresh.
 fn keeps_its_promise(alloc: Global) -> Option<bool> {
     let key = key_in(alloc, "/k")?;
     let mut guard = Guard::new(alloc);
@@ -200,6 +203,7 @@ fn refused_memory_for_records(rt: HostRuntime) {
 
 /// Returns whether earlier records are unchanged by a recording for a new signer that may run out
 /// of memory. Memory may run out because another signer's recording used up the preparation.
+/// Returns `None` if memory runs out before that.
 fn leaves_earlier_records(alloc: Global) -> Option<bool> {
     let first = key_in(alloc, "/k")?;
     let second = key_in(alloc, "/l")?;

@@ -268,7 +268,7 @@ fn greatest_data_among_others(rt: HostRuntime) {
     assert!(rt; is_greatest_kept(rt.alloc()) == Some(true));
 }
 
-/// Overwrites the last four octets of a Data's name with a number.
+/// Overwrites the second component of the name, which must be `/n` and four octets, with a number.
 fn put_number(packet: &mut [u8], number: u32) {
     for (octet, digit) in packet.iter_mut().skip(9).zip(number.to_be_bytes()) {
         *octet = digit;

@@ -70,15 +70,16 @@ impl Table {
         }
     }
 
-    /// Records an Interest whose octets are its Nonce. Returns the fault if the table refuses it.
+    /// Records an Interest of the face `face % 64`, whose octets are its Nonce. Returns the fault
+    /// if the table refuses the Interest.
     fn ask(&mut self, key: Key<'_>, face: u64, nonce: [u8; 4], deadline: u64) -> Option<PitFault> {
         self.pit
             .arrive(key, face % 64, nonce, &nonce, deadline, None)
             .err()
     }
 
-    /// Records an Interest whose octets are its Nonce, with a PIT token. Returns the fault if the
-    /// table refuses it.
+    /// Records an Interest of the face `face % 64` with a PIT token. Its octets are its Nonce.
+    /// Returns the fault if the table refuses the Interest.
     fn ask_with(
         &mut self,
         key: Key<'_>,
@@ -94,8 +95,8 @@ impl Table {
             .err()
     }
 
-    /// Records that an Interest under this key was sent to `face`, if the face `asker` has a
-    /// pending Interest under the key. Returns whether it was recorded.
+    /// Records that an Interest under this key was sent to the face `face % 64`, if the face
+    /// `asker` has a pending Interest under the key. Returns whether it was recorded.
     fn sent(&mut self, key: Key<'_>, asker: u64, face: u64, nonce: [u8; 4], now: u64) -> bool {
         if self.pit.interest_of(key, asker).is_none() {
             return false;
@@ -466,7 +467,8 @@ fn is_filled(alloc: Global, share_names: bool) -> Option<bool> {
 
 const ROUNDS: u32 = 100_000;
 
-/// Removes the key with this number.
+/// Removes the pending Interests under the key with this number, which has its own name and no
+/// flags.
 fn remove_numbered(alloc: Global, table: &mut Table, number: u16) -> Option<()> {
     let name = numbered(alloc, number)?;
     table.remove(Key {

@@ -218,7 +218,7 @@ due 18446744073709551615, expire 18446744073709551615, list 18446744073709551615
 ";
 
 /// A route is listed before its deadline, but not at its deadline. An expiry at the deadline
-/// removes the route.
+/// removes the route. `due` and `expire` count such routes.
 #[test]
 fn routes_end_at_their_deadlines(rt: HostRuntime) {
     check_rows(&rt, rt.alloc(), ROUTES_END_AT_THEIR_DEADLINES, answers);
@@ -262,7 +262,8 @@ register /A 2, register /A/B 3 flags=2, register /A/B 3, of /A/B -> 2@0 3@0
 register /A 2 cost=4, register /A 2 cost=9 origin=1, of /A, due 9 -> 2@4; 0
 ";
 
-/// A route that is registered again replaces every part of the old route.
+/// A route that is registered again replaces the cost, the flags and the deadline of the old route.
+/// A route with another origin replaces nothing.
 #[test]
 fn the_last_registration_counts(rt: HostRuntime) {
     check_rows(&rt, rt.alloc(), THE_LAST_REGISTRATION_COUNTS, answers);

@@ -193,7 +193,7 @@ best: / 4 1, / 3 7; - - 20; 3@5 4@5 -> send 4
     check_rows(&rt, rt.alloc(), rows, choice);
 }
 
-/// The greatest faces, costs and moments.
+/// The greatest faces, costs and moments, and a last use that is later than the present moment.
 #[test]
 fn ends_of_faces_costs_and_moments(rt: HostRuntime) {
     let rows = "

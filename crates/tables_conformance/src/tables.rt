@@ -500,8 +500,8 @@ fn unset_one(alloc: Global, table: &mut StrategyTable) -> Option<()> {
     Some(())
 }
 
-/// Returns whether a full table refuses a further name and a deep name, but accepts a strategy for
-/// a known name and for `/`.
+/// Returns whether a full table refuses a further name and a name of 33 components, but accepts a
+/// strategy for a known name and for `/`.
 fn is_full_of_strategies(alloc: Global, table: &mut StrategyTable) -> Option<bool> {
     let further = set_numbered(alloc, table, 4096)?;
     let deep = set_deep(alloc, table, 33)?;
@@ -587,9 +587,9 @@ fn adds_what_is_prepared(alloc: Global) -> Option<bool> {
     takes_what_is_prepared(alloc, &mut routes, name.view())
 }
 
-/// Returns whether a prepared `set` of a name does not run out of memory, even after a removal of
-/// another name's strategy. After a preparation that fails, the strategy of the name must still be
-/// best-route.
+/// Returns whether a prepared `set` of a name does not run out of memory, even after a call of
+/// `unset` for another name, which has no strategy. After a preparation that fails, the strategy of
+/// the name must still be best-route.
 fn keeps_what_is_prepared(table: &mut StrategyTable, name: Name<'_>, other: Name<'_>) -> bool {
     if table.prepare(name).is_err() {
         return table.longest(name) == StrategyId::BestRoute;

@@ -1,4 +1,4 @@
-//! Tests which commands are new after earlier commands were recorded.
+//! Tests which commands are fresh, by the present time and by the commands recorded before.
 
 use super::freshness;
 use crate::rows::check_rows;
@@ -21,7 +21,8 @@ fn at_most_120_seconds_from_the_present(rt: HostRuntime) {
     check_rows(&rt, rt.alloc(), rows, freshness);
 }
 
-/// A command with the same time, or the same number, as a recorded command is not new.
+/// A command with the same time, or the same number, as a recorded command of its signer is not
+/// fresh.
 #[test]
 fn an_equal_time_or_number_is_not_new(rt: HostRuntime) {
     let rows = "
@@ -56,7 +57,8 @@ fn a_number_after_none_counts(rt: HostRuntime) {
     check_rows(&rt, rt.alloc(), rows, freshness);
 }
 
-/// New commands are compared with the greatest recorded time and number.
+/// A command's time and number are compared with the greatest time and number recorded for its
+/// signer.
 #[test]
 fn the_greatest_that_was_recorded_counts(rt: HostRuntime) {
     let rows = "

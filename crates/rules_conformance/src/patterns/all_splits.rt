@@ -111,8 +111,8 @@ fn spell_next(numbers: &mut Numbers, sample: &mut Sample) -> Option<()> {
 }
 
 impl Sample {
-    /// Puts this anchor at one end of the pattern, or leaves the anchor out, so that the atom with
-    /// this number is the implied one.
+    /// Puts this anchor at one end of the pattern, or leaves the anchor out. Without the anchor,
+    /// the atom with this number is the implied one.
     fn put_end(&mut self, numbers: &mut Numbers, number: usize, anchor: &str) -> Option<()> {
         if numbers.below(2) == 0 {
             *self.atoms.get_mut(number)? = ANYTHING;

@@ -285,18 +285,18 @@ const EXAMPLES: &str = r"
 ^[^<a>]$ at /b → 0-1
 ";
 
-/// The examples of `docs/RULES.md` that no other test contains.
+/// Further examples of `docs/RULES.md`.
 #[test]
 fn examples_for_operators(rt: HostRuntime) {
     assert_right(&rt, first_wrong(rt.alloc(), EXAMPLES, is_matched_so));
 }
 
-/// A pattern with every kind of component test and repeat.
+/// A pattern with two groups, every kind of component test, and the repeats `*` and `{1,3}`.
 const EACH_PART: &str =
     "(<>*)[<KEY><%41><seg=5>][^<b>]{1,3}(<params-sha256=0000000000000000000000000000000000000000000000000000000000000000>)";
 
-/// Returns whether the pattern is read and does not match the empty name. Running out of memory is
-/// also accepted.
+/// Returns whether the pattern is read, has two groups, and does not match the empty name. Running
+/// out of memory is also accepted.
 fn is_read_unless_memory(alloc: Global) -> bool {
     match Pattern::read(alloc, EACH_PART) {
         Ok(pattern) => {

@@ -266,7 +266,7 @@ const INNER: &str = r"
 <a|>{2} → Inner(0)
 ";
 
-/// A component that contains a sign of the pattern syntax is a fault.
+/// A component that contains one of the signs `( ) [ ] { } * + ? ^ $ \ |` has the fault `Inner`.
 #[test]
 fn inner(rt: HostRuntime) {
     assert_right(&rt, first_wrong(rt.alloc(), INNER, is_read_so));
@@ -349,7 +349,7 @@ const THIRTY_THREE_ATOMS: &str = r"
 <a><a><a><a><a><a><a><a><a><a><a><a><a><a><a><a><a><a><a><a><a><a><a><a><a><a><a><a><a><a><a><a>(<a>) → Syntax(97)
 ";
 
-/// A 33rd written atom is a fault, whatever the atom is.
+/// A pattern may have 32 written atoms. A 33rd written atom is a fault, whatever the atom is.
 #[test]
 fn thirty_three_atoms(rt: HostRuntime) {
     assert_right(&rt, first_wrong(rt.alloc(), THIRTY_THREE_ATOMS, is_read_so));

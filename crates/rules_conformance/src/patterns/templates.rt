@@ -6,8 +6,9 @@ use ndn_names::{Name, NameBuf, NameFault};
 use std::alloc::Global;
 use test_support::first_wrong;
 
-/// Expands a template at a name that the pattern matches. Returns `None` if the pattern does not
-/// match, or if `is_too_long` disagrees with the expansion.
+/// Expands a template at a name that the pattern matches. Returns the template's fault if the
+/// template is not valid. Returns `None` if the pattern does not match, or if `is_too_long`
+/// disagrees with the expansion.
 fn expanded(
     alloc: Global,
     pattern: &Pattern,

@@ -150,8 +150,8 @@ fn rule_shown(alloc: Global, rule: Option<RuleNo>) -> Option<String> {
     }
 }
 
-/// Returns whether a row `PACKET → DECISION` is correct under the rule file and the keys of these
-/// tests.
+/// Returns whether a row `PACKET → DECISION` is correct under this rule file and the key file
+/// `KEYS`.
 fn is_decided_so(alloc: Global, file: &str, row: &str) -> bool {
     let Some((packet, wanted)) = row.split_once(" → ") else {
         return false;
@@ -159,13 +159,14 @@ fn is_decided_so(alloc: Global, file: &str, row: &str) -> bool {
     told_of(alloc, file, KEYS, packet).is_some_and(|told| told.as_str() == wanted)
 }
 
-/// Returns the line of the first wrong row under a rule file.
+/// Returns the line of the first wrong row under a rule file, or 0 if no row is wrong.
 pub fn first_wrong_under(alloc: Global, file: &str, rows: &str) -> usize {
     first_wrong(alloc, rows, |alloc, row| is_decided_so(alloc, file, row))
 }
 
-/// Returns the line of the first wrong row in a text of several rule files. Each file is one line,
-/// followed by its rows and an empty line. The text begins with an empty line, which is line 1.
+/// Returns the line of the first wrong row in a text of several rule files, or 0 if no row is
+/// wrong. Each file is one line, followed by its rows and an empty line. The text begins with an
+/// empty line, which is line 1.
 fn first_wrong_of(alloc: Global, files: &str) -> usize {
     let mut lines = 1usize;
     for file in files.trim_matches('\n').split("\n\n") {
@@ -224,7 +225,7 @@ any interest /D/x/y → rule 0
 any interest / → no rule
 ";
 
-/// A rule applies if the name passes one of its filters.
+/// A rule with filters applies exactly if the name passes at least one of them.
 #[test]
 fn filters(rt: HostRuntime) {
     assert_right(&rt, first_wrong_of(rt.alloc(), FILTERS));
@@ -349,7 +350,8 @@ octets 053007250801410220620e59c59d04596b40d4cbe11e875a127f928accec817bec4519ae7
 octets 053307280801410801420220620e59c59d04596b40d4cbe11e875a127f928accec817bec4519ae74d661f47a0a0401020304240170 → no rule
 ";
 
-/// Filters are matched with an Interest's name without the parameters digest.
+/// An Interest without a signature is denied. Filters are matched with its name without the
+/// parameters digest.
 #[test]
 fn interests_that_are_not_signed(rt: HostRuntime) {
     assert_right(&rt, first_wrong_of(rt.alloc(), NOT_SIGNED));
@@ -452,8 +454,8 @@ rule {␊ id a␊ for data␊ checker {␊ type customized␊ sig-type hmac-sha2
 data /a/b/c by /a/b/KEY/1 key → denied 0 KeyLocator
 "#;
 
-/// In a hyper-relation, the name expanded from the key's name is the first name: with
-/// `is-prefix-of`, it must be a prefix of the name expanded from the packet's name.
+/// In a hyper-relation, the name expanded from the key's name is the first name. With
+/// `is-prefix-of`, this name must be a prefix of the name expanded from the packet's name.
 #[test]
 fn hyper_relations(rt: HostRuntime) {
     assert_right(&rt, first_wrong_of(rt.alloc(), HYPER_RELATIONS));
@@ -511,7 +513,7 @@ fn is_ops_decided(alloc: Global, keys: &str, wanted: &str) -> bool {
 }
 
 /// An Interest's signature covers the name before the digest, and the octets from the parameters
-/// on.
+/// on. With another key the tag is wrong, and without a key file line the key is unknown.
 #[test]
 fn both_parts_are_covered(rt: HostRuntime) {
     assert!(rt; is_ops_decided(rt.alloc(), "/ops/KEY 6b6579", "allowed 0"));

@@ -392,7 +392,7 @@ any data /repo → rule 2
 any data / → rule 2
 ";
 
-/// Returns whether the rule with this number in `SAMPLE` has this id.
+/// Returns whether `SAMPLE` has three rules, and the rule with this number has this id.
 fn has_id(alloc: Global, number: usize, id: &str) -> bool {
     let Ok(rules) = rules_of(alloc, SAMPLE) else {
         return false;
@@ -429,7 +429,8 @@ octets 060c070308014116031b01031700 → no rule
 octets 060c070308014116031b01051700 → no rule
 ";
 
-/// Signatures by RSA, ECDSA and Ed25519 can be read, but no checker passes them.
+/// Data with signatures by RSA, ECDSA and Ed25519 can be read. The rule in `SHARED_PART` denies
+/// them, and the rule in `OPERATORS`, which is for Interests, does not apply.
 #[test]
 fn other_signatures(rt: HostRuntime) {
     assert_right(

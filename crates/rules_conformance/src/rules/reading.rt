@@ -224,7 +224,7 @@ rule {␊ id a␊ for data␊ checker {␊ type customized␊ key-locator {␊ t
 rule {␊ id a␊ for data␊ checker {␊ type customized␊ key-locator {␊ type name␊ regex <A>␊ name /A␊ hyper-relation } } } → 9 BadValue
 ";
 
-/// A block with two forms, one of which is a hyper-relation.
+/// Key locators with several forms, one of which is a hyper-relation.
 #[test]
 fn a_hyper_relation_beside_another_form(rt: HostRuntime) {
     assert_right(&rt, first_wrong(rt.alloc(), TWO_FORMS, is_told_so));
@@ -372,7 +372,8 @@ rule {
 }
 ";
 
-/// Returns whether the file's one rule is read. Running out of memory is also accepted.
+/// Returns whether the one rule of `HYPER_RELATION` is read. Running out of memory is also
+/// accepted.
 fn is_read_unless_memory(alloc: Global) -> bool {
     match rules_of(alloc, HYPER_RELATION) {
         Ok(rules) => rules.len() == 1,

@@ -54,14 +54,14 @@ fn is_spelled_so(alloc: Global, row: &str) -> bool {
         == Some(true))
 }
 
-/// Returns whether a text has these entries.
+/// Returns whether a text has these entries, or `None` if the text cannot be read.
 fn has_entries(alloc: Global, text: &str, entries: &str) -> Option<bool> {
     let wanted = shown_tree(alloc, entries)?;
     let shown = debug_of(alloc, text)?;
     Some(shown == wanted)
 }
 
-/// Returns the tree of a text in the format of `Debug`.
+/// Returns the tree of a text in the format of `Debug`, or `None` if the text cannot be read.
 fn debug_of(alloc: Global, text: &str) -> Option<String> {
     let tree = InfoTree::read(alloc, text).ok()?;
     format!(in alloc; "{tree:?}").ok()

@@ -57,7 +57,8 @@ fn is_given_while_fresh(store: &mut Store, name: Name<'_>, fresh: &[u8]) -> Opti
     }
 }
 
-/// Returns whether the fresh Data of this number is found among Data that are never fresh.
+/// Puts the fresh Data with this number among Data that are never fresh. Returns whether each of
+/// them is cached, and then what `is_given_while_fresh` returns.
 fn is_found_among_stale(alloc: Global, store: &mut Store, fresh: &[u8], at: u32) -> Option<bool> {
     if !put_all(alloc, store, fresh, at)? {
         return Some(false);

@@ -135,7 +135,8 @@ fn put_agrees(
 }
 
 /// Returns the result of `find`, `find_counted` or `serve_at`, chosen at random, or `None` if only
-/// one of this call and `place_for` finds a Data, or if the call takes more than 17 comparisons.
+/// one of this call and `place_for` finds a Data, or if `find_counted` takes more than 17
+/// comparisons.
 fn look_up<'a>(
     store: &'a mut Store,
     key: Key<'_>,

@@ -41,8 +41,8 @@ const EACH_FLAG_MAKES_ANOTHER_KEY: &str = "\
 ask /A 1 7 9, ask /A+f 2 8 9, len, data /A, len -> yes; yes; 2 false; faces 1 2; 0 true
 ";
 
-/// Interests with the same name but different flags have different keys. A Data answers a key
-/// regardless of MustBeFresh.
+/// Two Interests with the same name, only one of which has MustBeFresh, have different keys. A Data
+/// answers both.
 #[test]
 fn each_flag_makes_another_key(rt: HostRuntime) {
     check_rows(&rt, rt.alloc(), EACH_FLAG_MAKES_ANOTHER_KEY, answers);
@@ -84,8 +84,8 @@ ask /A 1 7 5000, sent /A 1 2 7 0, sent /A 1 3 7 0, nack /A 3 7 50, sent /A 1 3 8
 ask /A 1 7 5000, nack /A 1 7 50, nack /A+f 1 7 50 -> yes; no pending; no pending
 ";
 
-/// Once all faces that an Interest was sent to have answered with a Nack, the least reason is sent
-/// back. A Nack counts only if its Nonce is the one that was last sent to its face.
+/// Once all faces that an Interest was sent to have answered with a Nack, the result is the least
+/// reason. A Nack counts only if its Nonce is the one that was last sent to its face.
 #[test]
 fn the_least_nack_of_all_faces_asked(rt: HostRuntime) {
     check_rows(&rt, rt.alloc(), THE_LEAST_NACK_OF_ALL_FACES_ASKED, answers);
@@ -120,8 +120,7 @@ ask /A/B 1 1 9, prepare /A/B/C 4, remove /A/B, ask /A/B/C 2 2 9, of /A/B 1, of /
 ask /A/B 1 1 9, ask /A/D 3 2 9, prepare /A/B/C 4, data /A/B, ask /A/B/C 2 3 9, of /A/B/C 2, data /A/D, data /A/B/C, len -> yes; yes; yes; faces 1; yes; 00000003; faces 3; faces 2; 0 true
 ";
 
-/// A prepared call needs no more memory, even if Interests for prefixes of its name are removed
-/// first.
+/// A prepared Interest is recorded, even if Interests for prefixes of its name are removed first.
 #[test]
 fn a_preparation_on_a_path_that_empties(rt: HostRuntime) {
     check_rows(

@@ -18,7 +18,8 @@ register /A/B 2, register /A/C 3, register /AA 4, of /A/C, of /A -> 3@0; none
 register /A/B 2, register /A 3, of /A -> 3@0
 ";
 
-/// A name with routes inherits the child-inherit routes of its proper prefixes.
+/// A name with routes, but without a capture route, inherits the child-inherit routes of its proper
+/// prefixes.
 #[test]
 fn names_inherit_routes(rt: HostRuntime) {
     check_rows(&rt, rt.alloc(), NAMES_INHERIT_ROUTES, answers);
@@ -59,7 +60,8 @@ register /A 2 cost=1, register /A/B 2 cost=9 flags=0, of /A/B -> 2@9
 ";
 
 /// For each face, a name's next hops take precedence over its routes, and its routes take
-/// precedence over inherited routes.
+/// precedence over inherited routes. Next hops are not inherited, and a name without routes
+/// inherits nothing.
 #[test]
 fn next_hops_come_first(rt: HostRuntime) {
     check_rows(&rt, rt.alloc(), NEXT_HOPS_COME_FIRST, answers);

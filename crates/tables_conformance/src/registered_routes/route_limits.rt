@@ -177,8 +177,8 @@ fn register_33(alloc: Global, routes: &mut RouteTable) -> Option<()> {
     Some(())
 }
 
-/// Returns whether a lookup makes at most 64 searches, and finds 33 next hops from face 32 to face
-/// 0.
+/// Returns whether a lookup makes at most 64 searches, and finds 33 next hops, the first on face 32
+/// and the last on face 0.
 fn finds_33(fib: &Fib, name: Name<'_>) -> Option<bool> {
     let mut steps = 0;
     let hops = fib.longest_counted(name, &mut steps);
@@ -186,9 +186,9 @@ fn finds_33(fib: &Fib, name: Name<'_>) -> Option<bool> {
     Some(steps <= 64 && hops.len() == 33 && first.face == 32 && last.face == 0)
 }
 
-/// Returns whether the lookup of a name of 64 components passes the routes of 33 names along the
-/// way, with at most one search for each component. Each of these names has a route on its own
-/// face, with a lesser cost than the name before it.
+/// Returns whether the lookup of a name of 64 components finds the routes of 33 prefixes, with at
+/// most one search for each component. Each of these prefixes has a route on its own face, with a
+/// lesser cost than the next shorter prefix.
 fn looks_up_64_components(alloc: Global, routes: &mut RouteTable) -> Option<bool> {
     register_33(alloc, routes)?;
     let deep = deep_name(alloc, 64)?;
