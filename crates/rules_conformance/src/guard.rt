@@ -169,7 +169,7 @@ prepare /k, /l 0 0, /k 0 0, ? /l 0 1 0 -> no
 /// After preparations for two signers, a recording for either signer records the command of this
 /// signer only.
 #[test]
-fn the_second_of_two_preparations_counts(rt: HostRuntime) {
+fn recordings_after_two_preparations(rt: HostRuntime) {
     let rows = "
 prepare /k, prepare /l, /l 0 0, ? /l 0 1 0 -> no
 prepare /k, prepare /l, /l 0 0, ? /k 0 0 0 -> fresh

@@ -588,8 +588,8 @@ fn adds_what_is_prepared(alloc: Global) -> Option<bool> {
 }
 
 /// Returns whether a prepared `set` of a name does not run out of memory, even after a call of
-/// `unset` for another name, which has no strategy. After a preparation that fails, the strategy of
-/// the name must still be best-route.
+/// `unset` for another name. After a preparation that fails, the strategy of the name must still be
+/// best-route.
 fn keeps_what_is_prepared(table: &mut StrategyTable, name: Name<'_>, other: Name<'_>) -> bool {
     if table.prepare(name).is_err() {
         return table.longest(name) == StrategyId::BestRoute;
@@ -599,10 +599,10 @@ fn keeps_what_is_prepared(table: &mut StrategyTable, name: Name<'_>, other: Name
     is_set && table.longest(name) == StrategyId::Multicast
 }
 
-/// Returns whether a prepared `set` does not run out of memory in a table with a strategy for
-/// `/A`.
+/// Returns whether a prepared `set` does not run out of memory in a table with strategies for `/A`
+/// and for the name `other`, which is the name with the number 2.
 fn takes_strategy(alloc: Global, name: Name<'_>, other: Name<'_>) -> Option<bool> {
-    let mut table = strategies_in(alloc, "/A multicast")?;
+    let mut table = strategies_in(alloc, "/A multicast, /%00%02 multicast")?;
     Some(keeps_what_is_prepared(&mut table, name, other))
 }
 

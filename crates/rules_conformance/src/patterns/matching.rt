@@ -119,7 +119,6 @@ const FORMS: &str = r"
 ^[^<a>]$ at /a → no match
 ^[^<a><b>]$ at /c → 0-1
 ^[^<a><b>]$ at /b → no match
-^[^<a><b>]$ at /c → 0-1
 ^[^<a><b>]$ at / → no match
 ^<a>*$ at / → 0-0
 ^<a>*$ at /b → no match
@@ -133,7 +132,6 @@ const FORMS: &str = r"
 ^<a>?$ at /b → no match
 ^<a>{2}$ at /a/a → 0-2
 ^<a>{2}$ at /a → no match
-^<a>{2}$ at /a/a → 0-2
 ^<a>{2}$ at /a/a/a → no match
 ^<a>{2,}$ at /a/a/a → 0-3
 ^<a>{2,}$ at /a → no match

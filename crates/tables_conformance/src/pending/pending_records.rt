@@ -39,10 +39,12 @@ fn data_goes_to_all_who_ask_for_it(rt: HostRuntime) {
 
 const EACH_FLAG_MAKES_ANOTHER_KEY: &str = "\
 ask /A 1 7 9, ask /A+f 2 8 9, len, data /A, len -> yes; yes; 2 false; faces 1 2; 0 true
+ask /A 1 7 9, ask /A+p 2 8 9, len, data /A, len -> yes; yes; 2 false; faces 1 2; 0 true
+ask /A+p 1 7 9, ask /A+pf 2 8 9, len, data /A/B, len -> yes; yes; 2 false; faces 1 2; 0 true
 ";
 
-/// Two Interests with the same name, only one of which has MustBeFresh, have different keys. A Data
-/// answers both.
+/// Two Interests with the same name, only one of which has MustBeFresh or CanBePrefix, have
+/// different keys. A Data answers both.
 #[test]
 fn each_flag_makes_another_key(rt: HostRuntime) {
     check_rows(&rt, rt.alloc(), EACH_FLAG_MAKES_ANOTHER_KEY, answers);
