@@ -141,8 +141,8 @@ pub fn end_of(alloc: Global, exchange: &Exchange, progress: Progress) -> (&'stat
     }
 }
 
-/// Returns whether an exchange ended as `wanted` says: the word for its outcome, then a space and
-/// the end of the printed text, with symbols for LF and tab.
+/// Returns whether an exchange ended as `wanted` says. `wanted` is the word for the outcome. A
+/// space and the end of the printed text, with symbols for LF and tab, may follow.
 pub fn ends_as(
     alloc: Global,
     exchange: &Exchange,
@@ -155,8 +155,8 @@ pub fn ends_as(
     Some(word == wanted && printed.ends_with(lines.as_bytes()))
 }
 
-/// Returns whether a command line ends as its row says. It runs one millisecond after the previous
-/// command line.
+/// Returns whether a command line ends as its row says. Each command line runs one millisecond
+/// after the previous one.
 pub fn plays(alloc: Global, scene: &mut Scene, book: &KeyBook, row: &str) -> Option<bool> {
     let (line, wanted) = row.split_once(" => ").unwrap_or((row, "no end"));
     scene.now = scene.now.saturating_add(1);

@@ -55,7 +55,8 @@ fn answered(alloc: Global, command: &str, keys: &str) -> Result<String, ToolFaul
     text_with(alloc, &job, keys)
 }
 
-/// Returns the exit status of a command and the text that it prints.
+/// Returns the exit status of a command and the text that it prints, which is the text of the fault
+/// if the command fails. Returns `None` if memory runs out for this text.
 fn reply(alloc: Global, command: &str, keys: &str) -> Option<(u8, String)> {
     match answered(alloc, command, keys) {
         Ok(text) => Some((0, text)),
@@ -378,8 +379,8 @@ $ ndn_tool cache erase /A --count 10
 0580074908096c6f63616c686f737408036e66640802637308056572617365080a6808070308014184010a0220128c0a99b3ded3189e916a1a3fc7e7c9f03d50eb050bfdbb62c4f7d45085c0b90a04ca70b69b24002c091b01002804000f42402e205d42d3fdaa6b3c11aea0be4e2784a4e1d3a0456cd9bf39ed18dae188854d34c8
 ";
 
-/// The short forms of commands, with the clock at 1000000. The packets were made by an independent
-/// program.
+/// The short forms of commands for routes, strategies and the cache. The clock of the client shows
+/// 1,000,000 milliseconds. The packets were made by an independent program.
 #[test]
 fn short_forms(rt: HostRuntime) {
     check_session(&rt, OPS, SHORT_FORMS);
@@ -412,8 +413,8 @@ $ ndn_tool command /localhost/nfd/rib/register --name /A --face 1 --cost 2 --str
 05cd078508096c6f63616c686f737408036e66640803726962080872656769737465720842684007030801416901016a01026b27072508096c6f63616c686f737408036e66640808737472617465677908096d756c7469636173746c01036d01046f01058401060220e81fe4a9c31a791ce2e0a662cf5918ee7259642c519760e37705302f0508fa090a040102030424002c1a1b01041c0f070d08036f707308034b45590801312804000f42402e2084eb55d73ad50d435aa887e0566bf99d86058dcef2a5a89ec5c86825d673df7d
 ";
 
-/// Commands for registered routes with each of their options, in the short form and with every
-/// field by name. The packets were made by an independent program.
+/// Commands for registered routes with each of their options, in the short form and as `ndn_tool
+/// command`, where each field is an option. The packets were made by an independent program.
 #[test]
 fn registered_routes(rt: HostRuntime) {
     check_session(&rt, OPS, ROUTES);
@@ -510,9 +511,8 @@ TooLong
 status 1
 ";
 
-/// Commands that cannot be written: with a key that is not in the key file, with a name that
-/// already has a digest of parameters, and with names that have too many components for the
-/// parameters to follow.
+/// Commands that cannot be written. The key is not in the key file, the name already has a digest
+/// of parameters, or the name has too many components for the parameters to follow.
 #[test]
 fn unwritten_commands(rt: HostRuntime) {
     check_session(&rt, OPS, UNWRITTEN_COMMANDS);
@@ -945,7 +945,8 @@ fn says(alloc: Global, input: &str, keys: Option<&KeyBook>, wanted: &str) -> boo
     put_input(alloc, &mut text, input, keys).is_ok() && text.as_slice() == wanted.as_bytes()
 }
 
-/// Lines of standard input. Packets are explained, and other lines are copied.
+/// Lines of standard input. Packets are explained, empty lines are left out, and other lines are
+/// copied.
 #[test]
 fn input_lines(rt: HostRuntime) {
     assert!(rt; says(rt.alloc(), INPUT, None, SAID));
@@ -961,8 +962,8 @@ key not found
 status 1
 ";
 
-// In the first command, both the key is missing and the name is not valid: the missing key is
-// reported.
+// The first command has two faults: its key is missing, and its name is not valid. The missing key
+// is reported.
 const REFUSALS: &str = "
 $ ndn_tool interest / --nonce 01020304 --key /ops/KEY/1
 key not found
@@ -1069,7 +1070,7 @@ fn help(rt: HostRuntime) {
     check_parts(&rt, 0, HELP);
 }
 
-/// Returns whether a key file with these octets is refused with this message.
+/// Returns whether a key file with these octets is refused with exit status 1 and this message.
 fn refuses_keys(alloc: Global, octets: &[u8], wanted: &str) -> bool {
     match read_book(alloc, octets) {
         Ok(_) => false,
@@ -1130,7 +1131,8 @@ fn refused_line(alloc: Global, count: u64) -> Option<String> {
     )
 }
 
-/// Key files, packets and lines may have as many octets as their limits, but not more.
+/// A key file, a packet in hexadecimal, and a line may have as many octets as their limits, but not
+/// more.
 #[test]
 fn large_input(rt: HostRuntime) {
     let alloc = rt.alloc();
@@ -1162,7 +1164,8 @@ fn has_key_file(rt: &HostRuntime, command: &str, path: Option<&str>, status: u8)
         && key_file_status(rt, &job) == status)
 }
 
-/// Reads the key file of a command, and returns the exit status and the message of the refusal.
+/// Reads the key file of a command. Returns the exit status and the message of the fault, or `None`
+/// if there is no fault.
 fn refused_keys_of(rt: &HostRuntime, command: &str) -> Option<String> {
     let job = job_of(rt.alloc(), command).ok()?;
     refused(rt.alloc(), book_of(rt, &job))
@@ -1176,8 +1179,8 @@ fn unreadable_key_file(rt: HostRuntime) {
     assert!(rt; said.as_deref() == Some(wanted));
 }
 
-/// Returns whether sending from a port that another socket uses is refused with exit status 3 and
-/// the text that names this port.
+/// Binds a port that another socket uses. Returns whether this is refused with exit status 3 and a
+/// text that names this port.
 fn refuses_taken_port(rt: &HostRuntime) -> Option<bool> {
     let other = UdpSocket::bind(rt, (Ipv4Addr::LOCALHOST, 0)).ok()?;
     let port = other.local_addr().ok()?.port();
@@ -1188,13 +1191,13 @@ fn refuses_taken_port(rt: &HostRuntime) -> Option<bool> {
     Some(said.as_str() == wanted.as_str())
 }
 
-/// A source port that another program uses cannot be bound.
+/// A source port that another socket uses cannot be bound.
 #[test]
 fn taken_port(rt: HostRuntime) {
     assert!(rt; refuses_taken_port(&rt) == Some(true));
 }
 
-/// The job names the key file of its options. Without a key file, there are no keys.
+/// A job names the key file that the option `--keys` gives. Without a key file, there are no keys.
 #[test]
 fn key_file_options(rt: HostRuntime) {
     assert!(rt; has_key_file(&rt, "ndn_tool data /A --keys a.keys", Some("a.keys"), 3));
@@ -1205,7 +1208,7 @@ fn ends_with(fault: Fault, status: u8) -> bool {
     fault.exit_status() == status
 }
 
-/// The exit status of each fault.
+/// The exit statuses of faults.
 #[test]
 fn statuses(rt: HostRuntime) {
     let usage = Usage::BadValue {
@@ -1498,8 +1501,8 @@ fn hears_long(rt: &HostRuntime, status: u8) -> Option<Result<(), Fault>> {
     hears(rt, request, b"forged", &reply)
 }
 
-/// A client waits for its answer, whatever other datagrams arrive, and ends with the answer's
-/// outcome.
+/// A client ignores a datagram that is not a packet, waits for its answer, and ends with the
+/// outcome of the answer.
 #[test]
 fn forged_answers(rt: HostRuntime) {
     assert!(rt; matches!(hears_long(&rt, 200), Some(Ok(()))));
@@ -1520,7 +1523,7 @@ fn silence(alloc: Global, rows: &str, from: Option<u16>) -> Option<Silence> {
 }
 
 /// If no answer arrives to a command under `/localhost`, the reason is `Far` without a source port
-/// and `Late` with one. For a command to a repository, the reason is `Late`.
+/// and `Late` with one. For a command to a repository without a source port, the reason is `Late`.
 #[test]
 fn silences(rt: HostRuntime) {
     assert!(rt; silence(rt.alloc(), ROUTE_ANSWERS, None) == Some(Silence::Far));

@@ -1,10 +1,10 @@
-//! Tests with each command line that sends requests, and with each status of a reply.
+//! Tests of command lines that send requests, and of the statuses of replies.
 
 use super::client::misplayed;
 use test_support::SAMPLE;
 
-/// The ten commands of `docs/TOOL.md`, and its request that ends with a Nack. Each row is a command
-/// line, ` => `, the word for its outcome, and the end of the text that it prints.
+/// The ten commands of `docs/TOOL.md`, and the request in that document that ends with a Nack. Each
+/// row is a command line, ` => `, the word for its outcome, and the end of the text that it prints.
 const TEN_COMMANDS: &str = "
 route add /lab --face 2 --cost 5 $KEY $NODE => done status 200 OK␊name /lab␊face 2␊cost 5␊
 route list $NODE => done name␉face␉cost␊/lab␉2␉5␊
@@ -26,7 +26,8 @@ fn ten_commands(rt: HostRuntime) {
     assert!(rt; row == Some(0), "line {row:?}");
 }
 
-/// The other verbs, with options. A route that has expired is gone at the next command.
+/// The other verbs, with options. A route that expires after one millisecond is gone at the next
+/// command.
 const OTHER_COMMANDS: &str = "
 route register /A --face 2 --cost 5 $KEY $NODE => done status 200 OK␊name /A␊face 2␊cost 5␊origin 0␊flags child-inherit␊
 route register /A/B --face 1 --flags 2 --expires 1 --origin 65 $KEY $NODE => done status 200 OK␊name /A/B␊face 1␊cost 0␊origin 65␊flags capture␊expires in 1 ms␊

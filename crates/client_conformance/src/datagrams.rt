@@ -1,5 +1,5 @@
-//! Tests with datagrams that do not answer a command. They arrive before the reply, after the
-//! reply, or instead of the reply.
+//! Tests of which datagram a command accepts as its reply. Other datagrams arrive before the reply,
+//! after the reply, or instead of the reply.
 
 use super::client::{ends_as, exchange_of, heard};
 use super::scene::{Scene, on_scene};
@@ -74,7 +74,7 @@ fn hears(
 }
 
 /// Does the same as `hears` on a new node. The node gets another command before the command in
-/// `line`. Its reply to the command in `line` must have `len` octets.
+/// `line`. The reply to the command in `line` must have `len` octets.
 fn hears_on(
     alloc: Global,
     scene: &mut Scene,
@@ -101,8 +101,8 @@ fn hears_of(alloc: Global, line: &str, len: usize, row: &str) -> Option<bool> {
     )
 }
 
-/// Does the same as `hears_of` for a command that adds a route for `/A`. Its reply has 150 octets,
-/// of which the Name, including the parameters, takes 85 octets.
+/// Does the same as `hears_of` for a command that adds a route for `/A`. The reply to this command
+/// has 150 octets. Its Name, including the parameters, takes 85 of them.
 fn is_heard(alloc: Global, row: &str) -> bool {
     hears_of(alloc, "route add /A --face 2 --cost 5 $KEY $NODE", 150, row) == Some(true)
 }
@@ -149,7 +149,8 @@ fn is_long_heard(alloc: Global, row: &str) -> bool {
     }
 }
 
-/// A reply of more than 8,800 octets is accepted if it is exactly what the node sent.
+/// A reply of 16,063 octets, which is more than 8,800, ends its command if its signature is right.
+/// With a wrong signature it is ignored.
 #[test]
 fn reply_of_16063_octets(rt: HostRuntime) {
     assert!(rt; first_wrong(rt.alloc(), LONG, is_long_heard) == 0);

@@ -51,8 +51,8 @@ fn ends_with_table(
     Some(in_three && word == "done" && printed.as_slice() == table(alloc)?.as_bytes())
 }
 
-/// Returns whether the exchange ends without a second segment if the list changes after the first
-/// segment.
+/// Lets a command increase the version of the list after the first segment. Returns whether the
+/// exchange then ends with the word `changed`, without a second segment.
 fn ends_with_change(
     alloc: Global,
     scene: &mut Scene,
@@ -78,7 +78,8 @@ fn lists(
     ends(alloc, scene, &mut exchange, book)
 }
 
-/// Returns whether `plays` returns true for a new node.
+/// Returns what `plays` returns for a new node under the sample rules, or `None` if there is no
+/// such node.
 fn is_right<F: Fn(Global, &mut Scene, &KeyBook) -> Option<bool>>(
     alloc: Global,
     plays: &F,
@@ -89,8 +90,8 @@ fn is_right<F: Fn(Global, &mut Scene, &KeyBook) -> Option<bool>>(
     on_scene(alloc, SAMPLE, &book, plays)
 }
 
-/// Returns whether a list of 130 routes is received, and is received again after a change has
-/// interrupted it.
+/// Returns whether a list of 130 routes is received, a new version of the list then ends an
+/// exchange, and a further exchange receives the list again.
 fn lists_routes(alloc: Global, scene: &mut Scene, book: &KeyBook) -> Option<bool> {
     let added = adds_routes(alloc, scene, book)?;
     let whole = lists(alloc, scene, book, ends_with_table)?;

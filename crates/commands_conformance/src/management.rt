@@ -92,7 +92,7 @@ fn fields_shown(alloc: Global, command: &Command<'_>) -> Option<String> {
     Some(text)
 }
 
-/// Appends a space and a number, or `-` for no number.
+/// Appends a space, and then the number, or `-` if there is none.
 fn put_count(text: &mut String, count: Option<u64>) -> Option<()> {
     match count {
         None => text.push_str(" -").ok(),
@@ -126,8 +126,8 @@ fn absent_fields(rt: HostRuntime) {
     check_rows(&rt, rt.alloc(), rows, command_shown);
 }
 
-/// Fields may come in any order. The first field of each type counts, and complete elements of
-/// unknown types are ignored.
+/// Fields may come in any order. The first field of each type counts. A complete element of an
+/// unknown type is ignored, while a truncated element is refused with status 400.
 #[test]
 fn the_first_of_each_field_counts(rt: HostRuntime) {
     let rows = "
@@ -140,7 +140,7 @@ fn the_first_of_each_field_counts(rt: HostRuntime) {
     check_rows(&rt, rt.alloc(), rows, command_shown);
 }
 
-/// Numbers of 2, 4 and 8 octets, up to the greatest.
+/// Numbers of 2, 4 and 8 octets, among them the greatest number of 8 octets.
 #[test]
 fn numbers_of_each_length(rt: HostRuntime) {
     let rows = "
@@ -153,7 +153,8 @@ fn numbers_of_each_length(rt: HostRuntime) {
 }
 
 /// Commands with a field of a wrong form, commands without a required field, and commands with a
-/// field that they do not take, are refused with status 400.
+/// field that they do not take, are refused with status 400. So is a command that unsets the
+/// strategy of `/`.
 #[test]
 fn fields_that_commands_need_and_take(rt: HostRuntime) {
     let rows = "
@@ -252,8 +253,8 @@ fn prefixes_of_32_components(rt: HostRuntime) {
     check_rows(&rt, rt.alloc(), rows, applied_shown);
 }
 
-/// The removal of a next hop that does not exist, on a face that is not up, has status 200, and so
-/// has the removal of a strategy that does not exist.
+/// The removal of a next hop that does not exist has status 200, even if its face is not up. The
+/// unsetting of a strategy that is not set has status 200, too.
 #[test]
 fn removals_of_what_is_not_there(rt: HostRuntime) {
     let rows = "

@@ -56,7 +56,7 @@ fn command_name(alloc: Global, verb: &str, parameters: &[u8]) -> Option<NameBuf>
     Some(name)
 }
 
-/// Appends a verb, parameters, and a digest of zeros.
+/// Appends to a name a verb, parameters, and a digest of zeros.
 fn put_command(name: &mut NameBuf, verb: &str, parameters: &[u8]) -> Option<()> {
     name.append(8, verb.as_bytes()).ok()?;
     name.append(8, parameters).ok()?;
@@ -87,8 +87,8 @@ fn answered(alloc: Global, repo: &mut Repo, name: Name<'_>, now: u64) -> Option<
     reply_shown(alloc, &repo.command(name, now).ok()?)
 }
 
-/// Applies a command, given as its verb, the name that it asks for, the time, and perhaps a
-/// lifetime. Shows the reply.
+/// Applies a command with this verb. The words give the name that it asks for, the time, and
+/// perhaps a lifetime. Shows the reply.
 fn command(alloc: Global, repo: &mut Repo, verb: &str, words: &str) -> Option<String> {
     let mut words = words.split(' ');
     let asked = words.next()?;
@@ -286,7 +286,7 @@ fn same_prefixes(rt: HostRuntime) {
     check_rows(&rt, rt.alloc(), rows, same_prefix);
 }
 
-/// An expiry before the deadline of a want leaves the want; an expiry at the deadline removes the
+/// An expiry before the deadline of a want leaves the want. An expiry at the deadline removes the
 /// want.
 #[test]
 fn want_deadline(rt: HostRuntime) {
@@ -358,7 +358,7 @@ fn the_first_of_each_field_counts(rt: HostRuntime) {
 }
 
 /// Fields of a wrong form in commands of every verb, commands without a Name, and truncated
-/// parameters. A lifetime of 2 octets is well formed.
+/// parameters are answered with status 400. A lifetime of 2 octets is well formed.
 #[test]
 fn fields_of_a_wrong_form(rt: HostRuntime) {
     let rows = "
@@ -472,8 +472,8 @@ fn status_and_count(repo: &mut Repo, name: Name<'_>, now: u64) -> Option<(u16, u
     Some((reply.status, reply.count))
 }
 
-/// Returns whether 64 wants fit, a new want is then refused, a want that is equal to one of the 64
-/// is accepted, and a new want is accepted after the wants have expired.
+/// Returns whether 64 wants fit, and a new want is then refused. A want that is equal to one of the
+/// 64 must be accepted, and so must a new want after the 64 have expired.
 fn limits_wants(alloc: Global, repo: &mut Repo) -> Option<bool> {
     for number in 0..64 {
         if status_of(alloc, repo, "insert", number)? != 100 {
@@ -526,8 +526,8 @@ fn played_on<F: Fn(&mut Repo, Name<'_>, Name<'_>, &Data<'_>) -> Option<bool>>(
     play(repo, insert.view(), check.view(), &data)
 }
 
-/// Returns whether a prepared command and a prepared offer do not run out of memory, and an offer
-/// that runs out of memory changes nothing. Returns `None` if the command cannot be prepared.
+/// Returns whether a prepared command and a prepared offer do not run out of memory. An offer that
+/// runs out of memory must change nothing. Returns `None` if the command cannot be prepared.
 fn keeps_its_promises(
     repo: &mut Repo,
     insert: Name<'_>,

@@ -158,8 +158,8 @@ fn text_of(alloc: Global, request: &Request) -> Option<String> {
     }
 }
 
-/// Returns the rule file, the key file, the repository's prefix and the cache of a script's node, in
-/// which `none` stands for an absent file.
+/// Returns as text the rule file, the key file, the repository's prefix and the cache's capacity of
+/// a script's node. The word `none` stands for a file that is not given.
 fn script_text(alloc: Global, options: &Options) -> Option<String> {
     let rules = options.rules.as_deref().unwrap_or("none");
     let keys = options.keys.as_deref().unwrap_or("none");
@@ -167,9 +167,9 @@ fn script_text(alloc: Global, options: &Options) -> Option<String> {
     format!(in alloc; "{rules} {keys} {repo} {cache}").ok()
 }
 
-/// Returns the options of a node on a port: `--cache`, `--listen`, `--turns`, `--local`, `--idle`,
-/// `--log`, the peers, the word `open` if the node accepts strangers, and the word `quiet` if it
-/// prints no answers.
+/// Returns as text the options of a node on a port, in this order: `--cache`, `--listen`,
+/// `--turns`, `--local`, `--idle`, `--log`, the peers, the word `open` if the node accepts
+/// strangers, and the word `quiet` if it prints no answers.
 fn udp_text(alloc: Global, cache: u32, udp: &UdpOptions) -> Option<String> {
     let mut text = String::new(alloc);
     put_udp(&mut text, cache, udp)?;
@@ -193,7 +193,7 @@ fn put_udp(text: &mut String, cache: u32, udp: &UdpOptions) -> Option<()> {
     write!(text, "{open}{quiet}").ok()
 }
 
-/// Returns the journal's file and the repository's prefix.
+/// Returns as text the journal's file and the repository's prefix.
 fn shortening_text(alloc: Global, options: &ShorteningOptions) -> Option<String> {
     let (journal, repo) = (options.journal.as_str(), options.repo.view());
     format!(in alloc; "{journal} {repo}").ok()

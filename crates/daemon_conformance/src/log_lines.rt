@@ -105,8 +105,8 @@ fn says_more(alloc: Global) -> bool {
     )
 }
 
-/// Returns four lines: closed faces at the last time that has a date, closed faces one millisecond
-/// later, a failed send, and a stranger's datagram.
+/// Returns four lines. They report a closed face at the last time that has a date, two closed faces
+/// one millisecond later, a failed send, and a stranger's datagram.
 fn shown_notes(alloc: Global) -> Option<Vec<u8>> {
     let mut text = Vec::new(alloc);
     put_notes(alloc, &mut text)?;

@@ -73,7 +73,7 @@ fn source_of(alloc: Global, rules: &[u8]) -> Option<Once> {
 }
 
 /// Lets a node restart with this journal and this rule file, and take one turn. A datagram waits at
-/// its port. Returns whether the turn was taken.
+/// the port of the node. Returns whether the turn was taken.
 fn restarts(
     rt: &(impl AllocGlobal + Eprint + Net + Print),
     node: &mut Node,
@@ -104,8 +104,8 @@ fn leaves(
     Some(restarted && journal.as_slice() == after.as_bytes())
 }
 
-/// Returns whether a start of a new node with this journal, this rule file and these peers takes
-/// its turn and leaves the journal `after`.
+/// Starts a new node with the journal `before`, this rule file and these peers. Returns whether the
+/// node takes its turn and leaves the journal `after`.
 fn start_leaves(
     rt: &(impl AllocGlobal + Eprint + Net + Print),
     before: &str,

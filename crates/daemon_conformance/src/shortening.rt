@@ -9,7 +9,7 @@ use std::process::Abort;
 use test_support::{KEYS, data_of};
 
 /// Shortens the journal of a node whose repository has this prefix. Returns `Ok(None)` if no
-/// shorter journal is made, or the prefix is not a name.
+/// shorter journal is made, or if the prefix is not the URI of a name.
 fn made(
     alloc: Global,
     prefix: &str,
@@ -34,12 +34,12 @@ fn becomes(alloc: Global, journal: &str, lines: usize, kept: usize, text: &str) 
         && shorter.text.as_slice() == text.as_bytes())
 }
 
-/// Returns whether no shorter journal is made.
+/// Returns whether the shortening does not fail, but makes no shorter journal.
 fn stays(alloc: Global, journal: &str) -> bool {
     matches!(made(alloc, "/repo", journal), Ok(None))
 }
 
-/// Returns the fault of a journal that cannot be shortened.
+/// Returns the fault with which the shortening of a journal fails, or `None` if it does not fail.
 fn fault_of(alloc: Global, prefix: &str, journal: &str) -> Option<ShortenFault> {
     made(alloc, prefix, journal).err()
 }
@@ -248,6 +248,8 @@ fn a_stranger(rt: HostRuntime) {
 }
 
 /// When a face closes, the next hops on it are removed, even if they were added from another face.
+/// The last command stays because it is the last of its signer, although the next hop of `/C` is
+/// gone.
 const HOPS_OF_A_CLOSED_FACE: &str = "* rules 900
 * up 1 local 1000
 up 2 far 1000
@@ -350,7 +352,8 @@ fn wants_that_expire(rt: HostRuntime) {
     keeps_marked(&rt, WANTS_THAT_EXPIRE);
 }
 
-/// A command needs the rules that allowed it. Earlier rules that no line needs are left out.
+/// A command needs the rules that allowed it. Rules that no line needs are left out if newer rules
+/// follow.
 const RULES_THAT_CHANGE: &str = "* rules 900
 * up 1 local 1000
 * ask 1 1001 /ops/KEY/1 /localhost/nfd/fib/add-nexthop/%68%05%07%03%08%01A
@@ -364,8 +367,9 @@ fn rules_that_change(rt: HostRuntime) {
     keeps_marked(&rt, RULES_THAT_CHANGE);
 }
 
-/// Under another prefix an insert is an ordinary Interest, which no node journals. The prefix
-/// `/localhost` is refused.
+/// If the repository has another prefix, an insert under `/repo` is an ordinary Interest, which no
+/// node journals. With the prefix `/repo`, no shorter journal is made. The prefix `/localhost` is
+/// refused.
 #[test]
 fn another_prefix(rt: HostRuntime) {
     let alloc = rt.alloc();

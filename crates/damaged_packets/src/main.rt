@@ -1,11 +1,12 @@
 //! Gives damaged packets to `read_frame`, and prints the results.
 //!
-//! Each line of standard input is a packet in hexadecimal. For each packet these octets are read:
-//! the packet's proper prefixes, the shortest first; the packet itself; the packet with each octet
-//! in turn set to 0, unless it is 0 already; then the packet with each octet in turn set to 255,
-//! unless it is 255 already. One line is printed for each run of equal results: the length of the
-//! run, then the name of the fault, or the kind of packet with the number of components of its name
-//! and its InterestLifetime, FreshnessPeriod or NackReason.
+//! Each line of standard input is a packet in hexadecimal. For each packet, its proper prefixes are
+//! read first, from the shortest on, and then the packet itself. Then the packet is read with each
+//! octet in turn set to 0, and at last with each octet in turn set to 255. Nothing is read for an
+//! octet that has the value already. For each packet, an empty line is printed, and then one line
+//! for each run of equal results. This line has the length of the run, the name of the fault or the
+//! kind of packet, the number of components of its name, and its InterestLifetime, FreshnessPeriod
+//! or NackReason. The last two numbers are 0 for a fault and for a link packet without a packet.
 #![tactic(auto)]
 
 use limited_reads::read_line_within;

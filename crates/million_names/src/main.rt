@@ -1,7 +1,7 @@
-//! Puts a million names into a map, and removes each name after 64 further names were put in.
-//! Prints the greatest number of names that the map had after a removal, and how many names remain.
-//! By the map's invariant, each node of the map has a value or a child, so a map without names has
-//! no node.
+//! Puts a million names into a map. Removes each name after 64 further names were put in, and the
+//! last 64 names at the end. Prints the greatest number of names that the map had after a removal,
+//! and how many names remain. By the map's invariant, each node of the map has a value or a child,
+//! so a map without names has no node.
 #![tactic(auto)]
 
 use name_trie::NameMap;

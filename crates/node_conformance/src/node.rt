@@ -1,4 +1,5 @@
-//! Tests that play scripts on a node, and tests that call its steps.
+//! Tests that play scripts on a node, tests that call its steps, and tests of its ports and its
+//! journal.
 
 mod cache;
 mod decisions;
@@ -109,8 +110,8 @@ fn push_hexadecimal(alloc: Global, text: &mut String, octets: &[u8]) -> Option<(
     text.push_str(&hexadecimal).ok()
 }
 
-/// Appends the hexadecimal of the packet or of the sample file that a word of a dialogue stands
-/// for, or the word itself if it stands for neither. Returns `None` if memory runs out.
+/// Appends in hexadecimal the packet or the sample file that a word of a dialogue stands for.
+/// Appends the word itself if it stands for neither. Returns `None` if memory runs out.
 fn push_spelled(alloc: Global, text: &mut String, word: &str) -> Option<()> {
     match word {
         "SAMPLE" => push_hexadecimal(alloc, text, SAMPLE.as_bytes()),

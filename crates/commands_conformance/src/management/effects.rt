@@ -1,4 +1,5 @@
-//! Tests of consecutive commands on the same tables.
+//! Tests of consecutive commands on the same tables, of full tables, of commands in packets, and of
+//! the segments of datasets.
 
 ghost use Rattle.std.specs.Prelude.{◌≡◌};
 
@@ -737,20 +738,22 @@ fn replies_or_leaves_in(out: &mut Vec<u8>) -> Option<bool> {
     Some(out.len() == len && out.first() == Some(&7))
 }
 
-/// Returns whether the datasets of one route and of the strategies are complete. Running out of
-/// memory is also accepted.
+/// Adds a route. Returns whether the datasets of routes and of strategies have their whole lengths.
+/// Running out of memory is also accepted.
 fn lists_or_refuses(alloc: Global, station: &mut Station) -> Option<bool> {
     let name = numbered(alloc, 1)?;
     add_hop(station, &name, 2)?;
     Some(both_are_long_or_refused(station, alloc))
 }
 
-/// Returns whether both datasets are complete. Running out of memory is also accepted.
+/// Returns whether the dataset of one route and the dataset of one strategy have their whole
+/// lengths. Running out of memory is also accepted.
 fn both_are_long_or_refused(station: &Station, alloc: Global) -> bool {
     is_long_or_refused(station, alloc, false, 16) && is_long_or_refused(station, alloc, true, 46)
 }
 
-/// Returns whether a dataset has `len` octets. Running out of memory is also accepted.
+/// Returns whether the dataset of strategies or of routes has `len` octets. Running out of memory
+/// is also accepted.
 fn is_long_or_refused(station: &Station, alloc: Global, of_strategies: bool, len: usize) -> bool {
     match station.list(alloc, of_strategies) {
         Some(text) => text.len() == len,

@@ -26,8 +26,8 @@ fn fields_shown(alloc: Global, command: &Command<'_>) -> Option<String> {
     Some(text)
 }
 
-/// All fields of a route. If these fields are absent, the face, the origin and the cost are 0, the
-/// flags are 1, and the route does not expire.
+/// All fields of a route. An absent face, origin or cost is 0, absent flags are 1, and a route
+/// without an expiration period does not expire.
 #[test]
 fn fields_of_routes(rt: HostRuntime) {
     let rows = "
@@ -81,7 +81,8 @@ fn reply_on(alloc: Global, station: &mut Station, row: &str) -> Option<String> {
     encoded_reply(alloc, status, status_text(status)?, applied.body.as_slice())
 }
 
-/// The fields of a reply have the order Name, FaceId, Origin, Cost, Flags, ExpirationPeriod.
+/// The fields of a reply have the order Name, FaceId, Origin, Cost, Flags, ExpirationPeriod. A
+/// reply with status 410 has no fields.
 #[test]
 fn replies_of_routes(rt: HostRuntime) {
     let rows = "
@@ -94,7 +95,8 @@ fn replies_of_routes(rt: HostRuntime) {
     check_rows(&rt, rt.alloc(), rows, reply_shown);
 }
 
-/// A name of 33 components is reported before a face that is not up. A removal ignores both.
+/// A name of 33 components is reported before a face that is not up. A removal has status 200 in
+/// spite of such a name and such a face.
 #[test]
 fn routes_that_are_refused(rt: HostRuntime) {
     let rows = "
@@ -114,7 +116,8 @@ register 680b07030801416901026a0105, register 680e07060801410801426901096c0100, 
     check_rows(&rt, rt.alloc(), rows, answers);
 }
 
-/// Routes with a period of 1000 milliseconds, of 0, of the greatest number, and without a period.
+/// Routes with an expiration period of 1,000 milliseconds, of 0 and of the greatest number, and a
+/// route without this period.
 #[test]
 fn routes_end(rt: HostRuntime) {
     let rows = "

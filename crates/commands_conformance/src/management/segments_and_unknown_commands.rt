@@ -18,7 +18,8 @@ fn names_without_a_verb(rt: HostRuntime) {
     check_rows(&rt, rt.alloc(), rows, command_shown);
 }
 
-/// A command that does not exist is reported before wrong parameters.
+/// A name of a command that does not exist is refused with status 501, even if its parameters are
+/// wrong or missing.
 #[test]
 fn commands_that_do_not_exist(rt: HostRuntime) {
     let rows = "
@@ -75,7 +76,8 @@ fn is_segment(text: &[u8], number: u64, expected: Option<(usize, u64)>) -> bool 
     }
 }
 
-/// Each segment but the last has 4,096 octets.
+/// Each segment but the last has 4,096 octets. A dataset of no octets has one segment of no octets.
+/// There is no segment after the last one.
 #[test]
 fn segments_of_4096_octets(rt: HostRuntime) {
     assert!(rt; segment_is(rt.alloc(), 4097, 0, Some((4096, 1))));

@@ -30,8 +30,8 @@ fn fills(repo: &mut Repo, number: u32) -> bool {
     offer_packet(repo, &octets) == Some(true)
 }
 
-/// Returns whether 65,536 objects and wants fit in total. A further want must then be refused,
-/// while a want that is equal to a present want, and an insert of a stored Data, must be accepted.
+/// Returns whether 65,536 objects and wants fit in total. A further want must then be refused. A
+/// want that is equal to a present want must be accepted, and so must an insert of a stored Data.
 fn holds_so_many(repo: &mut Repo) -> bool {
     for number in 0..65_535 {
         if !inserts(repo, number, 100) || !fills(repo, number) {

@@ -62,7 +62,8 @@ in 1 1000000 D_A
 3 no-rule data
 ";
 
-/// Without rules, commands and Data are denied.
+/// Without rules, the verdict on a command and on a Data is `no-rule`. The command is answered by a
+/// reply.
 #[test]
 fn without_rules(rt: HostRuntime) {
     replies_under(&rt, "", 1, WITHOUT_RULES);

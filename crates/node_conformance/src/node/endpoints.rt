@@ -1,4 +1,5 @@
-//! Endpoints, each an address and a port, and which of them the node listens to.
+//! Tests of endpoints, each of which is an address and a port: which of them get a face, and from
+//! which the node ignores datagrams.
 
 use super::udp::{
     Moving, bound_socket, brings_face, brings_packet, free_port, hears_octets, moving_ports, opens,

@@ -39,7 +39,7 @@ fn is_outcome(came: &str) -> Option<bool> {
     )
 }
 
-/// Returns whether the Interest of the new name is refused, but the Interest of the known name is
+/// Returns whether the Interest of the new name is dropped, but the Interest of the known name is
 /// not. The Interest of the known name waits for the answer to the earlier Interest of this name.
 fn is_refused_alone(alloc: Global) -> Option<bool> {
     let came = script_outcome(alloc)?;

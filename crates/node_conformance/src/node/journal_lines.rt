@@ -125,7 +125,7 @@ in 2 1002 050b07030801410a0401020304
 down 2 1003
 ";
 
-/// Returns the number of whole lines in the text, and their octets.
+/// Returns the number of whole lines in the text, and the number of octets in these lines.
 fn whole_lines(text: &[u8]) -> (usize, usize) {
     let events = text.iter().filter(|octet| **octet == b'\n').count();
     let whole = text
@@ -163,7 +163,7 @@ fn face_at(node: &Node, i: usize) -> Option<u64> {
     Some(face)
 }
 
-/// Returns whether a node has this time and these as its first two open faces.
+/// Returns whether a node has this time, and its first two open faces have these numbers.
 fn has(node: &Node, wanted: &(u64, Option<u64>, Option<u64>)) -> bool {
     (node.now(), face_at(node, 0), face_at(node, 1)) == *wanted
 }

@@ -35,8 +35,8 @@ impl JournalFile for MemoryFile {
 }
 
 /// Serves a node with the events of a dialogue and a journal file that accepts `lines` lines.
-/// Returns the ports if serving ends with the fault `fault`, or, if `fault` is `None`, without a
-/// fault.
+/// Returns the ports if serving ends with the fault `fault`, or ends without a fault if `fault` is
+/// `None`. Returns `None` if serving ends in another way.
 fn served(
     alloc: Global,
     node: &mut Node,
@@ -91,8 +91,8 @@ fn journal_of_a_life(rt: HostRuntime) {
 }
 
 /// The opening of a face, the opening of this face while it is open, the closing of a face that is
-/// not open, a denied command, a Data that the repository does not want, a tick, and then a new
-/// face while the clock goes back.
+/// not open, a denied command, a Data that the repository does not want, a tick, and the opening of
+/// another face at an earlier time.
 const MOSTLY_DENIED: &str = "
 up 1 local 1000000
 1 passed
@@ -122,8 +122,8 @@ fn has_three_lines(ports: &JournalledPorts<MemoryPorts, MemoryFile>) -> bool {
     ports.ports().sent().len() == 1 && lines == 3
 }
 
-/// Returns whether a node stops when writing to the journal's file fails after three lines. The
-/// node must send nothing for the event of the fourth line.
+/// Returns whether a node stops when the journal's file refuses the fourth line. The node must send
+/// nothing for the event of this line.
 fn fails_at_the_insert(alloc: Global, node: &mut Node) -> Option<bool> {
     let fault = Some(ServeFault::Journal { after: 3 });
     Some(has_three_lines(&served(alloc, node, FROM_INSERT_TO_DELETE, 3, fault)?))

@@ -151,8 +151,8 @@ fn takes_insert(alloc: Global, node: &mut Node) -> bool {
     takes_command(node, &mut Outbox::new(alloc), &insert)
 }
 
-/// Returns whether a node takes the insert, and then has the time of the insert, and the Local
-/// face 1 as its only open face.
+/// Returns whether a node takes the insert. Afterwards its time must be that of the insert, and the
+/// Local face 1 must be its only open face.
 fn tells_after_insert(alloc: Global, node: &mut Node) -> bool {
     takes_insert(alloc, node)
         && node.now() == 1_001_000
@@ -175,15 +175,16 @@ fn wants_at(node: &Node, now: u64, data: &[u8]) -> bool {
     node.wants(&packet(now, data))
 }
 
-/// Returns whether a node wants the first Data until the deadline, and does not want the other.
+/// Returns whether a node wants the Data `wanted` one millisecond before the deadline, but not at
+/// the deadline. The node must not want the Data `other`.
 fn wants_first(node: &Node, wanted: &[u8], other: &[u8]) -> bool {
     wants_at(node, 1_001_099, wanted)
         && !wants_at(node, 1_001_099, other)
         && !wants_at(node, 1_001_100, wanted)
 }
 
-/// Returns whether a node wants the Data of the insert until the deadline, and does not want
-/// another Data.
+/// Returns whether a node wants the Data of the insert before the deadline but not at the deadline,
+/// and does not want another Data.
 fn wants_inserted(alloc: Global, node: &Node) -> bool {
     let wanted = octets_of(alloc, "D_A");
     let other = octets_of(alloc, "D_B");

@@ -15,8 +15,8 @@ in 1 1000000 ODD
 5 dropped Malformed CriticalUnknown
 ";
 
-/// An Interest with an unknown element is sent on if the element's type is even, and dropped if it
-/// is odd.
+/// An Interest with an unknown element is forwarded if the element's type is 240, which is even,
+/// and dropped if it is 241, which is odd.
 #[test]
 fn unknown_elements(rt: HostRuntime) {
     replies(&rt, UNKNOWN_ELEMENTS);
@@ -39,8 +39,8 @@ in 1 1000000 NO_DIGEST
 6 dropped Malformed DigestMissing
 ";
 
-/// A signed Interest is sent on if its name has the digest of its parameters, but not if it has
-/// another digest or none.
+/// An Interest with parameters is forwarded if its name has the digest of its parameters. It is
+/// dropped if its name has another digest or none.
 #[test]
 fn parameters_digest(rt: HostRuntime) {
     replies(&rt, PARAMETERS_DIGEST);

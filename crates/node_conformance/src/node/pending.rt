@@ -42,7 +42,8 @@ in 2 1001099 D_A
 > 1 D_A
 ";
 
-/// At its deadline an Interest is no longer pending, and time does not go back.
+/// An Interest is pending until its deadline, and no longer at its deadline. An event with an
+/// earlier time does not set the node's clock back.
 #[test]
 fn deadlines(rt: HostRuntime) {
     replies(&rt, BEFORE_THE_DEADLINE);
@@ -74,8 +75,8 @@ in 3 1000000 D_AB
 9 data any-data
 ";
 
-/// Data with longer names answer an Interest with CanBePrefix. A Data is never sent back to the
-/// face that it came from, and it satisfies the Interests that it answers.
+/// A Data with a longer name answers an Interest with CanBePrefix. A Data is not sent back to the
+/// face that it came from, but the Interest of that face is no longer pending.
 #[test]
 fn data_answers(rt: HostRuntime) {
     replies(&rt, DATA_ANSWERS);
@@ -102,8 +103,8 @@ in 1 1001010 INTEREST
 > 2 INTEREST
 ";
 
-/// An Interest that loops is answered by a Nack Duplicate. If the same face sends the Interest
-/// again, it is forwarded again only if 10 milliseconds have passed.
+/// An Interest that loops is answered by a Nack Duplicate. If a face repeats its pending Interest,
+/// the Interest is forwarded again after 10 milliseconds, but not after 9.
 #[test]
 fn loops_and_retries(rt: HostRuntime) {
     replies(&rt, LOOPS_AND_RETRIES);
@@ -130,7 +131,8 @@ in 2 1001012 NO_ROUTE
 7 dropped NoPending
 ";
 
-/// A Nack is sent back once all faces that the Interest was sent to have answered with a Nack.
+/// A Nack from the only next hop is sent back once, even if the Interest was forwarded twice. A
+/// further Nack is dropped.
 #[test]
 fn nacks(rt: HostRuntime) {
     replies(&rt, NACKS);

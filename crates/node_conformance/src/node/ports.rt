@@ -9,8 +9,8 @@ use node_ports::{
 use std::alloc::Global;
 use test_support::SAMPLE;
 
-/// A dialogue in which two faces open, an Interest without a route comes, and a Data that no
-/// Interest asked for comes twice.
+/// A dialogue in which two faces open, an Interest without a route comes, and a Data with a wrong
+/// signature comes twice.
 pub const FIRST_PATH: &str = "
 up 1 local 0
 1 passed
@@ -183,8 +183,8 @@ fn put_turn<P: Ports>(
     put_verdict(text, number, &verdict, node.rules()).is_ok() && put_sends(text, outbox).is_ok()
 }
 
-/// Appends the text that is printed for a node's turns at a port: for at most 999 turns, and only
-/// until a turn answers no event.
+/// Appends the text that is printed for a node's turns at a port. Stops after 999 turns, or at the
+/// first turn that answers no event.
 fn put_turns<P: Ports>(alloc: Global, node: &mut Node, ports: &mut P, text: &mut Vec<u8>) {
     for number in 1..1000 {
         if !put_turn(node, ports, &mut Outbox::new(alloc), number, text) {
@@ -289,7 +289,7 @@ fn node_goes_on(alloc: Global, node: &mut Node, next: u64, before: u64, left: u6
 }
 
 /// Returns whether a first call of `serve` fails after `before` events, a second call serves the
-/// remaining events, which are `left` in number, and the two calls send one packet in total.
+/// remaining `left` events, and the two calls send one packet in total.
 fn stops_and_ends(
     alloc: Global,
     node: &mut Node,

@@ -184,9 +184,9 @@ fn script_with_refused_memory(rt: HostRuntime) {
     assert!(rt; script(rt.alloc()) != Some(false));
 }
 
-/// Returns whether all five events of `FIRST_PATH` come and the port then ends, and at most one
-/// event is counted as refused or one send as failed. Returns `None` if one of the test's own
-/// allocations fails, or `serve` fails.
+/// Returns whether all five events of `FIRST_PATH` come and the port then ends. At most one event
+/// may count as refused, or one send as failed, but not both. Returns `None` if one of the test's
+/// own allocations fails, or `serve` fails.
 fn serves(alloc: Global, node: &mut Node) -> Option<bool> {
     let mut ports = ports_of(alloc, FIRST_PATH)?;
     let served = serve(alloc, node, &mut ports, 10).ok()?;

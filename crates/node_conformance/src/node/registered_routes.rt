@@ -99,9 +99,9 @@ in 1 1001000 LIST
 > 1 NO_ROUTES
 ";
 
-/// A route that expires at the moment at which its face closes is counted in the version of the
-/// list, and so is the closing. A route that is only removed with its face is not counted in
-/// addition to the closing.
+/// If a route expires at the moment at which its face closes, the version of the list counts the
+/// expiry and the closing. If the route is removed because its face closes, the version counts only
+/// the closing.
 #[test]
 fn routes_end_before_the_event(rt: HostRuntime) {
     replies(&rt, CLOSED_AT_THE_DEADLINE);

@@ -27,7 +27,7 @@ impl Read for Pieces<'_> {
     }
 }
 
-/// An output that accepts at most `size` octets at a time, and fails when it is full.
+/// An output that accepts `left` more octets, at most `size` of them at a time, and then fails.
 #[derive(Drop)]
 pub struct Room {
     pub held: Vec<u8>,
@@ -105,8 +105,8 @@ pub fn end_in(alloc: Global, script: &str, output: &mut Room) -> Option<Result<(
     Some(run_script(alloc, &mut script.as_bytes(), output, parts(alloc)?))
 }
 
-/// Returns whether `end` and `written` are right for an output with capacity for `left` octets: if
-/// the answers are longer, only their first `left` octets are written, and writing fails.
+/// Returns whether `end` and `written` are right for an output with capacity for `left` octets. If
+/// the answers are longer, only their first `left` octets may be written, and writing must fail.
 fn is_end(end: Option<Result<(), RunFault>>, written: &[u8], left: usize, answers: &[u8]) -> bool {
     let (wanted, len) = if left < answers.len() {
         (Err(RunFault::Write), left)

@@ -31,8 +31,8 @@ in 2 1000000 NO_ROUTE_OF_7F
 > 1 TOKEN_NO_ROUTE
 ";
 
-/// A Nack is sent back with the token of its Interest in each case: there is no route, the Interest
-/// loops, or a Nack with another token came back for it.
+/// A Nack is sent back with the token of its Interest in three cases. There is no route, the
+/// Interest loops, or a Nack with another token came back for the Interest.
 #[test]
 fn token_on_nack(rt: HostRuntime) {
     replies(&rt, NO_ROUTE_FOR_A_TOKEN);
@@ -183,7 +183,8 @@ in 1 1000000 SET_MULTICAST_OF_32
 > 1 MULTICAST_SET_OF_32
 ";
 
-/// A token has 1 to 32 octets. The last reply is a link packet of more than 252 octets.
+/// A packet with a token of 0 or 33 octets is dropped. A token of 32 octets is sent back. The last
+/// reply is a link packet of more than 252 octets.
 #[test]
 fn tokens_of_other_lengths(rt: HostRuntime) {
     replies(&rt, TOKEN_LENGTHS);

@@ -233,8 +233,8 @@ fn are_taken_soon(alloc: Global, node: &mut Node, ports: &mut UdpPorts<Still>) -
     opened && answered && !takes_soon(alloc, node, ports)
 }
 
-/// Returns whether `serve_turn_soon` takes the turns of a datagram that a client has sent, the
-/// client is answered, and `serve` can take the turns of a second client afterwards.
+/// Returns whether `serve_turn_soon` takes the turns for the datagram of a client, and the client
+/// is answered. Afterwards `serve` must take the turns for the datagram of a second client.
 fn serves_soon(
     rt: &(impl AllocGlobal + Net),
     node: &mut Node,
@@ -269,8 +269,8 @@ fn waits_at_new_ports(rt: &(impl AllocGlobal + Net), node: &mut Node) -> Option<
     waits_for_client(rt, node, &mut still_ports(rt, listen)?, listen)
 }
 
-/// Returns whether `serve_turn_soon` takes turns only while a datagram waits, and `serve` can take
-/// further turns afterwards.
+/// Returns whether `waits_at_new_ports` is true of a new node: `serve_turn_soon` takes turns only
+/// while a datagram waits, and `serve` can take further turns afterwards.
 fn waits_for_a_short_time(rt: &(impl AllocGlobal + Net)) -> Option<bool> {
     on_node(rt.alloc(), &|_, node| waits_at_new_ports(rt, node))
 }
@@ -411,8 +411,8 @@ pub fn opens<M: Moments>(
     brings_face(ports, face, opened) && brings_packet(ports, face, came, len)
 }
 
-/// Returns whether the first packets of two clients open a face each, whether the first client
-/// keeps its face, and whether both clients receive what is sent to their faces.
+/// Returns whether the first packets of two clients open a face each, and the first client keeps
+/// its face. The two clients must receive what is sent to their faces.
 fn open_for(ports: &mut UdpPorts<Moving>, first: &UdpSocket, second: &UdpSocket) -> Option<bool> {
     let opened = opens(ports, 1, 1, 2, 1) && opens(ports, 2, 3, 4, 2);
     first.send(b"333").ok()?;
@@ -450,8 +450,8 @@ fn udp_ports_open_themselves(rt: HostRuntime) {
     assert!(rt; open_themselves(&rt) == Some(true));
 }
 
-/// Returns a new socket that has sent a datagram to a port of another address of this machine, and
-/// then one to this port of 127.0.0.1.
+/// Returns a new socket that has tried to send a datagram to this port of 127.0.0.2, and has then
+/// sent a datagram to this port of 127.0.0.1.
 fn client_of_two_addresses(rt: &impl Net, to: u16) -> Option<UdpSocket> {
     let client = bound_socket(rt)?;
     let elsewhere = Ipv4Addr::new(127, 0, 0, 2);
@@ -577,8 +577,8 @@ fn udp_silent_peer(rt: HostRuntime) {
     assert!(rt; keeps_peer(&rt, &Cell::new(0)) == Some(true));
 }
 
-/// Returns whether a datagram of face 2 that came in time is received, although face 1 closes
-/// first, and the idle time of face 2 is over when the datagram is received.
+/// A datagram of face 2 comes in time. Face 1 closes first, and the idle time of face 2 ends before
+/// the datagram is received. Returns whether the datagram is received.
 fn hears_in_time(
     ports: &mut UdpPorts<Handed<'_>>,
     moment: &Cell<u64>,
@@ -609,8 +609,8 @@ fn hears_beside(
     hears_in_time(ports, moment, &client)
 }
 
-/// Returns whether a datagram that came in time is received, although another face closes first,
-/// and the idle time of the datagram's face is over when the datagram is received.
+/// Returns whether `hears_beside` is true of new ports that close a face after 1,000 milliseconds
+/// of silence.
 fn hears_what_waits(rt: &impl Net, moment: &Cell<u64>) -> Option<bool> {
     let listen = free_port(rt)?;
     let mut ports = handed_ports(rt, listen, moment)?;
@@ -687,7 +687,7 @@ fn makes_room(
     gives_way(ports, moment, &client, &newcomer)
 }
 
-/// Returns whether `makes_room` is true if 63 peers are known.
+/// Returns whether `makes_room` is true of new ports with 63 peers.
 fn is_room_made(rt: &(impl AllocGlobal + Net), moment: &Cell<u64>) -> Option<bool> {
     let listen = free_port(rt)?;
     let mut ports = almost_full_ports(rt, listen, moment)?;
