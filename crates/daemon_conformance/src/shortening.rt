@@ -229,10 +229,10 @@ fn a_route_that_came_back(rt: HostRuntime) {
     keeps_marked(&rt, A_ROUTE_THAT_CAME_BACK);
 }
 
-/// A stranger registers routes of `/A` and `/B`, and leaves. The stranger's last command stays,
-/// since the node must deny this command if it comes again. So the lines that open the stranger's
-/// face before the command, and close it afterwards, stay too.
-const A_STRANGER: &str = "* rules 900
+/// A program registers routes of `/A` and `/B`, and its face closes. The last command of the signer
+/// stays, since the node must deny this command if it comes again. The lines that open the face
+/// before the command, and close it afterwards, stay too.
+const A_PROGRAM_THAT_LEAVES: &str = "* rules 900
 * up 1 local 1000
 * up 2 local 1000
 ask 2 1001 /archive/KEY/1 /localhost/nfd/rib/register/%68%05%07%03%08%01A
@@ -243,8 +243,8 @@ down 3 1005
 * tick 1005";
 
 #[test]
-fn a_stranger(rt: HostRuntime) {
-    keeps_marked(&rt, A_STRANGER);
+fn a_program_that_leaves(rt: HostRuntime) {
+    keeps_marked(&rt, A_PROGRAM_THAT_LEAVES);
 }
 
 /// When a face closes, the next hops on it are removed, even if they were added from another face.
