@@ -113,10 +113,23 @@ in 1 1000000 AHEAD
 > 1 ADDED_AHEAD
 ";
 
-/// The time of a signer's first command may be at most two minutes ahead of the node's time.
+const TOO_LATE: &str = "
+up 1 local 1000000
+1 passed
+up 2 far 1000000
+2 passed
+in 1 1240002 TOO_FAR_AHEAD
+3 denied interest Replay ops
+> 1 REPLAY_AHEAD
+";
+
+/// The time of a signer's first command may be at most two minutes ahead of the node's time. A
+/// command whose time is two minutes and a millisecond ahead of the node's time, or behind it, is
+/// denied.
 #[test]
 fn first_times(rt: HostRuntime) {
     replies(&rt, FIRST_TIMES);
+    replies(&rt, TOO_LATE);
 }
 
 const ANY_OTHER_NAME_IS_A_COMMAND: &str = "

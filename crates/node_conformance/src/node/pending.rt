@@ -131,9 +131,60 @@ in 2 1001012 NO_ROUTE
 7 dropped NoPending
 ";
 
+const NACKS_OF_TWO_HOPS: &str = "
+up 1 local 1000000
+1 passed
+up 2 far 1000000
+2 passed
+up 3 far 1000000
+3 passed
+in 1 1000000 SET_MULTICAST
+4 allowed 200 ops
+> 1 MULTICAST_SET
+in 1 1000000 ROOT_2
+5 allowed 200 ops
+> 1 ADDED_2
+in 1 1000000 ROOT_3
+6 allowed 200 ops
+> 1 ADDED_3
+in 1 1001000 INTEREST
+7 passed
+> 2 INTEREST
+> 3 INTEREST
+in 2 1001001 NO_ROUTE
+8 passed
+in 3 1001002 BACK_2
+9 passed
+> 1 BACK_2
+";
+
 /// A Nack from the only next hop is sent back once, even if the Interest was forwarded twice. A
-/// further Nack is dropped.
+/// further Nack is dropped. If the Interest was forwarded to two next hops, a Nack with the least
+/// reason is sent back when both have sent a Nack.
 #[test]
 fn nacks(rt: HostRuntime) {
     replies(&rt, NACKS);
+    replies(&rt, NACKS_OF_TWO_HOPS);
+}
+
+const UNSOLICITED_DATA: &str = "
+up 1 local 1000000
+1 passed
+up 2 far 1000000
+2 passed
+in 1 1000000 ADD
+3 allowed 200 ops
+> 1 ADDED
+in 2 1000500 D_A
+4 data any-data
+in 1 1001000 INTEREST
+5 passed
+> 2 INTEREST
+";
+
+/// An allowed Data for which no Interest is pending is not cached. A later Interest for this Data
+/// is forwarded.
+#[test]
+fn unsolicited_data(rt: HostRuntime) {
+    replies(&rt, UNSOLICITED_DATA);
 }
