@@ -1186,7 +1186,7 @@ fn refuses_taken_port(rt: &HostRuntime) -> Option<bool> {
     let port = other.local_addr().ok()?.port();
     let said = refused(rt.alloc(), socket_of(rt, Some(port), port))?;
     let wanted = format!(in rt.alloc();
-        "3 error: 127.0.0.1:{port} cannot be bound: give --from a port that no program has\n"
+        "3 error: 127.0.0.1:{port} cannot be bound: give --from a port that no other program uses\n"
     ).ok()?;
     Some(said.as_str() == wanted.as_str())
 }

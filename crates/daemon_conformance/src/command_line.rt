@@ -64,9 +64,9 @@ ndn_node -- script => error: unexpected argument 'script' found
 ndn_node script --rules => error: a value is required for '--rules <FILE>'
 ndn_node script --keys a --keys b => error: the argument '--keys <FILE>' cannot be used multiple times
 ndn_node script --repo /%4 => error: invalid value for --repo: give the URI of a name, such as /repo
-ndn_node script --cache x => error: invalid value for --cache: give a decimal number below 2^32
-ndn_node script --cache +5 => error: invalid value for --cache: give a decimal number below 2^32
-ndn_node script --cache 4294967296 => error: invalid value for --cache: give a decimal number below 2^32
+ndn_node script --cache x => error: invalid value for --cache: give a decimal number from 1 to 65536
+ndn_node script --cache +5 => error: invalid value for --cache: give a decimal number from 1 to 65536
+ndn_node script --cache 4294967296 => error: invalid value for --cache: give a decimal number from 1 to 65536
 ";
 
 const UDP_HELP: &str = "
@@ -95,8 +95,8 @@ ndn_node udp --listen 1 --turns x => error: invalid value for --turns: give a de
 ndn_node udp --listen 1 --turns +1 => error: invalid value for --turns: give a decimal number below 2^64
 ndn_node udp --listen 1 --turns 18446744073709551616 => error: invalid value for --turns: give a decimal number below 2^64
 ndn_node udp --listen 1 --turns 1 --local x => error: invalid value for --local: give a decimal number below 2^64
-ndn_node udp --listen 1 --turns 1 --local 1 => error: invalid value for --local: give a number that is at most that of the peers
-ndn_node udp --listen 1 --turns 1 --local 3 7 8 => error: invalid value for --local: give a number that is at most that of the peers
+ndn_node udp --listen 1 --turns 1 --local 1 => error: invalid value for --local: give a number that is at most the number of peers
+ndn_node udp --listen 1 --turns 1 --local 3 7 8 => error: invalid value for --local: give a number that is at most the number of peers
 ndn_node udp --listen 1 --turns 1 7 0 => error: invalid value for PEERS: give a decimal port from 1 to 65535
 ndn_node udp --listen 1 --turns 1 7 65536 => error: invalid value for PEERS: give a decimal port from 1 to 65535
 ndn_node udp --listen 1 --turns 1 7 x => error: invalid value for PEERS: give a decimal port from 1 to 65535
@@ -109,7 +109,7 @@ ndn_node udp --listen 0.0.0.0:7 --turns 1 8 7 => error: invalid value for PEERS:
 ndn_node udp --listen 0.0.0.0:7 --turns 1 127.0.0.9:7 => error: invalid value for PEERS: give other peers than the node itself
 ndn_node udp --listen [::]:7 --turns 1 [::1]:7 => error: invalid value for PEERS: give other peers than the node itself
 ndn_node udp --listen 0.0.0.0:7 --turns 1 0.0.0.0:7 => error: invalid value for PEERS: give other peers than the node itself
-ndn_node udp --listen 7 --turns 1 0.0.0.0:8 => error: invalid value for PEERS: give addresses of machines, since 0.0.0.0 and :: are those of none
+ndn_node udp --listen 7 --turns 1 0.0.0.0:8 => error: invalid value for PEERS: give addresses of machines; 0.0.0.0 and :: are not addresses of a machine
 ndn_node udp --listen [::1]:7 --turns 1 [::]:8 => error: invalid value for PEERS: give addresses of machines
 ndn_node udp --listen 7 --turns 1 [::1]:8 => error: invalid value for PEERS: give addresses of the family of --listen
 ndn_node udp --listen [::1]:7 --turns 1 [::1]:8 9 => error: invalid value for PEERS: give addresses of the family of --listen
@@ -118,7 +118,7 @@ ndn_node udp --listen 1 --turns 1 --log 7 => error: invalid value for --log: giv
 ndn_node udp --listen 1 --turns 1 --idle 0 => error: invalid value for --idle: give a decimal number of seconds from 1 to 4294967295
 ndn_node udp --listen 1 --turns 1 --idle +1 => error: invalid value for --idle: give a decimal number of seconds from 1 to 4294967295
 ndn_node udp --listen 1 --turns 1 --idle 4294967296 => error: invalid value for --idle: give a decimal number of seconds from 1 to 4294967295
-ndn_node udp --listen 1 --turns 1 --cache x => error: invalid value for --cache: give a decimal number below 2^32
+ndn_node udp --listen 1 --turns 1 --cache x => error: invalid value for --cache: give a decimal number from 1 to 65536
 ndn_node udp --listen 1 --turns 1 -- 7 => error: unexpected argument '--' found
 ndn_node script 7 => error: unexpected argument '7' found
 ";
@@ -301,7 +301,7 @@ fn rule_files(rt: HostRuntime) {
     let alloc = rt.alloc();
     assert!(rt; read_rules(alloc, b"").is_ok_and(|rules| rules.len() == 0));
     let bad =
-        "1 rules:1: BadValue\n  the value or block of this key is wrong or missing, or it cannot stand beside another key\n";
+        "1 rules:1: BadValue\n  the value or block of this key is wrong or missing, or the key is not allowed beside another key\n";
     assert!(rt; refused_rules(alloc, b"rule").as_deref() == Some(bad));
     let binary = "1 rules:0: Syntax\n  the file is not UTF-8 text: write it in UTF-8 or ASCII\n";
     assert!(rt; refused_rules(alloc, b"\xff").as_deref() == Some(binary));
@@ -409,7 +409,7 @@ fn faults(rt: HostRuntime) {
         is_told(
             alloc,
             unbound,
-            "3 error: 127.0.0.1:6363 cannot be bound: give an address of this machine and a port that no program has\n"
+            "3 error: 127.0.0.1:6363 cannot be bound: give an address of this machine and a port that no other program uses\n"
         )
     );
     assert!(rt;

@@ -27,7 +27,7 @@ use thiserror::Error;
 #[derive(Clone, Copy, Debug, PartialEq, Eq, Error)]
 pub enum Reason {
     /// The Interest is not signed.
-    #[error("NotSigned: the Interest has no signature; sign it, as each command is")]
+    #[error("NotSigned: the Interest has no signature; sign it, since each command must be signed")]
     NotSigned,
     /// The Interest's parameters digest is not the last component of its name, or its signature has
     /// no SignatureTime.
@@ -38,13 +38,13 @@ pub enum Reason {
     SigType,
     /// The KeyLocator does not have the name of a key that a checker accepts, or the rule has no
     /// checker.
-    #[error("KeyLocator: not a key that the rule asks for; sign with one, or widen its key-locator")]
+    #[error("KeyLocator: the rule does not accept this key; sign with another, or widen the key-locator")]
     KeyLocator,
     /// The key that the KeyLocator names is not in the key book.
     #[error("KeyUnknown: the key file lacks this key; add its line")]
     KeyUnknown,
     /// The signature value is not the tag of the covered octets.
-    #[error("Tag: the octets were changed, or the key's differ; compare the key's on both sides")]
+    #[error("Tag: the octets were changed, or the two sides have different keys; compare the keys")]
     Tag,
     /// A signed Interest is not newer than earlier Interests of its signer. Only callers give this
     /// reason; the rules never do.

@@ -48,6 +48,6 @@ text_of fault.Write = Some (codes "error: standard output cannot be written\n")
 text_of fault.Input = Some (codes "error: standard input cannot be read as UTF-8 text\n")
 text_of fault.Send = Some (codes "error: the packet cannot be sent to this port\n")
 text_of (fault.Unbound port) = Some (codes "error: 127.0.0.1:" ++ (decimal port
-    ++ codes " cannot be bound: give --from a port that no program has\n"))
+    ++ codes " cannot be bound: give --from a port that no other program uses\n"))
 text_of (fault.Silent why) = silence_text why
 text_of (fault.NotDone why) = failure_text why

@@ -106,7 +106,7 @@ impl fmt::Display for Fault {
             Fault::Send => f.write_str("error: the packet cannot be sent to this port\n"),
             Fault::Unbound { port } => writeln!(
                 f,
-                "error: 127.0.0.1:{port} cannot be bound: give --from a port that no program has"
+                "error: 127.0.0.1:{port} cannot be bound: give --from a port that no other program uses"
             ),
             Fault::Silent(silence) => silence.fmt(f),
             Fault::NotDone(failure) => failure.fmt(f),

@@ -164,7 +164,7 @@ fn next_answer<R: Clock + AllocGlobal + Eprint + Print>(
             Progress::Ignored => {
                 // The datagram is ignored even if standard error cannot be written.
                 let _printed = eprintln!(rt;
-                    "ignored: a datagram that is no answer to the request"
+                    "ignored: a datagram that does not answer the request"
                 );
             }
         }

@@ -161,7 +161,7 @@ pub const COUNT: &str = "The greatest number of Data to erase";
 
 pub const LIFETIME: &str = "The lifetime of Interests, in milliseconds";
 
-pub const CAN_BE_PREFIX: &str = "Data with longer names are meant too";
+pub const CAN_BE_PREFIX: &str = "The command also applies to Data with longer names";
 
 pub const KEYS: &str = "The key file";
 
@@ -169,6 +169,6 @@ pub const KEY: &str = "The name of the key to sign with";
 
 pub const PORT: &str = "Sends the command to this port of 127.0.0.1, and explains the reply";
 
-pub const TO: &str = "The port of 127.0.0.1 that it is sent to";
+pub const TO: &str = "The port of 127.0.0.1 to send the packet to";
 
-pub const FROM: &str = "The port of 127.0.0.1 that it is sent from; a new one if absent";
+pub const FROM: &str = "The port of 127.0.0.1 to send the packet from; a free one if absent";

@@ -115,7 +115,11 @@ fn interest_command<'a>(alloc: Global) -> Result<Command<'a>, AllocError>
             "N",
             "The lifetime in milliseconds; 4000 if absent",
         ),
-        Argument::Optional("hop-limit", "N", "How many hops it may travel, at most 255"),
+        Argument::Optional(
+            "hop-limit",
+            "N",
+            "How many hops the Interest may travel, at most 255",
+        ),
         Argument::Optional("parameters", "HEX", "The application parameters"),
         Argument::Optional("time", "N", help::TIME),
         Argument::Optional("seq", "N", help::SEQ),
@@ -150,7 +154,7 @@ fn command_command<'a>(alloc: Global) -> Result<Command<'a>, AllocError>
 {
     let arguments = [
         Argument::Positional("URI", "The name of the command"),
-        Argument::Required("name", "URI", "The name that it is about"),
+        Argument::Required("name", "URI", "The name that the command is about"),
         Argument::Required("nonce", "HEX", "The Nonce, 4 octets"),
         Argument::Required("time", "N", help::TIME),
         Argument::Optional("seq", "N", help::SEQ),
@@ -252,7 +256,10 @@ fn explain_command<'a>(alloc: Global) -> Result<Command<'a>, AllocError>
     ensures { IfOk result (HasApp explain_app) }
 {
     let arguments = [
-        Argument::Positional("HEX", "The packet, or - for those of standard input"),
+        Argument::Positional(
+            "HEX",
+            "The packet, or - to explain the packets of standard input",
+        ),
         Argument::Optional("keys", "FILE", "The key file to check the signature with"),
     ];
     let about = "Explains what a packet is";
@@ -263,7 +270,10 @@ fn send_command<'a>(alloc: Global) -> Result<Command<'a>, AllocError>
     ensures { IfOk result (HasApp send_app) }
 {
     let arguments = [
-        Argument::Positional("HEX", "The packet, or - for that of standard input"),
+        Argument::Positional(
+            "HEX",
+            "The packet, or - to send the packet of standard input",
+        ),
         Argument::Required("to", "PORT", help::TO),
         Argument::Optional("from", "PORT", help::FROM),
     ];

@@ -12,15 +12,15 @@ advice_on_rules line rules.TooDeep = codes "blocks may nest at most 8 deep"
 advice_on_rules line rules.TooLarge =
     codes "at most 65536 octets, 256 rules, and 16 filters and 16 checkers in a rule are allowed"
 advice_on_rules line rules.UnknownKey =
-    codes "no key of this name may stand in this block: docs/RULES.md lists them"
+    codes "a key of this name is not allowed in this block: docs/RULES.md lists the keys"
 advice_on_rules line rules.Missing =
-    codes "this block lacks a key, as a rule its id or for, or a checker its type: see docs/RULES.md"
+    codes "this block lacks a key, such as the id or for of a rule, or the type of a checker: see docs/RULES.md"
 advice_on_rules line rules.BadValue =
-    codes "the value or block of this key is wrong or missing, or it cannot stand beside another key"
+    codes "the value or block of this key is wrong or missing, or the key is not allowed beside another key"
 advice_on_rules line rules.TwiceNamed =
-    codes "this key stands in this block already, or an earlier rule has this id: give it once"
+    codes "this block already has this key, or an earlier rule has this id: give it once"
 advice_on_rules line rules.Pattern =
-    codes "no pattern, or no template for its pattern: <lab> is a component, <> any, <>* any number"
+    codes "not a pattern, or not a template for its pattern: <lab> is a component, <> any one, <>* any number"
 advice_on_rules line rules.AnyAnchor =
     codes "a trust anchor of type any would allow packets without a rule: write rules in its place"
 advice_on_rules line rules.Memory = codes "out of memory"

@@ -78,12 +78,12 @@ journal_fault_text (journal.BadLine line) = codes "journal:" ++ (decimal line
     ++ (codes ": bad line\n  "
     ++ codes "a journal is a script; restore a copy, or take off this line and those after it\n"))
 journal_fault_text journal.Unwritten =
-    codes "error: the journal cannot be written; nothing was sent of the event it was for\n"
+    codes "error: the journal cannot be written; no packet of the last event was sent\n"
 journal_fault_text journal.LongRules =
     codes "journal:0: TooLong\n  the rule file and the key file have more than 9985 octets together\n"
 journal_fault_text (journal.NotJournalled line) = codes "journal:" ++ (decimal line
     ++ (codes ": not journalled\n  "
-    ++ codes "no node with this --repo writes this line; give the prefix of the node that wrote it\n"))
+    ++ codes "a node with this --repo does not write this line; give the --repo of the node that wrote it\n"))
 journal_fault_text journal.ManyLines =
     codes "journal:0: TooLong\n  a journal of more than 4294967294 lines cannot be shortened\n"
 journal_fault_text journal.Unshortened =
@@ -103,6 +103,6 @@ text_of (Keys fault) = Some (key_text fault)
 text_of LargeKeys = Some (codes "keys:0: TooLarge\n  at most 8388608 octets are allowed\n")
 text_of (Script fault) = Some (run_fault_text fault)
 text_of (Unbound endpoint) = Some (codes "error: " ++ socket_text endpoint
-    ++ codes " cannot be bound: give an address of this machine and a port that no program has\n")
+    ++ codes " cannot be bound: give an address of this machine and a port that no other program uses\n")
 text_of Unreceived = Some (codes "error: nothing can be received from the port\n")
 text_of (Journal why) = Some (journal_fault_text why)

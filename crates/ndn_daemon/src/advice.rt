@@ -22,19 +22,19 @@ pub fn advice_on_rules(line: u32, kind: RulesFaultKind) -> &'static str
             "at most 65536 octets, 256 rules, and 16 filters and 16 checkers in a rule are allowed"
         }
         RulesFaultKind::UnknownKey => {
-            "no key of this name may stand in this block: docs/RULES.md lists them"
+            "a key of this name is not allowed in this block: docs/RULES.md lists the keys"
         }
         RulesFaultKind::Missing => {
-            "this block lacks a key, as a rule its id or for, or a checker its type: see docs/RULES.md"
+            "this block lacks a key, such as the id or for of a rule, or the type of a checker: see docs/RULES.md"
         }
         RulesFaultKind::BadValue => {
-            "the value or block of this key is wrong or missing, or it cannot stand beside another key"
+            "the value or block of this key is wrong or missing, or the key is not allowed beside another key"
         }
         RulesFaultKind::TwiceNamed => {
-            "this key stands in this block already, or an earlier rule has this id: give it once"
+            "this block already has this key, or an earlier rule has this id: give it once"
         }
         RulesFaultKind::Pattern => {
-            "no pattern, or no template for its pattern: <lab> is a component, <> any, <>* any number"
+            "not a pattern, or not a template for its pattern: <lab> is a component, <> any one, <>* any number"
         }
         RulesFaultKind::AnyAnchor => {
             "a trust anchor of type any would allow packets without a rule: write rules in its place"

@@ -154,7 +154,7 @@ impl fmt::Display for Fault {
             ),
             Fault::Unbound { endpoint } => writeln!(
                 f,
-                "error: {endpoint} cannot be bound: give an address of this machine and a port that no program has"
+                "error: {endpoint} cannot be bound: give an address of this machine and a port that no other program uses"
             ),
             Fault::Unreceived => f.write_str("error: nothing can be received from the port\n"),
             Fault::Journal(JournalFault::Locked) => {
@@ -165,14 +165,14 @@ impl fmt::Display for Fault {
                 "journal:{line}: bad line\n  a journal is a script; restore a copy, or take off this line and those after it"
             ),
             Fault::Journal(JournalFault::Unwritten) => f.write_str(
-                "error: the journal cannot be written; nothing was sent of the event it was for\n",
+                "error: the journal cannot be written; no packet of the last event was sent\n",
             ),
             Fault::Journal(JournalFault::LongRules) => f.write_str(
                 "journal:0: TooLong\n  the rule file and the key file have more than 9985 octets together\n",
             ),
             Fault::Journal(JournalFault::NotJournalled(line)) => writeln!(
                 f,
-                "journal:{line}: not journalled\n  no node with this --repo writes this line; give the prefix of the node that wrote it"
+                "journal:{line}: not journalled\n  a node with this --repo does not write this line; give the --repo of the node that wrote it"
             ),
             Fault::Journal(JournalFault::ManyLines) => f.write_str(
                 "journal:0: TooLong\n  a journal of more than 4294967294 lines cannot be shortened\n",

@@ -113,6 +113,6 @@ fn cache_of(digits: &str) -> Result<u32, Fault>
     }
     Err(Fault::BadValue {
         place: "--cache",
-        wanted: "a decimal number below 2^32",
+        wanted: "a decimal number from 1 to 65536",
     })
 }

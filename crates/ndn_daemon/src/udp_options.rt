@@ -159,7 +159,7 @@ fn check_peers(listen: &SocketAddr, peers: &[SocketAddr]) -> Result<(), Fault>
     if peers.iter().any(is_unspecified) {
         return Err(Fault::BadValue {
             place: "PEERS",
-            wanted: "addresses of machines, since 0.0.0.0 and :: are those of none",
+            wanted: "addresses of machines; 0.0.0.0 and :: are not addresses of a machine",
         });
     }
     let is_ipv4 = listen.is_ipv4();
@@ -190,13 +190,13 @@ fn local_of(digits: &str, peers: &[SocketAddr]) -> Result<u64, Fault>
     if local > peers.len() as u64 {
         return Err(Fault::BadValue {
             place: "--local",
-            wanted: "a number that is at most that of the peers",
+            wanted: "a number that is at most the number of peers",
         });
     }
     if !peers[..local as usize].iter().all(is_loopback) {
         return Err(Fault::BadValue {
             place: "--local",
-            wanted: "a number of first peers that are on this machine (127.0.0.0/8 or ::1), since a Local peer may command",
+            wanted: "a number of first peers that are on this machine (127.0.0.0/8 or ::1), since Local peers may send commands",
         });
     }
     Ok(local)

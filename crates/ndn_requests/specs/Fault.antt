@@ -12,7 +12,7 @@ silence_text Far =
 silence_text Late =
     Some (codes "error: no answer came in 4 seconds, though a program listens on this port\n")
 silence_text Changed =
-    Some (codes "error: no further segment came; the list has changed meanwhile; ask again\n")
+    Some (codes "error: no further segment came; the list may have changed meanwhile; ask again\n")
 
 abbrev pub failure_text : Failure → Option (List ℕ)
 failure_text Refused = Some (codes "error: not done; the status says why\n")

@@ -46,7 +46,7 @@ impl fmt::Display for Silence {
                 )
             }
             Silence::Changed => f.write_str(
-                "error: no further segment came; the list has changed meanwhile; ask again\n",
+                "error: no further segment came; the list may have changed meanwhile; ask again\n",
             ),
         }
     }

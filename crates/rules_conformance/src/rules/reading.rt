@@ -445,12 +445,12 @@ fn reason_text(alloc: Global, name: &str) -> Option<String> {
 }
 
 const REASON_TEXTS: &str = "
-NotSigned -> NotSigned: the Interest has no signature; sign it, as each command is
+NotSigned -> NotSigned: the Interest has no signature; sign it, since each command must be signed
 Shape -> Shape: no SignatureTime, or the digest is not last in the name; sign with a time, digest last
 SigType -> SigType: no checker takes this type of signature; sign with the rule's sig-type
-KeyLocator -> KeyLocator: not a key that the rule asks for; sign with one, or widen its key-locator
+KeyLocator -> KeyLocator: the rule does not accept this key; sign with another, or widen the key-locator
 KeyUnknown -> KeyUnknown: the key file lacks this key; add its line
-Tag -> Tag: the octets were changed, or the key's differ; compare the key's on both sides
+Tag -> Tag: the octets were changed, or the two sides have different keys; compare the keys
 Replay -> Replay: not newer than an allowed command, or the clocks differ; sign it again now
 ";
 
