@@ -22,8 +22,8 @@ Bounds rows b =
 abbrev pub AreBounds : List Placed → List Block → Type 0
 AreBounds rows blocks = All (Bounds rows) blocks
 
--- `rows'` is the list `rows` after the change; a row that was added or renewed is not fresh from
--- the moment `until` on
+-- `rows'` is the list `rows` after the change. A row that the change adds or renews is not fresh
+-- from the change's moment `until` on.
 abbrev pub Follows : Change → List Placed → List Placed → Type 0
 Follows (Added at until) rows rows' =
     (row : Placed) × (at ≤ length rows) × (fresh_until (held_at row) ≤ until)

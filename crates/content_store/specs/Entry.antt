@@ -25,21 +25,21 @@ shown name octets freshness arrival = record {
 abbrev pub digest_octets : List ℕ → List ℕ
 digest_octets digest = IMPLICIT_SHA256_DIGEST ∷ 32 ∷ digest
 
--- `head` is the first 32 octets of the name
+-- The encoded name is valid and has at least 32 octets; `head` is its first 32 octets.
 pub record IsHead (name : List Field) (head : List ℕ) : Type 0 where
   pub value : IsNameValue (octets_of name) name
   pub long : 32 ≤ length (octets_of name)
   pub first : head ≡ take 32 (octets_of name)
 
--- If `order` is not Equal, each full name of a Data with name `name` compares as `order` with
--- `other`, and also as `order` with each full name of a Data with name `other`.
+-- If `order` is not Equal, it is the order of two pairs. These are each full name of a Data named
+-- `name` against `other`, and against each full name of a Data named `other`.
 abbrev pub OrdersFullNames : List Field → List Field → Ordering → Type 0
 OrdersFullNames name other order =
     order ≢ Equal → (d : List ℕ) → length d ≡ 32
     → (order ≡ name_cmp (full_name name d) other)
     × ((e : List ℕ) → length e ≡ 32 → order ≡ name_cmp (full_name name d) (full_name other e))
 
--- `name` has fewer octets than `other`
+-- `name` has fewer octets than `other` when both are encoded
 abbrev pub AreShorter : Name → Name → Type 0
 AreShorter name other =
     length (octets_of (components name)) < length (octets_of (components other))

@@ -17,8 +17,8 @@ pub record IsLaid (blocks : List Block) : Type 0 where
   pub laid : AreLaid 0 blocks
   pub short : length (flat blocks) ≤ 131072
 
--- The block with index i contains position `at`, or a slab index inserted at this position goes
--- into this block.
+-- The block with index i contains position `at` or, if `at` is the end of the list, ends there. A
+-- slab index that is inserted at this position goes into this block.
 pub record IsIn (blocks : List Block) (at i : ℕ) : Type 0 where
   pub there : i < length blocks
   pub begins : (d : Block) → (slice_index_or blocks i d).start ≤ at

@@ -22,12 +22,12 @@ abbrev pub with_slot : ℕ → Option Row → List Placed → List Placed
 with_slot p None rest = rest
 with_slot p (Some row) rest = (p, row) ∷ rest
 
--- the rows at the given slab indexes
+-- the rows at the given slab indexes, each with its index; an index without a row is left out
 unfoldable pub shown : (ℕ → Option Row) → List ℕ → List Placed
 shown h [] = []
 shown h (p ∷ ps) = with_slot p (h p) (shown h ps)
 
--- full names are in ascending order
+-- the full names of the rows are in strictly ascending order
 abbrev pub Rising : List Placed → Type 0
 Rising rows =
     (i j : ℕ) (d : Placed) → i < j → j < length rows
@@ -37,7 +37,7 @@ pub record IsRows (h : ℕ → Option Row) (order : List ℕ) : Type 0 where
   pub there : AllByRecursion (λ p. IsSome (h p)) order
   pub rising : Rising (shown h order)
 
--- `at` is the position of the name or, if no row has this name, the position at which to insert it.
+-- The rows before position `at` have full names less than `name`, and the rows from `at` on do not.
 pub record IsLower (name : List Field) (rows : List Placed) (at : ℕ) : Type 0 where
   pub within : at ≤ length rows
   pub below : (k : ℕ) (d : Placed) → k < at
@@ -45,7 +45,8 @@ pub record IsLower (name : List Field) (rows : List Placed) (at : ℕ) : Type 0 
   pub above : (k : ℕ) (d : Placed) → at ≤ k → k < length rows
       → name_cmp (name_at (slice_index_or rows k d)) name ≡ Less → ⊥
 
--- the position of the first row with the property `P`, or None if no row has this property
+-- The optional number is the position of the first row whose Data has the property `P`. None means
+-- that no row has this property.
 abbrev pub FirstWith : (CachedData → Type 0) → List Placed → Option ℕ → Type 0
 FirstWith P rows None =
     (k : ℕ) (d : Placed) → k < length rows → ¬ P (held_at (slice_index_or rows k d))
@@ -53,7 +54,7 @@ FirstWith P rows (Some at) =
     (at < length rows) × ((d : Placed) → P (held_at (slice_index_or rows at d)))
     × ((k : ℕ) (d : Placed) → k < at → ¬ P (held_at (slice_index_or rows k d)))
 
--- Full names are in ascending order, and each slab index occurs once.
+-- The full names of the rows are in strictly ascending order, and each slab index occurs once.
 pub record IsValidRows (rows : List Placed) : Type 0 where
   pub rising : Rising rows
   pub distinct : IsDistinct nat_eq (keys_of rows)

@@ -26,7 +26,7 @@ pub record CachedData : Type 0 where
   pub freshness : ℕ
   pub arrival : ℕ
 
--- a Data as it is cached when it arrives
+-- a Data as it is cached if it arrives at the moment `arrival`
 abbrev pub cached_at : Data → ℕ → CachedData
 cached_at d arrival = record {
   name = components d.name;
@@ -57,7 +57,8 @@ pub record IsCachedData (c : CachedData) : Type 0 where
   pub digest : c.digest ≡ sha256 c.octets
   pub freshness : c.freshness ≡ packet.freshness
 
--- The properties of every store.
+-- The capacity is from 1 to 65,536, and at most that many Data are cached. No two of them have the
+-- same full name, and the octets of each are a Data as recorded (`IsCachedData`).
 pub record IsStore (s : StoreState) : Type 0 where
   pub not_none : 1 ≤ s.capacity
   pub at_most_65536 : s.capacity ≤ MAX_CAPACITY
@@ -82,7 +83,7 @@ pub record IsLeast (P : CachedData → Type 0) (cs : List CachedData) (c : Cache
   pub has : P c
   pub none_less : All (λ d. P d → ¬ Less (full_name_of d) (full_name_of c)) cs
 
--- the Data whose full names differ from `name`
+-- the Data whose full names differ from `name`, in the same order
 abbrev pub without : List Field → List CachedData → List CachedData
 without name cached = filter (λ c. not (eq_by_cmp name_cmp (full_name_of c) name)) cached
 
@@ -109,8 +110,9 @@ GivesData key now cached None = All (λ c. ¬ CanServe key now c) cached
 GivesData key now cached (Some octets) =
     (c : CachedData) × IsLeast (CanServe key now) cached c × (octets ≡ c.octets)
 
--- What a store returns for a key, and the store afterwards: a returned Data becomes the most
--- recently used.
+-- A store returns the octets of the Data with the least full name that can serve an Interest of
+-- this key, and this Data becomes the most recently used. If no Data can, it returns None and is
+-- unchanged.
 abbrev pub Finds : PlainKey → ℕ → StoreState → Option (List ℕ) → StoreState → Type 0
 Finds key now before None after =
     All (λ c. ¬ CanServe key now c) before.cached × (after ≡ before)

@@ -42,7 +42,8 @@ pub record Sound (rows : List Placed) (used : List (ℕ × ℕ)) (next : ℕ) : 
   pub long : length rows ≡ length used
   pub each_data : AllByRecursion (λ r. IsCachedData r.1.entry) rows
 
--- What the fields of a store must satisfy.
+-- The rows and the LRU cache of a store fit together (`Sound`). The LRU cache has the capacity
+-- `capacity`, which is from 1 to 65,536, and at most that many entries.
 pub record IsHeld (rows : List Placed) (used : LruCache ℕ ℕ) (capacity next : ℕ) : Type 0 where
   pub sound : Sound rows used.entries next
   pub cap : used.cap ≡ capacity
@@ -50,7 +51,8 @@ pub record IsHeld (rows : List Placed) (used : LruCache ℕ ℕ) (capacity next 
   pub low : 1 ≤ capacity
   pub high : capacity ≤ MAX_CAPACITY
 
--- the Data at position `at` becomes the most recently used
+-- `after` is the LRU cache `before` after the row at position `at` has become the most recently
+-- used
 abbrev pub UsesAt : List Placed → LruCache ℕ ℕ → ℕ → LruCache ℕ ℕ → Type 0
 UsesAt rows before at after =
     (d : Placed) → let r = slice_index_or rows at d in after
@@ -61,8 +63,8 @@ abbrev pub evicted : Option (ℕ × ℕ) → List Placed → List Placed
 evicted None rows = rows
 evicted (Some e) rows = remove_entry (nat_eq e.1) rows
 
--- A row is inserted before position `at`, and the row that the LRU cache evicts, if any, is
--- removed.
+-- A row is inserted at position `at` under a new slab index, as the most recently used. The row
+-- that the LRU cache evicts, if any, is removed.
 pub record PutsNew (rows : List Placed) (used : LruCache ℕ ℕ) (at : ℕ) (row : Row)
     (rows' : List Placed) (used' : LruCache ℕ ℕ) : Type 0 where
   pub place : ℕ
@@ -73,7 +75,7 @@ pub record PutsNew (rows : List Placed) (used : LruCache ℕ ℕ) (at : ℕ) (ro
       ≡ evicted (displaced nat_eq used row.serial place) (insert rows at (place, row))
   pub valid : IsValidRows rows'
 
--- An entry replaces the entry at position `at`, and becomes the most recently used.
+-- The Data `entry` replaces the Data at position `at`, and its row becomes the most recently used.
 pub record Renews (rows : List Placed) (used : LruCache ℕ ℕ) (at : ℕ) (entry : CachedData)
     (rows' : List Placed) (used' : LruCache ℕ ℕ) : Type 0 where
   pub rows_are : (d : Placed) → let r = slice_index_or rows at d in rows'

@@ -16,8 +16,8 @@ advice_on_keys keys.TooMany =
     codes "at most 256 keys are allowed: leave out those that no rule asks for"
 advice_on_keys keys.Memory = codes "out of memory"
 
--- the message for a fault: its line and kind, and on the next line what is wrong; the message for
--- `Memory` is a single line
+-- the message for a fault in a key file: its line, which is 0 for `TooMany`, and its kind, and on
+-- the next line what is wrong; the message for `Memory` is a single line
 abbrev pub key_text : KeyFault → List ℕ
 key_text (keys.BadLine line) = codes "keys:" ++ (decimal line ++ (codes ": BadLine\n  "
     ++ (advice_on_keys (keys.BadLine line) ++ codes "\n")))

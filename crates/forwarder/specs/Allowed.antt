@@ -10,13 +10,15 @@ use Rattle.forwarder.specs.Deciding.{IsDecidedAs}
 use Rattle.forwarder.specs.Effects.{decided_packet}
 use Rattle.forwarder.specs.Runs.{Run, Start, Then, IsPolicyOf, now_of}
 
--- the event brings this packet, and the packet is allowed; `was` is the policy before the event
+-- the event brings this packet, and the decision on the packet is to allow it; `was` is the policy
+-- before the event
 pub record Allows (was : Policy) (event : PlainEvent) (packet : PlainFrame) : Type 0 where
   pub rule : RuleNo
   pub brings : decided_packet (at_moment was (moment event)) event ≡ Some packet
   pub said : IsDecidedAs (at_moment was (moment event)) packet (Allowed rule)
 
--- some event of the run brought this packet, and the packet was allowed at that event
+-- some event of the run brought this packet, and the packet was allowed at that event; `first` is
+-- the policy before the run
 abbrev pub AllowedIn : Policy → Run → PlainFrame → Type 0
 AllowedIn first Start packet = ⊥
 AllowedIn first (Then before event answer) packet =
@@ -24,7 +26,7 @@ AllowedIn first (Then before event answer) packet =
     ⊎ ((was : Policy) × IsPolicyOf first before was × Allows was event packet)
 
 -- some event of the run brought this packet, and the packet was allowed; `now` is the greatest
--- moment of the run up to this event
+-- moment of the run up to and including this event
 abbrev pub AllowedAt : Policy → Run → PlainFrame → ℕ → Type 0
 AllowedAt first Start packet now = ⊥
 AllowedAt first (Then before event answer) packet now =

@@ -15,8 +15,8 @@ use Rattle.forwarder.specs.Allowed.{AllowedIn, Allows}
 use Rattle.forwarder.specs.Runs.{Run, now_of, records_of}
 use Rattle.forwarder.specs.DataSends.{IsReplyToCommand, IsSegmentAskedFor}
 
--- an Interest of the face is still pending when time has advanced to `now`, and the Data answers
--- this Interest
+-- an Interest of the face is pending after the run, once time has advanced to `now`, and the Data
+-- `d` with the octets `whole` answers this Interest
 pub record IsPendingFor (past : Run) (now face : ℕ) (whole : List ℕ) (d : PlainData) : Type 0 where
   pub key : PlainKey
   pub in_record : InRecord
@@ -24,15 +24,15 @@ pub record IsPendingFor (past : Run) (now face : ℕ) (whole : List ℕ) (d : Pl
       ≡ Some in_record
   pub answered : IsTrue (answers d.name (sha256 whole) key.name key.can_be_prefix)
 
--- the event brings this packet on this face
+-- the event brings this packet on this face, whether or not the face is open
 pub record BringsPacketOn (event : PlainEvent) (face : ℕ) (packet : PlainFrame) : Type 0 where
   pub now : ℕ
   pub octets : List ℕ
   pub brings : event ≡ Packet face now octets
   pub read : frame_at octets ≡ Ok packet
 
--- `octets` are the node's own answer to the Interest `i`: the reply to a command, or the
--- requested segment of a list
+-- `octets` are the node's own answer to the Interest `i` with the octets `asked`: the reply to a
+-- command, or the requested segment of a list
 abbrev pub IsOwnAnswer : Policy → ℕ → List ℕ → PlainInterest → List ℕ → Type 0
 IsOwnAnswer p face asked i octets =
     IsReplyToCommand p face asked i octets ⊎ IsSegmentAskedFor p face i octets

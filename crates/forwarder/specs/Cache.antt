@@ -24,7 +24,7 @@ pub data CacheUse : Type 0 where
   -- an allowed command erases the Data under a name, at most `count` of them if `count` is given
   Erases : (name : List Field) (count : Option ℕ) → CacheUse
 
--- a Data as it is cached, if it arrived at the moment `now`
+-- the Data `d` with the octets `whole`, as it is cached if it arrived at the moment `now`
 abbrev pub held_from : ℕ → List ℕ → PlainData → CachedData
 held_from now whole d = record {
   name = d.name;
@@ -60,16 +60,16 @@ IsAwaited waiting c =
     (key : PlainKey) × IsTrue (answers c.name c.digest key.name key.can_be_prefix)
     × (is_alive (records_at waiting key) ≡ true)
 
--- some cached Data may have been dropped or reordered; no Data was added, and the capacity is the
--- same
+-- each Data in the store `new` is in the store `old`, and the capacity is the same; some Data may
+-- have been dropped or reordered
 abbrev pub MayForget : StoreState → StoreState → Type 0
 MayForget old new =
     All (λ c. Contains old.cached c) new.cached × (new.capacity ≡ old.capacity)
 
--- The cache after a use. The use `Untouched` changes nothing. A Data that is served becomes the
--- most recently used. If some face waits for an inserted Data, either the Data is cached, or it
--- is not cached and some cached Data may be dropped or reordered; if no face waits for it, the
--- cache is unchanged. An erase removes Data as the content store's erase does.
+-- The store `new` after a use of the store `old`. The use `Untouched` changes nothing. A Data that
+-- a lookup returns becomes the most recently used. If some face waits for an inserted Data, the
+-- Data is cached, or some cached Data may be dropped or reordered. If no face waits for it, nothing
+-- changes. An erase removes Data as the content store's erase does.
 abbrev pub CacheAfter : ℕ → Pending → CacheUse → StoreState → StoreState → Type 0
 CacheAfter now waiting Untouched old new = new ≡ old
 CacheAfter now waiting (LooksUp key) old new =

@@ -18,8 +18,8 @@ use Rattle.forwarder.specs.Verdict.{Answer}
 abbrev pub deadline : ℕ → ℕ → ℕ
 deadline now lifetime = min (now + lifetime) (2 ^ 64 - 1)
 
--- the in-record of an Interest that came now with a token; it expires when the InterestLifetime is
--- over
+-- the in-record of an Interest that came at `now` with this token; its deadline is `now` plus the
+-- InterestLifetime, at most the greatest u64
 abbrev pub in_record_for : ℕ → Token → List ℕ → PlainInterest → InRecord
 in_record_for now token whole i = record {
   interest = whole;
@@ -28,8 +28,8 @@ in_record_for now token whole i = record {
   token = token;
 }
 
--- whether some send goes to the face; if the face sent the Interest of this event, the send is a
--- Data or a Nack
+-- whether some send goes to this face; a send to the face that sent the event's Interest is a Data
+-- or a Nack
 abbrev pub is_answered : ℕ → List Send → Bool
 is_answered face sends = list_any (λ sent. sent.0 == face) sends
 
@@ -51,9 +51,9 @@ is_nacked sends = list_any (λ sent. is_nack sent.1) sends
 abbrev pub sent_causes : PlainKey → List ℕ → ℕ → List ℕ → List Cause
 sent_causes key nonce now faces = map (λ face. SentTo key face nonce now) faces
 
--- If nothing was sent back to the face of a passed Interest, the Interest becomes pending, and is
--- recorded as sent to each face that it went to. If a Data was sent back, no record changes. If a
--- Nack was sent back, the face no longer has a pending Interest under this key.
+-- The causes of a passed Interest. If a Nack was sent, the in-record of the Interest's face is
+-- removed. If a Data was sent back, there are no causes. If nothing was sent back, the Interest
+-- becomes pending, and is recorded as sent to each face that it went to.
 abbrev pub interest_causes : ℕ → ℕ → Token → List ℕ → PlainInterest → List Send → List Cause
 interest_causes now face token whole i sends =
     let key = key_of i in
@@ -62,8 +62,8 @@ interest_causes now face token whole i sends =
     Arrives key face (in_record_for now token whole i)
     ∷ map (λ (sent : Send). SentTo key sent.0 i.nonce now) sends)
 
--- The reason of a passed Nack is recorded. If Nacks were sent to the faces with in-records, the
--- records of the key are removed.
+-- The causes of a passed Nack. Its reason is recorded and, if the answer sends anything, the
+-- records of its Interest's key are then removed.
 abbrev pub nack_causes : ℕ → ℕ → PlainInterest → List Send → List Cause
 nack_causes face reason i sends =
     NackCame (key_of i) face i.nonce reason

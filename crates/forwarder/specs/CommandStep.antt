@@ -12,7 +12,8 @@ use Rattle.forwarder.specs.Commands.{after_request, allowed_reply, replied, with
 use Rattle.forwarder.specs.Node.{NodeState}
 use Rattle.forwarder.specs.State.{IsLater, state_of}
 
--- how an allowed command uses the cache; only a command under /localhost/nfd may use it
+-- how an allowed command that was answered with `status` uses the cache; only a command under
+-- /localhost/nfd may use it
 abbrev pub request_use : PlainInterest → ℕ → Request → CacheUse
 request_use i status (Refused reason) = Untouched
 request_use i status (ForList asked) = Untouched
@@ -20,8 +21,8 @@ request_use i status ForTables = command_use (command_at i.name) status
 request_use i status ForRepository = Untouched
 request_use i status ForData = Untouched
 
--- an allowed command with the request `request` was answered and took effect; `was` is the node
--- before this effect, once time has advanced to the moment of the command
+-- An allowed command with the request `request` was answered and took effect, and was recorded.
+-- `was` is the node before this effect, once time has advanced to the moment of the command.
 pub record IsCommanded (was : NodeState) (face : ℕ) (token : Token) (i : PlainInterest)
     (request : Request) (status : ℕ) (sends : List Send) (new : NodeState) : Type 0 where
   pub answered : status ≡ (allowed_reply was.policy face i request).status
@@ -33,7 +34,8 @@ pub record IsCommanded (was : NodeState) (face : ℕ) (token : Token) (i : Plain
   pub cache : CacheAfter was.policy.now was.pending (request_use i status request)
       was.cache new.cache
 
--- the command was carried out, and its sends were appended to the earlier sends
+-- An allowed command was carried out: time advanced to `moment`, and the command was answered and
+-- took effect. Its sends were appended to the sends in `before`.
 abbrev pub IsCarriedOut : State → State → List Send → List Send → ℕ → Token → ℕ → PlainInterest
     → Request → ℕ → Type 0
 IsCarriedOut old new before after face token moment i request status =

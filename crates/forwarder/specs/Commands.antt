@@ -44,7 +44,8 @@ NOT_AUTHORIZED = 403
 
 -- ---- commands on routes, strategies and the cache
 
--- the status in the reply to a command that came from this face
+-- the status in the reply to a command under /localhost/nfd that came from this face and was
+-- allowed; `Err` has the status of a name that encodes no command
 abbrev pub tables_status : Policy → ℕ → Result PlainCommand ℕ → ℕ
 tables_status p face (Err status) = status
 tables_status p face (Ok c) = status_of c face (open_faces p) p.routes p.choices
@@ -58,8 +59,9 @@ tables_reply p face c =
     let status = tables_status p face c in
     response status (unwrap_or (text_of status) []) (tables_body p face c)
 
--- The policy after the command. The lists get their next version. If the status is 200, the
--- routes and strategies are those that the command leaves; otherwise they are unchanged.
+-- The policy after an allowed command under /localhost/nfd. The lists of routes and strategies get
+-- their next version. If the status is 200, the command has its effect on the routes and
+-- strategies; otherwise they are unchanged.
 abbrev pub after_tables : Policy → ℕ → Result PlainCommand ℕ → Policy
 after_tables p face (Err status) = with_next_version p
 after_tables p face (Ok c) =
@@ -80,7 +82,8 @@ repository_content r = repo_response r.status (unwrap_or (repo_text_of r.status)
 abbrev pub after_repository : Policy → PlainInterest → Policy
 after_repository p i = record p { held = after_command p.repo i.name p.now p.held }
 
--- the Interest by which the node asks for the Data that the repository wants
+-- the octets of the Interest with this nonce by which the node asks for a Data that the repository
+-- wants
 abbrev pub fetch_text : Want → List ℕ → List ℕ
 fetch_text want nonce =
     element (
@@ -89,9 +92,9 @@ fetch_text want nonce =
           ++ (NONCE, nonce) ∷ (INTEREST_LIFETIME, shortest_nni want.lifetime) ∷ [])),
     )
 
--- Whether the node's Interest cannot be encoded: its name is empty or has a parameters digest, or
--- the Interest is too long. An Interest that is too long is not expected, since the command is
--- longer than the Interest.
+-- Whether the node's Interest for this want cannot be encoded. Its name is empty or has a
+-- parameters digest, or the Interest has more than 8,800 octets. It is not expected to be so long,
+-- since the command is longer.
 abbrev pub is_unwritable : Want → List ℕ → Bool
 is_unwritable want nonce =
     is_bad_name want.name || nat_lt 8800 (length (fetch_text want nonce))
@@ -101,8 +104,8 @@ to_chosen choices.NoRoute text = []
 to_chosen (choices.Send faces) text = to_each faces text
 
 -- The sends of the node's Interest to the faces that the strategy chooses. There are none if no
--- Data is wanted or the Interest cannot be encoded. For the strategy, the Interest came from no
--- face and was not sent before.
+-- Data is wanted, the Interest cannot be encoded, or the strategy finds no route. For the strategy,
+-- the Interest came from no face and was not sent before.
 abbrev pub fetch_sends : Policy → List ℕ → Option Want → List Send
 fetch_sends p nonce None = []
 fetch_sends p nonce (Some want) =
@@ -153,7 +156,7 @@ denial_text p rule reason = reason_name reason ++ (codes " by " ++ id_of p.rules
 abbrev pub replied : ℕ → Token → PlainInterest → List ℕ → Send
 replied face token i content = sent_back face token (reply_text i.name content)
 
--- the Content of the reply to a command, given the decision on the command
+-- the Content of the reply to a command that came on this face, given the decision on the command
 abbrev pub reply_content : Policy → ℕ → PlainInterest → Decision → List ℕ
 reply_content p face i (decided.Allowed rule) =
     (allowed_reply p face i (request_of p face i)).content
@@ -161,7 +164,8 @@ reply_content p face i (decided.Denied rule reason) =
     refused_content (request_of p face i) (denial_text p rule.0 reason)
 reply_content p face i decided.NoRule = refused_content (request_of p face i) (codes "no rule")
 
--- the answer to a command, given the decision on the command
+-- the answer to a command that came on this face with this token, given the decision on the
+-- command: the reply and, if it is allowed, the node's Interests
 abbrev pub command_answer : Policy → ℕ → Token → PlainInterest → Decision → Answer
 command_answer p face token i (decided.Allowed rule) =
     let reply = allowed_reply p face i (request_of p face i) in
@@ -195,12 +199,13 @@ IsDenial p face token (AData whole d) decided.NoRule answer =
 IsDenial p face token (ANack reason whole i) decision answer = ⊥
 IsDenial p face token Idle decision answer = ⊥
 
--- the policy after the signer, time and number of an allowed command are recorded
+-- the policy after the signer, time and number of an allowed command are recorded, or unchanged if
+-- there is nothing to record (None)
 abbrev pub with_record : Policy → Option Recorded → Policy
 with_record p None = p
 with_record p (Some r) = record p { guard = with_recorded p.guard r }
 
--- The policy after the effect of an allowed command, which is not yet recorded in the guard. A
+-- The policy after the effect of an allowed command, before the command is recorded in the guard. A
 -- request that is not a command has no effect.
 abbrev pub after_request : Policy → ℕ → PlainInterest → Request → Policy
 after_request p face i (Refused reason) = p

@@ -54,8 +54,8 @@ IsReplyToCommand p face whole i octets =
     × ((decision : Decision) × IsDecidedAs p (AnInterest whole i) decision
     × (octets ≡ reply_text i.name (reply_content p face i decision)))
 
--- the Interest `i` asks for a segment of a list, and `octets` are this segment, as the list is
--- now
+-- the Interest `i` asks for a segment of a list, the segment exists, and `octets` are this segment
+-- under the policy `p`
 abbrev pub IsSegmentAskedFor : Policy → ℕ → PlainInterest → List ℕ → Type 0
 IsSegmentAskedFor p face i octets =
     (asked : ListAsked) × (list_asked i ≡ Some asked)
@@ -91,13 +91,13 @@ is_data_frame (Ok (AData whole d)) = true
 is_data_frame (Ok (ANack reason whole i)) = false
 is_data_frame (Ok Idle) = false
 
--- whether one element was read, and its type is that of a Data
+-- whether an element was read without a fault, and its type is that of a Data
 abbrev pub is_data_element : Result Field PacketFault → Bool
 is_data_element (Err fault) = false
 is_data_element (Ok e) = e.0 == DATA
 
--- whether a link packet with these elements carries a Data: the element in its Fragment has the
--- type of a Data, and neither a Nack nor a malformed element comes before the Fragment
+-- Whether a link packet with these elements carries a Data. The element in its first Fragment has
+-- the type of a Data, and neither a Nack nor a malformed element comes before this Fragment.
 abbrev pub carries_data : List (Result Field TlvFault) → Bool
 carries_data [] = false
 carries_data (Err fault ∷ elements) = false
@@ -115,7 +115,8 @@ holds_data (Ok e) = if e.0 == LINK_PACKET then carries_data (elements_of e.1) el
 abbrev pub is_data : List ℕ → Bool
 is_data octets = is_data_frame (frame_at octets) || holds_data (only_element octets)
 
--- a send is a forwarded Data, or a Data that is a reply, or it is no Data
+-- the send `sent` forwards the Data that the event brings, or is a reply to the Interest that the
+-- event brings, or is no Data
 abbrev pub IsExplained : Seen → PlainEvent → Send → Type 0
 IsExplained seen event sent =
     IsForwardedData seen event sent ⊎ (IsReply seen event sent ⊎ (is_data sent.1 ≡ false))
@@ -123,7 +124,7 @@ IsExplained seen event sent =
 abbrev pub EachIsExplained : Seen → PlainEvent → Answer → Type 0
 EachIsExplained seen event answer = All (IsExplained seen event) answer.sends
 
--- the octets that an event brings are numbers below 256
+-- if the event brings a packet, its octets are numbers below 256
 abbrev pub BringsOctets : PlainEvent → Type 0
 BringsOctets (Packet face now octets) = AreOctets octets
 BringsOctets (FaceUp face scope now) = ⊤

@@ -24,8 +24,8 @@ segment_name kind version segment =
 abbrev pub LIST_FRESHNESS : ℕ
 LIST_FRESHNESS = 1000
 
--- a segment as a Data, signed with DigestSha256, whose FinalBlockId contains the number of the last
--- segment
+-- the octets of a Data with this name and content, signed with DigestSha256; its FinalBlockId
+-- contains the number `last` of the last segment
 abbrev pub segment_data : List Field → List ℕ → ℕ → List ℕ
 segment_data name content last =
     signed_data sign.Digest name (meta_of (meta_fields (Some LIST_FRESHNESS) (Some last)))
@@ -50,7 +50,8 @@ list_answer p face token asked =
     (segment_at (dataset_text p asked.kind) asked.segment)
     else dropped NoSegment
 
--- an answer with the octets of a segment, or a drop if the list has no such segment
+-- the answer that sends the octets of a segment back, or a drop with the reason NoSegment if there
+-- are none
 abbrev pub answered_with : ℕ → Token → Option (List ℕ) → Answer
 answered_with face token None = dropped NoSegment
 answered_with face token (Some octets) = passed (sent_back face token octets ∷ [])

@@ -41,21 +41,24 @@ recorded_of i = elim i.signature [
 abbrev pub recorded_by : Signed → Recorded
 recorded_by s = record { signer = signer_of s.signer; time = s.time; number = s.seq }
 
--- if a command has a SignatureTime, then this time is near `p.now`, and the command is newer than
--- all recorded commands of its signer
+-- If a command has a SignatureTime, this time differs from `p.now` by at most 120,000 milliseconds,
+-- and the command is newer than all recorded commands of its signer. Always true without a
+-- SignatureTime.
 abbrev pub IsFreshCommand : Policy → PlainInterest → Type 0
 IsFreshCommand p i =
     IfSome (recorded_of i) (λ r. IsFresh p.guard r.signer r.time r.number p.now)
 
--- whether a packet is fresh enough: a command has to be fresh, a Data does not
+-- the packet, if it is an Interest, is fresh as a command (`IsFreshCommand`); always true for other
+-- packets
 abbrev pub IsFreshPacket : Policy → PlainFrame → Type 0
 IsFreshPacket p (AnInterest whole i) = IsFreshCommand p i
 IsFreshPacket p (AData whole d) = ⊤
 IsFreshPacket p (ANack reason whole i) = ⊤
 IsFreshPacket p Idle = ⊤
 
--- The first rule that applies decides; if none applies, the decision is NoRule. If the rule
--- allows a command that is not fresh, the command is denied as a replay by that rule.
+-- The packet has this decision. The first rule that applies decides; if none applies, the decision
+-- is NoRule. If the rule allows a command that is not fresh, the command is denied as a replay by
+-- that rule.
 abbrev pub IsDecidedAs : Policy → PlainFrame → Decision → Type 0
 IsDecidedAs p packet (Allowed rule) =
     Decides p.rules p.keys packet (Allowed rule) × IsFreshPacket p packet

@@ -30,8 +30,9 @@ abbrev pub with_open : Policy → ℕ → Scope → Policy
 with_open p face scope =
     if can_open p face then record p { faces = with_face face scope p.faces } else p
 
--- the policy after a face closes: if the face was open, it is removed with its next hops and
--- routes, and the lists get their next version; if it was not open, nothing changes
+-- The policy after a face closes. If the face was open, it is removed with its next hops and
+-- routes, and the lists of routes and strategies get their next version. If it was not open,
+-- nothing changes.
 abbrev pub with_closed : Policy → ℕ → Policy
 with_closed p face =
     if is_open face p.faces then with_next_version (record p {
@@ -39,7 +40,7 @@ with_closed p face =
       routes = without_face p.routes face;
     }) else p
 
--- the packet of an event, if rules decide the packet
+-- the packet that was read from octets on this face, if there is one and rules decide it
 abbrev pub packet_to_decide : Policy → ℕ → Result PlainFrame PacketFault → Option PlainFrame
 packet_to_decide p face (Err fault) = None
 packet_to_decide p face (Ok packet) = if is_decided p face packet then Some packet else None
@@ -52,8 +53,8 @@ decided_packet p (FaceDown face now) = None
 decided_packet p (Tick now) = None
 decided_packet p (NewRules rules keys now) = None
 
--- the policy after an allowed packet: a command has its effect, a Data is stored if the
--- repository wants it, and any other packet changes nothing
+-- The policy after an allowed packet. A command has its effect and is recorded, and a Data is
+-- stored if the repository wants it. Any other packet changes nothing.
 abbrev pub after_packet : Policy → ℕ → PlainFrame → Policy
 after_packet p face (AnInterest whole i) = after_allowed p face i
 after_packet p face (AData whole d) =
@@ -61,7 +62,8 @@ after_packet p face (AData whole d) =
 after_packet p face (ANack reason whole i) = p
 after_packet p face Idle = p
 
--- the policy after a decision; a denied packet changes nothing
+-- the policy after a decision on a packet; a packet that is denied, or to which no rule applies,
+-- changes nothing
 abbrev pub after_decision : Policy → ℕ → PlainFrame → Decision → Policy
 after_decision p face packet (Allowed rule) = after_packet p face packet
 after_decision p face packet (Denied rule reason) = p

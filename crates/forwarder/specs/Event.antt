@@ -39,7 +39,8 @@ moment (FaceDown face now) = now
 moment (Tick now) = now
 moment (NewRules rules keys now) = now
 
--- the rules in force after an event, if `rules` are those in force before the event
+-- the rules in force after an event, if `rules` are in force before the event; only new rules
+-- change them
 abbrev pub rules_after : PlainEvent → List PlainRule → List PlainRule
 rules_after (Packet face now octets) rules = rules
 rules_after (FaceUp face scope now) rules = rules
@@ -63,12 +64,12 @@ token_in (NewRules rules keys now) = None
 abbrev pub Send : Type 0
 Send = ℕ × List ℕ
 
--- a packet is sent back to the face of an Interest, with the token of that Interest
+-- the send of a packet to a face, with this token, if there is one
 abbrev pub sent_back : ℕ → Token → List ℕ → Send
 sent_back face token packet = (face, lp_text token None packet)
 
--- a Nack with this reason, which contains an Interest, is sent back to the Interest's face with the
--- Interest's token
+-- the send of a Nack to a face, with this reason and this token, if there is one; the Nack contains
+-- the Interest with the octets `whole`
 abbrev pub nacked_back : ℕ → Token → ℕ → List ℕ → Send
 nacked_back face token reason whole = (face, lp_text token (Some reason) whole)
 

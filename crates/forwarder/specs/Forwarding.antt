@@ -22,7 +22,8 @@ choice_from s face i =
     choice_for s.policy i.name (moments (records_at s.pending (key_of i)).out_records)
     (ask_from s.policy face i)
 
--- an Interest was handled according to this choice of the strategy
+-- An Interest was answered according to this choice of the strategy, and the records of its key
+-- were changed accordingly. The policy and the cache are unchanged.
 pub record IsForwarded (was : NodeState) (face : ℕ) (token : Token) (whole : List ℕ)
     (i : PlainInterest) (choice : Choice) (answer : Answer) (new : NodeState) : Type 0 where
   pub replied : answer ≡ by_strategy (seen_by was) (key_of i) whole i face token choice

@@ -30,7 +30,8 @@ use Rattle.forwarder.specs.Replies.{Seen, RepliesToPacket}
 use Rattle.forwarder.specs.Node.{NodeState, FollowAll, ChangesCacheOnly, seen_in}
 use Rattle.forwarder.specs.State.{IsLater, IsSound, state_of}
 
--- the policy after a packet; the last argument tells whether rules decide the packet
+-- `new` is the policy after a packet on the policy `p`. If rules decide the packet (`true`), it is
+-- the policy after some decision on the packet; if not, it is unchanged.
 abbrev pub IsPacketEffect : Policy → ℕ → PlainFrame → Policy → Bool → Type 0
 IsPacketEffect p face packet new true =
     (decision : Decision) × IsDecidedAs p packet decision
@@ -40,7 +41,8 @@ IsPacketEffect p face packet new false = new ≡ p
 abbrev pub seen_by : NodeState → Seen
 seen_by s = seen_in s.policy s.pending s.cache
 
--- the causes of a packet and its answer, in order
+-- the causes that a packet and its answer give, in order; they apply at the moment `now`, after
+-- expiry
 abbrev pub packet_causes : ℕ → ℕ → Token → PlainFrame → Answer → List Cause
 packet_causes now face token packet answer =
     causes_by now token answer.sends (packet_outcome face packet answer.verdict)
@@ -61,7 +63,8 @@ pub record IsAnswered (was : NodeState) (face : ℕ) (token : Token) (packet : P
   pub cache : CacheAfter was.policy.now was.pending
       (packet_use was.policy.now face packet answer.verdict) was.cache new.cache
 
--- the packet was handled, and the sends of its answer were appended to the earlier sends
+-- A packet was handled: time advanced to `moment`, and the packet was answered and took effect. The
+-- sends of its answer were appended to the sends in `before`.
 abbrev pub IsHandled : State → State → List Send → List Send → ℕ → Token → ℕ → PlainFrame
     → code.Verdict → Type 0
 IsHandled old new before after face token moment packet verdict =
@@ -70,7 +73,7 @@ IsHandled old new before after face token moment packet verdict =
     × IsAnswered was face token packet (record { verdict = verdict_of verdict; sends = sends })
     (state_of new)
 
--- the token that came with a packet
+-- the token that came with a packet as plain data, or None if there is none
 abbrev pub token_of : Option (Bor (List ℕ)) → Token
 token_of token = option_map (λ t. t.now) token
 
@@ -81,8 +84,8 @@ interest_packet i = AnInterest i.whole.now (plain_interest i)
 abbrev pub data_packet : Data → PlainFrame
 data_packet d = AData d.whole.now (plain_data d)
 
--- What is true when a packet comes on a face with a token: the node is sound, the face is open, the
--- token is valid, and each object that the repository stores is a Data.
+-- What is true when a packet comes on a face. The node is sound, the face is open, the packet's
+-- token, if there is one, is valid, and each object that the repository stores is a Data.
 pub record AwaitsPacket (s : State) (face : ℕ) (token : Token) : Type 0 where
   pub sound : IsSound (state_of s)
   pub from : is_open face s.faces ≡ true
@@ -90,8 +93,8 @@ pub record AwaitsPacket (s : State) (face : ℕ) (token : Token) : Type 0 where
   pub octets : IfSome token AreOctets
   pub objects : AreObjects s.repo.held.objects
 
--- either a packet was handled; or memory ran out, nothing but the cache changed, and nothing was
--- sent
+-- Either the result is Ok, and the packet was handled (`IsHandled`). Or memory ran out, nothing
+-- changed except that cached Data may have been dropped or reordered, and nothing was sent.
 pub record HandlesPacket (old new : State) (before after : List Send) (face : ℕ) (token : Token)
     (moment : ℕ) (packet : PlainFrame) (result : Result code.Verdict Memory) : Type 0 where
   pub handled : IfOk result (IsHandled old new before after face token moment packet)

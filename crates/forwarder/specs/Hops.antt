@@ -11,13 +11,14 @@ use Rattle.mgmt_core.specs.Tables.{face_of}
 use Rattle.forwarder.specs.Outcome.{Outcome, Nothing, InterestPassed, CommandAllowed, DataCame, NackPassed, FaceClosed, outcome_of}
 use Rattle.forwarder.specs.Runs.{Run, Start, Then}
 
--- whether a command that came from the face `from` is about this next hop; without a FaceId, or
--- with the FaceId 0, a command is about the face that it came from
+-- Whether a command that came from the face `from` is about the next hop of this name on this face.
+-- Without a FaceId, or with the FaceId 0, the command is about the face `from`.
 abbrev pub names_hop : PlainCommand → ℕ → List Field → ℕ → Bool
 names_hop c from name face = eq_by_cmp name_cmp name c.name && (face == face_of c from)
 
--- The cost of a next hop after a command that took effect. An add-nexthop for this next hop sets
--- the cost, and a remove-nexthop for it removes the next hop. Any other command changes nothing.
+-- The cost of a next hop after a command with status 200, where None means that there is no such
+-- next hop. An add-nexthop for this next hop sets the cost, and a remove-nexthop for it removes the
+-- next hop. Any other command changes nothing.
 abbrev pub cost_after_command : Result PlainCommand ℕ → ℕ → List Field → ℕ → Option ℕ → Option ℕ
 cost_after_command (Err status) from name face was = was
 cost_after_command (Ok c) from name face was =

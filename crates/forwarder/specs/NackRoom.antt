@@ -5,7 +5,7 @@ use Rattle.ndn_packets.specs.Key.{PlainKey}
 use Rattle.pit_fib.specs.Records.{InRecord, InRecords, Pending, records_at}
 use Rattle.forwarder.specs.declared.sends.TheConstants.{LINK_EXTRA}
 
--- the in-records of a key
+-- the in-records of a key, by face; none if the key has no records
 abbrev pub in_records_at : Pending → PlainKey → InRecords
 in_records_at pending key = (records_at pending key).in_records
 

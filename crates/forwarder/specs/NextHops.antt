@@ -26,7 +26,8 @@ selection_of Multicast = multicast
 abbrev pub strategy_for : Policy → List Field → StrategyId
 strategy_for p name = unwrap_or (longest p.choices name) BestRoute
 
--- the effective next hops of the longest prefix that has next hops or routes
+-- the effective next hops of the longest prefix that has next hops or routes, with the hops to
+-- Local faces marked; no next hops if there is no such prefix
 abbrev pub hops_for : Policy → List Field → List Hop
 hops_for p name = marked (local_faces p) (longest_hops p.routes name)
 
@@ -36,7 +37,7 @@ abbrev pub choice_for : Policy → List Field → ByFace → Ask → Choice
 choice_for p name asked ask =
     chosen (selection_of (strategy_for p name)) (hops_for p name) asked ask
 
--- whether the HopLimit becomes 0 when it is decremented
+-- whether there is a HopLimit, and it becomes 0 when it is decremented
 abbrev pub is_last_hop : Option ℕ → Bool
 is_last_hop None = false
 is_last_hop (Some limit) = limit == 1

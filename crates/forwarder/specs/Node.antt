@@ -36,7 +36,8 @@ abbrev pub FollowAll : List Cause → Pending → Pending → Type 0
 FollowAll causes old new =
     (key : PlainKey) → records_at new key ≡ after_causes causes key (records_at old key)
 
--- what a node's tables show once time has advanced to the moment of an event
+-- what an answer may depend on, as the node's policy, PIT and cache show it once time has advanced
+-- to the moment of an event
 abbrev pub seen_in : Policy → Pending → StoreState → Seen
 seen_in p waiting cache = record {
   policy = p;
@@ -65,8 +66,8 @@ pub record IsStep (old : NodeState) (event : PlainEvent) (answer : Answer)
       (cache_use (at_moment old.policy (moment event)).now (outcome_of event answer.verdict))
       old.cache new.cache
 
--- a step that ran out of memory changed nothing, except that cached Data may have been dropped or
--- reordered
+-- `new` is the node `old`, except that cached Data may have been dropped or reordered, as in a step
+-- that ran out of memory
 pub record ChangesCacheOnly (old new : NodeState) : Type 0 where
   pub policy : new.policy ≡ old.policy
   pub pending : new.pending ≡ old.pending
@@ -74,9 +75,9 @@ pub record ChangesCacheOnly (old new : NodeState) : Type 0 where
 
 -- ---- events that need no memory
 
--- The packets that need no memory: octets that are no packet, or a link packet that contains no
--- packet; a packet out of scope, or an Interest whose HopLimit is 0; and a Data that is not
--- allowed, unless a checker of the first rule that applies expands a template.
+-- The packets that need no memory. These are octets that are no packet, a link packet that contains
+-- no packet, a packet out of scope, and an Interest whose HopLimit is 0. A Data that is not allowed
+-- needs none either, if no checker of the first rule that applies expands a template.
 abbrev pub NeedsNoMemory : Policy → ℕ → Result PlainFrame PacketFault → Type 0
 NeedsNoMemory p face (Err fault) = ⊤
 NeedsNoMemory p face (Ok (AnInterest whole i)) =

@@ -12,7 +12,7 @@ FaceEntry = ℕ × Scope
 abbrev pub is_open : ℕ → List FaceEntry → Bool
 is_open face faces = list_any (λ entry. entry.0 == face) faces
 
--- the scope of a face, if the face is open
+-- the scope of a face, or None if the face is not open
 abbrev pub find_scope : ℕ → List FaceEntry → Option Scope
 find_scope face [] = None
 find_scope face (entry ∷ faces) = if entry.0 == face then Some entry.1 else find_scope face faces
@@ -41,6 +41,7 @@ scope_in local face = if has_face face local then Local else Far
 abbrev pub entries_of : List ℕ → List ℕ → List FaceEntry
 entries_of all local = map (λ face. (face, scope_in local face)) all
 
--- each Local face is open, and both lists have the same order
+-- `local` is the list `all` without the faces that are not in `local`: each Local face is open, and
+-- both lists have the same order
 abbrev pub AreOpen : List ℕ → List ℕ → Type 0
 AreOpen all local = local ≡ filter (λ face. has_face face local) all

@@ -18,9 +18,9 @@ pub data Outcome : Type 0 where
   CommandAllowed : (face : ℕ) (i : PlainInterest) (status : ℕ) → Outcome
   -- a Data was allowed
   DataCame : (whole : List ℕ) (d : PlainData) → Outcome
-  -- a Nack was passed; the Interest in it had been sent to the face
+  -- a Nack that came on this face was passed; the Interest in it had been sent to the face
   NackPassed : (face reason : ℕ) (i : PlainInterest) → Outcome
-  -- a face closed
+  -- an open face closed
   FaceClosed : (face : ℕ) → Outcome
 
 abbrev pub passed_packet : ℕ → PlainFrame → Outcome

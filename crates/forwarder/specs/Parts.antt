@@ -11,7 +11,7 @@ use Rattle.forwarder.specs.Node.{NodeState}
 use Rattle.forwarder.specs.declared.node.NodeFault.{NodeFault}
 use Rattle.forwarder.specs.declared.node.NodeFault.TheVariants.{BadRepoPrefix, BadCapacity}
 
--- whether the component is `localhost`
+-- whether the component is the GenericNameComponent `localhost`
 abbrev pub is_localhost : Field → Bool
 is_localhost c = (c.0 == GENERIC) && pointwise nat_eq c.1 (codes "localhost")
 
@@ -20,15 +20,16 @@ abbrev pub is_bad_prefix : List Field → Bool
 is_bad_prefix [] = true
 is_bad_prefix (c ∷ cs) = is_localhost c
 
--- the fault of the repository's prefix or, if the prefix has none, of the cache's capacity; None
--- if neither has a fault
+-- the fault of the repository's prefix (`is_bad_prefix`) or, if it has none, of the cache's
+-- capacity, which is to be from 1 to 65,536; None if neither has a fault
 abbrev pub parts_fault : List Field → ℕ → Option NodeFault
 parts_fault repo cache =
     if is_bad_prefix repo then Some BadRepoPrefix else (
     if (cache == 0) || nat_lt 65536 cache then Some BadCapacity else
     None)
 
--- a node that is made of these parts, before its first event
+-- a node with these rules and keys, this repository's prefix and this cache's capacity, before its
+-- first event
 abbrev pub first_node : List PlainRule → List NamedKey → List Field → ℕ → NodeState
 first_node rules keys repo cache = record {
   policy = first_policy rules keys repo;

@@ -48,8 +48,9 @@ first_policy rules keys repo = record {
   held = record { objects = map.empty; wants = map.empty };
 }
 
--- Time advances to a moment, unless the moment is earlier than the time. The routes and wants that
--- expire by the new time are removed. Each route that expires gives the lists their next version.
+-- The policy once time has advanced to a moment; the time stays if the moment is earlier. The
+-- routes and wants that expire by the new time are removed. Each route that expires gives the lists
+-- of routes and strategies their next version, at most the greatest u64.
 abbrev pub at_moment : Policy → ℕ → Policy
 at_moment p moment =
     let now = max p.now moment in
@@ -60,12 +61,13 @@ at_moment p moment =
       held = record p.held { wants = wants_after now p.held.wants };
     }
 
--- these rules and keys are in force; nothing else changes, not even the recorded times of signers
--- that no longer have a key
+-- the policy with these rules and keys in force; nothing else changes, not even the recorded times
+-- of signers that no longer have a key
 abbrev pub with_rules : Policy → List PlainRule → List NamedKey → Policy
 with_rules p rules keys = record p { rules = rules; keys = keys }
 
--- the lists get their next version, at most the greatest u64
+-- the policy after the lists of routes and strategies get their next version, at most the greatest
+-- u64
 abbrev pub with_next_version : Policy → Policy
 with_next_version p = record p { table_number = min (p.table_number + 1) (2 ^ 64 - 1) }
 
@@ -80,7 +82,7 @@ is_local_scope Far = false
 abbrev pub local_faces : Policy → List ℕ
 local_faces p = numbers (filter (λ entry. is_local_scope entry.1) p.faces)
 
--- whether a face is open and leads to another machine, given its scope if it is open
+-- whether a face is open and leads to another machine, given its scope, or None if it is not open
 abbrev pub is_far_scope : Option Scope → Bool
 is_far_scope None = false
 is_far_scope (Some scope) = not (is_local_scope scope)
@@ -99,7 +101,8 @@ pub record HasSameParts (p q : Policy) : Type 0 where
   pub guard : p.guard ≡ q.guard
   pub held : p.held ≡ q.held
 
--- The policies differ at most in the version of the lists, the rules and the keys.
+-- The policies differ at most in the version of the lists of routes and strategies, in the rules
+-- and in the keys.
 pub record HasSameTables (p q : Policy) : Type 0 where
   pub parts : HasSameParts p q
   pub routes : p.routes ≡ q.routes

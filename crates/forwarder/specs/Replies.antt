@@ -68,14 +68,15 @@ outgoing_interest seen key whole i faces =
 abbrev pub interest_reject : ℕ → Token → List ℕ → Answer
 interest_reject face token whole = passed (nacked_back face token NO_ROUTE whole ∷ [])
 
--- the answer according to the strategy's choice
+-- the answer to an Interest according to the strategy's choice: Interest Reject if no next hop is
+-- eligible, or else Outgoing Interest to the chosen faces
 abbrev pub by_strategy : Seen → PlainKey → List ℕ → PlainInterest → ℕ → Token → Choice → Answer
 by_strategy seen key whole i face token choices.NoRoute = interest_reject face token whole
 by_strategy seen key whole i face token (choices.Send faces) =
     outgoing_interest seen key whole i faces
 
--- an object that the repository stores is sent back like a cached Data, even if the Interest has
--- MustBeFresh; without such an object, the strategy chooses
+-- The optional octets are an object of the repository that answers the Interest. It is sent back
+-- like a cached Data, even if the Interest has MustBeFresh. If there is none, the strategy chooses.
 abbrev pub by_repository : Seen → ℕ → Token → List ℕ → PlainInterest → Option (List ℕ) → Answer
 by_repository seen face token whole i (Some octets) = content_store_hit face token octets
 by_repository seen face token whole i None =
@@ -83,7 +84,8 @@ by_repository seen face token whole i None =
     (choice_for seen.policy i.name (moments (seen.records (key_of i)).out_records)
     (ask_from seen.policy face i))
 
--- Content Store Miss: the repository answers, or the strategy chooses
+-- Content Store Miss: the repository answers with a stored object or, if none answers, the strategy
+-- chooses the faces to send the Interest to
 abbrev pub content_store_miss : Seen → ℕ → Token → List ℕ → PlainInterest → Answer
 content_store_miss seen face token whole i =
     by_repository seen face token whole i
@@ -140,8 +142,8 @@ abbrev pub sent_to : Askers → List ℕ → List Send
 sent_to askers whole =
     map_list {A = ℕ × Token} {B = Send} (λ a. sent_back a.0 a.1 whole) askers
 
--- The received octets are sent once to each face with a pending Interest that the Data answers,
--- except the face that the Data came from, in rising order of the faces. Each face gets the token
+-- The Data's octets are sent once to each face with a pending Interest that the Data answers, in
+-- rising order of the faces, except to `face`, from which the Data came. Each face gets the token
 -- of the Interest with the latest deadline, among the face's Interests that the Data answers
 -- (`IsTokenFor`).
 abbrev pub IsSentToAskers : Seen → ℕ → List ℕ → PlainData → List Send → Type 0

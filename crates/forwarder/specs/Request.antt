@@ -42,13 +42,14 @@ list_name RouteList = management ++ generic (codes "fib") ∷ generic (codes "li
 list_name StrategyList =
     management ++ generic (codes "strategy-choice") ∷ generic (codes "list") ∷ []
 
--- the number that `value` encodes, if `value` is the shortest encoding of the number
+-- the number that `value` encodes, or None if `value` is not the shortest encoding of a number
 abbrev pub shortest_number : List ℕ → Option ℕ
 shortest_number value =
     on_result (λ n. if bytes_eq value (shortest_nni n) then Some n else None) (λ _. None)
     (nni_at value)
 
--- the number in a component, if the component has the type `kind`
+-- the number in a component of the type `kind`; None if the type differs, or the value is not the
+-- shortest encoding of a number
 abbrev pub numbered : ℕ → Field → Option ℕ
 numbered kind c = if c.0 == kind then shortest_number c.1 else None
 
@@ -62,7 +63,7 @@ segmented kind version (Some segment) = versioned kind segment version
 
 -- The request that the components after a list's name encode. A version and a segment number
 -- request that segment. If the Interest has CanBePrefix, a version alone, or no component at all,
--- requests the first segment. Anything else is not a request for a list.
+-- requests the segment 0. Anything else is no request for a list (None).
 abbrev pub list_after : ListKind → Bool → List Field → Option ListAsked
 list_after kind can_be_prefix [] =
     if can_be_prefix then Some (record { kind = kind; version = None; segment = 0 }) else None
@@ -94,7 +95,8 @@ pub data Request : Type 0 where
   ForRepository : Request
   ForData : Request
 
--- the request of an Interest, given the segment of a list that the Interest asks for, if any
+-- the request of an Interest that is not refused, given the segment of a list that the Interest
+-- asks for, if any
 abbrev pub named_request : Policy → PlainInterest → Option ListAsked → Request
 named_request p i (Some asked) = ForList asked
 named_request p i None =
@@ -102,7 +104,7 @@ named_request p i None =
     if is_some (verb_at p.repo i.name) then ForRepository else
     ForData)
 
--- the request that a name encodes
+-- a request as the code reads it off a name, as plain data
 abbrev pub request_named : NamedRequest → Request
 request_named (named.ForList asked) = ForList asked
 request_named named.ForTables = ForTables

@@ -14,13 +14,15 @@ use Rattle.forwarder.specs.Hops.{names_hop}
 use Rattle.forwarder.specs.Outcome.{Outcome, Nothing, InterestPassed, CommandAllowed, DataCame, NackPassed, FaceClosed, outcome_of}
 use Rattle.forwarder.specs.Runs.{Run, Start, Then, now_of}
 
--- whether a command that came from the face `from` is about this route
+-- Whether a command that came from the face `from` is about the route of this name, face and
+-- origin. Without a FaceId, or with the FaceId 0, the command is about the face `from`.
 abbrev pub names_route : PlainCommand → ℕ → List Field → ℕ → ℕ → Bool
 names_route c from name face origin = names_hop c from name face && (origin == c.origin)
 
--- The route after a command that took effect at the moment `now`. A register for this route sets
--- the route's cost, its flags and, if the command has a period, its deadline: `now` plus that
--- period, at most the greatest u64. An unregister for this route removes the route.
+-- The route after a command with status 200 at the moment `now`. A register for this route sets its
+-- cost, its flags and its deadline: `now` plus the command's period, at most the greatest u64, or
+-- None without a period. An unregister for this route removes it. Any other command changes
+-- nothing.
 abbrev pub route_after_command : Result PlainCommand ℕ → ℕ → ℕ → List Field → ℕ → ℕ
     → Option Route → Option Route
 route_after_command (Err status) now from name face origin was = was
@@ -48,9 +50,9 @@ route_after (DataCame whole d) now name face origin was = was
 route_after (NackPassed from reason i) now name face origin was = was
 route_after (FaceClosed closed) now name face origin was = if face == closed then None else was
 
--- The route that the last register of this name, face and origin with status 200 gave, if nothing
--- has ended the route since: no unregister, no closing of its face, and no later event of any kind
--- at or after the route's deadline.
+-- The route that the last register of this name, face and origin with status 200 gave. It is None
+-- if there was none, or if an unregister, the closing of its face, or any event at or after its
+-- deadline has ended it since.
 abbrev pub route_of : Run → List Field → ℕ → ℕ → Option Route
 route_of Start name face origin = None
 route_of (Then before event answer) name face origin =

@@ -30,7 +30,7 @@ pub data Run : Type 0 where
   Start : Run
   Then : (before : Run) (event : PlainEvent) (answer : Answer) → Run
 
--- the greatest moment of the run
+-- the greatest moment of the run's events, or 0 if there are none
 abbrev pub now_of : Run → ℕ
 now_of Start = 0
 now_of (Then before event answer) = max (now_of before) (moment event)
@@ -42,7 +42,7 @@ IsPolicyOf first Start p = p ≡ first
 IsPolicyOf first (Then before event answer) p =
     (was : Policy) × IsPolicyOf first before was × IsAfter was event p
 
--- no two of the keys that the event brings have the same name
+-- if the event brings rules and keys, no two of these keys have the same name
 abbrev pub BringsKeysApart : PlainEvent → Type 0
 BringsKeysApart (Packet face t octets) = ⊤
 BringsKeysApart (FaceUp face scope t) = ⊤
@@ -95,7 +95,8 @@ past_causes (Then before event answer) =
 abbrev pub records_of : Run → PlainKey → Records
 records_of past key = records_after_all (past_causes past) key
 
--- the keys that are alive after the run once time has advanced to `now`, with their records
+-- `waiting` has the keys that have an in-record after the run, once time has advanced to `now`,
+-- with their records
 pub record IsWaiting (past : Run) (now : ℕ) (waiting : Pending) : Type 0 where
   pub living : HoldsTheLiving waiting
   pub records : (key : PlainKey)
@@ -103,8 +104,8 @@ pub record IsWaiting (past : Run) (now : ℕ) (waiting : Pending) : Type 0 where
 
 -- ---- what the cache may hold (NFD Developer's Guide, "Content Store")
 
--- The Data came, it was allowed, some face waited for it, and no erase without Count has removed
--- it since. The cache may have dropped the Data.
+-- In some event of the run the Data came, it was allowed, some face waited for it, and no erase
+-- without Count has removed it since. The cache may have dropped the Data.
 abbrev pub MayHold : Run → CachedData → Type 0
 MayHold Start c = ⊥
 MayHold (Then before event answer) c =
@@ -131,8 +132,8 @@ seen_after past p waiting = record {
   MayGive = MayCache past p.now;
 }
 
--- The answer is valid after this past, according to the policy, the records of the keys that are
--- alive, and the Data that the cache may hold.
+-- The answer to the event is valid after the run `past`. This depends on the policy, the records of
+-- the keys that then have an in-record, and the Data that the cache may hold.
 pub record MayReply (first : Policy) (past : Run) (event : PlainEvent)
     (answer : Answer) : Type 0 where
   pub was : Policy
@@ -145,7 +146,8 @@ abbrev pub IsRun : Policy → Run → Type 0
 IsRun first Start = ⊤
 IsRun first (Then before event answer) = IsRun first before × MayReply first before event answer
 
--- the policy, the records and the cached Data of the node are those that the run allows
+-- the node has the policy and the records that the run gives, and its cached Data are among those
+-- that the cache may hold after the run
 pub record Stands (first : Policy) (past : Run) (node : NodeState) : Type 0 where
   pub policy : IsPolicyOf first past node.policy
   pub pending : (key : PlainKey) → records_at node.pending key ≡ records_of past key
@@ -184,7 +186,7 @@ BringsRequest p (FaceDown face t) = ⊥
 BringsRequest p (Tick t) = ⊥
 BringsRequest p (NewRules rules keys t) = ⊥
 
--- the packet is a Data, allowed or not
+-- octets were read as a Data, whether or not it is allowed
 abbrev pub IsDataPacket : Result PlainFrame PacketFault → Type 0
 IsDataPacket (Err fault) = ⊥
 IsDataPacket (Ok (AnInterest whole i)) = ⊥

@@ -40,7 +40,8 @@ pub record IsSound (s : NodeState) : Type 0 where
   pub records : (face : ℕ) → HasRecord s.pending face → is_open face s.policy.faces ≡ true
   pub routes : AllAreUp s.policy.routes (open_faces s.policy)
 
--- time advanced to the moment, and everything that expires by that moment was removed
+-- `new` is the node `old` once time has advanced to `moment`; the time stays if `moment` is
+-- earlier. Everything that expires by the new time was removed, and the cache is unchanged.
 pub record IsLater (old : NodeState) (moment : ℕ) (new : NodeState) : Type 0 where
   pub policy : new.policy ≡ at_moment old.policy moment
   pub expiry : Follows (Expires (max old.policy.now moment)) old.pending new.pending

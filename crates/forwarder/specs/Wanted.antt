@@ -9,7 +9,7 @@ use Rattle.repo_core.specs.Wants.{is_wanted}
 use Rattle.forwarder.specs.Event.{PlainEvent, Packet, FaceUp, FaceDown, Tick, NewRules}
 use Rattle.forwarder.specs.Policy.{Policy}
 
--- whether a packet is a Data that the repository wants
+-- whether octets were read as a Data that the repository wants
 abbrev pub is_wanted_packet : Policy → Result PlainFrame PacketFault → Bool
 is_wanted_packet p (Err fault) = false
 is_wanted_packet p (Ok (AnInterest whole i)) = false

@@ -4,7 +4,8 @@ use Rattle.hmac_keys.specs.declared.fault.KeyFault.{KeyFault}
 use Rattle.hmac_keys.specs.declared.fault.KeyFault.TheVariants.{BadLine, TwiceNamed, TooMany, Memory}
 use Rattle.hmac_keys.specs.KeyFile.{NamedKey, AreApart, AreKeysOf, IsAmong, IsKeyLine, is_skipped, lines_of}
 
--- Line n is not skipped. The lines before line n have no fault, and contain these keys.
+-- `line` is line n, which is not skipped. The lines before it have no fault, and contain these
+-- keys.
 pub record IsReached
     (lines : List (List ℕ)) (n : ℕ) (line : List ℕ) (keys : List NamedKey) : Type 0 where
   pub before : List (List ℕ)

@@ -19,15 +19,16 @@ line_has_name name line =
 abbrev pub lines_have_name : List Field → List (List ℕ) → Bool
 lines_have_name name lines = list_any (line_has_name name) lines
 
--- the lines have the same names as the keys
+-- for each name, one of the lines has this name exactly if one of the keys has it
 abbrev pub HaveNames : List (List ℕ) → List NamedKey → Type 0
 HaveNames lines keys = (name : List Field) → lines_have_name name lines ≡ has_name name keys
 
--- the number of keys is `count` after this line, which follows `before` lines with these keys
+-- this line has no fault, and after it there are `count` keys; `before` lines come before this
+-- line, and contain `keys`
 abbrev pub AreReadAfter : ℕ → List NamedKey → List ℕ → ℕ → Type 0
 AreReadAfter before keys line count =
     (all : List NamedKey) × (after_line (before + 1) keys line ≡ Ok all) × (count ≡ length all)
 
--- this line, which follows `before` lines with these keys, has this fault
+-- this line has this fault; `before` lines come before this line, and contain `keys`
 abbrev pub IsFaultAfter : ℕ → List NamedKey → List ℕ → KeyFault → Type 0
 IsFaultAfter before keys line fault = after_line (before + 1) keys line ≡ Err fault

@@ -11,7 +11,8 @@ use Rattle.hmac_keys.specs.declared.fault.KeyFault.{KeyFault}
 use Rattle.hmac_keys.specs.declared.fault.KeyFault.TheVariants.{BadLine, TwiceNamed, TooMany, Memory}
 use Rattle.hmac_keys.specs.KeyFile.{NamedKey, KeysOf, is_skipped, lines_of}
 
--- the text before the last space of a line, and the text after it
+-- the text before the last space of a line, and the text after this space, or `None` if the line
+-- has no space
 unfoldable pub at_last_space : List ℕ → Option (List ℕ × List ℕ)
 at_last_space [] = None
 at_last_space (o ∷ line) =
@@ -22,7 +23,7 @@ abbrev pub not_empty : List Field → Option (List Field)
 not_empty [] = None
 not_empty (c ∷ name) = Some (c ∷ name)
 
--- the name that a URI reads as, if this name is not empty
+-- the name that a URI reads as, or `None` if it reads as no name or as the empty name
 abbrev pub name_of : List ℕ → Option (List Field)
 name_of uri = on_result not_empty (λ _. None) (name_in uri)
 
@@ -33,7 +34,7 @@ octets_of digits =
     (λ octets. if nat_le 1 (length octets) && nat_le (length octets) 256 then Some octets else None)
     (λ _. None) (decode_of digits)
 
--- the key in a line, if the line has one
+-- the key in a line, or `None` if the line is not a valid line of a key
 abbrev pub key_in : List ℕ → Option NamedKey
 key_in line =
     on_option
@@ -46,7 +47,8 @@ abbrev pub has_name : List Field → List NamedKey → Bool
 has_name name [] = false
 has_name name (key ∷ keys) = is_eq (name_cmp key.0 name) || has_name name keys
 
--- the keys after the key of line n is added, or a fault if it cannot be added
+-- The keys after the key of line n is added. The fault is `TwiceNamed n` if one of the keys has its
+-- name, and `TooMany` if there are 256 keys with other names.
 abbrev pub with_key : ℕ → List NamedKey → NamedKey → Result (List NamedKey) KeyFault
 with_key n keys key =
     if has_name key.0 keys then Err (TwiceNamed n) else (
@@ -58,8 +60,8 @@ abbrev pub after_line : ℕ → List NamedKey → List ℕ → Result (List Name
 after_line n keys line =
     if is_skipped line then Ok keys else on_option (with_key n keys) (Err (BadLine n)) (key_in line)
 
--- the keys after these lines are read, or the first fault, where n is the number of the first
--- line
+-- the keys after these lines are read, or the first fault, where n is the number of the first of
+-- these lines, and `keys` are the keys of the lines before it
 unfoldable pub keys_from : ℕ → List NamedKey → List (List ℕ) → Result (List NamedKey) KeyFault
 keys_from n keys [] = Ok keys
 keys_from n keys (line ∷ lines) =

@@ -59,8 +59,8 @@ locator_of hierarchical keys =
     if hierarchical then Ok (Some locators.Hierarchical)
     else shown first_of (each locator_in (named (codes "key-locator") keys))
 
--- without a signature type, the checker requires HMAC with SHA-256; HMAC needs a requirement on the
--- key's name
+-- The checker with this signature type. Without a signature type, it requires HMAC with SHA-256.
+-- HMAC needs a requirement on the key's name, and without one the fault is `Missing` at this line.
 abbrev pub checker_with : ℕ → Option SignatureType → Option LocatorTest → Found Checker
 checker_with line None test = shown checkers.HmacSha256 (needed_one line test)
 checker_with line (Some HmacSha256) test = shown checkers.HmacSha256 (needed_one line test)

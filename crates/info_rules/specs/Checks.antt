@@ -18,19 +18,21 @@ use Rattle.info_rules.specs.Locator.{PassesLocator}
 abbrev pub Unless : Type 0 → Reason → Option Reason → Type 0 → Type 0
 Unless Fact reason given Rest = ((¬ Fact) × (given ≡ Some reason)) ⊎ (Fact × Rest)
 
--- `given` is the result of this check: the signature value equals the tag
+-- `given` is the result of this check: the signature value equals the tag; if not, the reason is
+-- `Tag`
 abbrev pub ChecksTag : List ℕ → PlainSigned → Option Reason → Type 0
 ChecksTag tag signed given = Unless (signed.signature.value ≡ tag) reasons.Tag given (given ≡ None)
 
--- `given` is the result of these checks: the book has a key with this name, and the signature value
--- is the key's HMAC of the covered octets
+-- `given` is the result of these checks: the keys contain one with this name, and the signature
+-- value is this key's HMAC of the covered octets; the reasons are `KeyUnknown` and `Tag`
 abbrev pub ChecksKey : List NamedKey → List Field → PlainSigned → Option Reason → Type 0
 ChecksKey keys name signed given =
     (((key : List ℕ) → IsAmong (name, key) keys → ⊥) × (given ≡ Some reasons.KeyUnknown))
     ⊎ ((key : List ℕ) × IsAmong (name, key) keys × ChecksTag (Mac key signed.covered) signed given)
 
 -- `given` is the result of these checks: the KeyLocator has the name of a key, this name meets the
--- requirement, and the checks of `ChecksKey` pass for this name
+-- requirement, and the checks of `ChecksKey` pass for this name. If one of the first two fails, the
+-- reason is `KeyLocator`.
 abbrev pub ChecksLocator : List NamedKey → LocatorTest → PlainLocator → PlainSigned → Option Reason
     → Type 0
 ChecksLocator keys test (KeyName name) signed given =
@@ -41,7 +43,8 @@ ChecksLocator keys test Digest signed given = given ≡ Some reasons.KeyLocator
 ChecksLocator keys test Other signed given = given ≡ Some reasons.KeyLocator
 
 -- `given` is the checker's result for the packet. Signature type 0 is DigestSha256 and type 4 is
--- HmacWithSha256 (NDN Packet Format 0.3, "Signature").
+-- HmacWithSha256 (NDN Packet Format 0.3, "Signature"). Another type than the checker's, and every
+-- type for `Unsupported`, has the reason `SigType`.
 abbrev pub Checks : List NamedKey → Checker → PlainSigned → Option Reason → Type 0
 Checks keys checkers.Sha256 signed given =
     Unless (signed.signature.info.kind ≡ 0) reasons.SigType given

@@ -51,11 +51,12 @@ IsGreatest keys all signed reason =
     ⊎ (All (IsAtMost keys signed reason) all
     × Any (λ checker. Checks keys checker signed (Some reason)) all)
 
--- the checkers allow the packet
+-- the packet is signed as `IsSigned` states, and at least one checker passes it
 abbrev pub Allow : List NamedKey → List Checker → SeenPacket → Type 0
 Allow keys all packet = (signed : PlainSigned) × IsSigned packet signed × IsPassed keys all signed
 
--- the checkers deny the packet, and `reason` is the reason that `IsGreatest` states
+-- the packet is signed as `IsSigned` states, no checker passes it, and `reason` is the reason that
+-- `IsGreatest` states
 abbrev pub DenyBy : List NamedKey → List Checker → SeenPacket → Reason → Type 0
 DenyBy keys all packet reason =
     (signed : PlainSigned) × IsSigned packet signed × IsGreatest keys all signed reason
@@ -67,7 +68,8 @@ IsMisshaped packet signature =
     (¬ SaysWhen packet.kind signature)
     ⊎ ((first second : List ℕ) → Covered packet.frame first second → ⊥)
 
--- the packet is denied for this reason before any checker examines it
+-- the packet is denied before any checker examines it: for `NotSigned` without a signature, or for
+-- `Shape` if it is misshaped
 abbrev pub IsUnfit : SeenPacket → Reason → Type 0
 IsUnfit packet reasons.NotSigned = packet.signature ≡ None
 IsUnfit packet reasons.Shape =

@@ -12,7 +12,7 @@ Found A = Result A RulesFault
 abbrev pub sooner_of : RulesFault → RulesFault → RulesFault
 sooner_of a b = if sooner b a then b else a
 
--- both values, or the fault that is reported
+-- both values, or the fault that is reported, which is the sooner of two faults
 abbrev pub both : {A B : Type 0} → Found A → Found B → Found (A × B)
 both (Ok a) (Ok b) = Ok (a, b)
 both (Ok a) (Err f) = Err f
@@ -30,7 +30,8 @@ abbrev pub shown : {A B : Type 0} → (A → B) → Found A → Found B
 shown f (Ok a) = Ok (f a)
 shown f (Err e) = Err e
 
--- the value after a function is applied to it; the function may return a fault
+-- the value after a function is applied to it, where the function may return a fault, or the
+-- earlier fault
 abbrev pub then_made : {A B : Type 0} → (A → Found B) → Found A → Found B
 then_made f (Ok a) = f a
 then_made f (Err e) = Err e

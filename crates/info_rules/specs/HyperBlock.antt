@@ -39,7 +39,7 @@ half_with template_word keys pattern =
     (λ text. ok_of (template_in (groups_of pattern) text)) template_word keys))
 
 -- a pattern, and a template that uses the groups of this pattern, each read from the first key with
--- its word
+-- its word, or the fault that is reported; `None` if one of the keys is absent
 unfoldable pub half_in : List ℕ → List ℕ → List Block → Found Half
 half_in pattern_word template_word keys = half_with template_word keys
     (value_in Pattern (λ text. ok_of (pattern_in text)) pattern_word keys)
@@ -73,8 +73,8 @@ parts_in keys = both
     (value_in BadValue relation_in (codes "h-relation") keys))
     (half_in (codes "p-regex") (codes "p-expand") keys)
 
--- the hyper-relation of a block; if `needed` is true, all keys of the block must be present;
--- `needed` is false if the key locator also has a key of another form
+-- The hyper-relation of a block, or the fault that is reported. If `needed` is true, all keys of
+-- the block must be present. `needed` is false if the key locator also has a key of another form.
 unfoldable pub hyper_of : Bool → ℕ → List Block → Found (Option PlainHyper)
 hyper_of needed line keys = beside (after None (walk_faults blocks.Hyper keys))
     (beside (missing_unless (not needed || is_whole keys) line)

@@ -27,7 +27,7 @@ is_word word key = bytes_eq key.0.key word
 abbrev pub named : List ℕ → List Block → List Block
 named word keys = filter (is_word word) keys
 
--- the value of a key that has a value and no block
+-- the value of a key without a block, or `None` if the key has a block or no value
 abbrev pub value_of : Block → Option (List ℕ)
 value_of key = if key.0.has_block then None else key.0.value
 
@@ -36,12 +36,12 @@ value_of key = if key.0.has_block then None else key.0.value
 abbrev pub fault_at : RulesFaultKind → Block → RulesFault
 fault_at kind key = record { line = key.0.line; kind = kind }
 
--- a fault if more than `most` keys are `word`
+-- the fault `TooLarge` on line 0 if more than `most` keys are `word`, otherwise no fault
 abbrev pub many_faults : ℕ → List ℕ → List Block → List RulesFault
 many_faults most word keys =
     if nat_lt most (length (named word keys)) then record { line = 0; kind = TooLarge } ∷ [] else []
 
--- a fault if the key has a value or has no block
+-- the fault `BadValue` if the key has a value or has no block
 abbrev pub shape_fault : Block → Option RulesFault
 shape_fault key =
     if is_some key.0.value || not key.0.has_block then Some (fault_at BadValue key) else None
@@ -54,7 +54,8 @@ is_there word keys = is_some (first_of (named word keys))
 abbrev pub missing_unless : Bool → ℕ → Option RulesFault
 missing_unless there line = if there then None else Some (record { line = line; kind = Missing })
 
--- the value of a key with a block, where `f` reads the keys at this depth
+-- what `f` reads from the block of a key, whose keys are at this depth, or the fault that is
+-- reported; a key with a value or without a block has the fault `BadValue`
 abbrev pub block_in : {A : Type 0} → ℕ → (ℕ → List Block → Found A) → Block → Found A
 block_in depth f key =
     if key.0.has_block then beside (shape_fault key) (f key.0.line (blocks_of depth key.1))

@@ -15,7 +15,8 @@ use Rattle.info_rules.specs.Walk.{walk_faults}
 use Rattle.info_rules.specs.NameTest.{first_other, asked_in}
 use Rattle.info_rules.specs.HyperBlock.{hyper_in}
 
--- the block has no key of another form beside `hyper-relation`
+-- the block has none of the keys `name`, `relation` and `regex`, which state a requirement of
+-- another form than `hyper-relation`
 unfoldable pub is_hyper_alone : List Block → Bool
 is_hyper_alone keys = not (is_some (first_other KeyName (Some forms.Hyper) keys))
 

@@ -167,7 +167,7 @@ IsChecker key checker = OpensBlock key × AsksOfSignature (blocks_of 2 key.1) ch
 
 -- ---- rules
 
--- the keys of a rule, with its filters and its checkers in order
+-- the keys of a rule, with its filters and its checkers in order, at most 16 of each
 abbrev pub AreOfRule : List Block → PlainRule → Type 0
 AreOfRule keys rule =
     HasOnly (codes "id" ∷ codes "for" ∷ codes "filter" ∷ codes "checker" ∷ []) keys
@@ -187,7 +187,8 @@ IsAnchor key =
     × ((text : List ℕ) × HasValue (codes "type") (blocks_of 1 key.1) text
     × IsOneOf (codes "file" ∷ codes "dir" ∷ codes "base64" ∷ []) text)
 
--- the entries of a rule file, with its rules in order; all rules have different ids
+-- the entries of a rule file, with its rules in order; there are at most 256 rules, and all have
+-- different ids; each trust anchor is valid
 abbrev pub IsRuleFile : List PlainEntry → List PlainRule → Type 0
 IsRuleFile entries rules =
     HasOnly (codes "rule" ∷ codes "trust-anchor" ∷ []) (blocks_of 0 entries)

@@ -24,7 +24,7 @@ abbrev pub tests_key : Tested → Bool
 tests_key PacketName = false
 tests_key KeyName = true
 
--- the form that the key belongs to, if it belongs to one
+-- the form of a requirement that the key belongs to, or `None` if it belongs to none
 unfoldable pub form_of : Tested → Block → Option Form
 form_of tested key =
     if is_word (codes "name") key || is_word (codes "relation") key then Some forms.Related else (
@@ -65,14 +65,15 @@ half_fault line keys forms.Related =
 half_fault line keys forms.Matching = None
 half_fault line keys forms.Hyper = None
 
--- the fault of the first key of a second form; if there is no such key, the fault of a key that the
--- form needs and that is absent
+-- the fault `BadValue` of the first key that belongs to a form other than `form`; without such a
+-- key, the fault `Missing` if a key that `form` needs is absent
 abbrev pub second_fault : Tested → ℕ → List Block → Form → Option RulesFault
 second_fault tested line keys form =
     on_option (λ second. Some (record { line = second.1; kind = BadValue }))
     (half_fault line keys form) (first_other tested (Some form) keys)
 
--- the fault of the forms in a block, if any: the block must have exactly one form
+-- the fault of the forms in a block, which must have exactly one form: `Missing` without a form, or
+-- the fault that `second_fault` returns, if any
 unfoldable pub form_fault : Tested → ℕ → List Block → Option RulesFault
 form_fault tested line keys = on_option (λ first. second_fault tested line keys first.0)
     (Some (record { line = line; kind = Missing })) (first_other tested None keys)
@@ -82,7 +83,8 @@ form_fault tested line keys = on_option (λ first. second_fault tested line keys
 abbrev pub Names : Type 0
 Names = (Option (List Field) × Option Relation) × Option PlainPattern
 
--- a name, a relation and a pattern, each of which may be absent
+-- the name, the relation and the pattern in a block, each of which may be absent, or the fault that
+-- is reported
 unfoldable pub names_in : List Block → Found Names
 names_in keys = both
     (both (value_in BadValue (λ text. ok_of (name_in text)) (codes "name") keys)

@@ -17,12 +17,13 @@ use Rattle.info_rules.specs.RuleBlock.{rule_in}
 
 -- ---- repeated ids
 
--- the first key `id` in the block of a `rule` key
+-- the first key `id` in the block of a `rule` key, or `None` if there is none or the key is not a
+-- `rule`
 unfoldable pub id_key : Block → Option Block
 id_key key = if is_word (codes "rule") key then first_of (named (codes "id") (blocks_of 1 key.1))
     else None
 
--- a fault if the key is a rule with this id
+-- the fault `TwiceNamed` if the key is a `rule` with this id, otherwise no fault
 unfoldable pub same_id_faults : List ℕ → Block → List RulesFault
 same_id_faults id key =
     on_option (λ later. on_option

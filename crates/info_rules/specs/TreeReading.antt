@@ -42,7 +42,8 @@ with_ended draft = record draft { ended = entries_of draft; pending = None }
 abbrev pub Next : Type 0
 Next = Result PlainDraft RulesFault
 
--- the draft after a word that is a key
+-- the draft after a word that is a key: the pending entry, if there is one, is finished, and the
+-- key is pending
 abbrev pub with_key : PlainDraft → ℕ → List ℕ → PlainDraft
 with_key draft line word =
     record draft {
@@ -56,8 +57,8 @@ with_key draft line word =
       });
     }
 
--- the draft after another word on the line of a key: the second word is the key's value, and a
--- third word is a fault
+-- the draft after another word on the line of the key `entry`: the second word is the key's value,
+-- and a third word is a syntax fault
 abbrev pub with_value : PlainDraft → ℕ → List ℕ → PlainEntry → Option (List ℕ) → Next
 with_value draft line word entry None =
     Ok (record draft { pending = Some (record entry { value = Some (unescaped word) }) })
@@ -74,7 +75,8 @@ with_word draft line word (Some entry) =
     if entry.line == line then with_value draft line word entry entry.value
     else Ok (with_key draft line word)
 
--- the draft after an opening brace, which must follow a key or its value
+-- the draft after an opening brace, which must follow a key or its value; any other opening brace
+-- is a syntax fault
 abbrev pub with_open : PlainDraft → ℕ → Option PlainEntry → Next
 with_open draft line None = Err (syntax line)
 with_open draft line (Some entry) = Ok (record {
@@ -126,12 +128,13 @@ abbrev pub if_shallow : Option ℕ → List PlainEntry → Result (List PlainEnt
 if_shallow None entries = Ok entries
 if_shallow (Some deep) entries = Err (too_deep deep)
 
--- the entries of a text that ends on this line
+-- the entries of a text that ends on this line, or a fault if a block is still open or a block is
+-- inside eight others
 abbrev pub whole_of : ℕ → PlainDraft → Result (List PlainEntry) RulesFault
 whole_of line draft = unless_fault (deep_before draft.deep line)
     (if draft.depth == 0 then if_shallow draft.deep (entries_of draft) else Err (syntax line))
 
--- the entries of a text of at most 65,536 octets
+-- the entries of a text of at most 65,536 octets, or the first fault
 abbrev pub entries_in : List ℕ → Result (List PlainEntry) RulesFault
 entries_in text =
     on_result (whole_of (end_line text)) (λ fault. Err fault) (with_tokens begun (tokens_in text))

@@ -43,7 +43,8 @@ abbrev pub given_in : {A : Type 0} → RulesFaultKind → (List ℕ → Option A
 given_in kind read line None = Err (record { line = line; kind = BadValue })
 given_in kind read line (Some text) = read_at kind line (read text)
 
--- the value of the first key that is `word`, if there is one
+-- the value of the first key that is `word`, or `None` if there is no such key; a wrong value has
+-- the fault `kind`, and a key without a value `BadValue`
 unfoldable pub value_in : {A : Type 0} → RulesFaultKind → (List ℕ → Option A) → List ℕ → List Block
     → Found (Option A)
 value_in kind read word keys = on_option (λ key. given_in kind read key.0.line (value_of key))
@@ -52,11 +53,12 @@ value_in kind read word keys = on_option (λ key. given_in kind read key.0.line 
 abbrev pub id_in : List ℕ → Option (List ℕ)
 id_in text = if is_id text then Some text else None
 
--- the word `name`
+-- `Some` if the text is the word `name`, otherwise `None`
 abbrev pub name_word_in : List ℕ → Option (Unit {0})
 name_word_in text = if bytes_eq text (codes "name") then Some tt else None
 
--- the type of a trust anchor; the type `any` is the fault `AnyAnchor`
+-- `Some` if the text is the type of a trust anchor; the type `any` has the fault `AnyAnchor`, and
+-- every other text has `BadValue`
 abbrev pub anchor_type_in : ℕ → List ℕ → Found (Option (Unit {0}))
 anchor_type_in line text =
     if bytes_eq text (codes "any") then Err (record { line = line; kind = AnyAnchor }) else (

@@ -96,7 +96,7 @@ from_line_end (o ∷ text) = if o == 10 then o ∷ text else from_line_end text
 abbrev pub tokens_in : List ℕ → List (ℕ × Token)
 tokens_in text = tokens_from Between 1 text
 
--- the line where the text ends
+-- the number of the line where the text ends, counted from 1
 abbrev pub end_line : List ℕ → ℕ
 end_line text = 1 + count_by (λ o. o == 10) text
 

@@ -10,8 +10,9 @@ use Rattle.journal.specs.Line.{IsEventOf, entry_text, is_change_entry}
 use Rattle.journal.specs.Journalled.{is_journalled_by, is_journalled_where}
 use Rattle.journal.specs.Text.{IsTextOf}
 
--- The node answered an event, and this text was appended to the journal: the line of the event at
--- the latest time so far if the event is journalled, otherwise nothing.
+-- A step answers the event and leads from the node `old` to the node `new`. `added` is the line of
+-- the event with the greater of the times of the node and the event. If the event is not
+-- journalled, `added` is empty.
 pub record Steps (old : NodeState) (event : PlainEvent) (wanted : Bool) (verdict : Verdict)
     (sends : List Send) (new : NodeState) (added : List ℕ) : Type 0 where
   pub step : IsStep old event (record { verdict = verdict; sends = sends }) new
@@ -30,13 +31,14 @@ abbrev pub added_text : Bool → ℕ → Entry → List ℕ
 added_text true now e = entry_text now e
 added_text false now e = []
 
--- the entry's line at this time spells the entry's event
+-- the line of the entry with this time is the line of each event that the entry stands for at this
+-- time
 abbrev pub IsLineAt : ℕ → Entry → Type 0
 IsLineAt time e =
     (event : PlainEvent) → IsEventOf time e event → IsTextOf (event ∷ []) (entry_text time e)
 
--- The event's line was appended if the event is journalled, otherwise nothing. Nothing is claimed
--- if the content of the journal is not known.
+-- If the event is journalled, its line with this time was appended, and the line spells the event.
+-- Otherwise nothing was appended. Nothing is stated if the old content of the journal is not known.
 abbrev pub Journals : Option (List ℕ) → Option (List ℕ) → ℕ → Coming → Verdict → Type 0
 Journals None new time coming verdict = ⊤
 Journals (Some text) new time coming verdict =
@@ -44,7 +46,8 @@ Journals (Some text) new time coming verdict =
     (new ≡ Some (text ++ added_text chosen time coming.entry))
     × (chosen ≡ true → IsLineAt time coming.entry)
 
--- A prefix of the entry's line was written, possibly the whole line.
+-- A prefix of the line of the entry was appended to `text`, possibly nothing or the whole line. The
+-- line spells the event of the entry.
 pub record CutsLine (text : List ℕ) (new : Option (List ℕ)) (time : ℕ) (e : Entry) : Type 0 where
   pub front : List ℕ
   pub back : List ℕ
@@ -52,8 +55,8 @@ pub record CutsLine (text : List ℕ) (new : Option (List ℕ)) (time : ℕ) (e 
   pub parts : entry_text time e ≡ front ++ back
   pub grown : new ≡ Some (text ++ front)
 
--- The event is journalled, and a prefix of its line was written, possibly nothing. Nothing is
--- claimed if the content of the journal is not known.
+-- The event is journalled, but only a prefix of its line was appended, possibly nothing or the
+-- whole line. Nothing is stated if the old content of the journal is not known.
 abbrev pub FailsToJournal : Option (List ℕ) → Option (List ℕ) → ℕ → Coming → Verdict → Type 0
 FailsToJournal None new time coming verdict = ⊤
 FailsToJournal (Some text) new time coming verdict =

@@ -15,8 +15,9 @@ use Rattle.forwarder.specs.Runs.{Run, Start, Then, IsPolicyOf}
 
 -- ---- the journalled events
 
--- Whether an allowed packet is journalled. A command is journalled, whatever its status. A Data is
--- journalled if the repository wants it.
+-- Whether an allowed packet is journalled. An allowed Interest is a command, which is journalled
+-- whatever its status. A Data is journalled if the repository wants it. A Nack and a link packet
+-- without a packet (`Idle`) are not journalled.
 abbrev pub is_journalled_packet : Policy → PlainFrame → Bool
 is_journalled_packet p (AnInterest whole i) = true
 is_journalled_packet p (AData whole d) = is_wanted d.name (sha256 whole) p.held.wants
@@ -39,7 +40,8 @@ is_journalled_undecided p (FaceDown face now) = is_open face p.faces
 is_journalled_undecided p (Tick now) = false
 is_journalled_undecided p (NewRules rules keys now) = true
 
--- `chosen` tells whether the event is journalled, given the policy at the event's time
+-- `chosen` tells whether the event is journalled. `p` is the policy at the time of the event. The
+-- last argument is the packet to decide, or None for an event without such a packet.
 abbrev pub IsChosen : Policy → PlainEvent → Bool → Option PlainFrame → Type 0
 IsChosen p event chosen None = chosen ≡ is_journalled_undecided p event
 IsChosen p event chosen (Some packet) =
@@ -102,10 +104,10 @@ IsBeginningOf part Start = part ≡ Start
 IsBeginningOf part (Then before event answer) =
     (part ≡ Then before event answer) ⊎ IsBeginningOf part before
 
--- The events `left` are the journal of a prefix of the run, called `part`. If `left` begins with
--- the whole journal of another prefix of the run, then that prefix is a prefix of `part`. Replaying
--- `left` from the first policy leads to a policy that equals the policy of `part` from the time of
--- the latter on.
+-- The events `left` are the journal of `part`, a prefix of the run `past`. If `left` begins with
+-- the whole journal of some prefix of the run, then that prefix is also a prefix of `part`.
+-- Replaying `left` from the policy `first` leads to a policy that equals `policy`, the policy after
+-- `part`, from the time of `policy` on.
 pub record KeepsBeginning (first : Policy) (past : Run) (left : List PlainEvent) : Type 0 where
   pub part : Run
   pub policy : Policy

@@ -5,35 +5,36 @@ use Rattle.node_core.specs.Script.{AreLines, joined}
 use Rattle.node_core.specs.Script.Line.{Lacks}
 use Rattle.node_core.specs.Script.Writing.{hex_word}
 
--- The line has new rules. `files` is the text after the line's time: the octets of the rule file
--- and of the key file in hexadecimal.
+-- The line is the word `rules`, a time and the text `files`, with single spaces between them. In a
+-- line of an event, `files` has the octets of the rule file and of the key file in hexadecimal.
 abbrev pub IsRulesLine : List ℕ → List ℕ → Type 0
 IsRulesLine line files =
     (time : List ℕ) × Lacks 32 time × (line ≡ codes "rules" ++ (32 ∷ (time ++ (32 ∷ files))))
 
--- none of the lines has new rules
+-- none of the lines is a line of new rules (`IsRulesLine`)
 abbrev pub HaveNoRules : List (List ℕ) → Type 0
 HaveNoRules lines = AllByRecursion (λ line. (files : List ℕ) → IsRulesLine line files → ⊥) lines
 
--- the last line with new rules has the text `files` after its time
+-- some line is a line of new rules, and the last one of these has the text `files` after its time
 abbrev pub HaveLastRules : List (List ℕ) → List ℕ → Type 0
 HaveLastRules [] files = ⊥
 HaveLastRules (line ∷ lines) files =
     (IsRulesLine line files × HaveNoRules lines) ⊎ HaveLastRules lines files
 
--- Among the whole lines of the text, the last one with new rules has these files. Octets after the
--- last LF are ignored.
+-- Some line of the text is a line of new rules, and the last one of these has the text `files`
+-- after its time. Octets after the last LF of the text are ignored.
 abbrev pub HasLastFiles : List ℕ → List ℕ → Type 0
 HasLastFiles text files =
     (lines : List (List ℕ)) × (cut : List ℕ) × AreLines lines × Lacks 10 cut
     × (text ≡ joined lines ++ cut) × HaveLastRules lines files
 
--- none of the whole lines of the text has new rules
+-- none of the lines of the text that end with an LF is a line of new rules
 abbrev pub HasNoFiles : List ℕ → Type 0
 HasNoFiles text =
     (lines : List (List ℕ)) × (cut : List ℕ) × AreLines lines × Lacks 10 cut
     × (text ≡ joined lines ++ cut) × HaveNoRules lines
 
--- the text of these octets of a rule file and of a key file in a line of new rules
+-- the octets of a rule file and of a key file as a line of new rules has them: in hexadecimal, with
+-- a space between them
 abbrev pub files_text : List ℕ → List ℕ → List ℕ
 files_text rules keys = hex_word rules ++ (32 ∷ hex_word keys)

@@ -12,8 +12,8 @@ use Rattle.node_core.specs.Script.Writing.{hex_word}
 use Rattle.journal.specs.declared.line.Entry.{Entry}
 use Rattle.journal.specs.declared.line.Entry.TheVariants as entry
 
--- The event that an entry stands for. An entry with new rules and keys contains the octets of the
--- two files.
+-- The event that an entry stands for at this time. An entry with new rules contains the octets of a
+-- rule file and of a key file, which define the rules and keys of the event.
 abbrev pub IsEventOf : ℕ → Entry → PlainEvent → Type 0
 IsEventOf now (entry.Packet face octets) event = event ≡ Packet face now octets.now
 IsEventOf now (entry.FaceUp face scope) event = event ≡ FaceUp face scope now
@@ -31,7 +31,7 @@ HasOctets (entry.FaceDown face) = face < 2 ^ 64
 HasOctets entry.Tick = ⊤
 HasOctets (entry.NewRules rules keys) = AreOctets rules.now × AreOctets keys.now
 
--- the entry's line with its LF; hexadecimal is in lower case
+-- the line of the entry with this time and an LF; hexadecimal is in lower case
 abbrev pub entry_text : ℕ → Entry → List ℕ
 entry_text now (entry.Packet face octets) =
     codes "in " ++ (decimal face ++ (codes " " ++ (decimal now ++ (codes " "

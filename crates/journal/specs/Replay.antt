@@ -16,8 +16,8 @@ use Rattle.journal.specs.Journal.{AreOneFrom, IsJournalOf}
 use Rattle.journal.specs.Text.{IsTextOf, Survives}
 
 -- The events of these lines were answered in order and led from the old node to the new one. If the
--- old node agrees with a valid run, the events extend this run to one that the new node agrees
--- with, as `ExtendsRuns` states.
+-- old node agrees with a valid run from a policy at time 0, the answered events extend it to a
+-- valid run that the new node agrees with.
 pub record Plays (lines : List (List ℕ)) (events : List PlainEvent)
     (old new : NodeState) : Type 0 where
   pub are_lines : AreLines lines
@@ -27,8 +27,8 @@ pub record Plays (lines : List (List ℕ)) (events : List PlainEvent)
   pub goes_on : ExtendsRuns old events (map Answered answers) new
 
 -- Everything was read: whole lines, whose events were answered, and then octets without an LF,
--- which were ignored. If the reader's octets were known, they were exactly these octets, and no
--- octets remain.
+-- which were ignored. If the octets of the reader were known, they were exactly these, and none
+-- remain. `done` counts the events, the octets of the whole lines, and the ignored octets.
 pub record Replays (old new : NodeState) (unread left : Option (List ℕ))
     (done : Replayed) : Type 0 where
   pub lines : List (List ℕ)
@@ -42,8 +42,8 @@ pub record Replays (old new : NodeState) (unread left : Option (List ℕ))
   pub cut_is : done.cut ≡ length cut
 
 -- The events of the earlier lines were answered. Then line `n`, counted from 1, was bad; or the
--- reader failed; or memory ran out for a line or for the step of its event. A step that runs out
--- of memory may drop or reorder cached Data.
+-- reader failed; or memory ran out for a line or for the step of its event. Such a step may drop or
+-- reorder cached Data. What was read is stated only if the octets of the reader were known.
 abbrev pub StopsReplay : NodeState → NodeState → Option (List ℕ) → Option (List ℕ) → ReplayFault
     → Type 0
 StopsReplay old new unread left (fault.BadLine n) =
@@ -86,12 +86,14 @@ RestoresRuns old new left done =
 
 -- ---- one line
 
--- a line was handled; the flag tells whether it has an event
+-- this line was replayed and led from the old node to the new one; the flag tells whether the line
+-- has an event
 abbrev pub PlaysLine : List ℕ → NodeState → NodeState → Bool → Type 0
 PlaysLine line old new true = (event : PlainEvent) × Plays (line ∷ []) (event ∷ []) old new
 PlaysLine line old new false = Plays (line ∷ []) [] old new
 
--- why a line was not handled, and what changed
+-- Why a line was not replayed. `BadLine`, with the number of the line: the line is bad, and the
+-- node is unchanged. `Memory`: at most the cache changed.
 abbrev pub StopsLine : List ℕ → ℕ → NodeState → NodeState → ReplayFault → Type 0
 StopsLine line number old new (fault.BadLine n) =
     IsBadLine line × (n ≡ number) × (new ≡ old)

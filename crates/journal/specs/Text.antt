@@ -7,7 +7,7 @@ use Rattle.node_core.specs.Script.{ended}
 use Rattle.node_core.specs.Script.Line.{Lacks, IsEventLine}
 use Rattle.journal.specs.Journal.{IsBeginningOf, IsJournalOf, KeepsBeginning}
 
--- the text has one line for each event, and no other lines
+-- the text has one line with its LF for each event, in order, and nothing else
 abbrev pub IsTextOf : List PlainEvent → List ℕ → Type 0
 IsTextOf [] text = text ≡ []
 IsTextOf (event ∷ events) text =
@@ -20,10 +20,9 @@ abbrev pub IsCutTextOf : List PlainEvent → List ℕ → Type 0
 IsCutTextOf events text =
     (whole cut : List ℕ) × (text ≡ whole ++ cut) × IsTextOf events whole × Lacks 10 cut
 
--- The octets that are left of the text of a run's journal are whole lines and then octets without
--- an LF. The events of these lines are the journal of a prefix of the run, called `part`. If
--- `left` begins with the whole text of the journal of another prefix of the run, then that prefix
--- is a prefix of `part`.
+-- The octets `left` are whole lines and then octets without an LF. The events of these lines are
+-- the journal of a prefix of the run `past`, called `part`. If `left` begins with the whole text of
+-- the journal of some prefix of the run, then that prefix is also a prefix of `part`.
 pub record Survives (first : Policy) (past : Run) (left : List ℕ) : Type 0 where
   pub events : List PlainEvent
   pub are_lines : IsCutTextOf events left

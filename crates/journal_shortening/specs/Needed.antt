@@ -9,13 +9,14 @@ use Rattle.journal.specs.declared.line.Entry.TheVariants as entry
 abbrev pub tick_text : ℕ → List ℕ
 tick_text moment = entry_text moment entry.Tick
 
--- a line with its LF if it is needed, or nothing
+-- the line with its LF if the flag is true, otherwise nothing
 abbrev pub kept_line : Bool → List ℕ → List ℕ
 kept_line true line = ended line
 kept_line false line = []
 
--- `kept` has the whole lines of a text whose flags are true, in order and with their LFs. The first
--- flag belongs to the first line. Lines after the last flag are left out.
+-- `kept` consists of the lines of the text whose flags are true, in order and with their LFs. The
+-- first flag belongs to the first line. Lines after the last flag and octets after the last LF are
+-- left out.
 abbrev pub KeepsLines : List Bool → List ℕ → List ℕ → Type 0
 KeepsLines [] text kept = kept ≡ []
 KeepsLines (flag ∷ flags) text kept =
@@ -23,7 +24,8 @@ KeepsLines (flag ∷ flags) text kept =
     ⊎ ((line rest more : List ℕ) × Lacks 10 line × (text ≡ ended line ++ rest)
     × KeepsLines flags rest more × (kept ≡ kept_line flag line ++ more))
 
--- the needed lines of a journal were appended, and then the line `tick` with this time
+-- the lines of the journal whose flags are true were appended, and then the line `tick` with this
+-- time
 abbrev pub PutsNeeded : List ℕ → List Bool → ℕ → List ℕ → List ℕ → Type 0
 PutsNeeded journal flags moment old new =
     (lines : List ℕ) × KeepsLines flags journal lines

@@ -95,7 +95,7 @@ abbrev pub is_named : List ℕ → List ℕ → Action → Bool
 is_named part verb action =
     bytes_eq part (row_of action).part && bytes_eq verb (row_of action).verb
 
--- the action with this module and this verb
+-- the action with this module and this verb, or None if there is none
 abbrev pub action_named : List ℕ → List ℕ → Option Action
 action_named part verb = find (is_named part verb) actions
 

@@ -128,7 +128,8 @@ generic_value (Some c) = if c.0 == GENERIC then Some c.1 else None
 abbrev pub generic_at : List Field → ℕ → Option (List ℕ)
 generic_at cs at = generic_value (slice_get cs at)
 
--- the action of `/localhost/nfd/MODULE/VERB`
+-- the action of a name that begins with `/localhost/nfd/MODULE/VERB`, or None if there is no such
+-- action
 unfoldable pub action_at : List Field → Option Action
 action_at cs = do
   localhost ← generic_at cs 0
@@ -138,14 +139,15 @@ action_at cs = do
   if bytes_eq localhost (codes "localhost") && bytes_eq nfd (codes "nfd")
       then action_named part verb else None
 
--- the command whose parameters are the only element in the fifth component
+-- the command whose parameters are the only element in the fifth component; None if there are no
+-- such parameters, or they are not valid for the action
 unfoldable pub parameters_at : Action → List Field → Option PlainCommand
 parameters_at action cs = do
   value ← generic_at cs 4
   parameters ← single CONTROL_PARAMETERS (elements_of value)
   command_of action (elements_of parameters)
 
--- a value, or this status if there is no value
+-- the optional value as Ok, or this status as Err if there is no value
 abbrev pub or_status : {X : Type 0} → ℕ → Option X → Result X ℕ
 or_status status None = Err status
 or_status status (Some x) = Ok x

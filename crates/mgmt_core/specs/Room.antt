@@ -14,7 +14,8 @@ HasRoomForReply room c =
     → (length (octets (reply_fields c face)) ≤ vec_capacity room.fields)
     × (length (reply_body c face) ≤ vec_capacity room.body)
 
--- the table that the command may enlarge, if there is one, is prepared for the command's name
+-- the table that the command may enlarge is prepared for the command's name; always true for
+-- commands that enlarge no table
 abbrev pub IsCallPrepared : Tables → PlainCommand → Type 0
 IsCallPrepared t c =
     elim c.action [
@@ -24,11 +25,11 @@ IsCallPrepared t c =
       | _ ↦ Unit {0}
     ]
 
--- there is memory for the reply to the command, and the table that the command may enlarge is
--- prepared
+-- there is memory for the reply to the command, and the table that the command may enlarge, if
+-- there is one, is prepared for the command's name
 abbrev pub IsPrepared : Tables → PlainCommand → Type 0
 IsPrepared t c = HasRoomForReply t.room c × IsCallPrepared t c
 
--- the preparation is unchanged or has ended
+-- the preparation `after` is the same as `before`, or there is none any more
 abbrev pub IsKeptOrEnded : {X : Type 0} → Option X → Option X → Type 0
 IsKeptOrEnded before after = (after ≡ before) ⊎ (after ≡ None)

@@ -40,7 +40,7 @@ strategy_name strategy =
 abbrev pub is_strategy : List Field → StrategyId → Bool
 is_strategy name strategy = eq_by_cmp name_cmp name (strategy_name strategy)
 
--- the strategy with this name; a Version component may follow the strategy's name
+-- the strategy with this name, or None; a Version component may follow the strategy's name
 abbrev pub strategy_named : List Field → Option StrategyId
 strategy_named name = find (is_strategy (without_last VERSION name)) (BestRoute ∷ Multicast ∷ [])
 
@@ -57,7 +57,8 @@ face_of c face = if c.face == 0 then face else c.face
 abbrev pub key_of : PlainCommand → ℕ → RouteKey
 key_of c face = record { face = face_of c face; origin = c.origin }
 
--- the time when a route with this lifetime expires, at most 2^64 - 1
+-- the moment when a route that is registered at `now` with this lifetime expires, at most 2^64 - 1;
+-- None if there is no lifetime
 abbrev pub deadline_of : ℕ → Option ℕ → Option ℕ
 deadline_of now expires = option_map (λ period. min (now + period) (2 ^ 64 - 1)) expires
 
@@ -75,8 +76,8 @@ route_asked c now = record {
 abbrev pub is_full : {X : Type 0} → ByName X → List Field → Bool
 is_full table name = not (map.contains_key table name) && nat_le MAX_ENTRIES (map.len table)
 
--- whether the table that the command enlarges has no room: the name is new and the table has 4,096
--- names, or a `register` is for a new route and the table has 16,384 routes
+-- Whether the table that the command enlarges has no room. Its name is new and the table has 4,096
+-- names, or the command registers a new route and the table has 16,384 routes.
 abbrev pub is_full_for : PlainCommand → ℕ → Routes → Choices → Bool
 is_full_for c face routes choices =
     elim c.action [
@@ -113,7 +114,8 @@ AllAreUp routes up = (face : ℕ) → LeadsTo routes face → has_face face up �
 
 -- ---- the effects of commands
 
--- the routes after a command that came from `face` at `now`
+-- the routes after the effect of a command that came from `face` at `now`; a command that changes
+-- no routes leaves them as they are
 abbrev pub routes_after : PlainCommand → ℕ → ℕ → Routes → Routes
 routes_after c face now routes =
     elim c.action [
@@ -143,6 +145,6 @@ CachedAfter c before after =
       | _ ↦ after ≡ before
     ]
 
--- `after` if the status is 200, otherwise `before`
+-- `after` if the status is 200 (OK), otherwise `before`
 abbrev pub if_done : {X : Type 0} → ℕ → X → X → X
 if_done status after before = if status == OK then after else before

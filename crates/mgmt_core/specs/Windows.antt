@@ -18,7 +18,8 @@ pub record Kept : Type 0 where
   -- the octets of the segment that are written
   pub segment : List ℕ
 
--- the state after the whole text was written, for a segment that begins after `from` octets
+-- the state after the whole text was written, for the segment that begins after `from` octets of
+-- the text
 abbrev pub kept_of : ℕ → List ℕ → Kept
 kept_of from text =
     record {
@@ -27,7 +28,7 @@ kept_of from text =
       segment = take SEGMENT_LEN (drop from text);
     }
 
--- the state after more octets of the text
+-- the state `k` after the octets `more` of the text were written too
 abbrev pub with_more : Kept → List ℕ → Kept
 with_more k more =
     record {
@@ -40,23 +41,23 @@ with_more k more =
 abbrev pub start_of : ℕ → ℕ
 start_of number = min (number * SEGMENT_LEN) (2 ^ 64 - 1)
 
--- an entry of the dataset of routes, from the encoded name
+-- an entry of the dataset of routes, from its encoded name and its effective next hops
 abbrev pub route_octets : List ℕ → List Hop → List ℕ
 route_octets name hops = element (ENTRY, element (NAME, name) ++ flat_map hop_text hops)
 
--- an entry of the dataset of strategies, from the encoded name
+-- an entry of the dataset of strategies, from its encoded name and its strategy
 abbrev pub choice_octets : List ℕ → StrategyId → List ℕ
 choice_octets name strategy =
     element (ENTRY, octets ((NAME, name) ∷ (STRATEGY, strategy_value strategy) ∷ []))
 
--- the state after one more entry
+-- the state `k` after an entry with this encoded name and these next hops was written too
 abbrev pub with_route : Kept → List ℕ → List Hop → Kept
 with_route k name hops = with_more k (route_octets name hops)
 
 abbrev pub with_choice : Kept → List ℕ → StrategyId → Kept
 with_choice k name strategy = with_more k (choice_octets name strategy)
 
--- a text with one more entry
+-- a text with one more entry, which has this encoded name and these next hops
 abbrev pub text_with_route : List ℕ → List ℕ → List Hop → List ℕ
 text_with_route text name hops = text ++ route_octets name hops
 

@@ -29,8 +29,8 @@ strategy_value strategy = element (NAME, octets_of (strategy_name strategy))
 abbrev pub given : {X : Type 0} → PlainCommand → ℕ → Option X → Option X
 given c kind x = if takes kind (row_of c.action) then x else None
 
--- the fields of a reply to a command from this face: the fields that the command takes, with the
--- face that the command applies to
+-- the fields of a reply to a command from this face: the fields that the command takes and that
+-- have a value, with the face that the command applies to
 abbrev pub reply_fields : PlainCommand → ℕ → List Field
 reply_fields c face =
     (NAME, octets_of c.name)
@@ -67,7 +67,7 @@ body_limit c = length (octets_of c.name) + BODY_EXTRA
 abbrev pub reply_limit : PlainCommand → ℕ
 reply_limit c = length (octets_of c.name) + REPLY_EXTRA
 
--- a next hop in the dataset of routes
+-- a next hop as an element of the dataset of routes, with its face and cost
 abbrev pub hop_text : Hop → List ℕ
 hop_text hop =
     let fields = (FACE_ID, shortest_nni hop.face) ∷ (COST, shortest_nni hop.cost) ∷ [] in
@@ -90,7 +90,7 @@ fib_text now routes = flat_map route_text (listed (left_at now routes))
 abbrev pub strategy_text : Choices → List ℕ
 strategy_text choices = flat_map choice_text (entries choices)
 
--- the number of the last segment; an empty text has one segment
+-- the number of the text's last segment, counted from 0; an empty text has one segment
 abbrev pub last_segment : List ℕ → ℕ
 last_segment text = (length text - 1) / SEGMENT_LEN
 

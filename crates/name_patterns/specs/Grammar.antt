@@ -7,11 +7,12 @@ use Rattle.ndn_names.specs.Name.{IsComponent}
 use Rattle.ndn_names.specs.ReadsAs.{ReadsComponent}
 use Rattle.name_patterns.specs.Pattern.{PlainTest, Anything, OneOf, NoneOf, Bounds, once, PlainAtom, anything, PlainPattern}
 
--- a parenthesis, a bracket, a brace, one of * + ? ^ $ |, or a backslash (code 92)
+-- the octet is a special character: a parenthesis, a bracket, a brace, one of * + ? ^ $ |, or a
+-- backslash (code 92)
 abbrev pub is_special : ℕ → Bool
 is_special o = list_any (λ sign. sign == o) (92 ∷ codes "()[]{}*+?^$|")
 
--- the URI text of a component, without special characters and without >
+-- the URI text of the valid component `c`, without special characters and without >
 abbrev pub IsText : List ℕ → Field → Type 0
 IsText text c =
     AllByRecursion (λ o. (is_special o ≡ false) × (o ≢ 62)) text × ReadsComponent text c
@@ -43,7 +44,8 @@ IsTestText text (NoneOf cs) =
 abbrev pub IsCount : List ℕ → ℕ → Type 0
 IsCount text n = IsNumeral 10 text × (digits_value 10 text ≡ n) × (n ≤ 64)
 
--- the text between the braces of a range, in one of four forms: `n`, `n,`, `,m` or `n,m`
+-- the text between the braces of a range: `n` for exactly n, `n,` for at least n, `,m` for at most
+-- m, or `n,m` for n to m
 abbrev pub IsRange : List ℕ → ℕ → Option ℕ → Type 0
 IsRange text least None = (low : List ℕ) × (text ≡ low ++ codes ",") × IsCount low least
 IsRange text least (Some most) =
@@ -92,7 +94,8 @@ abbrev pub item_atoms : Item → List PlainAtom
 item_atoms (Alone atom) = atom ∷ []
 item_atoms (Group atoms) = atoms
 
--- the groups among these items, where `n` atoms come before the items
+-- The groups among these items, where `n` atoms come before the items. A group is a pair: the
+-- number of atoms before its first atom, and before its end.
 abbrev pub groups_from : ℕ → List Item → List (ℕ × ℕ)
 groups_from n [] = []
 groups_from n (Alone atom ∷ items) = groups_from (n + 1) items

@@ -22,7 +22,8 @@ at_most (Some most) n = min most n
 abbrev pub run_of : PlainTest → List Field → ℕ
 run_of test cs = prefix_len (passes test) cs
 
--- the greatest number from `least` up to the last argument for which `can_take` is true
+-- the greatest number from `least` up to the last argument for which `can_take` is true, or `None`
+-- if there is no such number
 unfoldable pub greatest : (ℕ → Bool) → ℕ → ℕ → Option ℕ
 greatest can_take least zero = if (least == 0) && can_take 0 then Some 0 else None
 greatest can_take least (suc n) =
@@ -30,8 +31,8 @@ greatest can_take least (suc n) =
     if can_take (suc n) then Some (suc n) else greatest can_take least n)
 
 -- The count of the first atom in the greatest split: the greatest number of passing components
--- within the atom's bounds after which the other atoms have a split. Without atoms, the count is
--- 0 if there are no components.
+-- within the atom's bounds after which the other atoms have a split. Without atoms, the count is 0
+-- if there are no components. The result is `None` if there is no split.
 unfoldable pub first_count : List PlainAtom → List Field → Option ℕ
 first_count [] [] = Some 0
 first_count [] (c ∷ cs) = None
@@ -39,7 +40,7 @@ first_count (atom ∷ atoms) cs =
     greatest (λ count. is_some (first_count atoms (drop count cs))) atom.bounds.least
     (at_most atom.bounds.most (run_of atom.test cs))
 
--- all counts of the greatest split, if there is a split
+-- the counts of all atoms in the greatest split of the components, or `None` if there is no split
 unfoldable pub greedy : List PlainAtom → List Field → Option (List ℕ)
 greedy [] cs = option_map (λ count. []) (first_count [] cs)
 greedy (atom ∷ atoms) cs =
@@ -59,7 +60,8 @@ abbrev pub ArePassed : PlainTest → List Field → ℕ → Type 0
 ArePassed test cs places =
     (place : ℕ) → has_place places place ≡ passes_there test (slice_get cs place)
 
--- `places` are the positions from which the atoms have a split of the remaining components
+-- of the positions up to the end of `cs`, `places` are those from which the atoms have a split of
+-- the remaining components
 abbrev pub AreSplit : List PlainAtom → List Field → ℕ → Type 0
 AreSplit atoms cs places =
     (place : ℕ) → place ≤ length cs
@@ -73,7 +75,7 @@ IsRow [] cs row = AreSplit [] cs row.split
 IsRow (atom ∷ atoms) cs row = ArePassed atom.test cs row.passed × (row.passed < 2 ^ 64)
     × AreSplit (atom ∷ atoms) cs row.split
 
--- the table has a valid row for each atom from `first` on, and for the end
+-- `rows` has a valid row for each atom from index `first` on, and for the end
 abbrev pub IsTable : ℕ → List PlainAtom → List Field → List Row → Type 0
 IsTable first atoms cs rows =
     (i : ℕ) → first ≤ i → i ≤ length atoms → IsSomeAnd (slice_get rows i) (IsRow (drop i atoms) cs)

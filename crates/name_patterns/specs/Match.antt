@@ -30,7 +30,7 @@ IsSplit (atom ∷ atoms) cs (count ∷ counts) =
     (atom.bounds.least ≤ count) × IsAtMost count atom.bounds.most × (count ≤ length cs)
     × AllByRecursion (Passes atom.test) (take count cs) × IsSplit atoms (drop count cs) counts
 
--- the components have no split
+-- the atoms have no split of these components
 abbrev pub HasNoSplit : List PlainAtom → List Field → Type 0
 HasNoSplit atoms cs = (counts : List ℕ) → IsSplit atoms cs counts → ⊥
 

@@ -23,7 +23,7 @@ None >>= f = None
 abbrev pub has_special : List ℕ → Bool
 has_special text = list_any is_special text
 
--- the component that a text encodes
+-- the component that a text encodes, or `None` if it encodes none
 abbrev pub text_in : List ℕ → Option Field
 text_in text = on_result (λ c. Some c) (λ _. None) (piece_in text)
 
@@ -34,19 +34,20 @@ pub record FrontPart (A : Type 0) : Type 0 where
   pub is_inner : Bool
   pub rest : List ℕ
 
--- the text between < and the first > after it, which may be empty, and the remaining text
+-- the text between < at the front and the first > after it, which may be empty, and the remaining
+-- text, or `None`
 abbrev pub quoted_in : List ℕ → Option (List ℕ × List ℕ)
 quoted_in [] = None
 quoted_in (o ∷ text) = if o == 60 then cut_at 62 text else None
 
--- the end of a list: a closing bracket, with no other text before it
+-- the end of a list: a closing bracket at the front of the text, and the remaining text, or `None`
 abbrev pub list_end : List ℕ → Option (FrontPart (List Field))
 list_end [] = None
 list_end (o ∷ text) =
     if o == 93 then Some (record { part = []; is_inner = false; rest = text }) else None
 
--- the texts between `<` and `>` up to the bracket that closes the list, where the first argument
--- limits the number of texts
+-- the components whose texts stand between `<` and `>` before the bracket that closes the list, and
+-- the text after it, or `None`; the first argument limits their number
 unfoldable pub listed_within : ℕ → List ℕ → Option (FrontPart (List Field))
 listed_within zero text = list_end text
 listed_within (suc n) text = option_map_or
@@ -60,19 +61,20 @@ listed_within (suc n) text = option_map_or
       }))
     (quoted_in text) (list_end text)
 
--- the test of a list of one or more texts, up to the bracket that closes the list
+-- the test of a list of one or more texts, read up to the bracket that closes the list, or `None`
 abbrev pub list_in : (List Field → PlainTest) → List ℕ → Option (FrontPart PlainTest)
 list_in test text = do
   listed ← listed_within (length text) text
   if length listed.part == 0 then None
       else Some (record { part = test listed.part; is_inner = listed.is_inner; rest = listed.rest })
 
--- the test of a list, read from the text after its opening bracket
+-- the test of a list, read from the text after its opening bracket, or `None`
 abbrev pub bracketed_in : List ℕ → Option (FrontPart PlainTest)
 bracketed_in [] = list_in OneOf []
 bracketed_in (o ∷ text) = if o == 94 then list_in NoneOf text else list_in OneOf (o ∷ text)
 
--- the test of a text between < and >, which may be empty
+-- the test of a text between < and > at the front, or `None`; if this text is empty, any component
+-- passes
 abbrev pub quoted_test_in : List ℕ → Option (FrontPart PlainTest)
 quoted_test_in text = do
   quoted ← quoted_in text
@@ -81,19 +83,19 @@ quoted_test_in text = do
         c ← text_in quoted.0
         Some (record { part = OneOf (c ∷ []); is_inner = has_special quoted.0; rest = quoted.1 }))
 
--- the test at the front of the text
+-- the test at the front of the text, or `None` if there is none
 unfoldable pub test_in : List ℕ → Option (FrontPart PlainTest)
 test_in [] = None
 test_in (o ∷ text) = if o == 91 then bracketed_in text else quoted_test_in (o ∷ text)
 
--- the number from 0 to 64 that a text represents in decimal digits
+-- the number from 0 to 64 that a text represents in decimal digits, or `None`
 abbrev pub count_in : List ℕ → Option ℕ
 count_in text =
     if all_ascii_digits text && (nat_lt 0 (length text) && nat_le (digits_value 10 text) 64)
     then Some (digits_value 10 text) else None
 
--- the range whose text has `low` before its comma and `high` after it; at most one of these texts
--- may be empty
+-- The range whose text has `low` before its comma and `high` after it, or `None`. An empty `low` is
+-- 0, and an empty `high` sets no upper bound. At most one of them may be empty.
 abbrev pub range_by_comma : List ℕ → List ℕ → Option Bounds
 range_by_comma low high =
     if length high == 0 then (do
@@ -110,7 +112,7 @@ range_by_cut text None = do
   n ← count_in text
   Some (record { least = n; most = Some n })
 
--- the range whose text, without the braces, is this text
+-- the range whose text, without the braces, is this text, or `None` if it is no range
 unfoldable pub range_in : List ℕ → Option Bounds
 range_in text = range_by_cut text (cut_at 44 text)
 
@@ -119,14 +121,16 @@ abbrev pub begins_repeat : List ℕ → Bool
 begins_repeat [] = false
 begins_repeat (o ∷ text) = list_any (λ sign. sign == o) (codes "*+?{")
 
--- a repeat in braces, read from the text after its opening brace, and the remaining text
+-- a repeat in braces, read from the text after its opening brace, and the remaining text, or `None`
+-- if it is no range
 abbrev pub braced_in : List ℕ → Option (Bounds × List ℕ)
 braced_in text = do
   parts ← cut_at 125 text
   bounds ← range_in parts.0
   Some (bounds, parts.1)
 
--- the repeat at the front of the text; without a repeat, an atom matches one component
+-- The bounds of the repeat at the front of the text, and the remaining text. Without a repeat, the
+-- bounds are `once`. The result is `None` if an opening brace begins no range.
 unfoldable pub repeat_in : List ℕ → Option (Bounds × List ℕ)
 repeat_in [] = Some (once, [])
 repeat_in (o ∷ text) =
@@ -136,7 +140,7 @@ repeat_in (o ∷ text) =
     if o == 63 then Some (record { least = 0; most = Some 1 }, text) else
     Some (once, o ∷ text))))
 
--- the atom at the front of the text
+-- the atom at the front of the text, a test with an optional repeat, or `None` if there is none
 unfoldable pub atom_in : List ℕ → Option (FrontPart PlainAtom)
 atom_in text = do
   test ← test_in text
@@ -155,7 +159,8 @@ pub record PlainDraft : Type 0 where
   pub groups : List (ℕ × ℕ)
   pub open_group : Option OpenGroup
 
--- the draft after the atom at offset `at` is added, and the remaining text
+-- the draft after the atom at offset `at` is added, and the remaining text; the fault is `Syntax`
+-- if there is no atom or it is the 33rd, and `Inner` if its text has a special character
 abbrev pub with_atom : PlainDraft → ℕ → List ℕ → Result (PlainDraft × List ℕ) PatternFault
 with_atom draft at text = on_result
     (λ found.
@@ -170,7 +175,8 @@ with_atom draft at text = on_result
     )))
     Err (read_at at (atom_in text))
 
--- the draft after a parenthesis at offset `at` opens a group
+-- The draft after a parenthesis at offset `at` opens a group, and `text`, which follows it. The
+-- fault is `Nested` if a group is open, and `BadGroup` if there are nine groups.
 abbrev pub with_open : PlainDraft → ℕ → List ℕ → Option OpenGroup
     → Result (PlainDraft × List ℕ) PatternFault
 with_open draft at text (Some group) = Err (Nested at)
@@ -184,8 +190,9 @@ with_open draft at text None =
       text,
     )
 
--- The draft after a parenthesis at offset `at` closes a group. No repeat may follow the
--- parenthesis.
+-- The draft after a parenthesis at offset `at` closes a group, and `text`, which follows it. If no
+-- group is open, the fault is `Syntax`. A repeat after the parenthesis has the fault `Nested`, or
+-- `Syntax` if it is not valid, at the next offset.
 abbrev pub with_closed : PlainDraft → ℕ → List ℕ → Option OpenGroup
     → Result (PlainDraft × List ℕ) PatternFault
 with_closed draft at text None = Err (Syntax at)
@@ -200,7 +207,8 @@ with_closed draft at text (Some group) =
       text,
     )
 
--- adds the item at offset `at` to the draft; the item is a parenthesis or an atom
+-- the draft after the item at offset `at`, which is a parenthesis or an atom, and the remaining
+-- text, or the fault of this item
 abbrev pub with_item : PlainDraft → ℕ → List ℕ → Result (PlainDraft × List ℕ) PatternFault
 with_item draft at [] = with_atom draft at []
 with_item draft at (o ∷ text) =
@@ -215,8 +223,8 @@ is_closed is_inside [] = false
 is_closed is_inside (o ∷ text) =
     if is_inside then is_closed (not (o == 62)) text else ((o == 41) || is_closed (o == 60) text)
 
--- The fault to report when the item at the front of this text is faulty. If the open group is never
--- closed, the fault of its parenthesis comes first.
+-- The fault to report when the item at the front of this text has the fault `fault`. If a group is
+-- open and never closed, the fault is `Syntax` at its parenthesis.
 abbrev pub first_fault : Option OpenGroup → List ℕ → PatternFault → PatternFault
 first_fault None text fault = fault
 first_fault (Some group) text fault = if is_closed false text then fault else Syntax group.place
@@ -230,7 +238,8 @@ whole_of draft None = Ok (record { atoms = draft.atoms; groups = draft.groups })
 abbrev pub with_implied : PlainDraft → PlainDraft
 with_implied draft = record draft { atoms = draft.atoms ++ anything ∷ [] }
 
--- the complete pattern, where the remaining text is empty or is the last anchor
+-- the complete pattern, where the remaining text is empty or is the anchor `$`, or a fault if a
+-- group is still open; an empty text implies a last atom
 abbrev pub at_end : PlainDraft → List ℕ → Result PlainPattern PatternFault
 at_end draft [] = whole_of (with_implied draft) draft.open_group
 at_end draft (o ∷ text) = whole_of draft draft.open_group
@@ -238,8 +247,8 @@ at_end draft (o ∷ text) = whole_of draft draft.open_group
 abbrev pub is_end : List ℕ → Bool
 is_end text = (length text == 0) || bytes_eq text (codes "$")
 
--- the pattern of a text of length `len`, where `text` is the text that is still to be read; the
--- first argument limits the number of further items
+-- the pattern of a text of length `len`, or its first fault, where `text` is the text that is still
+-- to be read; the first argument limits the number of further items
 unfoldable pub items_within : ℕ → ℕ → PlainDraft → List ℕ → Result PlainPattern PatternFault
 items_within zero len draft text = at_end draft text
 items_within (suc n) len draft text =
@@ -255,14 +264,14 @@ items_in len draft text = items_within (length text) len draft text
 abbrev pub begun : PlainDraft
 begun = record { atoms = []; written = 0; groups = []; open_group = None }
 
--- the pattern of a text of length `len`; if the text does not begin with `^`, the first atom is
--- implied
+-- the pattern of a text of length `len`, or its first fault; if the text does not begin with `^`,
+-- the first atom is implied
 abbrev pub pattern_after : ℕ → List ℕ → Result PlainPattern PatternFault
 pattern_after len [] = items_in len (with_implied begun) []
 pattern_after len (o ∷ text) =
     if o == 94 then items_in len begun text else items_in len (with_implied begun) (o ∷ text)
 
--- the pattern of a text
+-- the pattern of a text, or its first fault
 unfoldable pub pattern_in : List ℕ → Result PlainPattern PatternFault
 pattern_in text = pattern_after (length text) text
 

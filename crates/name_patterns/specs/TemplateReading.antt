@@ -8,39 +8,43 @@ use Rattle.name_patterns.specs.Template.{PlainPart, OfGroup, Single}
 use Rattle.name_patterns.specs.PatternReading.{◌>>=◌, FrontPart, has_special, text_in, quoted_in}
 use Rattle.name_patterns.specs.Faults.{read_at}
 
--- the decimal digit at the front of the text, and the remaining text
+-- the value of the decimal digit at the front of the text, and the remaining text, or `None` if
+-- there is no digit
 abbrev pub digit_in : List ℕ → Option (ℕ × List ℕ)
 digit_in [] = None
 digit_in (o ∷ text) = if nat_le 48 o && nat_le o 57 then Some (o - 48, text) else None
 
--- the group whose digit is at the front of the text, after a backslash at offset `at`
+-- The group whose digit is at the front of the text, and the remaining text. The backslash before
+-- the digit is at offset `at`. The fault there is `Syntax` without a digit, and `BadGroup` if the
+-- number exceeds `groups`.
 abbrev pub group_in : ℕ → ℕ → List ℕ → Result (PlainPart × List ℕ) PatternFault
 group_in groups at text =
     on_result (λ digit. if nat_lt groups digit.0 then Err (BadGroup at)
     else Ok (OfGroup digit.0, digit.1)) Err (read_at at (digit_in text))
 
--- the component between < and > at the front of the text
+-- the component between < and > at the front of the text, or `None` if there is none
 abbrev pub single_in : List ℕ → Option (FrontPart Field)
 single_in text = do
   quoted ← quoted_in text
   c ← text_in quoted.0
   Some (record { part = c; is_inner = has_special quoted.0; rest = quoted.1 })
 
--- the part between < and > at offset `at`, or the fault `Inner` if its text contains a special
--- character
+-- The part between < and > at offset `at`, and the remaining text. The fault is `Syntax` if there
+-- is no such part, and `Inner` if its text contains a special character.
 abbrev pub single_part_in : ℕ → List ℕ → Result (PlainPart × List ℕ) PatternFault
 single_part_in at text =
     on_result (λ found. if found.is_inner then Err (Inner at)
     else Ok (Single found.part, found.rest)) Err (read_at at (single_in text))
 
--- the part at offset `at`
+-- the part at offset `at`, and the remaining text, or the fault of this part; the group of a part
+-- may be at most `groups`
 abbrev pub part_in : ℕ → ℕ → List ℕ → Result (PlainPart × List ℕ) PatternFault
 part_in groups at [] = Err (Syntax at)
 part_in groups at (o ∷ text) =
     if o == 92 then group_in groups at text else single_part_in at (o ∷ text)
 
--- the parts of a template of length `len`, where `text` is the text that is still to be read; the
--- first argument limits the number of further parts
+-- the parts of a template of length `len`, or its first fault, where `text` is the text that is
+-- still to be read; the first argument limits the number of further parts
 unfoldable pub parts_within : ℕ → ℕ → ℕ → List ℕ → Result (List PlainPart) PatternFault
 parts_within zero groups len text = Ok []
 parts_within (suc n) groups len text =
@@ -49,6 +53,6 @@ parts_within (suc n) groups len text =
     (parts_within n groups len next.1)) Err
     (part_in groups (len - length text) text)
 
--- the parts of a template
+-- the parts of a template for a pattern with `groups` groups, or the first fault
 unfoldable pub template_in : ℕ → List ℕ → Result (List PlainPart) PatternFault
 template_in groups text = parts_within (length text) groups (length text) text

@@ -27,13 +27,13 @@ abbrev pub ByName : Type 0 → Type 0
 ByName X = FinMap name_cmp X
 
 -- the value of the longest prefix of `name` that has a value, among the prefixes of at most n
--- components
+-- components; None if none of these has a value
 abbrev pub longest_within : {X : Type 0} → ByName X → List Field → ℕ → Option X
 longest_within table name zero = get table []
 longest_within table name (suc n) =
     option_or (get table (take (suc n) name)) (longest_within table name n)
 
--- the value of the longest prefix of `name` that has a value
+-- the value of the longest prefix of `name` that has a value, or None if no prefix has one
 abbrev pub longest : {X : Type 0} → ByName X → List Field → Option X
 longest table name = longest_within table name (length name)
 

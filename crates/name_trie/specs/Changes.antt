@@ -8,12 +8,13 @@ use Rattle.name_trie.specs.ByName.{revise}
 use Rattle.name_trie.specs.Links.{unless, unless_is}
 use Rattle.name_trie.specs.Trie.{Heap, child, value, up, walk, lookup}
 
--- a node that has neither a value nor children
+-- a node with this optional parent, and with neither a value nor children
 abbrev pub bare : {V : Type 0} → Option ℕ → Node V
 bare parent = record { parent = parent; hint = tt; children = empty; value = None }
 
 module _ {V : Type 0} where
-  -- A bare node k is added as the child of node `at` for the component `c`.
+  -- A new node k, with neither a value nor children, is added as the child of node `at` for the
+  -- component `c`. No other node changes.
   pub record Joins (k at : ℕ) (c : Field) (h h' : Heap V) : Type 0 where
     pub node : Node V
     pub there : h at ≡ Some node
@@ -22,7 +23,7 @@ module _ {V : Type 0} where
     pub above : h' at ≡ Some (record node { children = insert node.children c k })
     pub others : (j : ℕ) → j ≢ k → j ≢ at → h' j ≡ h j
 
-  -- A bare node k that has no parent is added.
+  -- A new node k, with neither a parent nor a value nor children, is added. No other node changes.
   pub record Starts (k : ℕ) (h h' : Heap V) : Type 0 where
     pub fresh : h k ≡ None
     pub leaf : h' k ≡ Some (bare None)
@@ -35,7 +36,7 @@ module _ {V : Type 0} where
     pub bare : value h k ≡ None
 
   -- The node k, whose optional parent is o, is removed. If o is a node, the links from o to k are
-  -- removed too.
+  -- removed too. No other node changes.
   pub record Cuts (k : ℕ) (o : Option ℕ) (h h' : Heap V) : Type 0 where
     pub was : up h k ≡ Some o
     pub gone : h' k ≡ None
@@ -44,14 +45,15 @@ module _ {V : Type 0} where
         (λ (m : Node V). record m { children = revise (unless_is k) m.children }) (h p)
     pub others : (j : ℕ) → j ≢ k → o ≢ Some j → h' j ≡ h j
 
-  -- The value of the node k is set to v.
+  -- The value of the existing node k is set to v, and nothing else changes.
   pub record Sets (k : ℕ) (v : Option V) (h h' : Heap V) : Type 0 where
     pub node : Node V
     pub there : h k ≡ Some node
     pub here : h' k ≡ Some (record node { value = v })
     pub others : (j : ℕ) → j ≢ k → h' j ≡ h j
 
-  -- The node k had no value and no children, and is removed with all links to it.
+  -- The node k had no value and no children. It is removed with all links to it, and is no longer
+  -- the root. Nothing else changes.
   pub record Lacks (k : ℕ) (h : Heap V) (root : Option ℕ) (h' : Heap V) (root' : Option ℕ)
       : Type 0 where
     pub roots : root' ≡ unless k root
@@ -62,11 +64,12 @@ module _ {V : Type 0} where
     pub values : (a : ℕ) → value h' a ≡ value h a
     pub ups : (a : ℕ) → a ≢ k → up h' a ≡ up h a
 
-  -- each name leads to the same value in `h'` as in `h`
+  -- each name that leads to a value from `root` in `h` leads to the same value from `root'` in
+  -- `h'`, and every other name leads to none
   abbrev pub SameLookups : Heap V → Option ℕ → Heap V → Option ℕ → Type 0
   SameLookups h root h' root' = (q : List Field) → lookup h' root' q ≡ lookup h root q
 
-  -- each name that leads to a node in `h` leads to the same node in `h'`
+  -- each name that leads from `root` to a node in `h` leads from `root'` to the same node in `h'`
   abbrev pub KeepsWalks : Heap V → Option ℕ → Heap V → Option ℕ → Type 0
   KeepsWalks h root h' root' =
       (q : List Field) (k : ℕ) → walk h root q ≡ Some k → walk h' root' q ≡ Some k
@@ -87,6 +90,6 @@ pub record Turns {V : Type 0} (k : ℕ) (v : Option V) (h h' : Heap V) : Type 0 
   pub here : value h' k ≡ v
   pub others : (a : ℕ) → a ≢ k → value h' a ≡ value h a
 
--- each node except the reserved node `kept` has a value or children
+-- each node has a value or children, except the reserved node `kept`, if there is one
 abbrev pub IsTidy : {V : Type 0} → Heap V → Option ℕ → Type 0
 IsTidy h kept = (j : ℕ) → IsBare h j → kept ≡ Some j

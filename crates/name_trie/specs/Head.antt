@@ -6,7 +6,8 @@ unfoldable pub head : ℕ → List ℕ → ℕ
 head zero octets = 0
 head (suc n) octets = head n octets * 256 + slice_index octets n
 
--- `number` is the first 8 octets as a number, and all octets are less than 256
+-- `number` is the first 8 octets as a big-endian number, where missing octets count as zero; all
+-- octets are less than 256
 pub record IsHead (octets : List ℕ) (number : ℕ) : Type 0 where
   pub is : number ≡ head 8 octets
   pub fit : (i : ℕ) → slice_index octets i < 256

@@ -7,7 +7,8 @@ use Rattle.name_trie.specs.ByName.{revise}
 abbrev pub nonempty : {K X : Type 0} {R : K → K → Ordering} → FinMap R X → Option (FinMap R X)
 nonempty m = if nat_eq (len m) 0 then None else Some m
 
--- the map after `change` changes or removes each value, or `None` if no value is left
+-- the map with `change` applied to each value, where a value for which `change` gives None is
+-- removed; None if no value is left
 abbrev pub each : {K X : Type 0} {R : K → K → Ordering} → (X → Option X) → FinMap R X
     → Option (FinMap R X)
 each change m = nonempty (revise change m)

@@ -9,19 +9,19 @@ use Rattle.name_trie.specs.Taken.{taken_along}
 abbrev pub known_at : {W V : Type 0} → (W → V → W) → W → (List Field → Option V) → List Field → W
 known_at past before value name = taken_along past past before value [] name
 
--- the visitor s after it is shown each name in order, with the state at that name
+-- the visitor s after it is shown the name of each entry in order, with the state at that name
 abbrev pub shown_known : {S W V : Type 0} → (S → List ℕ → W → S) → (List Field → W) → S
     → List (List Field × V) → S
 shown_known {S} {W} {V} show known s es =
     fold {A = List Field × V} {B = S} (λ s e. show s (octets_of e.0) (known e.0)) s es
 
--- the visitor s after it is shown each name in order, with the name's value
+-- the visitor s after it is shown the name of each entry in order, with the entry's value
 abbrev pub shown_each : {S X : Type 0} → (S → List ℕ → X → S) → S → List (List Field × X) → S
 shown_each {S} {X} show s es =
     fold {A = List Field × X} {B = S} (λ s e. show s (octets_of e.0) e.1) s es
 
--- the visitor s after it is shown each name in order, with the octets `front` before the name and
--- with the state at the name
+-- the visitor s after it is shown the name of each entry in order, with the octets `front` before
+-- the name and with the state at the name
 abbrev pub shown_after : {S W V : Type 0} → (S → List ℕ → W → S) → List ℕ → (List Field → W) → S
     → List (List Field × V) → S
 shown_after {S} {W} {V} show front known s es =

@@ -18,8 +18,9 @@ taken_along own below s value front [] = taken own s (value front)
 taken_along own below s value front (c ∷ rest) =
     taken_along own below (taken below s (value front)) value (front ++ c ∷ []) rest
 
--- how a visit along the second name changes the value of the first name: by `below` if the first
--- name is a proper prefix of the second, by `own` if both names are equal, and otherwise not at all
+-- How a visit along the second name changes the value of the first name. It changes the value by
+-- `below` if the first name is a proper prefix of the second, and by `own` if both names are equal.
+-- Otherwise the value stays.
 abbrev pub changed_along : {V : Type 0} → (own below : V → Option V) → List Field → List Field
     → V → Option V
 changed_along own below [] [] = own

@@ -16,7 +16,8 @@ abbrev pub rings : Option ℕ → ℕ → Bool
 rings None d = false
 rings (Some e) d = d == e
 
--- each value has its timer, and there are no other timers
+-- the timers are exactly those of the nodes' values: one for each value, with the value's deadline
+-- and the node's index
 abbrev pub IsTimed : {V : Type 0} → (V → ℕ) → Heap V → TimerSet → Type 0
 IsTimed timer h timers =
     (t : Timer) → set.contains timers t ≡ rings (timer_at timer h t.key) t.deadline
@@ -32,23 +33,23 @@ abbrev pub started : ℕ → Option ℕ → TimerSet → TimerSet
 started k None timers = timers
 started k (Some d) timers = set.insert timers (timer_for k d)
 
--- while a call is prepared, memory is reserved for at least one more timer
+-- if a call is prepared (`true`), memory is reserved for at least one more timer
 abbrev pub HasTimerRoom : Bool → Waiting → Type 0
 HasTimerRoom false w = Unit {0}
 HasTimerRoom true w = set.len w.timers < w.capacity
 
 -- ---- the total size
 
--- the number of entries that a node's value counts as
+-- the size of the value of the node k, or 0 if the node has no value
 abbrev pub size_at : {V : Type 0} → (V → ℕ) → Heap V → ℕ → ℕ
 size_at size h k = size_of size (value h k)
 
--- `len` becomes `len'` when the size `was` in the sum is replaced by `is`; `len` and `len'` wrap at
--- 2^64
+-- If `len` is a sum of sizes modulo 2^64, then `len'` is this sum modulo 2^64 after the size `was`
+-- in the sum is replaced by `is`.
 abbrev pub Recounts : (was is len len' : ℕ) → Type 0
 Recounts was is len len' =
     (sum sum' : ℕ) → sum' + was ≡ sum + is → len ≡ sum % 2 ^ 64 → len' ≡ sum' % 2 ^ 64
 
--- `len` is the total size of all values, wrapping at 2^64
+-- `len` is the total size of all values of the trie, modulo 2^64
 abbrev pub IsCounted : {V : Type 0} → (V → ℕ) → Heap V → Option ℕ → ℕ → Type 0
 IsCounted size h root len = len ≡ total size (entries (table_of h root)) % 2 ^ 64

@@ -14,52 +14,55 @@ abbrev pub links_of : {V : Type 0} → Option (Node V) → List (Field × ℕ)
 links_of None = []
 links_of (Some n) = entries n.children
 
--- the rows below a node, where f returns the rows of each child
+-- the rows of all given children, where f returns the rows of a child; the child's component is put
+-- in front of each of its names
 abbrev pub below : {V : Type 0} → (Option ℕ → List (List Field × V)) → List (Field × ℕ)
     → List (List Field × V)
 below f [] = []
 below f (e ∷ es) = map (λ r. (e.0 ∷ r.0, r.1)) (f (Some e.1)) ++ below f es
 
 module _ {V : Type 0} (h : Heap V) where
-  -- the child of the node k for a component
+  -- the child of the node k for a component, if there is one
   abbrev pub child : ℕ → Field → Option ℕ
   child k c = option_and_then (λ n. get n.children c) (h k)
 
-  -- the value of the node k
+  -- the value of the node k, if it has one
   abbrev pub value : ℕ → Option V
   value k = option_and_then (λ n. n.value) (h k)
 
-  -- the parent of the node k, if the node exists
+  -- None if there is no node k; otherwise Some with the optional parent of the node
   abbrev pub up : ℕ → Option (Option ℕ)
   up k = option_map (λ n. n.parent) (h k)
 
-  -- the children of the node k
+  -- the children of the node k with their components; none if there is no node k
   abbrev pub links : ℕ → List (Field × ℕ)
   links k = links_of (h k)
 
   abbrev pub down : Option ℕ → Field → Option ℕ
   down o c = option_and_then (λ k. child k c) o
 
-  -- the node that a name leads to
+  -- the node that a name leads to from the node o, or None if there is no such node
   abbrev pub walk : Option ℕ → List Field → Option ℕ
   walk o [] = o
   walk o (c ∷ cs) = walk (down o c) cs
 
-  -- the value at the node that a name leads to
+  -- the value at the node that a name leads to from the node o, if there is one
   abbrev pub lookup : Option ℕ → List Field → Option V
   lookup o name = option_and_then value (walk o name)
 
-  -- the names of fewer than n components that have a value, with their values, in canonical order
+  -- the names of fewer than n components that lead from the node o to a value, with their values,
+  -- in canonical order
   unfoldable pub rows : ℕ → Option ℕ → List (List Field × V)
   rows zero o = []
   rows (suc n) None = []
   rows (suc n) (Some k) = with_entry [] (value k) (below (rows n) (links k))
 
-  -- the table that the trie represents; names have at most 64 components
+  -- the table that the trie with this root represents; only names of at most 64 components count
   unfoldable pub table_of : Option ℕ → ByName V
   table_of root = from_entries (rows 65 root)
 
--- the last value on a walk along a name, or `best` if there is none
+-- the last value on a walk along a name from a node, whose own value counts too; `best` if there is
+-- no value on the walk
 abbrev pub last_on : {V : Type 0} → Heap V → Option ℕ → List Field → Option V → Option V
 last_on h None q best = best
 last_on h (Some k) [] best = option_or (value h k) best

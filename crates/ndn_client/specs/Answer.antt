@@ -32,7 +32,7 @@ use Rattle.ndn_requests.specs.Parameters.{command_name, IsTooLong}
 
 -- ---- the key
 
--- a signature with the key of this name
+-- the signature is an HMAC under a key of the book that has this name
 abbrev pub IsHmac : List Field → List NamedKey → Sign → Type 0
 IsHmac name book Digest = ⊥
 IsHmac name book (Hmac key_name key) = (components key_name ≡ name) × IsAmong (name, key.now) book
@@ -44,7 +44,7 @@ abbrev pub LacksChosen : Option (List Field) → List NamedKey → Type 0
 LacksChosen None book = ⊥
 LacksChosen (Some name) book = LacksKey name book
 
--- the only fault of choosing a key: the book does not have the named key
+-- the fault is `NoKey`: a key is named, and the book has no key of this name
 abbrev pub IsNoKey : Option (List Field) → List NamedKey → ToolFault → Type 0
 IsNoKey key book why = (why ≡ fault.NoKey) × LacksChosen key book
 
@@ -132,7 +132,7 @@ abbrev pub IsCommandAnswer : CommandJob → List NamedKey → List ℕ → Type 
 IsCommandAnswer job book text =
     (packet : List ℕ) × IsCommandPacket job book packet × (text ≡ hex_line packet)
 
--- the line with the tag of the octets under the key
+-- the line with the HMAC of the octets of the job under the key that the job names
 abbrev pub IsTagAnswer : TagJob → List NamedKey → List ℕ → Type 0
 IsTagAnswer job book text =
     (key : List ℕ) × IsAmong (job.key, key) book × (text ≡ hex_line (Mac key job.octets.items))
@@ -147,7 +147,7 @@ IsExplained keys octets text =
     (framed : PlainFramed) × (check : Option TagCheck) × IsFramed octets framed
     × MayBeChecked framed.frame keys check × (text ≡ framed_explanation framed check)
 
--- the keys, if a key file is named
+-- the keys of the book if a key file is named, otherwise None
 abbrev pub with_file : {A : Type 0} → Option A → List NamedKey → Option (List NamedKey)
 with_file None book = None
 with_file (Some path) book = Some book

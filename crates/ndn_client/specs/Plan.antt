@@ -61,7 +61,8 @@ IsPrinted asked book input text = IsAnswer asked book text
 
 -- ---- what is sent
 
--- the octets of a given packet, or the octets that standard input spells
+-- the octets of the packet that is given or, if none is given, the octets that standard input
+-- spells in hexadecimal; an LF at its end is ignored
 abbrev pub IsSentBy : {Z : Type 0} → Option (List ℕ) → List ℕ → Vec ℕ Z → Type 0
 IsSentBy (Some octets) input packet = packet.items ≡ octets
 IsSentBy None input packet = AreOctets (without_lf input) packet

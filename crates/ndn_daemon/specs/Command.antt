@@ -21,7 +21,8 @@ reading_of DisplayVersion error = Ok (Help error)
 reading_of OutOfMemory error = Err (Script Memory)
 reading_of kind error = Err (CommandLine error)
 
--- the request of the subcommand `name` with these options
+-- The request of the subcommand `name` with these options: `Udp` for `udp`, `Shorten` for
+-- `journal`, and `RunScript` for any other name. A request for help is none of these.
 abbrev pub IsRequest : List ℕ → List Row → Request → Type 0
 IsRequest name rows (Help error) = ⊥
 IsRequest name rows (RunScript node) =
@@ -49,7 +50,7 @@ IsFaultOfWords (BadValue place wanted) = ⊤
 IsFaultOfWords (Script Memory) = ⊤
 IsFaultOfWords why = ⊥
 
--- a node on a port has at most 64 peers
+-- a request for a node on a port has at most 64 peers
 abbrev pub HasFewPeers : Request → Type 0
 HasFewPeers (Help error) = ⊤
 HasFewPeers (RunScript node) = ⊤

@@ -16,7 +16,8 @@ is_left_out shows_all came outcome = not shows_all && is_plain came outcome
 abbrev pub MayLog : List ℕ → List ℕ → ℕ → List ℕ → Type 0
 MayLog old new moment words = IsLogged old new moment words ⊎ (new ≡ old)
 
--- the number of closed faces that have no line in the log, counted after this event
+-- The number of closed faces that have no line in the log, after this event. The first argument
+-- tells whether the event is left out of the log, and `count` is the number before it.
 abbrev pub closed_with : Bool → Came → ℕ → ℕ
 closed_with true (Closed face) count = one_more count
 closed_with left_out came count = count

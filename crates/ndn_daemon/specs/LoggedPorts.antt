@@ -19,7 +19,7 @@ seen_in (arrival.FaceDown face now) = Some (Closed face)
 seen_in (arrival.Tick now) = Some Tick
 seen_in (arrival.NewRules renewal now) = Some NewRules
 
--- the arrival with its octets, which are at the start of the buffer
+-- `shown` is the arrival `seen`; the octets of a packet are the first `len` octets of the buffer
 abbrev pub IsCameOf : Seen → List ℕ → Came → Type 0
 IsCameOf (Packet face len) buffer (came.Packet f octets) =
     (f ≡ face) × (octets.now ≡ take len buffer)

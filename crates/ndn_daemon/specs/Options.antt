@@ -15,7 +15,7 @@ use Rattle.ndn_daemon.specs.declared.options.ShorteningOptions.{ShorteningOption
 abbrev pub rows_in : ArgMatches → List Row
 rows_in options = rows_of (found_of options)
 
--- the value of an option, if it is present
+-- the first value of an option, or None if the option has no value
 abbrev pub value_at : List Row → List ℕ → Option (List ℕ)
 value_at rows id = first_of id rows
 
@@ -34,7 +34,8 @@ MayBePath None None = ⊤
 MayBePath (Some given) (Some path) = string_bytes path ≡ given
 MayBePath given path = ⊥
 
--- the options of a node
+-- the options of a node; by default, the prefix of its repository is `/repo` and the capacity of
+-- its cache is 1024
 pub record IsOptions (rows : List Row) (options : Options) : Type 0 where
   pub rules : MayBePath (value_at rows (codes "rules")) options.rules
   pub keys : MayBePath (value_at rows (codes "keys")) options.keys
@@ -46,12 +47,13 @@ pub record IsShorteningOptions (rows : List Row) (options : ShorteningOptions) :
   pub journal : string_bytes options.journal ≡ given_or [] (value_at rows (codes "shorten"))
   pub repo : ReadsAs (given_or (codes "/repo") (value_at rows (codes "repo"))) options.repo
 
--- the fault of a text that spells no valid value
+-- the fault is `BadValue`, and the text spells no valid value, that is, no value satisfies `Spell`
 abbrev pub IsWrong : {A : Type 0} → (A → Type 0) → Fault → Type 0
 IsWrong {A} Spell (BadValue place wanted) = (x : A) → Spell x → ⊥
 IsWrong Spell why = ⊥
 
--- the fault of a text that spells no valid value, or the fault that memory ran out
+-- memory ran out, or the fault is `BadValue` and the text spells no valid value, that is, no value
+-- satisfies `Spell`
 abbrev pub IsRefused : {A : Type 0} → (A → Type 0) → Fault → Type 0
 IsRefused Spell (Script Memory) = ⊤
 IsRefused Spell why = IsWrong Spell why

@@ -20,9 +20,9 @@ use Rattle.ndn_daemon.specs.declared.fault.Fault.{Fault}
 use Rattle.ndn_daemon.specs.declared.fault.Fault.TheVariants.{Script, Unbound, Unreceived, Journal}
 use Rattle.ndn_daemon.specs.declared.fault.JournalFault.TheVariants as journal
 
--- The line with the verdict, or with the word `memory` if memory ran out, in the format of
--- scripts, and one line for each packet that is sent. There is no text if no event came or if the
--- event could not be journalled.
+-- The text of a turn in the format of scripts. It is a line with the verdict, or with the word
+-- `memory` if memory ran out, and then one line for each packet that is sent. It is empty if no
+-- event came or the event could not be journalled.
 abbrev pub turn_text : ℕ → List PlainRule → Turn → List Send → List ℕ
 turn_text number rules (Done verdict failed) sends =
     numbered_line number (verdict_text rules (verdict_of verdict)) ++ flat_map send_text sends
@@ -39,8 +39,8 @@ pub record Tells (old new : NodeState) (before after : Shown) (events : ℕ) (te
   pub serves : Serves old new before after events refused failed
   pub text_is : text ≡ script_text old.policy.rules serves.arrivals serves.outcomes
 
--- each turn had an event, or the port ended and there were fewer events than turns; the text of all
--- events was written
+-- Each turn had an event, or the port ended and there were fewer events than turns. The text of all
+-- events was written, if the octets of the writer are known.
 abbrev pub TakesTurns : NodeState → NodeState → Shown → Shown → ℕ → Option (List ℕ)
     → Option (List ℕ) → Type 0
 TakesTurns old new before after turns held holds =
@@ -50,7 +50,8 @@ TakesTurns old new before after turns held holds =
 -- What happened before the fault `why`. `Unreceived`: the text of the earlier events was written,
 -- and then the call for the next arrival failed. `Write` and `Memory`: a prefix of the text of the
 -- events was written. `Journal`: the last event could not be journalled, and a prefix of the text
--- of the earlier events was written.
+-- of the earlier events was written. What was written is stated only if the octets of the writer
+-- are known.
 abbrev pub StopsTurns : NodeState → NodeState → Shown → Shown → ℕ → Option (List ℕ)
     → Option (List ℕ) → Fault → Type 0
 StopsTurns old new before after turns held holds Unreceived =
@@ -68,7 +69,8 @@ StopsTurns old new before after turns held holds (Journal journal.Unwritten) =
     × AppendsFront held holds text
 StopsTurns old new before after turns held holds why = ⊥
 
--- a prefix of the buffered text was written, and `left` is the remaining text
+-- a prefix of the buffered text was written, if the octets of the writer are known, and `left` is
+-- the remaining text
 abbrev pub Writes : Option (List ℕ) → Option (List ℕ) → List ℕ → List ℕ → Type 0
 Writes held holds gathered left =
     (front : List ℕ) × (gathered ≡ front ++ left) × Appends held holds front
@@ -76,7 +78,7 @@ Writes held holds gathered left =
 -- What happened before the fault `why`. `Unreceived`: the buffered text was written, and then the
 -- call for the next arrival failed. `Write`: a prefix of the buffered text was written, and no turn
 -- was taken. `Journal`: the event of the turn could not be journalled, and a prefix of the buffered
--- text was written.
+-- text was written. What was written is stated only if the octets of the writer are known.
 abbrev pub StopsTurn : NodeState → NodeState → Shown → Shown → Option (List ℕ) → Option (List ℕ)
     → List ℕ → Fault → Type 0
 StopsTurn old new before after held holds gathered Unreceived =
@@ -119,6 +121,7 @@ HasNoTurns endpoint (Unbound other) = other ≡ endpoint
 HasNoTurns endpoint (Script (Node why)) = why ≡ NodeMemory
 HasNoTurns endpoint why = ⊥
 
--- why a node with valid parts stops on this endpoint
+-- why a node with valid parts stops on this endpoint: it takes no turns (`HasNoTurns`), or it stops
+-- before all its turns are done (`EndsTurns`)
 abbrev pub StopsAt : SocketAddr → Fault → Type 0
 StopsAt endpoint why = HasNoTurns endpoint why ⊎ EndsTurns why

@@ -52,14 +52,15 @@ abbrev pub IsLocal : List ℕ → List SocketAddr → ℕ → Type 0
 IsLocal text peers local =
     IsNumber text local × (local ≤ length peers) × All IsLoopback (take local peers)
 
--- the log level; the parser replaces `--log` without a value by `--log events`
+-- The log level: none without `--log`, otherwise `events` or `all`. The parser replaces `--log`
+-- without a value by `--log events`.
 abbrev pub IsLog : Option (List ℕ) → LogLevel → Type 0
 IsLog None level = level ≡ levels.None
 IsLog (Some text) levels.None = ⊥
 IsLog (Some text) levels.Events = text ≡ codes "events"
 IsLog (Some text) levels.All = text ≡ codes "all"
 
--- the options of a node on a port
+-- the options of a node on a port; by default, no peer is Local and the idle time is 600 seconds
 pub record IsUdpOptions (rows : List Row) (options : UdpOptions) : Type 0 where
   pub listen : Has (value_at rows (codes "listen")) IsEndpoint options.listen
   pub turns : Has (value_at rows (codes "turns")) IsNumber options.turns
@@ -74,8 +75,8 @@ pub record IsUdpOptions (rows : List Row) (options : UdpOptions) : Type 0 where
   pub quiet : IsFlag (flag_at rows (codes "quiet")) options.quiet
 
 -- The ports for these options, if the last time of their clock is `told`. No peer's face is opened
--- yet, and the other faces close after the idle time. Strangers are accepted exactly if `--open`
--- is given or the address to listen on is a loopback address.
+-- yet, and the faces of other endpoints close after the idle time. Endpoints that are not peers are
+-- accepted exactly if `--open` is given or the address to listen on is a loopback address.
 pub record ArePortsOf (options : UdpOptions) (told : ℕ) (ports : UdpState) : Type 0 where
   pub is_open : IsTrue ports.accepts_strangers ↔ (IsTrue options.«open» ⊎ IsLoopback options.listen)
   pub is : ports ≡ record (closes_after (options.idle * 1000)

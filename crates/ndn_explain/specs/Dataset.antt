@@ -74,7 +74,8 @@ hop_words layout es =
     number_word (labels_of layout).face (first_of FACE_ID es)
     ++ number_word (labels_of layout).cost (first_of COST es)
 
--- the line of an element if it is a next hop, and nothing otherwise
+-- the line of the route for this name that an element describes; nothing if the element is no next
+-- hop
 abbrev pub hop_line : Layout → List ℕ → Result Field TlvFault → List ℕ
 hop_line layout name (Err fault) = []
 hop_line layout name (Ok e) =

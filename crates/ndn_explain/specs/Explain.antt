@@ -52,7 +52,7 @@ content_lines None = []
 content_lines (Some content) =
     reply_lines content ++ (dataset_lines Lines content ++ text_lines content)
 
--- the lines of a Data with the octets `whole`
+-- the lines for the segment number and the Content of a Data with the octets `whole`
 abbrev pub data_meaning : List ℕ → PlainData → List ℕ
 data_meaning whole d = segment_lines d.name whole ++ content_lines d.content
 
@@ -70,7 +70,8 @@ reason_word reason =
     if reason == DUPLICATE then codes " Duplicate" else (
     if reason == NO_ROUTE then codes " NoRoute" else []))
 
--- the lines of `show`, with the name of a Nack's reason
+-- the lines of `show`; for a Nack, the name of the reason, if it has one, follows the number of the
+-- reason
 abbrev pub named_frame_lines : PlainFrame → List ℕ
 named_frame_lines (AnInterest whole i) = frame_lines (AnInterest whole i)
 named_frame_lines (AData whole d) = frame_lines (AData whole d)

@@ -33,7 +33,8 @@ abbrev pub repeated : List ℕ → List ℕ
 repeated [] = []
 repeated (o ∷ text) = line (o ∷ text)
 
--- the explanation of a packet, or why the octets are not a packet
+-- the explanation of a packet, whose signature is checked if there are keys, or why the octets are
+-- not a packet
 abbrev pub IsExplainedPacket : Option (List NamedKey) → List ℕ → List ℕ → Type 0
 IsExplainedPacket keys octets said =
     ((framed : PlainFramed) × (check : Option TagCheck) × IsFramed octets framed
@@ -41,8 +42,9 @@ IsExplainedPacket keys octets said =
     ⊎ ((why : PacketFault) × FaultOf octets why
     × (said ≡ named_line (codes "malformed") (packet_name why)))
 
--- the text printed for a line: if the line has a packet, the text before the packet and then the
--- explanation of the packet; otherwise the line itself
+-- The text printed for the line `text`. If the digits of the line encode a packet of at least one
+-- octet, this is `head`, the text before the digits, and then the explanation. Otherwise it is the
+-- line itself, or nothing for an empty line.
 abbrev pub IsExplainedPart : Option (List NamedKey) → List ℕ → List ℕ
     → Result (List ℕ) FromHexError → List ℕ → Type 0
 IsExplainedPart keys text head (Err why) said = said ≡ repeated text

@@ -29,7 +29,8 @@ number_text value = on_result decimal (λ _. bad_text value) (nni_at value)
 abbrev pub name_text : List ℕ → List ℕ
 name_text value = on_result uri_of (λ _. bad_text value) (name_at value)
 
--- the URI of the Name in a Strategy, or the text for a malformed value if there is no such Name
+-- the URI of the Name in the Strategy with this value, or the text for a malformed value if there
+-- is no Name or the Name is malformed
 abbrev pub held_name : List ℕ → Option (List ℕ) → List ℕ
 held_name value None = bad_text value
 held_name value (Some name) = name_text name
@@ -103,8 +104,8 @@ abbrev pub or_else : {X : Type 0} → Option X → Option X → Option X
 or_else None other = other
 or_else (Some x) other = Some x
 
--- the fields in a component's value, if it is a single ControlParameters or RepoCommandParameter
--- element
+-- the value of a ControlParameters or RepoCommandParameter element, if the value of the component
+-- is exactly such an element
 abbrev pub parameters_of : List ℕ → Option (List ℕ)
 parameters_of value =
     or_else (single CONTROL_PARAMETERS (elements_of value))
@@ -118,7 +119,8 @@ abbrev pub generic_parameters : Option Field → Option (List ℕ)
 generic_parameters None = None
 generic_parameters (Some c) = if c.0 == GENERIC then parameters_of c.1 else None
 
--- the fields in a command's parameters, which are the name component before the parameters digest
+-- the fields in the parameters of a command, which are the name component before the parameters
+-- digest; None if the name does not end in these two components
 abbrev pub parameters_in : List Field → Option (List ℕ)
 parameters_in name =
     if has_kind PARAMETERS_SHA256_DIGEST (slice_get name (length name - 1))

@@ -9,7 +9,8 @@ use Rattle.ndn_packets.specs.declared.types.TheConstants.{DATA, CONTENT, SIGNATU
 use Rattle.ndn_packets.specs.Packet.{PlainData}
 use Rattle.ndn_packets.specs.Writing.{info_asked, reply_text}
 
--- the value of a field, if the octets are a Data
+-- the value of the first field of the type `kind` in a Data; None if the octets are not a Data or
+-- the Data has no such field
 abbrev pub data_field : ℕ → List ℕ → Option (List ℕ)
 data_field kind octets =
     option_and_then (λ fields. first_of kind (elements_of fields))

@@ -13,16 +13,19 @@ use Rattle.ndn_explain.specs.Show.{named_line}
 abbrev pub number_in : List ℕ → Option ℕ
 number_in value = result_ok (nni_at value)
 
--- the number in a segment component, or None for any other component and for no component
+-- the number in a segment component; None for any other component, for no component, and for a
+-- malformed number
 abbrev pub number_of : Option Field → Option ℕ
 number_of None = None
 number_of (Some c) = if c.0 == SEGMENT then number_in c.1 else None
 
--- the number in the last component of a name, if the last component is a segment component
+-- the number in the last component of a name, or None if the last component is not a segment
+-- component with a number
 abbrev pub segment_of : List Field → Option ℕ
 segment_of name = number_of (slice_get name (length name - 1))
 
--- the number of the last segment, from the component in the FinalBlockId of a Data's MetaInfo
+-- the number of the last segment, from the component in the FinalBlockId of the MetaInfo of a Data;
+-- None if there is no such number
 abbrev pub last_segment : List ℕ → Option ℕ
 last_segment whole =
     option_and_then (λ component. number_in component)

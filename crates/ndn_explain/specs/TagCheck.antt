@@ -46,8 +46,8 @@ IsKindCheck s book octets check =
     × IsLocatorCheck s.info.locator book s.value octets check)
     ⊎ ((s.info.kind ≢ DIGEST_SHA256) × (s.info.kind ≢ HMAC_WITH_SHA256) × (check ≡ Unchecked)))
 
--- the result of checking a signature over the covered octets; without covered octets nothing is
--- checked
+-- the result of checking a signature over the covered octets, which is `Unchecked` if there are no
+-- covered octets
 abbrev pub IsPartsCheck : PlainSignature → List NamedKey → Option (List ℕ) → TagCheck → Type 0
 IsPartsCheck s book None check = check ≡ Unchecked
 IsPartsCheck s book (Some octets) check = IsKindCheck s book octets check
@@ -67,7 +67,9 @@ IsSignedCheck packet (Some s) book None = ⊥
 IsSignedCheck packet (Some s) book (Some check) =
     (octets : Option (List ℕ)) × AreCovered packet octets × IsPartsCheck s book octets check
 
--- the result of checking a packet with the keys of a book; for a Nack, its Interest is checked
+-- The result of checking the signature of a packet with the keys of a book. For a Nack, its
+-- Interest is checked. The result is None for an unsigned Interest and for a link packet without a
+-- packet (`Idle`).
 abbrev pub IsTagCheck : PlainFrame → List NamedKey → Option TagCheck → Type 0
 IsTagCheck (AnInterest whole i) book check =
     IsSignedCheck (AnInterest whole i) i.signature book check
@@ -77,7 +79,8 @@ IsTagCheck (ANack reason whole i) book check =
     IsSignedCheck (AnInterest whole i) i.signature book check
 IsTagCheck Idle book check = check ≡ None
 
--- the result of checking a packet if keys are given; without keys nothing is checked
+-- the result of checking the signature of a packet if keys are given; without keys nothing is
+-- checked, and the result is None
 abbrev pub MayBeChecked : PlainFrame → Option (List NamedKey) → Option TagCheck → Type 0
 MayBeChecked frame None check = check ≡ None
 MayBeChecked frame (Some book) check = IsTagCheck frame book check

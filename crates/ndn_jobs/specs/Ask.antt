@@ -14,7 +14,8 @@ use Rattle.ndn_jobs.specs.Value.{IsNumber, IsNonce}
 use Rattle.ndn_jobs.specs.Options.{value_at, flag_at, Has, MayHave, HasOr, IsFlag, IsPorts}
 use Rattle.ndn_jobs.specs.Nonce.{nonce_of}
 
--- an unsigned Interest; if no Nonce is given, the Nonce is computed from the time and the words
+-- an Interest without a hop limit, parameters or a signature; if no Nonce is given, the Nonce is
+-- computed from the time and the words
 pub record IsPlainInterest (now : ℕ) (words : List ℕ) (rows : List Row) (i : InterestJob)
     : Type 0 where
   pub nonce : HasOr (nonce_of now words) (value_at rows (codes "nonce")) IsNonce i.nonce

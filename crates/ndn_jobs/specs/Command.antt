@@ -33,7 +33,8 @@ reading_of kind error = Err (Usage (CommandLine error))
 
 -- ---- jobs
 
--- the job of a subcommand whose verb may be `list`
+-- the job of a subcommand whose verb may be `list`: a request for the list if the verb is `list`,
+-- otherwise a command
 abbrev pub IsListedJob : ℕ → List ℕ → List ℕ → List Row → Job → Type 0
 IsListedJob now words name rows (Command job) =
     (is_list rows ≡ false) × IsShortJob now words name rows job
@@ -93,7 +94,8 @@ Asks now arguments (Help error) =
     IsText (kind_of error) × IsAmong (kind_of error) (faults arguments)
 Asks now arguments job = (faults arguments ≡ []) × IsJobOf now arguments job
 
--- the arguments are wrong, or spell no job
+-- `CommandLine`: the parser finds this fault in the arguments, and it is not a request for help or
+-- the version. `BadValue`: the parser finds no fault, but the arguments spell no job.
 abbrev pub IsWrongLine : ℕ → List (List ℕ) → WrongUsage → Type 0
 IsWrongLine now arguments (CommandLine error) =
     IsAmong (kind_of error) (faults arguments) × (IsText (kind_of error) → ⊥)

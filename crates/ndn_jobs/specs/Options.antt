@@ -22,7 +22,7 @@ use Rattle.ndn_jobs.specs.Value.{IsNumber, IsHops, IsPort, AreOctets, IsPacket, 
 abbrev pub rows_in : ArgMatches → List Row
 rows_in options = rows_of (found_of options)
 
--- the value of an option, if it is given
+-- the first value of an option, or None if the option has no value
 abbrev pub value_at : List Row → List ℕ → Option (List ℕ)
 value_at rows id = first_of id rows
 

@@ -15,11 +15,12 @@ is_repository_verb word =
     bytes_eq word (codes "insert") || bytes_eq word (codes "delete")
     || bytes_eq word (codes "check")
 
--- the word is a verb of a repository
+-- `verb` is the word, and the word is `insert`, `delete` or `check`
 abbrev pub IsRepositoryVerb : List ℕ → List ℕ → Type 0
 IsRepositoryVerb word verb = (verb ≡ word) × (is_repository_verb word ≡ true)
 
--- the name of the command: the repository's prefix, and the verb as one component after it
+-- the name of the command: the prefix of the repository and then the verb as one component, with at
+-- most 64 components in all
 pub record IsRepositoryName (rows : List Row) (name : List Field) : Type 0 where
   pub verb : List ℕ
   pub prefix : List Field

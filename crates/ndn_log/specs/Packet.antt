@@ -51,7 +51,8 @@ abbrev pub signer_of : Option PlainSignature → Option (List Field)
 signer_of None = None
 signer_of (Some signature) = named_by signature.info.locator
 
--- the name of the key in a packet's KeyLocator, or None if there is none
+-- the name of the key in the KeyLocator of a packet; None if there is no frame, no signature, or no
+-- name in the KeyLocator
 abbrev pub key_of : Option PlainFrame → Option (List Field)
 key_of frame = signer_of (signature_in frame)
 

@@ -12,13 +12,13 @@ IsDateText nanosecond text =
     (shown : DateTime) × (civil_nanos shown ≡ nanosecond)
     × (text ≡ datetime_text false 84 (Some 3) shown ++ codes "Z")
 
--- the text of a time in milliseconds since 1970: a date and time, or the number if the time has no
--- date
+-- the text of a time in milliseconds since 1970: its date and time in UTC or, if it is after
+-- 9999-12-30T22:00:00.999Z, the number
 pub record IsTimeText (moment : ℕ) (text : List ℕ) : Type 0 where
   pub dated : moment ≤ LAST_DATED → IsDateText (pos moment *ℤ pos 1_000_000) text
   pub undated : LAST_DATED < moment → text ≡ decimal moment
 
--- the text of a date and time was appended
+-- the text of the date and time that is this many nanoseconds after the start of 1970 was appended
 abbrev pub IsDatePut : ℤ → List ℕ → List ℕ → Type 0
 IsDatePut nanosecond old new = (text : List ℕ) × IsDateText nanosecond text × (new ≡ old ++ text)
 

@@ -15,18 +15,18 @@ face_words face (Some endpoint) =
 abbrev pub plural_of : ℕ → List ℕ
 plural_of count = if count == 1 then [] else codes "s"
 
--- a count with its noun
+-- a count and its noun, with an `s` at its end unless the count is 1
 abbrev pub counted : ℕ → List ℕ → List ℕ
 counted count noun = decimal count ++ (codes " " ++ (noun ++ plural_of count))
 
--- the first octets in hexadecimal, or nothing if there are no octets
+-- the first 32 octets in hexadecimal, or nothing if there are no octets
 abbrev pub beginning_words : List ℕ → List ℕ
 beginning_words [] = []
 beginning_words (o ∷ octets) =
     codes " beginning " ++ encode_lower (take SHOWN_OCTETS (o ∷ octets))
 
--- the words for a truncated packet: a packet of more than 9,000 octets is truncated to 9,001
--- octets, so there may be more octets
+-- the words ` or more` if there are 9,001 octets, otherwise nothing: a packet of more than 9,000
+-- octets is truncated to 9,001 octets
 abbrev pub more_words : ℕ → List ℕ
 more_words count = if count == CUT_OCTETS then codes " or more" else []
 

@@ -10,8 +10,8 @@ use Rattle.ndn_names.specs.declared.fault.NameFault.{NameFault}
 use Rattle.ndn_names.specs.declared.fault.NameFault.TheVariants.{BadUri}
 use Rattle.ndn_names.specs.UriReading.{octets_in, hex_in}
 
--- the value that a text encodes; of the octets that a text with percent escapes encodes, only the
--- first `len` are the value
+-- The value that the text of a component encodes, or the fault of a text that cannot be decoded. If
+-- the text has percent escapes, only the first `len` octets that it encodes are the value.
 abbrev pub value_in : ℕ → ValueText → Result (List ℕ) NameFault
 value_in len (Plain octets) = Ok octets.now
 value_in len (Escaped text) = do
@@ -26,8 +26,8 @@ abbrev pub IsTextOf : Field → ComponentText → Type 0
 IsTextOf c text =
     (text.kind ≡ c.0) × (text.len ≡ length c.1) × (value_in text.len text.value ≡ Ok c.1)
 
--- the octets that a text encodes one after the other, or the fault `BadUri` for a number, which
--- does not encode single octets
+-- The octets that a text encodes one after the other, or the fault of a text that cannot be
+-- decoded. A number does not encode single octets, and has the fault `BadUri`.
 abbrev pub octets_said : ValueText → Result (List ℕ) NameFault
 octets_said (Plain octets) = Ok octets.now
 octets_said (Escaped text) = octets_in text.now
@@ -39,7 +39,8 @@ abbrev pub SaysFirst : ValueText → List ℕ → Type 0
 SaysFirst value octets =
     (said : List ℕ) × (octets_said value ≡ Ok said) × (take (length octets) said ≡ octets)
 
--- if the text is a number, `octets` begins with the shortest encoding of this number
+-- if the text is a number, `octets` begins with the shortest encoding of this number; for every
+-- other text nothing is required
 abbrev pub IsNumberIn : List ℕ → ValueText → Type 0
 IsNumberIn octets (Number n) = take (length (shortest_nni n)) octets ≡ shortest_nni n
 IsNumberIn octets (Plain text) = ⊤

@@ -24,8 +24,9 @@ abbrev pub FindsFirst : ℕ → List Field → Option FirstOfType → Type 0
 FindsFirst kind cs None = NoneOfType kind cs
 FindsFirst kind cs (Some first) = IsFirstOfType kind cs first
 
--- `first` is the search result after one more component of the type is read: this component if none
--- was found before, otherwise the component that was found before, which is then not the only one
+-- `first` is the search result after one more component of the type is read. If a component was
+-- found before, the result is that component, marked as not the only one. Without an earlier one,
+-- the result is the new component, marked as the only one.
 abbrev pub Further : Option FirstOfType → List ℕ → Bool → FirstOfType → Type 0
 Further None value is_last first =
     (first.value.now ≡ value) × (first.is_only ≡ true) × (first.is_last ≡ is_last)

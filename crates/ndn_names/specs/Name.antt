@@ -7,8 +7,8 @@ use Rattle.ndn_tlv.specs.Element.{Field, IsField, element, IsElements}
 use Rattle.ndn_tlv.specs.Reading.{elements_of}
 use Rattle.ndn_names.specs.declared.component_type.TheConstants.{PARAMETERS_SHA256_DIGEST}
 
--- A component has a type from 1 to 65535, and a value. The value of a digest, which has type 1 or
--- 2, has 32 octets.
+-- A valid component has a type from 1 to 65535. If its type is at most 2, it is a digest, and its
+-- value has 32 octets.
 abbrev pub IsComponent : Field → Type 0
 IsComponent c = (1 ≤ c.0) × (c.0 < 65536) × (c.0 ≤ PARAMETERS_SHA256_DIGEST → length c.1 ≡ 32)
 

@@ -15,7 +15,8 @@ DiffersBelow {X} Below a b =
 abbrev pub IsProperPrefix : {X : Type 0} → List X → List X → Type 0
 IsProperPrefix {X} a b = (y : X) × (after : List X) × (b ≡ a ++ y ∷ after)
 
--- the order of two lists of octets that have equal length: the first octet that differs decides
+-- after a common prefix of `a` and `b`, the next octet of `a` is less than that of `b`; for values
+-- of equal length this is their order
 abbrev pub OctetsLess : List ℕ → List ℕ → Type 0
 OctetsLess a b = DiffersBelow ◌<◌ a b
 

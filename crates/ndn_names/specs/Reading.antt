@@ -7,15 +7,16 @@ use Rattle.ndn_names.specs.declared.component_type.TheConstants.{PARAMETERS_SHA2
 use Rattle.ndn_names.specs.declared.fault.NameFault.{NameFault}
 use Rattle.ndn_names.specs.declared.fault.NameFault.TheVariants.{BadComponent, BadDigestLength, TooManyComponents, Memory}
 
--- the field `c` if it is a valid component, otherwise the fault
+-- The field `c` if it is a valid component. The fault is `BadComponent` if its type is not from 1
+-- to 65535, and `BadDigestLength` if a digest does not have 32 octets.
 abbrev pub component_of : Field → Result Field NameFault
 component_of c =
     if (c.0 == 0) || nat_lt 65535 c.0 then Err BadComponent else (
     if nat_le c.0 PARAMETERS_SHA256_DIGEST && not (length c.1 == 32) then Err BadDigestLength
     else Ok c)
 
--- the element if it is a valid component, otherwise the fault; an element that cannot be read has
--- the fault `BadComponent`
+-- the element if it is a valid component, otherwise the fault that `component_of` returns; an
+-- element that cannot be read has the fault `BadComponent`
 abbrev pub component_at : Result Field TlvFault → Result Field NameFault
 component_at (Err fault) = Err BadComponent
 component_at (Ok c) = component_of c

@@ -40,11 +40,13 @@ StandsFor text (o ∷ octets) =
 abbrev pub IsValueText : List ℕ → List ℕ → Type 0
 IsValueText text value = StandsFor text (padded value)
 
--- the piece contains no equals sign, and is the text of the value of a GenericNameComponent
+-- `c` is a GenericNameComponent; the piece contains no equals sign, and is the text of the value of
+-- `c`
 abbrev pub IsGeneric : List ℕ → Field → Type 0
 IsGeneric piece c = AllByRecursion (λ o. o ≢ 61) piece × (c.0 ≡ GENERIC) × IsValueText piece c.1
 
--- the piece is a type number without leading zeros, an equals sign, and the text of the value
+-- the piece is the type number of `c` without leading zeros, from 1 to 65535, an equals sign, and
+-- the text of the value of `c`
 abbrev pub IsTyped : List ℕ → Field → Type 0
 IsTyped piece c =
     (text : List ℕ) × (piece ≡ decimal c.0 ++ 61 ∷ text) × (1 ≤ c.0) × (c.0 < 65536)
@@ -77,9 +79,10 @@ ReadsEach [] (c ∷ cs) = ⊥
 ReadsEach (piece ∷ pieces) [] = ⊥
 ReadsEach (piece ∷ pieces) (c ∷ cs) = ReadsComponent piece c × ReadsEach pieces cs
 
--- The text reads as the name with these components. It may begin with the scheme and end with a
--- slash. A piece that reads as a component is never empty and never contains a slash, so the text
--- can be split in only one way.
+-- The text is a path with a slash before the piece of each component, or a single slash if there is
+-- no component. The components form a valid name. The scheme `ndn:` may come before the path, and
+-- one slash after it. A piece that reads as a component is never empty and never contains a slash,
+-- so the text can be split in only one way.
 abbrev pub ReadsAs : List ℕ → List Field → Type 0
 ReadsAs text cs =
     (start end : List ℕ) × (pieces : List (List ℕ)) × (text ≡ start ++ (path_of pieces ++ end))

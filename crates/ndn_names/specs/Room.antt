@@ -1,7 +1,8 @@
 -- Spare capacity in tables with one row for each name or signer.
 use Rattle.std.specs.Prelude.{ℕ, ◌<◌, Option, None, Some}
 
--- if a call is prepared, the table has capacity for one more row
+-- if `prepared` is present, the capacity of the table is greater than `len`, the number of its
+-- rows; if it is absent, nothing is required
 abbrev pub HasRoom : {X : Type 0} → ℕ → ℕ → Option X → Type 0
 HasRoom len capacity None = Unit {0}
 HasRoom len capacity (Some prepared) = len < capacity

@@ -35,14 +35,14 @@ abbrev pub plain_text : Field → List ℕ
 plain_text c =
     if c.0 == GENERIC then value_text c.1 else decimal c.0 ++ (codes "=" ++ value_text c.1)
 
--- the text of a component of a type whose values are numbers: the type name, an equals sign and the
--- number, or `plain_text` if the value is not a shortest NonNegativeInteger encoding
+-- The text of a component of a type whose values are numbers: the type name, an equals sign and the
+-- number. If the value is not the shortest encoding of a number (`None`), the text is `plain_text`.
 abbrev pub number_text : List ℕ → Field → Option ℕ → List ℕ
 number_text type_name c (Some n) = type_name ++ (codes "=" ++ decimal n)
 number_text type_name c None = plain_text c
 
--- the text of a component, given the type name of its type, if there is one; the value of a
--- digest, which has type 1 or 2, is written in hexadecimal digits
+-- The text of a component, given the type name of its type. Without a type name it is `plain_text`.
+-- The value of a digest, which has type 1 or 2, is written in hexadecimal digits.
 abbrev pub text_by_type_name : Field → Option (List ℕ) → List ℕ
 text_by_type_name c None = plain_text c
 text_by_type_name c (Some type_name) =
@@ -62,6 +62,6 @@ path_of (piece ∷ pieces) = flat_map (λ p. codes "/" ++ p) (piece ∷ pieces)
 abbrev pub AreOctets : List Field → Type 0
 AreOctets cs = AllByRecursion (λ c. AllByRecursion (λ o. o < 256) c.1) cs
 
--- the text of the name with these components
+-- the URI text of the name with these components, without the scheme
 abbrev pub uri_of : List Field → List ℕ
 uri_of cs = path_of (map component_text cs)

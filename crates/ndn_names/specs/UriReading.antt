@@ -15,7 +15,7 @@ use Rattle.ndn_names.specs.Reading.{component_of}
 use Rattle.ndn_names.specs.TypeName.{kind_of}
 use Rattle.ndn_names.specs.Uri.{is_periods}
 
--- the octet that two hexadecimal digits encode
+-- the octet that two hexadecimal digits encode, or the fault `BadUri` if one of them is not a digit
 abbrev pub pair_in : ℕ → ℕ → Result ℕ NameFault
 pair_in high low =
     if nat_lt (digit_value high) 16 && nat_lt (digit_value low) 16
@@ -27,7 +27,8 @@ before o others = do
   octets ← others
   Ok (o ∷ octets)
 
--- the octets that hexadecimal digits encode
+-- the octets that hexadecimal digits encode, or the fault `BadUri` if the text is not pairs of such
+-- digits
 abbrev pub hex_in : List ℕ → Result (List ℕ) NameFault
 hex_in [] = Ok []
 hex_in (high ∷ []) = Err BadUri
@@ -35,7 +36,8 @@ hex_in (high ∷ low ∷ text) = do
   o ← pair_in high low
   before o (hex_in text)
 
--- the octets that a text with percent escapes encodes
+-- the octets that a text with percent escapes encodes, or the fault `BadUri` if two hexadecimal
+-- digits do not follow a percent sign
 abbrev pub octets_in : List ℕ → Result (List ℕ) NameFault
 octets_in [] = Ok []
 octets_in (a ∷ []) = if a == 37 then Err BadUri else Ok (a ∷ [])
@@ -47,26 +49,29 @@ octets_in (a ∷ b ∷ c ∷ text) =
     else before a (octets_in (b ∷ c ∷ text))
 
 -- the value whose text encodes these octets: if all octets are periods, three of them are removed,
--- and fewer than three are a fault
+-- and fewer than three have the fault `BadUri`
 abbrev pub unpadded : List ℕ → Result (List ℕ) NameFault
 unpadded octets =
     if not (is_periods octets) then Ok octets else (
     if nat_lt (length octets) 3 then Err BadUri else Ok (take (length octets - 3) octets))
 
--- the component of this type with the value that the text encodes
+-- the component of type `kind` with the value that the text encodes, or a fault if the text is not
+-- valid or the component is not
 abbrev pub plain_in : ℕ → List ℕ → Result Field NameFault
 plain_in kind text = do
   octets ← octets_in text
   value ← unpadded octets
   component_of (kind, value)
 
--- the number below 2^64 that a text represents in decimal digits, without a sign
+-- the number below 2^64 that a text represents in decimal digits, without a sign, or the fault
+-- `BadUri`
 abbrev pub number_in : List ℕ → Result ℕ NameFault
 number_in text =
     if all_ascii_digits text && (nat_lt 0 (length text) && nat_lt (digits_value 10 text) (2 ^ 64))
     then Ok (digits_value 10 text) else Err BadUri
 
--- the type number from 1 to 65535 that a text represents in decimal digits, without leading zeros
+-- the type number from 1 to 65535 that a text represents in decimal digits, without leading zeros,
+-- or the fault `BadUri`
 abbrev pub type_in : List ℕ → Result ℕ NameFault
 type_in type_name = do
   kind ← number_in type_name
@@ -83,8 +88,8 @@ numbered_in kind text = do
   n ← number_in text
   Ok (kind, shortest_nni n)
 
--- the component whose text is `type_name`, an equals sign and `text`; the last argument is the
--- component type that has this type name, if there is one
+-- the component whose text is `type_name`, an equals sign and `text`, or a fault; the last argument
+-- is the component type that has this type name, if there is one
 abbrev pub typed_in : List ℕ → List ℕ → Option ℕ → Result Field NameFault
 typed_in type_name text (Some kind) =
     if nat_le kind PARAMETERS_SHA256_DIGEST then digest_in kind text else numbered_in kind text
@@ -106,11 +111,11 @@ abbrev pub component_by_cut : List ℕ → Option (List ℕ × List ℕ) → Res
 component_by_cut piece None = plain_in GENERIC piece
 component_by_cut piece (Some parts) = typed_in parts.0 parts.1 (kind_of parts.0)
 
--- the component that a piece reads as
+-- the component that a piece of a URI reads as, or a fault
 unfoldable pub component_in : List ℕ → Result Field NameFault
 component_in piece = component_by_cut piece (cut_at 61 piece)
 
--- the component that a text reads as, or a fault if the text contains a slash
+-- the component that a text reads as, or a fault, which is `BadUri` if the text contains a slash
 abbrev pub piece_in : List ℕ → Result Field NameFault
 piece_in text = if list_any (λ o. o == 47) text then Err BadUri else component_in text
 
@@ -128,7 +133,7 @@ abbrev pub at_front : ℕ → List (List ℕ) → List (List ℕ)
 at_front o [] = (o ∷ []) ∷ []
 at_front o (piece ∷ pieces) = (o ∷ piece) ∷ pieces
 
--- the pieces between slashes; after a slash at the end there is no piece
+-- the pieces of a text between its slashes; after a slash at the end there is no piece
 abbrev pub pieces_of : List ℕ → List (List ℕ)
 pieces_of [] = []
 pieces_of (o ∷ text) = if o == 47 then [] ∷ pieces_of text else at_front o (pieces_of text)
@@ -146,7 +151,7 @@ abbrev pub name_in_path : List ℕ → Result (List Field) NameFault
 name_in_path [] = Err BadUri
 name_in_path (o ∷ text) = if o == 47 then name_after_slash text else Err BadUri
 
--- the name that a text reads as
+-- the name that a URI reads as, or the first fault
 unfoldable pub name_in : List ℕ → Result (List Field) NameFault
 name_in text = name_in_path (without_scheme text)
 
@@ -170,7 +175,7 @@ AreCounted read count =
     (octets : List ℕ) × (read ≡ Ok octets) × (count.0 ≡ length octets)
     × (count.1 ≡ is_periods octets)
 
--- `len` is the number of octets in the value: all of `octets`, or three fewer if they are periods
--- only
+-- the value whose text encodes `octets` consists of their first `len` octets: all of them, or all
+-- but three if they are periods only
 abbrev pub AreLeft : List ℕ → ℕ → Type 0
 AreLeft octets len = (unpadded octets ≡ Ok (take len octets)) × (len ≡ length (take len octets))

@@ -18,13 +18,15 @@ Answers name digest asked can_be_prefix =
     (asked ≡ name) ⊎ ((asked ≡ full_name name digest)
     ⊎ ((can_be_prefix ≡ true) × (IsPrefix asked name ⊎ IsPrefix asked (full_name name digest))))
 
--- the cases of `Answers` that need no digest
+-- a Data of this name answers the Interest whatever its digest: the Interest's name is the Data's
+-- name, or, with CanBePrefix, a prefix of it
 abbrev pub AnswersByName : List Field → List Field → Bool → Type 0
 AnswersByName name asked can_be_prefix =
     (asked ≡ name) ⊎ ((can_be_prefix ≡ true) × IsPrefix asked name)
 
--- the implicit digest that the Interest's name requires: its last component, if the components
--- before it are the Data's name
+-- The implicit digest that the Interest's name requires: the last component of this name, if the
+-- components before it are the Data's name. It is `None` if the Interest's name is not a full name
+-- of the Data.
 abbrev pub AsksFor : List Field → List Field → Option (List ℕ) → Type 0
 AsksFor name asked None = (digest : List ℕ) → asked ≡ full_name name digest → ⊥
 AsksFor name asked (Some digest) = asked ≡ full_name name digest
@@ -35,7 +37,7 @@ begins_with [] b = true
 begins_with (c ∷ a) [] = false
 begins_with (c ∷ a) (d ∷ b) = eq_by_cmp component_cmp c d && begins_with a b
 
--- `Answers` as a test
+-- whether a Data with this name and digest answers the Interest: `Answers` as a test
 unfoldable pub answers : List Field → List ℕ → List Field → Bool → Bool
 answers name digest asked can_be_prefix =
     eq_by_cmp name_cmp asked name

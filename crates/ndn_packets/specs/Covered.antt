@@ -23,7 +23,8 @@ pub record IsCut (kind : ℕ) (octets before from : List ℕ) : Type 0 where
   pub octets_are : octets ≡ before ++ from
 
 -- The octets from the first element of type `kind` on, if it is among the first `n` elements, where
--- `n` is the first argument.
+-- `n` is the first argument. The result is `None` if there is no such element, or if an element
+-- before it cannot be read.
 unfoldable pub from_within : ℕ → ℕ → List ℕ → Option (List ℕ)
 from_within zero kind octets = None
 from_within (suc n) kind octets =
@@ -66,7 +67,7 @@ pub record CoversInterest (name : List Field) (text first second : List ℕ) : T
   pub second_is : second ≡ to_info ++ to_signature
 
 -- The octets that the signature of a packet covers, in two parts. The second part is empty for a
--- Data.
+-- Data. A Nack and a frame without a packet have no covered octets.
 abbrev pub Covered : PlainFrame → List ℕ → List ℕ → Type 0
 Covered (AnInterest whole i) first second = CoversInterest i.name whole first second
 Covered (AData whole d) first second = CoversData whole first × (second ≡ [])
@@ -79,21 +80,21 @@ abbrev pub AreParts : PlainFrame → Option Parts → Type 0
 AreParts packet None = (first second : List ℕ) → Covered packet first second → ⊥
 AreParts packet (Some parts) = Covered packet parts.first.now parts.second.now
 
--- the last component is a digest of parameters
+-- the last component of the name is a digest of parameters
 abbrev pub EndsInDigest : List Field → Type 0
 EndsInDigest name =
     (front : List Field) × (digest : List ℕ)
     × (name ≡ front ++ (PARAMETERS_SHA256_DIGEST, digest) ∷ [])
 
--- `covered` are the octets of a Data's value before an element SignatureValue with the value
--- `value`.
+-- `text` is one element of type Data. `covered` are the octets of its TLV-VALUE before a
+-- SignatureValue whose value is `value`.
 abbrev pub EndsBeforeValue : List ℕ → List ℕ → List ℕ → Type 0
 EndsBeforeValue value text covered =
     (after : List ℕ) × IsElement text DATA (covered ++ (element (SIGNATURE_VALUE, value) ++ after))
 
--- The two parts in an Interest of this name. The first part is all components before the digest of
--- parameters, which is the last component. The second part begins where the octets that this digest
--- covers begin, and ends before the element of the signature's value.
+-- `text` is one element of type Interest. `first` is all components of `name` before the digest of
+-- parameters, which is the last component. `second` begins where the octets that this digest covers
+-- begin, and ends before an InterestSignatureValue whose value is `value`.
 pub record EndsAtSignature (name : List Field) (value text first second : List ℕ) : Type 0 where
   pub components : List Field
   pub early : List ℕ
@@ -116,8 +117,9 @@ abbrev pub HoldsSecond : List Field → List ℕ → Option (List ℕ) → Type 
 HoldsSecond name text None = (first second : List ℕ) → CoversInterest name text first second → ⊥
 HoldsSecond name text (Some second) = (first : List ℕ) × CoversInterest name text first second
 
--- `from_parameters` begins at the first ApplicationParameters. `from_value` begins at the first
--- InterestSignatureValue that follows the first InterestSignatureInfo after these parameters.
+-- `from_parameters` begins at the first ApplicationParameters in the octets. `from_value` begins at
+-- the first InterestSignatureValue that follows the first InterestSignatureInfo after these
+-- parameters.
 abbrev pub IsSignedAt : List ℕ → List ℕ → List ℕ → Type 0
 IsSignedAt octets from_parameters from_value =
     (from_info : List ℕ)
@@ -125,8 +127,8 @@ IsSignedAt octets from_parameters from_value =
     × (from_first INTEREST_SIGNATURE_INFO from_parameters ≡ Some from_info)
     × (from_first INTEREST_SIGNATURE_VALUE from_info ≡ Some from_value)
 
--- the octets from the ApplicationParameters up to the InterestSignatureValue, if there is a
--- signature and the digest is the last component
+-- the octets of `from_parameters` before `from_value`, or `None` if the Interest has no signature
+-- or its digest of parameters is not the last component of its name
 abbrev pub second_part : Option PlainSignature → Option FirstOfType → List ℕ → List ℕ
     → Option (List ℕ)
 second_part None digest from_parameters from_value = None

@@ -20,15 +20,17 @@ ignored_by rules.SignatureInfo = is_ignored_in_signature_info
 abbrev pub fields_left : FieldReader → List (Result Field PacketFault)
 fields_left f = fields_from (ignored_by f.rules) f.schema.now (elements_of f.rest.now)
 
--- a step returns the first of the remaining fields, the end or a fault
+-- a step from `before` to `after` returns the first of the remaining fields, `None` if no field
+-- remains, or the fault that is the only remaining item
 abbrev pub IsNextField : FieldReader → FieldReader → Result (Option Element) PacketFault → Type 0
 IsNextField before after (Ok None) = fields_left before ≡ []
 IsNextField before after (Ok (Some e)) =
     fields_left before ≡ Ok (e.kind, e.value.now) ∷ fields_left after
 IsNextField before after (Err fault) = fields_left before ≡ Err fault ∷ []
 
--- The position of the field `e` that the reader just returned. `here` is the octets from `e` on. No
--- element that was skipped before `e` has a type that could still come.
+-- The reader just returned the field `e`. `after.here` is the octets from `e` on. `schema` is the
+-- schema after `e`. For each type that could come next before this step, the octets from the first
+-- element of this type on are equal in `before.rest` and in `after.here`.
 pub record StandsHere (before after : FieldReader) (e : Element) : Type 0 where
   pub here : Ok ((e.kind, e.value.now), after.rest.now) ≡ element_at after.here.now
   pub schema : schema_after e.kind before.schema.now ≡ Some after.schema.now

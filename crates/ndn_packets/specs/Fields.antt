@@ -40,7 +40,9 @@ info_schema =
 abbrev pub needs_previous_field : ℕ → Bool
 needs_previous_field kind = kind == INTEREST_SIGNATURE_INFO || kind == INTEREST_SIGNATURE_VALUE
 
--- a field of type `kind` may come next in the schema, and the types in `later` may come after it
+-- A field of type `kind` may come next, where `schema` lists the types that may still come. `later`
+-- are the types after `kind` in `schema`. A type that needs the previous field must be the first in
+-- `schema`.
 abbrev pub Counts : ℕ → List ℕ → List ℕ → Type 0
 Counts kind later schema =
     (front : List ℕ) × (schema ≡ front ++ kind ∷ later) × AllByRecursion (λ k. k ≢ kind) front

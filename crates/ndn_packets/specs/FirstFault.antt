@@ -26,8 +26,9 @@ AllPass {S} take ignores schema s elements plain t =
     (elements ≡ map (λ e. Ok e) plain)
     × ((later : List ℕ) × Passes take ignores schema s plain later t)
 
--- The fault of the next element. An element that cannot be read is reported first, then a type that
--- is neither a field's nor ignored, then a fault in the value.
+-- The fault of the next element. An element that cannot be read has the fault `Tlv`. An element
+-- that is neither a field nor ignored has the fault `CriticalUnknown`. A field has the fault that
+-- `take` returns for it.
 abbrev pub HasFault : {S : Type 0} → (S → Field → Result S PacketFault) → (ℕ → Bool) → List ℕ → S
     → Result Field TlvFault → PacketFault → Type 0
 HasFault take ignores schema s (Err unreadable) fault = fault ≡ Tlv unreadable

@@ -16,7 +16,8 @@ use Rattle.ndn_packets.specs.declared.types.TheConstants.{DATA, FRAGMENT, FRAG_C
 
 -- ---- packets
 
--- The octets are not exactly one element: no element can be read, or octets follow it.
+-- The octets are not exactly one element. `fault` is the fault of an element that cannot be read,
+-- or `BadField` if octets follow the element.
 abbrev pub OuterFault : List ℕ → PacketFault → Type 0
 OuterFault text fault =
     ((unreadable : TlvFault) × (element_at text ≡ Err unreadable) × (fault ≡ Tlv unreadable))
@@ -39,7 +40,8 @@ NoInterest text e fault = LongOr text fault (InterestFault (elements_of e.1) fau
 abbrev pub NoData : List ℕ → Field → PacketFault → Type 0
 NoData text e fault = LongOr text fault (DataFault (elements_of e.1) fault)
 
--- the octets `text`, which are the element `e`, are no valid packet because of this fault
+-- The octets `text`, which are the element `e`, are no valid packet because of this fault. If `e`
+-- is neither an Interest nor a Data, the fault is `BadField`.
 abbrev pub NoPacket : List ℕ → Field → PacketFault → Type 0
 NoPacket text e fault =
     ((e.0 ≡ INTEREST) × NoInterest text e fault)
@@ -48,7 +50,8 @@ NoPacket text e fault =
 
 -- ---- link packets
 
--- The Fragment's content has a fault. With a Nack the content must be an Interest.
+-- The octets `text` of a Fragment, which are the element `e`, have this fault. With a Nack, an
+-- element that is not an Interest has the fault `BadField`.
 abbrev pub NoneInside : Option ℕ → List ℕ → Field → PacketFault → Type 0
 NoneInside None text e fault = NoPacket text e fault
 NoneInside (Some reason) text e fault =
@@ -71,7 +74,8 @@ IsRefused before h =
     ⊎ (((h.0 ≡ PIT_TOKEN) × ((length h.1 < 1) ⊎ (32 < length h.1)))
     ⊎ ((IsKnown h.0 → ⊥) × (is_ignored_header h.0 ≡ false)))
 
--- the value is not a number, or is a number above the limit
+-- the value is not a number and the fault is `BadField`, or it is a number above the limit and the
+-- fault is `Fragmented`
 abbrev pub IsAbove : ℕ → List ℕ → PacketFault → Type 0
 IsAbove limit value fault =
     (IsErr (nni_at value) × (fault ≡ BadField))
@@ -91,7 +95,8 @@ HeaderFault before h fault =
     (IsRefused before h × (fault ≡ LpField))
     ⊎ ((IsRefused before h → ⊥) × HeaderValueFault h fault)
 
--- the fault of an element after a Fragment, where no element may follow
+-- the fault of the first element after a Fragment, where no element may follow: `Tlv` if it cannot
+-- be read, or `LpField`; without such an element there is no fault
 abbrev pub FollowerFault : List (Result Field TlvFault) → PacketFault → Type 0
 FollowerFault [] fault = ⊥
 FollowerFault (Err unreadable ∷ after) fault = fault ≡ Tlv unreadable

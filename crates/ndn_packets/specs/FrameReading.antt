@@ -14,28 +14,31 @@ use Rattle.ndn_packets.specs.declared.types.TheConstants.{DATA, FRAGMENT, FRAG_C
 
 -- ---- packets
 
--- the element, if a text is exactly one element
+-- the element, if a text is exactly one element; the fault is `BadField` if octets follow the
+-- element, and `Tlv` if no element can be read
 abbrev pub only_element : List ℕ → Result Field PacketFault
 only_element text =
     on_result (λ x. if is_nil x.1 then Ok x.0 else Err BadField) (λ f. Err (Tlv f))
     (element_at text)
 
--- the next two definitions: the Interest, or the Data, of the octets `text`, which are one element
--- with this value
+-- The next two definitions: the Interest, or the Data, of the octets `text`, which are one element
+-- with this value, or its fault. More than 8,800 octets have the fault `TooLong`.
 abbrev pub interest_of : List ℕ → List ℕ → Result PlainInterest PacketFault
 interest_of text value = if nat_lt 8800 (length text) then Err TooLong else interest_at value
 
 abbrev pub data_of : List ℕ → List ℕ → Result PlainData PacketFault
 data_of text value = if nat_lt 8800 (length text) then Err TooLong else data_at value
 
--- the packet in the octets `text`, which are the element `outer`
+-- the packet in the octets `text`, which are the element `outer`, or its fault; an element that is
+-- neither an Interest nor a Data has the fault `BadField`
 abbrev pub packet_of : List ℕ → Field → Result PlainFrame PacketFault
 packet_of text outer =
     if outer.0 == INTEREST then (interest_of text outer.1 >>= λ i. Ok (AnInterest text i)) else (
     if outer.0 == DATA then (data_of text outer.1 >>= λ d. Ok (AData text d)) else
     Err BadField)
 
--- the Interest of a Nack, in octets which are the element `outer`
+-- the Nack with this reason for the Interest in the octets `text`, which are the element `outer`,
+-- or a fault; any other element has the fault `BadField`
 abbrev pub nacked_of : ℕ → List ℕ → Field → Result PlainFrame PacketFault
 nacked_of reason text outer =
     if outer.0 == INTEREST then (interest_of text outer.1 >>= λ i. Ok (ANack reason text i))
@@ -43,7 +46,8 @@ nacked_of reason text outer =
 
 -- ---- link packets
 
--- the NackReason of a Nack
+-- the reason in a field NackReason, or the fault `BadField` if its value is not a number; the
+-- earlier reason is replaced
 abbrev pub take_nack_field : ℕ → Field → Result ℕ PacketFault
 take_nack_field reason f = nni_value_at f.1
 
@@ -82,11 +86,12 @@ is_refused_header s h =
     if h.0 == NACK then is_some s.nack else
     not (is_ignored_header h.0)))))
 
--- the value must be a number that is at most `limit`
+-- the state `s` if the value is a number that is at most `limit`; the fault is `BadField` if it is
+-- not a number, and `Fragmented` if it is greater
 abbrev pub at_most : ℕ → List ℕ → LinkSoFar → Result LinkSoFar PacketFault
 at_most limit value s = nni_value_at value >>= λ n. if nat_lt limit n then Err Fragmented else Ok s
 
--- the state after one more header field, which is not refused
+-- the state after one more header field, which is not refused, or the fault of its value
 abbrev pub with_header : LinkSoFar → Field → Result LinkSoFar PacketFault
 with_header s h =
     if h.0 == SEQUENCE then Ok (record s { sequence = true }) else (
@@ -99,23 +104,25 @@ with_header s h =
 abbrev pub take_header : LinkSoFar → Field → Result LinkSoFar PacketFault
 take_header s h = if is_refused_header s h then Err LpField else with_header s h
 
--- the packet in a Fragment; with the reason of a Nack, the packet must be an Interest
+-- the packet in a Fragment, or its fault; with the reason of a Nack, the packet must be an Interest
 abbrev pub fragment_at : Option ℕ → List ℕ → Result PlainFrame PacketFault
 fragment_at None text = only_element text >>= packet_of text
 fragment_at (Some reason) text = only_element text >>= nacked_of reason text
 
--- the content of a link packet, or a fault if an element follows the Fragment
+-- the content `framed` of a link packet, or a fault if an element follows the Fragment: `Tlv` if
+-- this element cannot be read, or `LpField`
 abbrev pub last_of : PlainFramed → List (Result Field TlvFault) → Result PlainFramed PacketFault
 last_of framed [] = Ok framed
 last_of framed (Err f ∷ elements) = Err (Tlv f)
 last_of framed (Ok e ∷ elements) = Err LpField
 
--- the content of a link packet without a Fragment; without a Fragment, a Nack is a fault
+-- the content of a link packet without a Fragment; if it has a Nack, the fault is `BadField`
 abbrev pub no_fragment : Option (List ℕ) → Option ℕ → Result PlainFramed PacketFault
 no_fragment token None = Ok (framed_with token Idle)
 no_fragment token (Some reason) = Err BadField
 
--- the content of a link packet whose header fields so far gave the state `s`
+-- the content of a link packet, or its first fault, where the header fields read so far gave the
+-- state `s`, and the elements are the remaining ones
 abbrev pub link_from : LinkSoFar → List (Result Field TlvFault) → Result PlainFramed PacketFault
 link_from s [] = no_fragment s.token s.nack
 link_from s (Err f ∷ elements) = Err (Tlv f)
@@ -129,18 +136,19 @@ link_at value = link_from no_headers_yet (elements_of value)
 
 -- ---- frames
 
--- the content of the octets `text`, which are the element `outer`
+-- the content of the octets `text`, which are the element `outer`, or the first fault
 abbrev pub outer_of : List ℕ → Field → Result PlainFramed PacketFault
 outer_of text outer =
     if outer.0 == LINK_PACKET then link_at outer.1
     else (packet_of text outer >>= λ frame. Ok (framed_with None frame))
 
--- the frame in a text, with its PIT token
+-- the frame in a text, with its PIT token, or the first fault; more than 9,000 octets have the
+-- fault `TooLong`
 unfoldable pub framed_at : List ℕ → Result PlainFramed PacketFault
 framed_at text =
     if nat_lt 9000 (length text) then Err TooLong else (only_element text >>= outer_of text)
 
--- the frame in a text, without its PIT token
+-- the frame in a text, without its PIT token, or the first fault
 unfoldable pub frame_at : List ℕ → Result PlainFrame PacketFault
 frame_at text = framed_at text >>= λ framed. Ok framed.frame
 

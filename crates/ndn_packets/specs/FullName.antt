@@ -58,6 +58,6 @@ pub record IsFullName (full : List ℕ) : Type 0 where
   pub whole : full ≡ octets_of (full_name_in full)
   pub fields : AllByRecursion IsField (full_name_in full)
 
--- the name and the digest in the octets
+-- the name and the digest in the octets of a full name
 abbrev pub shown : List ℕ → PlainFullName
 shown full = record { name = name_in full; digest = digest_in full }

@@ -25,17 +25,18 @@ pub record IsPacket (text : List ℕ) (kind : ℕ) (ignores : ℕ → Bool) (sch
   pub short : length text ≤ 8800
   pub octets : (i : ℕ) → slice_index text i < 256
 
--- an optional NonNegativeInteger
+-- if there is a value, it encodes the number n as a NonNegativeInteger; without a value, n is
+-- `None`
 abbrev pub IsNumber : Option (List ℕ) → Option ℕ → Type 0
 IsNumber None n = n ≡ None
 IsNumber (Some value) n = (k : ℕ) × IsNni value k × (n ≡ Some k)
 
--- an optional value of one octet
+-- if there is a value, it is one octet, and n is this octet; without a value, n is `None`
 abbrev pub IsOctet : Option (List ℕ) → Option ℕ → Type 0
 IsOctet None n = n ≡ None
 IsOctet (Some value) n = (k : ℕ) × (value ≡ k ∷ []) × (n ≡ Some k)
 
--- the value of a KeyLocator is exactly one Name
+-- the value of a KeyLocator is exactly one Name, which is the valid name `name`
 abbrev pub NamesKey : List ℕ → List Field → Type 0
 NamesKey value name =
     (name_value : List ℕ) × IsElement value NAME name_value × IsNameValue name_value name
@@ -44,7 +45,8 @@ NamesKey value name =
 abbrev pub DigestsKey : List ℕ → Type 0
 DigestsKey value = (digest : List ℕ) × IsElement value KEY_DIGEST digest
 
--- an optional KeyLocator, and its plain data
+-- The plain data of an optional KeyLocator with this value. A value that is neither exactly one
+-- valid Name nor exactly one KeyDigest is `Other`.
 abbrev pub IsLocator : Option (List ℕ) → PlainLocator → Type 0
 IsLocator None locator = locator ≡ Missing
 IsLocator (Some value) Missing = ⊥
@@ -142,7 +144,8 @@ pub record IsInterest (text : List ℕ) (i : PlainInterest) : Type 0 where
   pub digested : IsDigested i.name fields.elements i.parameters
   pub signature : IsSigned info_value signature_value i.signature
 
--- the freshness that an optional MetaInfo gives, which is 0 if there is no MetaInfo
+-- the freshness that an optional MetaInfo gives, which is 0 if there is no MetaInfo; a MetaInfo
+-- must be valid
 abbrev pub IsFreshness : Option (List ℕ) → ℕ → Type 0
 IsFreshness None freshness = freshness ≡ 0
 IsFreshness (Some value) freshness = IsMetaInfo value freshness

@@ -14,8 +14,9 @@ use Rattle.ndn_packets.specs.declared.types.TheConstants.{HOP_LIMIT}
 abbrev pub HasHopLimit : List ℕ → ℕ → Type 0
 HasHopLimit text limit = (i : PlainInterest) × IsInterest text i × (i.hop_limit ≡ Some limit)
 
--- The index of the HopLimit's octet in an Interest, or the length of the text if there is no
--- HopLimit. The octet is the third of its element, after the type and the length.
+-- The index in the Interest `text` of the octet of its HopLimit, where `from` is the octets from
+-- the HopLimit element on. It is the third octet of this element, after the type and the length.
+-- Without a HopLimit, the result is the length of `text`.
 abbrev pub place_from : List ℕ → Option (List ℕ) → ℕ
 place_from text None = length text
 place_from text (Some from) = (length text - length from) + 2

@@ -10,7 +10,8 @@ use Rattle.ndn_packets.specs.Fields.{Fields, is_even_high}
 use Rattle.ndn_packets.specs.Grammar.{IsNumber, IsInterest, IsData}
 use Rattle.ndn_packets.specs.declared.types.TheConstants.{FRAGMENT, FRAG_COUNT, FRAG_INDEX, LINK_PACKET, NACK, NACK_REASON, PIT_TOKEN, SEQUENCE}
 
--- the header fields that this profile knows: Sequence, FragIndex, FragCount, PitToken and Nack
+-- the types of the header fields that this profile knows: Sequence, FragIndex, FragCount, PitToken
+-- and Nack
 abbrev pub known_headers : List ℕ
 known_headers = SEQUENCE ∷ FRAG_INDEX ∷ FRAG_COUNT ∷ PIT_TOKEN ∷ NACK ∷ []
 
@@ -33,7 +34,9 @@ pub record IsNack (text : List ℕ) (reason : ℕ) : Type 0 where
 abbrev pub IsToken : List ℕ → Type 0
 IsToken token = (1 ≤ length token) × (length token ≤ 32)
 
--- A valid header field. FragIndex and FragCount must say that the packet is the only fragment.
+-- A valid header field. FragIndex must be 0, and FragCount at most 1. A PitToken has 1 to 32
+-- octets, and a Nack is valid. Any Sequence is valid. Every other field must be one that is
+-- ignored.
 abbrev pub IsHeader : Field → Type 0
 IsHeader h =
     (h.0 ≡ SEQUENCE)
@@ -89,6 +92,6 @@ IsFrameWith text token Idle = IsLinkPacket text token None None
 abbrev pub IsFramed : List ℕ → PlainFramed → Type 0
 IsFramed text framed = IsFrameWith text framed.token framed.frame
 
--- a frame with any PIT token or without one
+-- the text is this frame, with any PIT token or without one
 abbrev pub IsFrame : List ℕ → PlainFrame → Type 0
 IsFrame text frame = (token : Option (List ℕ)) × IsFrameWith text token frame

@@ -13,7 +13,7 @@ use Rattle.ndn_packets.specs.Reading.{take_info_field, no_info_yet, InfoSoFar, t
 use Rattle.ndn_packets.specs.FirstFault.{FirstFault, AllPass}
 use Rattle.ndn_packets.specs.declared.types.TheConstants.{NAME}
 
--- All elements of a SignatureInfo pass, but none is a SignatureType.
+-- All elements of a SignatureInfo pass, but none is a SignatureType. The fault is `BadField`.
 pub record InfoEndsWrong (elements : List (Result Field TlvFault))
     (fault : PacketFault) : Type 0 where
   pub plain : List Field
@@ -35,8 +35,8 @@ pub record Leads (elements : List (Result Field TlvFault)) (name : List Field)
   pub front : elements ≡ Ok (NAME, value) ∷ later
   pub name_is : name_at value ≡ Ok name
 
--- The elements do not begin with a valid Name: there is no element, or the first one cannot be
--- read, is not a Name, or has a value that is not a name.
+-- The elements do not begin with a valid Name. The fault is `NoName` if there is no element or the
+-- first one is not a Name, `Tlv` if it cannot be read, and `BadField` if its value is not a name.
 abbrev pub NameFault : List (Result Field TlvFault) → PacketFault → Type 0
 NameFault [] fault = fault ≡ NoName
 NameFault (Err unreadable ∷ later) fault = fault ≡ Tlv unreadable
@@ -44,7 +44,9 @@ NameFault (Ok e ∷ later) fault =
     ((e.0 ≢ NAME) × (fault ≡ NoName))
     ⊎ ((e.0 ≡ NAME) × IsErr (name_at e.1) × (fault ≡ BadField))
 
--- the fault of the digests of parameters in a name, where `elements` follow the name
+-- The fault of the digests of parameters in a name, where `elements` follow the name. Without
+-- parameters, a digest is `DigestWithout`. With parameters, no digest is `DigestMissing`. A wrong
+-- digest or a second one is `DigestWrong`.
 abbrev pub DigestFault : List Field → List Field → Option (List ℕ) → PacketFault → Type 0
 DigestFault name elements None fault = (digests_in name ≢ []) × (fault ≡ DigestWithout)
 DigestFault name elements (Some parameters) fault =
@@ -53,7 +55,7 @@ DigestFault name elements (Some parameters) fault =
     × (fault ≡ DigestWrong))
 
 -- All elements after the Name pass, but the Nonce is missing, or the digests of parameters have a
--- fault. A missing Nonce is reported before a fault of the digests.
+-- fault. A missing Nonce is reported before a fault of the digests, as `NoNonce`.
 pub record InterestEndsWrong (name : List Field) (later : List (Result Field TlvFault))
     (fault : PacketFault) : Type 0 where
   pub plain : List Field
@@ -63,8 +65,8 @@ pub record InterestEndsWrong (name : List Field) (later : List (Result Field Tlv
   pub faulty : ((taken.nonce ≡ None) × (fault ≡ NoNonce))
       ⊎ ((taken.nonce ≢ None) × DigestFault name plain taken.parameters fault)
 
--- The fault of an Interest that begins with a Name: the Name is empty, or the elements after the
--- Name have this fault.
+-- The fault of an Interest that begins with a Name. It is `NoName` if the name is empty. The
+-- elements after a nonempty name have the fault.
 abbrev pub AfterInterestName : List Field → List (Result Field TlvFault) → PacketFault → Type 0
 AfterInterestName name later fault =
     ((name ≡ []) × (fault ≡ NoName))
@@ -78,7 +80,8 @@ InterestFault elements fault =
     ⊎ ((name : List Field) × (later : List (Result Field TlvFault)) × Leads elements name later
     × AfterInterestName name later fault)
 
--- All elements after the Name pass, but there is no SignatureInfo or no SignatureValue.
+-- All elements after the Name pass, but there is no SignatureInfo or no SignatureValue. The fault
+-- is `BadField`.
 pub record DataEndsWrong (later : List (Result Field TlvFault)) (fault : PacketFault) : Type 0 where
   pub plain : List Field
   pub taken : DataSoFar

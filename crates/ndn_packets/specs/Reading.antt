@@ -17,7 +17,7 @@ use Rattle.ndn_packets.specs.Fields.{is_even_high, is_ignored_in_meta_info, is_i
 use Rattle.ndn_packets.specs.Packet.{digests_in, PlainLocator, Missing, KeyName, Digest, Other, PlainSignatureInfo, PlainSignature, PlainInterest, PlainData}
 use Rattle.ndn_packets.specs.declared.types.TheConstants.{APPLICATION_PARAMETERS, CAN_BE_PREFIX, CONTENT, CONTENT_TYPE, FRESHNESS_PERIOD, HOP_LIMIT, INTEREST_LIFETIME, INTEREST_SIGNATURE_INFO, INTEREST_SIGNATURE_VALUE, KEY_DIGEST, KEY_LOCATOR, META_INFO, MUST_BE_FRESH, NAME, NONCE, SIGNATURE_INFO, SIGNATURE_SEQ_NUM, SIGNATURE_TIME, SIGNATURE_TYPE}
 
--- the types of a schema after the type `kind`, if a field of type `kind` may come next
+-- the types after `kind` in the schema, or `None` if a field of type `kind` may not come next
 abbrev pub schema_after : ℕ → List ℕ → Option (List ℕ)
 schema_after kind [] = None
 schema_after kind (first ∷ schema) =
@@ -25,7 +25,8 @@ schema_after kind (first ∷ schema) =
     else (if needs_previous_field kind then None else schema_after kind schema)
 
 -- The fields of a schema among the elements, in the schema's order. The list ends with the
--- elements, or with the first element that cannot be read or is refused.
+-- elements, or with the fault of the first element that cannot be read or is neither a field nor
+-- ignored.
 abbrev pub fields_from : (ℕ → Bool) → List ℕ → List (Result Field TlvFault)
     → List (Result Field PacketFault)
 fields_from ignores schema [] = []
@@ -42,18 +43,21 @@ read_fields take s [] = Ok s
 read_fields take s (Err f ∷ fields) = Err f
 read_fields take s (Ok f ∷ fields) = take s f >>= λ t. read_fields take t fields
 
--- the value of the first element, which must be a Name, and the elements after it
+-- the value of the first element, which must be a Name, and the elements after it; the fault is
+-- `Tlv` if this element cannot be read, and `NoName` if it is absent or another one
 abbrev pub name_first : List (Result Field TlvFault)
     → Result (List ℕ × List (Result Field TlvFault)) PacketFault
 name_first [] = Err NoName
 name_first (Err f ∷ elements) = Err (Tlv f)
 name_first (Ok e ∷ elements) = if e.0 == NAME then Ok (e.1, elements) else Err NoName
 
--- the components of a value that is a name
+-- the components of the name with this TLV-VALUE, or the fault `BadField` if the value is not a
+-- name
 abbrev pub name_value_at : List ℕ → Result (List Field) PacketFault
 name_value_at value = on_result (λ name. Ok name) (λ _. Err BadField) (name_at value)
 
--- the name in the first element, which must be a Name, and the elements after it
+-- the name in the first element, which must be a Name, and the elements after it, or the fault of
+-- this element
 abbrev pub leading_name_at : List (Result Field TlvFault)
     → Result (List Field × List (Result Field TlvFault)) PacketFault
 leading_name_at elements = do
@@ -65,7 +69,7 @@ abbrev pub is_nil : {A : Type 0} → List A → Bool
 is_nil [] = true
 is_nil (x ∷ xs) = false
 
--- the number in a value that is a NonNegativeInteger
+-- the number that a value encodes as a NonNegativeInteger, or the fault `BadField`
 abbrev pub nni_value_at : List ℕ → Result ℕ PacketFault
 nni_value_at value = on_result (λ n. Ok n) (λ _. Err BadField) (nni_at value)
 
@@ -73,8 +77,9 @@ abbrev pub found_or : {A : Type 0} → PacketFault → Option A → Result A Pac
 found_or fault None = Err fault
 found_or fault (Some x) = Ok x
 
--- Reads a field of a MetaInfo. Only a FreshnessPeriod changes the result. A ContentType must be a
--- number. The only other type that is possible here is 26 (FinalBlockId).
+-- The freshness after a field of a MetaInfo is read, or the fault `BadField`. Only a
+-- FreshnessPeriod changes the freshness. A ContentType must be a number. The only other type that
+-- is possible here is 26 (FinalBlockId).
 abbrev pub take_meta_field : ℕ → Field → Result ℕ PacketFault
 take_meta_field freshness f =
     if f.0 == CONTENT_TYPE then (nni_value_at f.1 >>= λ _. Ok freshness) else (
@@ -85,8 +90,8 @@ meta_at value =
     read_fields take_meta_field 0
     (fields_from is_ignored_in_meta_info meta_schema (elements_of value))
 
--- the key that a KeyLocator names, given the first element of its value; if other octets follow
--- this element, the result is `Other`
+-- The plain data of a KeyLocator, given the first element `e` of its value and the octets after it.
+-- If octets follow, or `e` is neither a valid Name nor a KeyDigest, the result is `Other`.
 abbrev pub locator_of : Field → List ℕ → PlainLocator
 locator_of e rest =
     if not (is_nil rest) then Other else (
@@ -144,7 +149,7 @@ no_fields_yet = record {
   value = None;
 }
 
--- the octet in a value of one octet
+-- the octet in a value of one octet, or the fault `BadField` if the value has another length
 abbrev pub octet_at : List ℕ → Result ℕ PacketFault
 octet_at [] = Err BadField
 octet_at (k ∷ []) = Ok k
@@ -183,7 +188,8 @@ parameters_on (Ok e ∷ elements) =
 abbrev pub octets_of_read : List (Result Field TlvFault) → List ℕ
 octets_of_read elements = flat_map element (filter_map result_ok elements)
 
--- the fault of the digests of parameters in a name, where `right` is the correct digest
+-- the fault of the digests of parameters in a name, where `right` is the correct digest, or `None`
+-- if they have no fault
 abbrev pub digest_fault : Option (List ℕ) → List Field → List ℕ → Option PacketFault
 digest_fault None [] right = None
 digest_fault None (d ∷ digests) right = Some DigestWithout
@@ -193,7 +199,7 @@ digest_fault (Some parameters) (d ∷ []) right =
 digest_fault (Some parameters) (d ∷ e ∷ digests) right = Some DigestWrong
 
 -- the fault of the digests of parameters in a name, given only the first of these digests, where
--- `right` is the correct digest
+-- `right` is the correct digest, or `None` if they have no fault
 abbrev pub fault_by : Option (List ℕ) → Option FirstOfType → List ℕ → Option PacketFault
 fault_by None None right = None
 fault_by None (Some first) right = Some DigestWithout

@@ -79,7 +79,8 @@ abbrev pub interest_value : InterestWriter → Sign → List ℕ
 interest_value w signed =
     value_of signed (octets (components w.name) ++ octets (covered_fields w signed))
 
--- the fields from the ApplicationParameters on
+-- the fields of an Interest from the ApplicationParameters on; there are none without a signature
+-- and without parameters
 abbrev pub later_fields : InterestWriter → Option Sign → List Field
 later_fields w None = optional APPLICATION_PARAMETERS (option_map (λ p. p.now) w.parameters)
 later_fields w (Some signed) =
@@ -136,7 +137,9 @@ SignsInterest w signed =
 abbrev pub is_bad_name : List Field → Bool
 is_bad_name name = is_nil name || not (is_nil (digests_in name))
 
--- why an Interest is refused, if it is refused; a lack of memory is not considered
+-- Why an Interest is refused, or `None`. `BadName`: the name is empty or has a digest of
+-- parameters. `TooLong`: more than 64 components or 8,800 octets. A lack of memory is not
+-- considered.
 abbrev pub interest_refusal : InterestWriter → Option WriteFault
 interest_refusal w =
     if is_bad_name (components w.name) then Some BadName else (
@@ -199,7 +202,7 @@ fields_asked w = signed_fields w.sign (components w.name) (meta_asked w) (conten
 abbrev pub data_text : DataWriter → List ℕ
 data_text w = signed_data w.sign (components w.name) (meta_asked w) (content_asked w)
 
--- the Data with this name, FreshnessPeriod, MetaInfo and Content
+-- the signed Data with this name, FreshnessPeriod, MetaInfo and Content
 abbrev pub plain_data_of : Sign → List Field → ℕ → Option (List ℕ) → Option (List ℕ) → PlainData
 plain_data_of signed name freshness meta content =
     record {
@@ -217,7 +220,8 @@ data_asked w =
     plain_data_of w.sign (components w.name) (unwrap_or w.freshness 0) (meta_asked w)
     (content_asked w)
 
--- why a Data is refused, if it is refused; a lack of memory is not considered
+-- why a Data is refused: `TooLong` if it has more than 8,800 octets, or `None`; a lack of memory is
+-- not considered
 abbrev pub data_refusal : DataWriter → Option WriteFault
 data_refusal w = if nat_lt 8800 (length (data_text w)) then Some TooLong else None
 
@@ -334,6 +338,7 @@ pub record SoundInterest (w : InterestWriter) : Type 0 where
 
 -- ---- a name before its digest is known
 
--- the name with zeros in place of the digest
+-- the name of an Interest with 32 zeros in place of its digest of parameters, if it has such a
+-- digest
 abbrev pub zeroed_name : InterestWriter → List Field
 zeroed_name w = name_with (replicate 32 0) (components w.name) (later_fields w w.sign)

@@ -68,7 +68,8 @@ suits action p =
     && list_all (λ kind. has kind (kinds p)) (row_of action).needs
     && not (is_root p.name && not (row_of action).takes_root)
 
--- the command that these parameters ask for
+-- the command that these parameters ask for; without the parameter, the face, the origin and the
+-- cost are 0, and the flags are child-inherit
 abbrev pub asked_of : Action → Parameters → PlainCommand
 asked_of action p = record {
   action = action;

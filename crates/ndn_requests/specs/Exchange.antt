@@ -42,7 +42,8 @@ IsRequest name nonce packet =
     (w : InterestWriter) × AsksPlainly name nonce w × (interest_refusal w ≡ None)
     × (packet ≡ interest_text w)
 
--- why an Interest with this name and Nonce cannot be written
+-- why an Interest with this name and Nonce and no other fields cannot be written, or that memory
+-- ran out
 abbrev pub IsNoRequest : List Field → List ℕ → WriteFault → Type 0
 IsNoRequest name nonce Memory = ⊤
 IsNoRequest name nonce why =
@@ -76,8 +77,9 @@ IsProgress view request datagram (Some outcome) progress =
 
 -- ---- an exchange for the segments of a list
 
--- the next segment is requested, or the table is complete; the first argument tells whether there
--- is a next segment
+-- The Content of the Data is appended to the contents so far. The first argument tells whether
+-- there is a next segment. If there is one, it is requested; otherwise the exchange is over, with
+-- the table of the list.
 abbrev pub IsStepped : Bool → Exchange → NodeList → ℕ → List ℕ → PlainData → Exchange → Progress
     → Type 0
 IsStepped true old list segment nonce d new progress =
@@ -87,7 +89,8 @@ IsStepped true old list segment nonce d new progress =
 IsStepped false old list segment nonce d new progress =
     IsDone (table list (old.contents.items ++ unwrap_or d.content [])) (Ok tt) progress
 
--- a Data that is the requested segment advances the exchange; any other Data is ignored
+-- The effect of a Data, given the number of its segment and the number of the last segment. The
+-- Data advances the exchange; if the numbers are None, the Data is ignored.
 abbrev pub IsPlaced : Option (ℕ × ℕ) → Exchange → NodeList → List ℕ → PlainData → Exchange
     → Progress → Type 0
 IsPlaced None old list nonce d new progress = (new ≡ old) × (progress ≡ Ignored)
@@ -119,8 +122,9 @@ IsTurned None old list datagram new progress = (new ≡ old) × (progress ≡ Ig
 IsTurned (Some turn) old list datagram new progress =
     IsListed old list turn (frame_at datagram) new progress
 
--- the effect of a datagram on a list exchange, given the outcome that the datagram has for the
--- request
+-- The effect of a datagram on a list exchange, given the outcome that the datagram has for the
+-- request. Without an outcome, the datagram is ignored. If the outcome is a failure, the exchange
+-- is over. If it is a success, the datagram may have a segment.
 abbrev pub IsSegment : Option Outcome → Exchange → NodeList → List ℕ → Exchange → Progress → Type 0
 IsSegment None old list datagram new progress = (new ≡ old) × (progress ≡ Ignored)
 IsSegment (Some (Err failure)) old list datagram new progress =
@@ -146,7 +150,8 @@ IsTakenBy view old book datagram new progress =
 abbrev pub IsTaken : Exchange → List NamedKey → List ℕ → Exchange → Progress → Type 0
 IsTaken old book datagram new progress = IsTakenBy old.view old book datagram new progress
 
--- The Interest for the next segment cannot be written, or memory ran out.
+-- memory ran out, or `frame` is a Data, and an Interest for a segment of the list in the Data
+-- cannot be written for the reason `why`
 abbrev pub IsNextRefusal : WriteFault → Result PlainFrame PacketFault → Type 0
 IsNextRefusal Memory frame = ⊤
 IsNextRefusal why (Ok (AData whole d)) =

@@ -15,16 +15,17 @@ abbrev pub list_name : NodeList → List Field
 list_name Routes = node_path (codes "fib") (codes "list")
 list_name Strategies = node_path (codes "strategy-choice") (codes "list")
 
--- The number of a segment and the number of the last segment, or None if one of them is missing.
--- If `is_first` is true, the Interest asks for the first segment, and any other segment gives
--- None too.
+-- The number of a segment and the number of the last segment, or None if one of them is missing. If
+-- `is_first` is true, the Interest asks for the first segment, and the result is also None for a
+-- segment whose number is not 0.
 abbrev pub in_turn : Bool → Option ℕ → Option ℕ → Option (ℕ × ℕ)
 in_turn is_first (Some segment) (Some last) =
     if is_first && not (segment == 0) then None else Some (segment, last)
 in_turn is_first segment last = None
 
--- the number of the segment in a Data with this name and these octets, and the number of the last
--- segment, or None as in `in_turn`
+-- The number of the segment in a Data with this name and these octets, and the number of the last
+-- segment. It is None if one of them is missing, or if `is_first` is true and the segment does not
+-- have the number 0.
 abbrev pub place_of : Bool → List Field → List ℕ → Option (ℕ × ℕ)
 place_of is_first name whole = in_turn is_first (segment_of name) (last_segment whole)
 

@@ -54,8 +54,8 @@ repository_fields p =
     ∷ (flag CAN_BE_PREFIX p.can_be_prefix
     ++ number INTEREST_LIFETIME p.lifetime)
 
--- the parameters of a command with this name: those of the node if the name is under
--- `/localhost/nfd`, and otherwise those of a repository
+-- the parameters of a command with this name, as an element: ControlParameters if the name is under
+-- `/localhost/nfd`, otherwise RepoCommandParameter
 abbrev pub parameters_element : List Field → Parameters → List ℕ
 parameters_element name p =
     if is_of_node name

@@ -30,8 +30,8 @@ Outcome = Result Unit Failure
 
 -- ---- statuses
 
--- the StatusCode in a Content that is a single element of the type `response`, or None if the
--- Content has none
+-- The number in the first field of the type `kind` in a Content that is a single element of the
+-- type `response`. It is None if there is no such element, field or number.
 abbrev pub code_in : ℕ → ℕ → List ℕ → Option ℕ
 code_in response kind content =
     option_and_then (λ value. result_ok (nni_at value))
@@ -58,13 +58,15 @@ is_of_repository name = has_repository_fields (slice_get name (length name - 2))
 abbrev pub done_if : Bool → Outcome
 done_if is_done = if is_done then Ok tt else Err Refused
 
--- the outcome of a command on routes, strategies or the cache, given the status in the reply
+-- the outcome of a command on routes, strategies or the cache, given the status in the reply; only
+-- status 200 is a success
 abbrev pub node_outcome : Option ℕ → Outcome
 node_outcome None = Err NoStatus
 node_outcome (Some code) = done_if (code == 200)
 
--- the outcome of a command to a repository, given the status in the reply; status 100 in the reply
--- to an insert is a success too, since the repository then waits for the Data
+-- The outcome of a command to a repository, given the status in the reply. Status 200 is a success.
+-- Status 100 is a success too if the command is an insert, since the repository then waits for the
+-- Data.
 abbrev pub repository_outcome : List Field → Option ℕ → Outcome
 repository_outcome name None = Err NoStatus
 repository_outcome name (Some code) = done_if (code == 200 || (code == 100 && is_insert name))
@@ -123,8 +125,8 @@ written_outcome name None = None
 written_outcome name (Some content) =
     if is_command name then Some (content_outcome name content) else None
 
--- the outcome of a request, given a received frame whose signature is checked with the keys of the
--- book
+-- the outcome of the request, given a received frame whose signature is checked with the keys of
+-- the book; None if the frame does not answer the request
 abbrev pub IsFrameJudged : PlainInterest → List NamedKey → PlainFrame → Option Outcome → Type 0
 IsFrameJudged asked book frame outcome =
     (check : Option TagCheck) × IsTagCheck frame book check
@@ -145,8 +147,8 @@ IsRequestJudged (Ok (ANack reason whole i)) book datagram outcome = outcome ≡ 
 IsRequestJudged (Ok Idle) book datagram outcome = outcome ≡ None
 IsRequestJudged (Err why) book datagram outcome = outcome ≡ None
 
--- The outcome of the request, which is an Interest, given a received datagram; None if the datagram
--- does not answer the Interest.
+-- The outcome of a request, given a received datagram. It is None if the request is not an Interest
+-- or the datagram does not answer the Interest.
 abbrev pub IsJudged : List ℕ → List NamedKey → List ℕ → Option Outcome → Type 0
 IsJudged request book datagram outcome = IsRequestJudged (frame_at request) book datagram outcome
 
@@ -165,7 +167,8 @@ long_lines (Ok (ANack reason whole i)) datagram = []
 long_lines (Ok Idle) datagram = []
 long_lines (Err why) datagram = []
 
--- the lines that `explain` prints for the datagram, also if it is a reply of more than 8,800 octets
+-- the lines that `explain` prints without keys for the datagram, also if the datagram is a reply of
+-- more than 8,800 octets to this request; otherwise no lines
 abbrev pub explained_lines : List ℕ → List ℕ → Result PlainFrame PacketFault → List ℕ
 explained_lines request datagram (Ok frame) = explanation frame None
 explained_lines request datagram (Err why) = long_lines (frame_at request) datagram

@@ -7,11 +7,12 @@ use Rattle.ndn_tlv.specs.Number.{spelling}
 abbrev pub Field : Type 0
 Field = ℕ × List ℕ
 
--- the type is from 1 to 2^32 - 1, and the length of the value is below 2^64
+-- an element is valid: its type is from 1 to 2^32 - 1, and the length of its value is below 2^64
 abbrev pub IsField : Field → Type 0
 IsField f = (1 ≤ f.0) × (f.0 < 2 ^ 32) × (length f.1 < 2 ^ 64)
 
--- the octets of an element: its type, the length of its value, and its value
+-- the octets of an element: its type and the length of its value, each as a shortest VAR-NUMBER,
+-- and then its value
 abbrev pub element : Field → List ℕ
 element f = spelling f.0 ++ (spelling (length f.1) ++ f.1)
 
@@ -19,6 +20,6 @@ element f = spelling f.0 ++ (spelling (length f.1) ++ f.1)
 abbrev pub IsElement : List ℕ → ℕ → List ℕ → Type 0
 IsElement text kind value = IsField (kind, value) × (text ≡ element (kind, value))
 
--- the octets are the concatenation of these elements
+-- each of these elements is valid, and the octets are their concatenation
 abbrev pub IsElements : List ℕ → List Field → Type 0
 IsElements text fields = AllByRecursion IsField fields × (text ≡ flat_map element fields)

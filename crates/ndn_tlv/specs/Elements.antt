@@ -19,6 +19,7 @@ field_or_fault (Err f) = Err f
 abbrev pub octets_left : Elements → List ℕ
 octets_left s = s.rest.now
 
--- the elements that an iterator has not returned yet
+-- the elements that an iterator has not returned yet, up to the first fault, which is then the last
+-- item
 abbrev pub elements_left : Elements → List (Result Field TlvFault)
 elements_left s = elements_of (octets_left s)

@@ -8,14 +8,15 @@ use Rattle.ndn_tlv.specs.Element.{Field}
 abbrev pub Elements : Type 0
 Elements = List (Result Field TlvFault)
 
--- the value of the first field of type `kind`; the search ends at the first fault
+-- the value of the first element of type `kind`, or `None` if there is no such element before the
+-- first fault
 abbrev pub first_of : ℕ → Elements → Option (List ℕ)
 first_of kind [] = None
 first_of kind (Err fault ∷ es) = None
 first_of kind (Ok e ∷ es) = if e.0 == kind then Some e.1 else first_of kind es
 
--- the value of the only item in the list, if the list has exactly one item, and this item is an
--- element of type `kind`
+-- the value of the only item in the list, or `None` unless the list has exactly one item, which is
+-- an element of type `kind`
 abbrev pub single : ℕ → Elements → Option (List ℕ)
 single kind [] = None
 single kind (Err fault ∷ es) = None

@@ -2,8 +2,9 @@
 use Rattle.std.specs.Prelude.{◌≡◌, ℕ, ◌<◌, ◌≤◌, ◌^◌, ◌⊎◌, List, [], ◌∷◌, length, nat_lt, if◌then◌else◌}
 use Rattle.std.specs.Int.{w16, w32, w64, to_be_bytes}
 
--- The encodings of a number as a VAR-NUMBER: one octet for a number up to 252; or an octet 253, 254
--- or 255, followed by the number in 2, 4 or 8 octets in network order.
+-- The text encodes n as a VAR-NUMBER, which need not be the shortest. A number up to 252 may be one
+-- octet. Any number may be an octet 253, 254 or 255, followed by the number in 2, 4 or 8 octets in
+-- network order, if it fits.
 abbrev pub IsForm : List ℕ → ℕ → Type 0
 IsForm text n =
     ((n < 253) × (text ≡ n ∷ []))

@@ -13,16 +13,17 @@ abbrev pub ◌>>=◌ : {A B F : Type 0} → Result A F → (A → Result B F) �
 (Ok x) >>= f = f x
 (Err e) >>= f = Err e
 
--- The number that follows a first octet of 253, 254 or 255, and the octets after the number. The
--- result is the fault `Truncated` if octets of the number are missing, and `NotShortest` if the
--- number is below `least`.
+-- The number of width `w` at the front of `bytes`, which follow a first octet of 253, 254 or 255,
+-- and the octets after the number. The result is the fault `Truncated` if octets of the number are
+-- missing, and `NotShortest` if the number is below `least`.
 abbrev pub long_number_at : Width → ℕ → List ℕ → Result (ℕ × List ℕ) TlvFault
 long_number_at w least bytes =
     if nat_lt (length bytes) (byte_len w) then Err Truncated else (
     if nat_lt (from_be_bytes w (take (byte_len w) bytes)) least then Err NotShortest else
     Ok (from_be_bytes w (take (byte_len w) bytes), drop (byte_len w) bytes))
 
--- the VAR-NUMBER at the front, and the octets after it
+-- the VAR-NUMBER at the front of the octets, and the octets after it; or a fault, which is
+-- `Truncated` or `NotShortest`
 unfoldable pub number_at : List ℕ → Result (ℕ × List ℕ) TlvFault
 number_at [] = Err Truncated
 number_at (b ∷ bytes) =
@@ -31,7 +32,8 @@ number_at (b ∷ bytes) =
     if b == 254 then long_number_at w32 (2 ^ 16) bytes else
     long_number_at w64 (2 ^ 32) bytes))
 
--- the number that a value encodes as a NonNegativeInteger, or the fault `BadInteger`
+-- the number that a value encodes as a NonNegativeInteger, or the fault `BadInteger` if the value
+-- does not have 1, 2, 4 or 8 octets
 unfoldable pub nni_at : List ℕ → Result ℕ TlvFault
 nni_at value =
     if length value == 1 then Ok (slice_index value 0) else (
@@ -40,14 +42,16 @@ nni_at value =
     if length value == 8 then Ok (from_be_bytes w64 value) else
     Err BadInteger)))
 
--- the VAR-NUMBER at the front, if it is a valid type, and the octets after it
+-- The TLV-TYPE at the front of the octets, and the octets after it. The result is the fault of the
+-- number if it cannot be read, `TypeZero` for 0, and `TypeTooLarge` for a number from 2^32 on.
 abbrev pub type_at : List ℕ → Result (ℕ × List ℕ) TlvFault
 type_at bytes = do
   kind ← number_at bytes
   if kind.0 == 0 then Err TypeZero
       else (if nat_lt kind.0 (2 ^ 32) then Ok kind else Err TypeTooLarge)
 
--- the element at the front, and the octets after it
+-- the element at the front of the octets, and the octets after it, or the fault of its type or its
+-- length; the fault is `Truncated` if octets of its value are missing
 unfoldable pub element_at : List ℕ → Result (Field × List ℕ) TlvFault
 element_at bytes = do
   kind ← type_at bytes
@@ -59,8 +63,8 @@ abbrev pub on_result : {A F C : Type 0} → (A → C) → (F → C) → Result A
 on_result f g (Ok x) = f x
 on_result f g (Err e) = g e
 
--- the elements of a text in order, at most n of them, up to the first fault, which is then the last
--- item
+-- the elements of a text in order, up to the first fault, which is then the last item; the list has
+-- at most n items
 unfoldable pub elements_within : ℕ → List ℕ → List (Result Field TlvFault)
 elements_within zero bytes = []
 elements_within (suc n) [] = []
@@ -88,13 +92,15 @@ NumberFault bytes TypeZero = ⊥
 NumberFault bytes TypeTooLarge = ⊥
 NumberFault bytes BadInteger = ⊥
 
--- the octets begin with a valid TLV-TYPE, and the octets after it have the property `P`
+-- the octets begin with a valid TLV-TYPE in its shortest encoding, and the octets after this type
+-- have the property `P`
 abbrev pub AfterType : List ℕ → (List ℕ → Type 0) → Type 0
 AfterType bytes P =
     (text rest : List ℕ) × (kind : ℕ) × (bytes ≡ text ++ rest) × Spells text kind × (1 ≤ kind)
     × (kind < 2 ^ 32) × P rest
 
--- the octets begin with the length of a value, and fewer octets than this length follow it
+-- the octets begin with the length of a value in its shortest encoding, and fewer octets than this
+-- length follow
 abbrev pub IsCutValue : List ℕ → Type 0
 IsCutValue bytes =
     (text rest : List ℕ) × (n : ℕ) × (bytes ≡ text ++ rest) × Spells text n × (length rest < n)

@@ -10,17 +10,19 @@ use Rattle.ndn_tlv.specs.Element.{Field, element}
 abbrev pub octets : List Field → List ℕ
 octets fields = flat_map element fields
 
--- a list of one field if there is a value, otherwise the empty list
+-- a list of one field of type `kind` if there is a value, otherwise the empty list
 abbrev pub optional : ℕ → Option (List ℕ) → List Field
 optional kind None = []
 optional kind (Some value) = (kind, value) ∷ []
 
--- a flag: a field with an empty value, which is present if the flag is set
+-- a list of one field of type `kind` with an empty value if the flag is set, otherwise the empty
+-- list
 abbrev pub flag : ℕ → Bool → List Field
 flag kind true = (kind, []) ∷ []
 flag kind false = []
 
--- an optional field whose value is the shortest NonNegativeInteger encoding of a number
+-- a list of one field of type `kind` with the shortest NonNegativeInteger encoding of n, or the
+-- empty list if n is absent
 abbrev pub number : ℕ → Option ℕ → List Field
 number kind n = optional kind (option_map shortest_nni n)
 

@@ -22,7 +22,8 @@ IsFaultOfEntries octets why =
     (entries : List PlainEntry) × TreeOf octets entries
     × ((rules_in entries ≡ Err why) ⊎ (why ≡ memory_fault))
 
--- `why` is the fault of the text, or a Syntax fault at line 0 if the octets are not UTF-8
+-- `why` is a fault of the text or of its entries, or reports that memory ran out; if the octets are
+-- not UTF-8, it is a Syntax fault at line 0
 abbrev pub IsFaultOfRules : List ℕ → RulesFault → Type 0
 IsFaultOfRules octets why =
     (IsUtf8 octets × (IsTreeFaultOf (tree_in octets) why ⊎ IsFaultOfEntries octets why))

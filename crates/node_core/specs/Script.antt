@@ -23,7 +23,7 @@ joined lines = flat_map ended lines
 abbrev pub AreLines : List (List ℕ) → Type 0
 AreLines lines = AllByRecursion (Lacks 10) lines
 
--- the lines spell these events in order; skipped lines may lie between them
+-- each line is skipped or spells an event, and these are the events that the lines spell, in order
 abbrev pub SpellEvents : List (List ℕ) → List PlainEvent → Type 0
 SpellEvents [] [] = Unit {0}
 SpellEvents [] (event ∷ events) = ⊥
@@ -32,24 +32,24 @@ SpellEvents (line ∷ lines) (event ∷ events) =
     (IsSkipped line × SpellEvents lines (event ∷ events))
     ⊎ (IsEventLine event line × SpellEvents lines events)
 
--- A text begins with these lines, and `rest` follows them. The last line of the text may have no
--- LF: an LF is always appended. After a final LF, the appended LF only adds an empty line, which
--- is skipped.
+-- The text with an LF appended is these lines, each with its LF, and then `rest`. The appended LF
+-- ends a last line that has no LF. After a final LF, it adds an empty line, which a script skips.
 abbrev pub BeginsWithLines : List ℕ → List (List ℕ) → List ℕ → Type 0
 BeginsWithLines text lines rest = AreLines lines × (ended text ≡ joined lines ++ rest)
 
--- the text spells these events
+-- the lines of the text spell these events; the last line of the text may have no LF
 abbrev pub IsScript : List ℕ → List PlainEvent → Type 0
 IsScript text events =
     (lines : List (List ℕ)) × BeginsWithLines text lines [] × SpellEvents lines events
 
--- the first lines of the text spell these events
+-- these are the events of some first lines of the text, possibly of no line or of all lines
 abbrev pub BeginsWithEvents : List ℕ → List PlainEvent → Type 0
 BeginsWithEvents text events =
     (lines : List (List ℕ)) × (rest : List ℕ) × BeginsWithLines text lines rest
     × SpellEvents lines events
 
--- the whole lines of the text spell these events, and an unfinished line may follow them
+-- the lines of the text that end with an LF spell these events; octets without an LF may follow
+-- them
 abbrev pub IsScriptSoFar : List ℕ → List PlainEvent → Type 0
 IsScriptSoFar text events =
     (lines : List (List ℕ)) × (rest : List ℕ)
@@ -62,12 +62,14 @@ IsBadAt text n events =
     × BeginsWithLines text lines (ended line ++ rest) × Lacks 10 line × (n ≡ length lines + 1)
     × SpellEvents lines events × IsBadLine line
 
--- the text that is written for the events, if they are the first events of the node `first`
+-- The text of the outcomes of these events, which the node `first` handles in order. Memory may run
+-- out for some of the events. The answered events form a valid run, and the node after the events
+-- agrees with this run.
 pub record IsTextOfRun (first : NodeState) (events : List PlainEvent) (text : List ℕ) : Type 0 where
   pub outcomes : List Outcome
   pub last : NodeState
   pub runs : AreOutcomes first events outcomes last
   pub written : text ≡ script_text first.policy.rules events outcomes
-  -- the events and their answers form a valid run
+  -- the answered events, with their answers, form a valid run
   pub is_run : IsRun first.policy (run_from Start events outcomes)
   pub stands : Stands first.policy (run_from Start events outcomes) last

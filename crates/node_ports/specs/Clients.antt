@@ -12,17 +12,17 @@ pub record ClientsState : Type 0 where
   -- the idle time after which a face closes; without it, no face closes
   pub idle : Option ℕ
 
--- no datagram has arrived from the client for this time
+-- the last datagram of the client arrived at least `time` before `now`
 abbrev pub IsSilent : ℕ → ℕ → Client → Type 0
 IsSilent time now client = client.heard + time ≤ now
 
--- an idle time is set, and no datagram has arrived from the client for that time
+-- an idle time is set, and the last datagram of the client arrived at least that time before `now`
 abbrev pub IsIdle : Option ℕ → ℕ → Client → Type 0
 IsIdle None now client = ⊥
 IsIdle (Some idle) now client = IsSilent idle now client
 
--- an idle time is set, and the client has been silent long enough for its face to close to make
--- room for an endpoint without a face
+-- an idle time is set, and the client has been silent for at least 10 seconds, after which its face
+-- may close to make room for an endpoint without a face
 abbrev pub GivesWay : Option ℕ → ℕ → Client → Type 0
 GivesWay None now client = ⊥
 GivesWay (Some idle) now client = IsSilent GIVE_WAY_MILLISECONDS now client

@@ -1,5 +1,6 @@
 -- The endpoints that have faces, and what is done with a datagram: it arrives on its endpoint's
--- face, a face opens for its endpoint, or another face closes first.
+-- face, a face opens for its endpoint, or the face of a client closes first. This client may be the
+-- endpoint itself.
 use Rattle.std.specs.Prelude.{◌≡◌, ℕ, ◌+◌, ◌-◌, ◌<◌, ◌≤◌, ◌⊎◌, ◌==◌, List, [], ◌∷◌, ◌++◌, All, find, length, option_map, position, remove, slice_get, unwrap_or, Option, None, Some, if◌then◌else◌}
 use Rattle.std.specs.Option.{option_or}
 use Rattle.std.specs.declared.net.socket_addr.SocketAddr.{SocketAddr}
@@ -49,7 +50,8 @@ abbrev pub IsNewcomer : KnownEndpoints → SocketAddr → Type 0
 IsNewcomer before endpoint =
     (peer_place endpoint before ≡ None) × IsNoClient before.clients.rows endpoint
 
--- the next face opens for the endpoint, which becomes a client
+-- the face with the next number opens for the endpoint, which becomes a client whose last datagram
+-- arrived at `now`
 abbrev pub OpensNew : KnownEndpoints → KnownEndpoints → SocketAddr → ℕ → ℕ → Type 0
 OpensNew before after endpoint now face =
     (face ≡ before.next)
@@ -66,30 +68,31 @@ OpensNone before after face =
     (face ≡ unwrap_or before.refused before.next)
     × (after ≡ record before { next = one_more face; refused = Some face })
 
--- of the clients before the datagram, the one that has been silent longest is removed from
--- `rows`, and its face closes
+-- The face of the client that was silent longest before the datagram closes. The clients are then
+-- `rows` without this client.
 abbrev pub Closes : KnownEndpoints → List Client → KnownEndpoints → Client → ℕ → Type 0
 Closes before rows after client face =
     (place : ℕ) × IsSilentLongest before.clients.rows place client × (face ≡ client.face)
     × (after ≡ with_clients before (remove rows place))
 
--- no client is idle
+-- no client is idle (`IsIdle`) at the time `now`
 abbrev pub NoneIsIdle : KnownEndpoints → ℕ → Type 0
 NoneIsIdle before now =
     All (λ client. IsIdle before.clients.idle now client → ⊥) before.clients.rows
 
--- no client has been silent long enough for its face to close to make room for an endpoint without
--- a face
+-- no client has been silent long enough (`GivesWay`) for its face to close to make room for an
+-- endpoint without a face
 abbrev pub NoneGivesWay : KnownEndpoints → ℕ → Type 0
 NoneGivesWay before now =
     All (λ client. GivesWay before.clients.idle now client → ⊥) before.clients.rows
 
 -- What is done with a datagram from `endpoint`. If a client is idle, the face of the client that
 -- has been silent longest closes, whatever the endpoint. In this case, if the endpoint is a client
--- that is not idle, the time of its last datagram becomes `now`. If no client is idle, the datagram
--- arrives on the face of its endpoint. If the endpoint has no face and fewer than 64 endpoints are
--- known, a face opens for it. If it has no face and 64 endpoints are known, the face of a client
--- that gives way (`GivesWay`) closes; if no client gives way, no face closes and none opens.
+-- that is not idle, the time of its last datagram becomes `now`. If no client is idle and the
+-- endpoint has a face, the datagram arrives on this face. If no client is idle, the endpoint has no
+-- face, and fewer than 64 endpoints are known, a face opens for it. If 64 are known, the face of
+-- the client that has been silent longest closes, if this client gives way (`GivesWay`). If no
+-- client gives way, no face closes and none opens.
 abbrev pub Meets : KnownEndpoints → KnownEndpoints → SocketAddr → ℕ → Met → Type 0
 Meets before after endpoint now (Face face) =
     NoneIsIdle before now × Knows before after endpoint now face

@@ -30,8 +30,8 @@ cut_to size (FaceDown face now) = FaceDown face now
 cut_to size (Tick now) = Tick now
 cut_to size (NewRules rules keys now) = NewRules rules keys now
 
--- The first of the events to come arrived, with its packet truncated to this size, or there was no
--- event to come. If the events to come are not known, nothing is stated about the event.
+-- `event` is the first of the events to come, with its packet truncated to this size, or None if no
+-- event was to come. If the events to come are not known, nothing is stated about `event`.
 abbrev pub Gives : Option (List PlainEvent) → Option (List PlainEvent) → ℕ → Option PlainEvent
     → Type 0
 Gives None new size event = new ≡ None

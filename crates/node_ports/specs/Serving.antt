@@ -34,8 +34,9 @@ abbrev pub HasEnded : Option (List PlainEvent) → Type 0
 HasEnded None = ⊤
 HasEnded (Some events) = events ≡ []
 
--- These events were the first of the events to come, each with its packet truncated to this size,
--- and the remaining events are still to come.
+-- `events` were the first of the events to come, each with its packet truncated to this size, and
+-- the others are still to come. If the events to come are not known, nothing is stated about
+-- `events`.
 abbrev pub GivesAll : Option (List PlainEvent) → Option (List PlainEvent) → ℕ → List PlainEvent
     → Type 0
 GivesAll None new size events = new ≡ None
@@ -50,7 +51,7 @@ AreSendsTaken (sent ∷ sends) failed taken =
     ((rest : List Send) × (taken ≡ sent ∷ rest) × AreSendsTaken sends failed rest)
     ⊎ ((fewer : ℕ) × (failed ≡ fewer + 1) × AreSendsTaken sends fewer taken)
 
--- the count of failures after n further failures
+-- the count of failures after n further failures, at most the greatest u64
 abbrev pub count_after : ℕ → ℕ → ℕ
 count_after count zero = count
 count_after count (suc n) = one_more (count_after count n)
@@ -69,8 +70,9 @@ refused_count [] = 0
 refused_count (Answered answer ∷ outcomes) = refused_count outcomes
 refused_count (NoMemory ∷ outcomes) = refused_count outcomes + 1
 
--- Let the old node agree with a valid run, and let `before` be the text of this run's journal.
--- Then `after` is the text of the journal of this run, extended by the events and outcomes.
+-- Let the old node agree with a valid run from a policy at time 0, and let `before` be the text of
+-- this run's journal. Then `after` is the text of the journal of this run, extended by the answered
+-- events.
 abbrev pub KeepsJournal : NodeState → Option (List ℕ) → List PlainEvent → List Outcome
     → Option (List ℕ) → Type 0
 KeepsJournal old before events outcomes after =
@@ -81,7 +83,9 @@ KeepsJournal old before events outcomes after =
     × IsJournalOf first (run_from past events outcomes) longer
     × IsTextOf longer longer_text × (after ≡ Some longer_text)
 
--- one event arrived and had this outcome, and `failed` of its sends failed
+-- One event arrived and had this outcome, `failed` of its sends failed, and the port accepted the
+-- others. The journal and each run of the node are extended as `KeepsJournal` and `ExtendsRuns`
+-- state.
 pub record Handles (old new : NodeState) (before after : Shown) (done_as : Outcome)
     (failed : ℕ) : Type 0 where
   pub event : PlainEvent
@@ -124,14 +128,16 @@ pub record FailsNext (before after : Shown) : Type 0 where
   pub journal : after.journal ≡ before.journal
   pub failures : after.failures ≡ one_more before.failures
 
--- no event was still to come, and nothing changed
+-- nothing changed, and no event was still to come if the events to come are known
 pub record EndsNext (before after : Shown) : Type 0 where
   pub coming : Gives before.coming after.coming FRAME_ROOM None
   pub taken : after.taken ≡ before.taken
   pub journal : after.journal ≡ before.journal
   pub failures : after.failures ≡ before.failures
 
--- the meaning of each result of a turn, with these sends in the outbox
+-- The meaning of each result of a turn, with these sends in the outbox. `Done`: an event was
+-- answered. `Refused`: memory ran out for an event. `Unwritten`: an event could not be journalled.
+-- `End`: no event came.
 abbrev pub IsTurn : NodeState → NodeState → Shown → Shown → List Send → Turn → Type 0
 IsTurn old new before after sends (turn.Done verdict failed) =
     Handles old new before after
@@ -143,9 +149,9 @@ IsTurn old new before after sends turn.Unwritten =
 IsTurn old new before after sends turn.End =
     EndsNext before after × (new ≡ old) × (sends ≡ [])
 
--- `events` events arrived, memory ran out for `refused` of them, and `failed` sends failed. If
--- the old node agrees with a valid run, then this run followed by the answered events is valid,
--- and the new node agrees with the longer run.
+-- `events` events arrived, memory ran out for `refused` of them, and `failed` sends failed. If the
+-- old node agrees with a valid run from a policy at time 0, then this run, extended by the answered
+-- events, is valid. The new node agrees with the extended run.
 pub record Serves (old new : NodeState) (before after : Shown)
     (events refused failed : ℕ) : Type 0 where
   pub arrivals : List PlainEvent
@@ -161,8 +167,8 @@ pub record Serves (old new : NodeState) (before after : Shown)
   pub events_is : events ≡ length arrivals
   pub refused_is : refused ≡ refused_count outcomes
 
--- if the port did not reach its end, each turn had an event; otherwise there were fewer events than
--- turns, and no event is still to come
+-- If the port did not reach its end, each turn had an event. Otherwise there were fewer events than
+-- turns, and no event is still to come if the events to come are known.
 abbrev pub EndsAfter : ℕ → Bool → ℕ → Option (List PlainEvent) → Type 0
 EndsAfter turns false events coming = events ≡ turns
 EndsAfter turns true events coming = (events < turns) × HasEnded coming

@@ -40,8 +40,8 @@ pub record UdpState : Type 0 where
   -- the number of failed calls
   pub failures : ℕ
 
--- the state of the ports before the first arrival, if faces do not close and strangers are
--- accepted
+-- the state of the ports before the first arrival, if faces do not close and datagrams from
+-- endpoints that are not peers are accepted
 abbrev pub bound_to : List SocketAddr → ℕ → ℕ → UdpState
 bound_to peers local told = record {
   known = record {
@@ -68,7 +68,7 @@ closes_after idle ports = record ports {
 abbrev pub scope_of_face : ℕ → ℕ → Scope
 scope_of_face local face = if nat_le face local then Local else Far
 
--- the endpoint of the waiting datagram, if it waits for this face
+-- `endpoint`, from which a datagram waits, if the datagram is for this face; otherwise None
 abbrev pub waiting_for : ℕ → SocketAddr → Option ℕ → Option SocketAddr
 waiting_for face endpoint None = None
 waiting_for face endpoint (Some other) = if other == face then Some endpoint else None
@@ -81,7 +81,7 @@ waiting_at face (Some datagram) = waiting_for face datagram.endpoint datagram.fa
 abbrev pub HasOpened : UdpState → Type 0
 HasOpened before = before.opened ≡ length before.known.peers
 
--- the face of the next peer opens
+-- the face of the next peer opens; it is Local for the first `local` peers and Far for the others
 abbrev pub OpensPeer : UdpState → UdpState → Arrival → Type 0
 OpensPeer before after (FaceUp face scope now) =
     (before.opened < length before.known.peers) × (face ≡ before.opened + 1)
@@ -93,8 +93,9 @@ OpensPeer before after (FaceDown face now) = ⊥
 OpensPeer before after (Tick now) = ⊥
 OpensPeer before after (NewRules renewal now) = ⊥
 
--- A face was opened for the waiting datagram in the turn before, and now the datagram arrives on
--- that face. The datagram is unchanged, except that it is truncated to the length of the buffer.
+-- The face of the waiting datagram was decided in an earlier turn, and now the datagram arrives on
+-- this face, truncated to the length of the buffer. If its endpoint is a client, the time of its
+-- last datagram becomes `now`.
 abbrev pub GivesWaiting : UdpState → UdpState → List ℕ → Arrival → Type 0
 GivesWaiting before after buffer (Packet face now len) =
     (endpoint : SocketAddr) × (octets : List ℕ) × (rows : List Client) × HasOpened before
@@ -120,8 +121,9 @@ kept endpoint face datagram = record {
   octets = take FRAME_ROOM datagram;
 }
 
--- A datagram from this endpoint arrives on the endpoint's face. Or the datagram waits while a face
--- opens for the endpoint, or while another face closes first.
+-- What is done with a datagram from this endpoint, as `Meets` states. `Packet`: it arrives on the
+-- face of the endpoint, truncated to the length of the buffer. `FaceUp`: it waits while a face
+-- opens. `FaceDown`: it waits while the face of a client closes, which may be this endpoint.
 abbrev pub Brings : UdpState → UdpState → SocketAddr → List ℕ → List ℕ → Arrival → Type 0
 Brings before after endpoint datagram buffer (Packet face now len) =
     (known : KnownEndpoints) × Meets before.known known endpoint now (Face face)
@@ -149,42 +151,46 @@ Brings before after endpoint datagram buffer (NewRules renewal now) = ⊥
 abbrev pub Listens : UdpState → Type 0
 Listens before = HasOpened before × (before.waiting ≡ None)
 
--- datagrams from this endpoint are accepted: it is a peer, or strangers are accepted
+-- datagrams from this endpoint are accepted: it is a peer, or endpoints that are not peers are
+-- accepted too
 abbrev pub IsAccepted : UdpState → SocketAddr → Type 0
 IsAccepted before endpoint =
     (before.accepts_strangers ≡ true) ⊎ (position (is_at endpoint) before.known.peers ≢ None)
 
--- Datagrams from strangers may have been dropped and counted. If strangers are accepted, none were
--- dropped.
+-- Datagrams from endpoints that are not peers may have been dropped and counted, and nothing else
+-- changed. If such endpoints are accepted, none were dropped.
 pub record DropsStrangers (before after : UdpState) : Type 0 where
   pub count : ℕ
   pub is : after ≡ record before { strangers = count }
   pub more : before.strangers ≤ count
   pub none : before.accepts_strangers ≡ true → count ≡ before.strangers
 
--- a datagram from an accepted endpoint was received into the start of the buffer, possibly after
--- datagrams from strangers
+-- Every peer's face was opened, and no datagram waited. A datagram from an accepted endpoint was
+-- received into the start of the buffer and is handled (`Brings`). Datagrams from endpoints that
+-- are not accepted may have been dropped before.
 abbrev pub GivesReceived : UdpState → UdpState → List ℕ → Arrival → Type 0
 GivesReceived before after buffer arrival =
     Listens before × ((mid : UdpState) × (endpoint : SocketAddr) × (len : ℕ)
     × DropsStrangers before mid × IsAccepted mid endpoint
     × Brings mid after endpoint (take len buffer) buffer arrival)
 
--- Every peer's face was opened, no datagram waited, and receiving failed, possibly after datagrams
--- from strangers.
+-- Every peer's face was opened, no datagram waited, and receiving failed. Datagrams from endpoints
+-- that are not accepted may have been dropped before.
 abbrev pub FailsReceiving : UdpState → UdpState → Type 0
 FailsReceiving before after =
     Listens before × ((mid : UdpState) × DropsStrangers before mid
     × (after ≡ record mid { failures = one_more mid.failures }))
 
--- the datagram that waited while a face closed is handled
+-- every peer's face was opened, and the datagram that waited while a face closed is handled
+-- (`Brings`)
 abbrev pub BringsAfterClosing : UdpState → UdpState → List ℕ → Arrival → Type 0
 BringsAfterClosing before after buffer arrival =
     (endpoint : SocketAddr) × (octets : List ℕ) × HasOpened before
     × (before.waiting ≡ Some (record { endpoint = endpoint; face = None; octets = octets }))
     × Brings before after endpoint octets buffer arrival
 
--- the arrivals that the ports may return, and the state of the ports afterwards
+-- The ports return this arrival, and `after` is their state afterwards. The arrival opens the face
+-- of a peer, or is due to a datagram that waited or was received.
 abbrev pub UdpGives : UdpState → UdpState → List ℕ → Arrival → Type 0
 UdpGives before after buffer arrival =
     OpensPeer before after arrival

@@ -38,7 +38,8 @@ until_after now in_record = if nat_lt now in_record.deadline then Some in_record
 abbrev pub sent_at : List ℕ → ℕ → OutRecord
 sent_at nonce moment = record { nonce = nonce; moment = moment; reason = None }
 
--- an out-record with the reason of a Nack, if the Nack has the Nonce of the out-record
+-- the out-record with the reason of a Nack if the Nack has the out-record's Nonce, or else
+-- unchanged
 abbrev pub nacked_with : List ℕ → ℕ → OutRecord → OutRecord
 nacked_with nonce reason out_record =
     if same_nonce out_record.nonce nonce then record out_record { reason = Some reason }
@@ -51,8 +52,8 @@ with_reason face nonce reason out_records None = out_records
 with_reason face nonce reason out_records (Some out_record) =
     map.insert out_records face (nacked_with nonce reason out_record)
 
--- the records of a key after the change that the cause itself makes; out-records may then be left
--- without an in-record
+-- the records of a key after the change that a cause makes, before out-records without any
+-- in-record are removed
 abbrev pub changed : Cause → PlainKey → Records → Records
 changed (Expires now) k r = record r { in_records = revise (until_after now) r.in_records }
 changed (Arrives key face in_record) k r =
@@ -83,7 +84,7 @@ settled r = if is_alive r then r else no_records
 abbrev pub records_after : Cause → PlainKey → Records → Records
 records_after cause k r = settled (changed cause k r)
 
--- for each key, the new records are the old records after the cause
+-- for each key, the records in `new` are the records in `old` after the cause
 abbrev pub Follows : Cause → Pending → Pending → Type 0
 Follows cause old new =
     (k : PlainKey) → records_at new k ≡ records_after cause k (records_at old k)

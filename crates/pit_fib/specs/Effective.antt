@@ -49,12 +49,14 @@ handed_down routes name zero = map.empty
 handed_down routes name (suc n) =
     passed_on (map.get routes (take n name)) (handed_down routes name n)
 
--- a name inherits if it has routes, and none of them is a capture route
+-- whether a name with these routes inherits: there is at least one route, and none of the routes is
+-- a capture route
 abbrev pub does_inherit : Registered → Bool
 does_inherit registered = not (map.len registered == 0) && not (has_capture registered)
 
--- the costs of an entry's next hops; for faces without a next hop, the least costs of the entry's
--- routes; for the remaining faces, the costs in `above`, if the entry inherits
+-- The costs of an entry's next hops; for faces without a next hop, the least costs of the entry's
+-- routes. For the remaining faces, the costs in `above`, if the entry has routes but no capture
+-- route.
 abbrev pub effective_of : Entry → ByFace → ByFace
 effective_of e above =
     prefer e.hops (prefer (least_costs (λ _. true) (map.entries e.registered))
@@ -66,7 +68,7 @@ effective routes name =
     effective_of (entry_at routes name) (handed_down routes name (length name))
 
 -- the costs of the effective next hops of the longest prefix that has an entry, among the prefixes
--- of at most n components
+-- of at most n components; no costs if none of these has an entry
 abbrev pub longest_costs : Routes → List Field → ℕ → ByFace
 longest_costs routes name zero =
     if map.contains_key routes (take 0 name) then effective routes (take 0 name) else map.empty
@@ -74,7 +76,8 @@ longest_costs routes name (suc n) =
     if map.contains_key routes (take (suc n) name) then effective routes (take (suc n) name)
     else longest_costs routes name n
 
--- the effective next hops of the longest prefix that has an entry
+-- the effective next hops of the longest prefix that has an entry, or no next hops if no prefix has
+-- an entry
 abbrev pub longest_hops : Routes → List Field → List Hop
 longest_hops routes name = hops_of (longest_costs routes name (length name))
 
@@ -107,9 +110,9 @@ HasNone wanted registered face =
     (origin : ℕ) (r : Route)
     → map.get registered (record { face = face; origin = origin }) ≡ Some r → wanted r ≡ false
 
--- The name inherits this cost for the face: it is the least cost of the child-inherit routes on
--- that face at the nearest proper prefix that has such a route, and no prefix between that prefix
--- and the name has a capture route.
+-- The name inherits this cost for the face. It is the least cost of the child-inherit routes on
+-- that face at the longest proper prefix that has such a route. No prefix between that prefix and
+-- the name has a capture route.
 pub record IsInherited (routes : Routes) (name : List Field) (face cost : ℕ) : Type 0 where
   pub from : ℕ
   pub shorter : from < length name

@@ -137,8 +137,8 @@ is_full_for_route routes name key =
     || (not (map.contains_key (registered_at routes name) key)
     && nat_le MAX_ROUTES (route_count routes))
 
--- why the table refuses a route for the name: the name has more than 32 components, or the table
--- has no room for the route
+-- Why the table refuses a route for the name: the name has more than 32 components, or the table
+-- has no room for the route. None means that the table accepts the route.
 abbrev pub route_refusal : Routes → List Field → RouteKey → Option TableFault
 route_refusal routes name key =
     if nat_lt MAX_DEPTH (length name) then Some TooDeep else (

@@ -6,11 +6,11 @@ use Rattle.pit_fib.specs.declared.hops.Hop.{Hop}
 use Rattle.pit_fib.specs.FaceSet.{has_face}
 use Rattle.pit_fib.specs.Tables.{ByFace}
 
--- next hops are ordered by cost, then by face
+-- whether next hop `a` comes before next hop `b`, in the order by cost and then by face
 abbrev pub is_before : Hop → Hop → Bool
 is_before a b = nat_lt a.cost b.cost || ((a.cost == b.cost) && nat_lt a.face b.face)
 
--- the hops with `hop` inserted, in order
+-- the hops with `hop` inserted, in order of cost and then of face
 abbrev pub with_hop : Hop → List Hop → List Hop
 with_hop hop [] = hop ∷ []
 with_hop hop (h ∷ hops) = if is_before hop h then hop ∷ h ∷ hops else h ∷ with_hop hop hops
@@ -19,11 +19,11 @@ with_hop hop (h ∷ hops) = if is_before hop h then hop ∷ h ∷ hops else h �
 abbrev pub unmarked_hop : ℕ × ℕ → Hop
 unmarked_hop e = record { face = e.0; cost = e.1; local = false }
 
--- faces and their costs as next hops, in order
+-- faces and their costs as next hops with `local` false, in order of cost and then of face
 abbrev pub in_order : List (ℕ × ℕ) → List Hop
 in_order costs = fold {A = ℕ × ℕ} {B = List Hop} (λ hops e. with_hop (unmarked_hop e) hops) [] costs
 
--- the next hops of an entry, in order
+-- the faces in `costs` as next hops with `local` false, in order of cost and then of face
 abbrev pub hops_of : ByFace → List Hop
 hops_of costs = in_order (entries costs)
 
@@ -37,7 +37,7 @@ abbrev pub AreHopsOf : ByFace → List Hop → Type 0
 AreHopsOf costs hops = (hop : Hop) → Contains hops hop
     ↔ ((get costs hop.face ≡ Some hop.cost) × (hop.local ≡ false))
 
--- the hops, with `local` set for the faces in `locals`
+-- the hops, with `local` set to true for the faces in `locals` and unchanged for other faces
 abbrev pub marked : List ℕ → List Hop → List Hop
 marked locals hops =
     map {A = Hop} (λ h. record h { local = h.local || has_face h.face locals }) hops

@@ -40,7 +40,7 @@ has_route_at at rows = list_any (λ e. counts_at at e.1) rows
 abbrev pub has_capture_at : Option ℕ → List (RouteKey × Route) → Bool
 has_capture_at at rows = list_any (λ e. counts_at at e.1 && is_capture e.1) rows
 
--- the state of the walk after it has passed one more entry
+-- the state `s` of the walk after it has passed the entry `e`
 abbrev pub past_entry : Inheriting → Entry → Inheriting
 past_entry s e =
     let rows = map.entries e.registered in

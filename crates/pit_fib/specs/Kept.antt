@@ -28,7 +28,7 @@ abbrev pub token_in : ℕ → List ℕ → Option (List ℕ)
 token_in token_len octets =
     if token_len == 0 then None else Some (drop (length octets - token_len) octets)
 
--- an entry: its records, and whether there is memory for the out-records of all faces
+-- the entry of a key: its records, and whether it has memory for the out-records of 64 faces
 pub record Kept : Type 0 where
   pub records : Records
   pub is_wide : Bool
@@ -61,9 +61,9 @@ with_in_record face in_record s =
       };
     } else s
 
--- the entry after the out-record of a face is set, in the entry's own memory or in the supplied
--- memory for `room` out-records; unchanged if the face is new and there is no memory for its
--- out-record
+-- The entry after the out-record of a face is set, in the entry's own memory or in the supplied
+-- memory for `room` out-records. It is unchanged if the face is new and there is no memory for its
+-- out-record.
 abbrev pub sent_in : ℕ → ℕ → OutRecord → Kept → Kept
 sent_in room face out_record s =
     with_out_records s (set_in room face out_record (kept_out_records s))
@@ -100,15 +100,15 @@ nacked face nonce reason s = record s {
 abbrev pub living : Kept → Option Kept
 living s = if is_alive s.records then Some s else None
 
--- the entry of a key after a cause, or None if it is removed
+-- the entry of a key after a cause, or None if no in-record is left in it
 abbrev pub kept_after : Cause → PlainKey → Kept → Option Kept
 kept_after cause k s = living (record s { records = changed cause k s.records })
 
--- the least deadline of an entry's in-records
+-- the least deadline of an entry's in-records, or 0 if it has none
 abbrev pub deadline : Kept → ℕ
 deadline s = least (λ in_record. in_record.deadline) (map.entries s.records.in_records)
 
--- the faces in `faces` and the faces of these in-records; at most 64 faces
+-- the faces in `faces` with the faces of these in-records added; no face is added to 64 or more
 abbrev pub with_faces_of : List (ℕ × InRecord) → List ℕ → List ℕ
 with_faces_of [] faces = faces
 with_faces_of (e ∷ es) faces = with_faces_of es (adding e.0 faces).1
@@ -117,7 +117,7 @@ abbrev pub with_asking : Option Kept → List ℕ → List ℕ
 with_asking None faces = faces
 with_asking (Some s) faces = with_faces_of (map.entries s.records.in_records) faces
 
--- the lesser of two moments; if only one moment is given, this moment
+-- the lesser of two moments; if only one moment is given, this moment; None if none is given
 abbrev pub lesser : Option ℕ → Option ℕ → Option ℕ
 lesser None b = b
 lesser (Some a) None = Some a
@@ -139,26 +139,27 @@ slots has =
 unfoldable pub row_of : {X : Type 0} → (Flags → Option X) → map.FinMap flags_cmp X
 row_of has = map.from_sorted (slots has)
 
--- one of four values, chosen by the flags
+-- one of four values: `a` if no flag is set, `b` for MustBeFresh alone, `c` for CanBePrefix alone,
+-- `d` for both flags
 abbrev pub by_flags : {X : Type 0} → X → X → X → X → Flags → X
 by_flags a b c d f =
     if f.can_be_prefix then (if f.must_be_fresh then d else c) else (
     if f.must_be_fresh then b else a)
 
--- the row after each of its values is changed or removed, or None if no value remains
+-- the row after `change` has changed or removed each of its entries, or None if no entry remains
 abbrev pub changed_row : (Flags → Kept → Option Kept) → Row → Option Row
 changed_row change row = nonempty (row_of (λ f. option_and_then (change f) (map.get row f)))
 
--- the change of a row that applies `change` to the value under the flags `f`, and changes no other
--- value
+-- the change of a row that applies `change` to the entry under the flags `f`, and changes no other
+-- entry
 abbrev pub only : Flags → (Kept → Option Kept) → Flags → Kept → Option Kept
 only f change g s = if same_flags g f then change s else Some s
 
--- the entry under the key with these flags, if there is a row
+-- the entry of a row under the key with these flags; None if there is no row or no such entry
 abbrev pub kept_in : Option Row → Flags → Option Kept
 kept_in row f = option_and_then (λ r. map.get r f) row
 
--- the row with the entry `s` under the key with these flags
+-- the row with the entry `s` under the key with these flags; a new row if there was none
 abbrev pub with_kept : Flags → Kept → Option Row → Row
 with_kept f s row = map.insert (unwrap_or row map.empty) f s
 
@@ -173,8 +174,8 @@ abbrev pub with_kept_if : Flags → Option Kept → Option Row → Row
 with_kept_if f None row = unwrap_or row map.empty
 with_kept_if f (Some s) row = with_kept f s row
 
--- the row after an Interest was sent to a face; the call supplies memory for `room` out-records in
--- addition to the entry's own
+-- The row after an Interest was sent to a face, or unchanged if the key has no entry. The call
+-- supplies memory for `room` out-records in addition to the entry's own.
 abbrev pub row_sent : Flags → ℕ → OutRecord → ℕ → Option Row → Row
 row_sent f face out_record room row =
     with_kept_if f (option_map (sent_in room face out_record) (kept_in row f)) row
@@ -188,8 +189,8 @@ is_answered is_own f = is_own || f.can_be_prefix
 abbrev pub unanswered : Bool → Flags → Kept → Option Kept
 unanswered is_own f s = if is_answered is_own f then None else Some s
 
--- the faces in `faces` and the faces with an in-record under a key of the row that the Data
--- answers; at most 64 faces
+-- the faces in `faces`, with the faces added that have an in-record under a key of the row that the
+-- Data answers; no face is added to 64 or more
 abbrev pub with_answered : Bool → List ℕ → Row → List ℕ
 with_answered is_own faces row =
     with_asking (map.get row (flags true true)) (
@@ -202,21 +203,21 @@ with_answered is_own faces row =
 abbrev pub Rows : Type 0
 Rows = ByName Row
 
--- the entry of a key
+-- the entry of a key, if there is one
 abbrev pub kept_at : Rows → PlainKey → Option Kept
 kept_at rows k = option_and_then (λ r. map.get r (flags_of k)) (map.get rows k.name)
 
--- the records of all keys
+-- the records of each key that has an entry in `rows`
 abbrev pub pending_of : Rows → Pending
 pending_of rows = revise (λ s. Some s.records) (flatten key_cmp key_at rows)
 
--- whether the last Interest that was sent to the face had this Nonce
+-- whether the entry exists, and its out-record of the face has this Nonce
 abbrev pub was_sent_in : Option Kept → ℕ → List ℕ → Bool
 was_sent_in None face nonce = false
 was_sent_in (Some s) face nonce = was_sent (map.get s.records.out_records face) nonce
 
--- the result of a Nack, from the entry of its key after the reason `reason` was recorded in the
--- entry
+-- the result of a Nack, from the entry of its key after the Nack's reason was recorded in the
+-- entry; NoPending if there is no entry
 abbrev pub answer_in : Option Kept → ℕ → Nacked
 answer_in None reason = NoPending
 answer_in (Some s) reason = all_nacked (least_reason reason (map.entries s.records.out_records))

@@ -11,8 +11,8 @@ use Rattle.pit_fib.specs.Kept.{Kept, Row, Rows, pending_of}
 use Rattle.pit_fib.specs.Records.{InRecord}
 use Rattle.pit_fib.specs.Tokens.{HaveNoTokens}
 
--- the in-record with the later deadline, or `b` if both deadlines are the same; if one of the two
--- is None, the other one
+-- the in-record with the later deadline, or the second one if both deadlines are the same; if one
+-- of the two is None, the other one
 abbrev pub later : Option InRecord → Option InRecord → Option InRecord
 later None b = b
 later (Some a) None = Some a
@@ -21,23 +21,23 @@ later (Some a) (Some b) = if nat_lt b.deadline a.deadline then Some a else Some 
 abbrev pub ask_in : ℕ → Option Kept → Option InRecord
 ask_in face kept = option_and_then (λ s. map.get s.records.in_records face) kept
 
--- the last one among `last` and the face's in-records under those keys of the row that do not have
--- CanBePrefix
+-- the last in-record (`later`) among `last` and the face's in-records under those keys of the row
+-- that do not have CanBePrefix
 abbrev pub last_exact : ℕ → Option InRecord → Row → Option InRecord
 last_exact face last row =
     later (later last (ask_in face (map.get row (flags false false))))
     (ask_in face (map.get row (flags false true)))
 
--- the last one among `last` and the face's in-records under those keys of the row that have
--- CanBePrefix
+-- the last in-record (`later`) among `last` and the face's in-records under those keys of the row
+-- that have CanBePrefix
 abbrev pub last_prefix : ℕ → Option InRecord → Row → Option InRecord
 last_prefix face last row =
     later (later last (ask_in face (map.get row (flags true false))))
     (ask_in face (map.get row (flags true true)))
 
--- the last one among `last` and the face's in-records under those keys of the row that the Data
--- answers: the keys with CanBePrefix and, if the row's name is the Data's own, the keys without
--- CanBePrefix
+-- The last in-record (`later`) among `last` and the face's in-records under the keys of the row
+-- that a Data answers. These are the keys with CanBePrefix and, if `is_own` is true, those without
+-- it.
 abbrev pub last_in : Bool → ℕ → Option InRecord → Row → Option InRecord
 last_in is_own face last row =
     last_prefix face (if is_own then last_exact face last row else last) row
@@ -68,6 +68,6 @@ abbrev pub last_of : Rows → ℕ → List Field → List ℕ → Option InRecor
 last_of rows face name digest =
     last_in_row true face (last_along rows face name) (map.get rows (full_name name digest))
 
--- an in-record of the table can have a token only if `has_tokens` is true
+-- if `has_tokens` is false, no in-record of the table has a token
 abbrev pub KnowsTokens : Bool → Rows → Type 0
 KnowsTokens has_tokens rows = has_tokens ≡ false → HaveNoTokens (pending_of rows)

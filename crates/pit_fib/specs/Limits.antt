@@ -25,7 +25,8 @@ abbrev pub HaveSome : Routes → Type 0
 HaveSome routes =
     (name : List Field) (e : Entry) → map.get routes name ≡ Some e → is_vacant e ≡ false
 
--- A table of routes is within its limits, and each of its names has next hops or routes.
+-- A table has at most 4,096 names of at most 32 components, 16,384 routes, and 64 faces with next
+-- hops or routes. Each of its names has next hops or routes.
 pub record IsWithinFib (routes : Routes) : Type 0 where
   pub names : IsWithinLimits routes
   pub some : HaveSome routes
@@ -44,7 +45,7 @@ pub record IsTallied (routes : Routes) (count next_due : ℕ) : Type 0 where
   pub counted : count ≡ route_count routes
   pub later : NoneEndsBefore next_due routes
 
--- if a name is prepared, `room` is the number of its routes plus 1, or more
+-- if a name is given, `room` is greater than the number of its registered routes
 abbrev pub IsRoomFor : Routes → ℕ → Option (List Field) → Type 0
 IsRoomFor routes room None = Unit {0}
 IsRoomFor routes room (Some name) = map.len (registered_at routes name) < room

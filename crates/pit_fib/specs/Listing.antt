@@ -8,7 +8,7 @@ use Rattle.pit_fib.specs.Fib.{Entry, entry_left_at}
 use Rattle.pit_fib.specs.Hops.{hops_of}
 use Rattle.pit_fib.specs.Inheriting.{past_entry}
 
--- the state before the first entry
+-- the state of a walk at the moment `now`, before its first entry
 abbrev pub start_at : ℕ → AtName
 start_at now =
     record {
@@ -17,7 +17,7 @@ start_at now =
       way = record { at = Some now; inherited = map.empty; costs = map.empty };
     }
 
--- the state after one more entry
+-- the state `s` of a walk after it has passed the entry `e`
 abbrev pub past_at : AtName → Entry → AtName
 past_at s e =
     record {

@@ -61,7 +61,7 @@ WaitsFor pending name digest face =
     (key : PlainKey) × IsTrue (answers name digest key.name key.can_be_prefix)
     × IsSome (map.get (records_at pending key).in_records face)
 
--- whether the last Interest that was sent to the face had this Nonce
+-- whether the out-record of a face exists and has this Nonce
 abbrev pub was_sent : Option OutRecord → List ℕ → Bool
 was_sent None nonce = false
 was_sent (Some out_record) nonce = same_nonce out_record.nonce nonce
@@ -100,7 +100,9 @@ pub record IsLeastReason (out_records : OutRecords) (least : ℕ) : Type 0 where
   pub one : (face : ℕ) × (out_record : OutRecord)
       × (map.get out_records face ≡ Some out_record) × (out_record.reason ≡ Some least)
 
--- the result of a Nack with this Nonce and reason from this face
+-- The result of a Nack with this Nonce and reason from this face. It is NoPending if the face has
+-- no out-record with this Nonce. It is Waiting if some out-record then has no reason, or else All
+-- with the least reason.
 abbrev pub nacked_answer : Records → ℕ → List ℕ → ℕ → Nacked
 nacked_answer r face nonce reason =
     if was_sent (map.get r.out_records face) nonce then all_nacked (least_reason reason

@@ -29,7 +29,7 @@ pub record IsReady (r : Ready) : Type 0 where
   pub octets : r.octets.items ≡ []
   pub room : r.size ≤ vec_capacity r.octets
 
--- no `arrive` is prepared
+-- no calls are prepared, or only `sent` calls
 abbrev pub HasNoArrival : Option Prepared → Type 0
 HasNoArrival prepared = IfSome prepared (λ p. p.arrival ≡ None)
 
@@ -39,7 +39,9 @@ abbrev pub CanSend : Rows → PlainKey → ℕ → Type 0
 CanSend rows key spare =
     (MAX_FACES ≤ spare) ⊎ ((s : Kept) → kept_at rows key ≡ Some s → s.is_wide ≡ true)
 
--- there is memory for the prepared calls
+-- If calls are prepared and their key has an entry, there is memory for its out-records of 64
+-- faces. For an `arrive`, this is the spare memory, its vector is ready, and a row for its name is
+-- prepared.
 abbrev pub HasMemory : NameTable Row → ℕ → Option Prepared → Type 0
 HasMemory rows spare prepared =
     IfSome prepared (λ p. CanSend rows.table p.key spare × IfSome p.arrival (λ r.
@@ -49,7 +51,8 @@ HasMemory rows spare prepared =
 abbrev pub AreAlive : Rows → Type 0
 AreAlive rows = (k : PlainKey) (s : Kept) → kept_at rows k ≡ Some s → is_alive s.records ≡ true
 
--- the table is within its limits, and each of its keys has an in-record
+-- each key of the table has an in-record, at most 64 faces have records, and the table has at most
+-- 4,096 keys
 pub record IsWithin (rows : Rows) : Type 0 where
   pub alive : AreAlive rows
   pub few : AtMost64 (HasRecord (pending_of rows))

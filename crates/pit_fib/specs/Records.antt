@@ -16,8 +16,8 @@ pub record InRecord : Type 0 where
   pub deadline : ℕ
   pub token : Option (List ℕ)
 
--- the last Interest that was sent to a face: its Nonce, the moment in milliseconds since 1970, and
--- the reason of the last Nack with this Nonce that has come back since, if any
+-- The last Interest that was sent to a face: its Nonce, and the moment in milliseconds since 1970.
+-- `reason` is that of the last Nack with this Nonce that has come back since, if any.
 pub record OutRecord : Type 0 where
   pub nonce : List ℕ
   pub moment : ℕ

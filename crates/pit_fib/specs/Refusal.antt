@@ -7,8 +7,8 @@ use Rattle.pit_fib.specs.declared.fib.TheConstants.{MAX_DEPTH, MAX_ENTRIES}
 use Rattle.pit_fib.specs.declared.fault.TableFault.{TableFault}
 use Rattle.pit_fib.specs.declared.fault.TableFault.TheVariants.{TooDeep, TableFull}
 
--- why the table refuses a value for a name: the name has more than 32 components, or the name is
--- new and the table has 4,096 names
+-- Why the table refuses a value for a name: the name has more than 32 components, or the name is
+-- new and the table has 4,096 names. None means that the table accepts the value.
 abbrev pub refusal : {X : Type 0} → ByName X → List Field → Option TableFault
 refusal table name =
     if nat_lt MAX_DEPTH (length name) then Some TooDeep else (

@@ -51,7 +51,7 @@ is_child_inherit r = r.flags % 2 == 1
 abbrev pub is_capture : Route → Bool
 is_capture r = r.flags / 2 % 2 == 1
 
--- whether the deadline is `now` or earlier
+-- whether there is a deadline, and it is `now` or earlier
 abbrev pub has_come : ℕ → Option ℕ → Bool
 has_come now None = false
 has_come now (Some deadline) = nat_le deadline now

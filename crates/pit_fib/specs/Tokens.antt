@@ -13,23 +13,24 @@ IsAsker records name digest face key in_record =
     IsTrue (answers name digest key.name key.can_be_prefix)
     × (map.get (records key).in_records face ≡ Some in_record)
 
--- the in-record does not come after `last`: its deadline is earlier, or the deadlines are the same
--- and its key is not greater; keys are ordered by name in canonical order, then by CanBePrefix,
--- then by MustBeFresh
+-- The in-record does not come after `last`: its deadline is earlier, or the deadlines are the same
+-- and its key is not greater. Keys are ordered by name in canonical order, then by CanBePrefix,
+-- then by MustBeFresh.
 abbrev pub IsNotAfter : PlainKey → InRecord → PlainKey → InRecord → Type 0
 IsNotAfter key in_record last_key last =
     (in_record.deadline < last.deadline)
     ⊎ ((in_record.deadline ≡ last.deadline) × (key_cmp key last_key ≢ Greater))
 
--- the in-record is the last of the face's in-records that the Data answers
+-- the Data answers the face's in-record `in_record` under `key`, and no other such in-record of the
+-- face comes after it, by deadline and then by key
 pub record IsLast (records : PlainKey → Records) (name : List Field) (digest : List ℕ) (face : ℕ)
     (key : PlainKey) (in_record : InRecord) : Type 0 where
   pub asks : IsAsker records name digest face key in_record
   pub last : (other_key : PlainKey) (other : InRecord)
       → IsAsker records name digest face other_key other → IsNotAfter other_key other key in_record
 
--- the token that is sent to the face with the Data: the token of the last of the face's in-records
--- that the Data answers, or None if the Data answers none of the face's in-records
+-- The token that is sent to the face with the Data. It is the token, if any, of the last (`IsLast`)
+-- of the face's in-records that the Data answers, or None if the Data answers none of them.
 abbrev pub IsTokenFor : (PlainKey → Records) → List Field → List ℕ → ℕ → Option (List ℕ) → Type 0
 IsTokenFor records name digest face token =
     (((key : PlainKey) (in_record : InRecord)

@@ -9,7 +9,8 @@ use Rattle.ndn_tlv.specs.Element.{Field}
 abbrev pub Signer : Type 0
 Signer = Option (List Field)
 
--- a recorded command: its signer, its time in milliseconds since 1970, and its number, if any
+-- a recorded command: its signer, its SignatureTime in milliseconds since 1970, and its
+-- SignatureSeqNum, if any
 pub record Recorded : Type 0 where
   pub signer : Signer
   pub time : ℕ
@@ -19,20 +20,21 @@ pub record Recorded : Type 0 where
 abbrev pub AreNear : ℕ → ℕ → Type 0
 AreNear a b = (a ≤ b + 120000) × (b ≤ a + 120000)
 
--- if both commands have a number, the first number is smaller than the second
+-- the first number is less than the second, or one of the two numbers is absent
 abbrev pub NumberRises : Option ℕ → Option ℕ → Type 0
 NumberRises None number = Unit {0}
 NumberRises (Some m) None = Unit {0}
 NumberRises (Some m) (Some n) = m < n
 
--- If a command with this signer, time and number has the signer of the recorded command `earlier`,
--- it is newer: its time is greater, and its number is greater if both have a number.
+-- A command with this signer, time and number is newer than the recorded command `earlier`, or has
+-- another signer. Newer means that its time is greater and, if both commands have a number, its
+-- number is greater.
 abbrev pub IsNewer : Signer → ℕ → Option ℕ → Recorded → Type 0
 IsNewer signer time number earlier =
     earlier.signer ≡ signer → (earlier.time < time) × NumberRises earlier.number number
 
--- At the moment `now` the command is fresh: its time is near `now`, and the command is newer than
--- all recorded commands of its signer.
+-- A command with this signer, time and number is fresh at the moment `now`. Its time differs from
+-- `now` by at most 120,000 milliseconds, and it is newer than all commands of its signer in `past`.
 abbrev pub Fresh : List Recorded → Signer → ℕ → Option ℕ → ℕ → Type 0
 Fresh past signer time number now =
     AreNear time now × AllByRecursion (IsNewer signer time number) past

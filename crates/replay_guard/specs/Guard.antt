@@ -38,7 +38,7 @@ pub record GuardState : Type 0 where
 abbrev pub IsPrepared : GuardState → Signer → Type 0
 IsPrepared g signer = IsSome (map.get g.latest signer) ⊎ (g.prepared ≡ Some signer)
 
--- the greater of two numbers; a command without a number leaves the number unchanged
+-- the greater of two numbers; if only one number is given, this number; None if none is given
 abbrev pub greater_number : Option ℕ → Option ℕ → Option ℕ
 greater_number None number = number
 greater_number (Some m) None = Some m
@@ -49,19 +49,19 @@ raised None time number = record { time = time; number = number }
 raised (Some l) time number =
     record { time = max l.time time; number = greater_number l.number number }
 
--- the table after one more command is recorded
+-- the table after the command `r` is recorded
 abbrev pub with_recorded : Table → Recorded → Table
 with_recorded table r =
     map.insert table r.signer (raised (map.get table r.signer) r.time r.number)
 
--- the table of all recorded commands, where the most recently recorded command comes first in the
--- list
+-- the table after all commands of a list are recorded; the command that was recorded last comes
+-- first in the list
 abbrev pub table_of : List Recorded → Table
 table_of [] = map.empty
 table_of (r ∷ before) = with_recorded (table_of before) r
 
--- a command with this time and number is newer than the recorded state of its signer, if there is
--- one
+-- The time is greater than the greatest recorded time of the signer. The number is greater than the
+-- greatest recorded number, if both are given. Always true if nothing is recorded of the signer.
 abbrev pub IsAfterLatest : Option Latest → ℕ → Option ℕ → Type 0
 IsAfterLatest None time number = Unit {0}
 IsAfterLatest (Some l) time number = (l.time < time) × NumberRises l.number number

@@ -38,7 +38,7 @@ verb_row Check = record {
 abbrev pub verbs : List Verb
 verbs = Insert ∷ Delete ∷ Check ∷ []
 
--- the verb with this word
+-- the verb with this word, or None if there is none
 abbrev pub verb_named : List ℕ → Option Verb
 verb_named word = find (λ verb. bytes_eq word (verb_row verb).word) verbs
 

@@ -26,7 +26,7 @@ pub record IsObject (full : List Field) (octets : List ℕ) : Type 0 where
   pub read : IsData octets packet
   pub name : full ≡ full_name packet.name (sha256 octets)
 
--- each entry is a Data, stored by its full name
+-- each entry of the map is the octets of a Data under the Data's full name
 abbrev pub AreObjects : Objects → Type 0
 AreObjects objects =
     (full : List Field) (octets : List ℕ) → get objects full ≡ Some octets → IsObject full octets
@@ -36,19 +36,19 @@ unfoldable pub kept : {K X : Type 0} {R : K → K → Ordering} → (K × X → 
     → FinMap R X
 kept test m = from_sorted (filter test (entries m))
 
--- the value of a key after the entries that fail the test are removed
+-- the optional value of a key after the entries that fail the test are removed
 abbrev pub if_kept : {K X : Type 0} → (K × X → Bool) → K → Option X → Option X
 if_kept test key None = None
 if_kept test key (Some x) = if test (key, x) then Some x else None
 
--- the list is empty, or its only component has the type of an implicit digest
+-- whether the list is empty, or its only component has the type of an implicit digest
 abbrev pub is_digest_alone : List Field → Bool
 is_digest_alone [] = true
 is_digest_alone (c ∷ []) = c.0 == IMPLICIT_SHA256_DIGEST
 is_digest_alone (c ∷ (d ∷ cs)) = false
 
--- The Data with this full name answers an Interest with this name: the name is a prefix of the full
--- name and, without CanBePrefix, at most an implicit digest follows the prefix.
+-- Whether the Data with this full name answers an Interest with this name and CanBePrefix. The name
+-- is a prefix of the full name and, without CanBePrefix, at most an implicit digest follows it.
 abbrev pub full_name_answers : List Field → Bool → List Field → Bool
 full_name_answers name can_be_prefix full =
     begins_with name full && (can_be_prefix || is_digest_alone (drop (length name) full))
@@ -68,7 +68,8 @@ abbrev pub first_octets : List (List Field × List ℕ) → Option (List ℕ)
 first_octets [] = None
 first_octets (o ∷ os) = Some o.1
 
--- the octets of the object with the least full name among the objects that answer
+-- the octets of the object with the least full name among those that answer an Interest with this
+-- name and CanBePrefix; None if no object answers
 abbrev pub served : List Field → Bool → Objects → Option (List ℕ)
 served name can_be_prefix objects = first_octets (answering name can_be_prefix (entries objects))
 

@@ -41,11 +41,11 @@ abbrev pub can_be_read : Result Field TlvFault → Bool
 can_be_read (Ok e) = true
 can_be_read (Err fault) = false
 
--- the name in the Name field
+-- the name in the Name field, or None if there is none or it cannot be decoded
 abbrev pub name_in : Elements → Option (List Field)
 name_in es = first_of NAME es >>= name_of
 
--- whether the CanBePrefix field is present, or None if its value is not empty
+-- whether the CanBePrefix field is present; None if it is present and its value is not empty
 abbrev pub flag_of : Option (List ℕ) → Option Bool
 flag_of None = Some false
 flag_of (Some []) = Some true
@@ -57,7 +57,7 @@ abbrev pub lifetime_of : Option (List ℕ) → Option ℕ
 lifetime_of None = Some DEFAULT_LIFETIME
 lifetime_of (Some value) = on_result (λ n. Some n) (λ _. None) (nni_at value)
 
--- the command with these parameters, or None if they are not well formed
+-- the command with this verb and these parameters, or None if the parameters are not well formed
 unfoldable pub command_of : Verb → Elements → Option RepoCommand
 command_of verb es =
     if not (list_all can_be_read es) then None else (do
@@ -78,16 +78,18 @@ abbrev pub value_of : ℕ → Option Field → Option (List ℕ)
 value_of kind None = None
 value_of kind (Some c) = if c.0 == kind then Some c.1 else None
 
--- the value of the component at index `at` after the prefix, if it has this type
+-- the value of the component at index `at` after the prefix `start`, or None if there is no such
+-- component or it does not have the type `kind`
 abbrev pub value_after : List Field → List Field → ℕ → ℕ → Option (List ℕ)
 value_after start cs kind at = value_of kind (slice_get cs (length start + at))
 
--- the verb of a name that begins with the repository's prefix and a verb
+-- the verb of a name that begins with the repository's prefix and a verb; None for every other name
 unfoldable pub verb_at : List Field → List Field → Option Verb
 verb_at start cs =
     if begins_with start cs then (value_after start cs GENERIC 0 >>= verb_named) else None
 
--- the command that the name encodes, or None if the name does not encode a command
+-- the command that the name encodes in a repository with the prefix `start`, or None if the name
+-- does not encode a command
 unfoldable pub repo_command_at : List Field → List Field → Option RepoCommand
 repo_command_at start cs = do
   verb ← verb_at start cs

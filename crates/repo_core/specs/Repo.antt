@@ -101,7 +101,7 @@ abbrev pub after_known : RepoCommand → ℕ → Held → Held
 after_known c now s =
     elim c.verb [ Insert ↦ after_insert c now s | Delete ↦ after_delete c s | Check ↦ s ]
 
--- the state after a command; a name that is not a command changes nothing
+-- the state after a command at the time `now`; if there is no command, it is unchanged
 abbrev pub after_some : Option RepoCommand → ℕ → Held → Held
 after_some None now s = s
 after_some (Some c) now s = after_known c now s
@@ -110,15 +110,15 @@ after_some (Some c) now s = after_known c now s
 abbrev pub after_command : List Field → List Field → ℕ → Held → Held
 after_command start name now s = after_some (repo_command_at start name) now s
 
--- the command needs memory: it is an insert that creates or renews a want
+-- there is a command, and it is an insert that creates or renews a want, so it may need memory
 abbrev pub MakesWant : Held → Option RepoCommand → Type 0
 MakesWant s None = ⊥
 MakesWant s (Some c) = (c.verb ≡ Insert) × (repo_status_of s c ≡ PENDING)
 
 -- ---- Data
 
--- the state after an offer: a wanted Data is stored, replaces any object with the same full name,
--- and removes the wants that it answers; a Data that is not wanted changes nothing
+-- The state after the offer of a Data. A wanted Data is stored, replaces any object with the same
+-- full name, and removes the wants that it answers. A Data that is not wanted changes nothing.
 abbrev pub after_offer : List Field → List ℕ → List ℕ → Held → Held
 after_offer name digest octets s =
     if is_wanted name digest s.wants then record {
@@ -128,7 +128,7 @@ after_offer name digest octets s =
 
 -- ---- time
 
--- the state without the wants that have expired
+-- the state without the wants that have expired by `now`
 abbrev pub after_time : ℕ → Held → Held
 after_time now s = record s { wants = wants_after now s.wants }
 
@@ -140,7 +140,7 @@ is_insert Insert = true
 is_insert Delete = false
 is_insert Check = false
 
--- whether the name encodes an insert
+-- whether the name encodes an insert in a repository with the prefix `start`
 abbrev pub is_insert_at : List Field → List Field → Bool
 is_insert_at start name =
     elim (repo_command_at start name) [ None ↦ false | Some c ↦ is_insert c.verb ]

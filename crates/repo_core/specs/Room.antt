@@ -35,6 +35,6 @@ HasAt {K} {X} key rows at =
     (at < length rows)
     × ((row : K × X) → row ≡ slice_index_or rows at row → row.0 ≡ key)
 
--- the two names are equal
+-- the names `fetched` and `key` are equal
 abbrev pub AreAlike : Names → Type 0
 AreAlike n = n.fetched ≡ n.key

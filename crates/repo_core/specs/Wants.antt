@@ -41,11 +41,11 @@ want_code = coded× name_code coded_bool
 abbrev pub Wants : Type 0
 Wants = FinMap want_cmp ℕ
 
--- the Data with this name and implicit digest is wanted
+-- whether the Data with this name and implicit digest answers one of these wants
 abbrev pub is_wanted : List Field → List ℕ → Wants → Bool
 is_wanted name digest wants = list_any (λ w. answers name digest w.0.0 w.0.1) (entries wants)
 
--- the wants that this Data does not answer
+-- the wants that the Data with this name and implicit digest does not answer
 abbrev pub unfilled : List Field → List ℕ → Wants → Wants
 unfilled name digest wants = kept (λ w. not (answers name digest w.0.0 w.0.1)) wants
 
@@ -53,6 +53,6 @@ unfilled name digest wants = kept (λ w. not (answers name digest w.0.0 w.0.1)) 
 abbrev pub wants_after : ℕ → Wants → Wants
 wants_after now wants = kept (λ w. nat_lt now w.1) wants
 
--- the deadline of a want, at most 2^64 - 1
+-- the deadline of a want that is made at `now` with this lifetime, at most 2^64 - 1
 abbrev pub want_deadline : ℕ → ℕ → ℕ
 want_deadline now lifetime = min (now + lifetime) (2 ^ 64 - 1)

@@ -17,8 +17,8 @@ faces_of (hop ∷ hops) =
     let rest = faces_of hops in
     if has_face hop.face rest then rest else with_face hop.face rest
 
--- NoRoute if no hop is eligible; otherwise the faces of those eligible hops that the strategy
--- selects
+-- NoRoute if no hop is eligible; otherwise Send with the faces of those eligible hops that the
+-- strategy selects, which may be none
 abbrev pub chosen : Selection → List Hop → ByFace → Ask → Choice
 chosen selection hops asked ask =
     if list_any (is_eligible ask) hops

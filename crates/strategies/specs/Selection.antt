@@ -8,8 +8,8 @@ use Rattle.pit_fib.specs.declared.hops.Hop.{Hop}
 use Rattle.pit_fib.specs.Hops.{is_before}
 use Rattle.pit_fib.specs.Tables.{ByFace}
 
--- the type of a strategy: a function from the eligible hops, the moments at which faces were last
--- used, and the present moment to the hops to send to
+-- the type of a strategy: it selects hops, given the eligible hops, the moment at which each used
+-- face was last used, and the present moment
 abbrev pub Selection : Type 0
 Selection = List Hop → ByFace → ℕ → List Hop
 
@@ -20,8 +20,8 @@ is_recent now time = nat_lt now (time + 10)
 abbrev pub is_new : ByFace → Hop → Bool
 is_new asked hop = not (map.contains_key asked hop.face)
 
--- whether hop `a` was used longer ago than hop `b`, where both hops were used; if they were used at
--- the same moment, whether `a` comes before `b` by cost and then by face
+-- Whether the last use of hop `a` is earlier than that of hop `b`, where an unused hop counts as
+-- used at 0. For equal moments, whether `a` comes before `b` by cost and then by face.
 abbrev pub is_staler : ByFace → Hop → Hop → Bool
 is_staler asked a b =
     let s = unwrap_or (map.get asked a.face) 0 in
@@ -37,9 +37,9 @@ abbrev pub least : (Hop → Hop → Bool) → List Hop → Option Hop
 least before [] = None
 least before (hop ∷ hops) = Some (lesser before hop (least before hops))
 
--- No hop if the last use of some face is recent (`is_recent`). Otherwise, among the hops that were
--- not used, the least by cost and then by face; if all hops were used, the first hop in the order
--- `is_staler`.
+-- At most one hop: none if the last use of some face is recent (`is_recent`). Otherwise, among the
+-- hops that were not used, the least by cost and then by face. If all hops were used, the first hop
+-- in the order `is_staler`.
 abbrev pub best_route : Selection
 best_route hops asked now =
     if list_any (λ e. is_recent now e.1) (map.entries asked) then [] else

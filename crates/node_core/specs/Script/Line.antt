@@ -71,7 +71,8 @@ IsSkipped line = IsShort line × SaysNothing line
 abbrev pub IsEventLine : PlainEvent → List ℕ → Type 0
 IsEventLine event line = IsShort line × LineSpells event line
 
--- the line is neither skipped nor an event
+-- the line is not skipped, as an empty line or a comment is, and spells no event; a line of more
+-- than 20,000 octets is always bad
 abbrev pub IsBadLine : List ℕ → Type 0
 IsBadLine line = (IsSkipped line → ⊥) × ((event : PlainEvent) → IsEventLine event line → ⊥)
 

@@ -28,7 +28,8 @@ pub record IsNew (node : NodeState) : Type 0 where
   pub now : node.policy.now ≡ 0
   pub stands : Stands node.policy Start node
 
--- the state at the start of a script
+-- the state of a run before its first line: the node is new (`IsNew`), and no lines or events are
+-- counted
 pub record IsStart (place : Place) : Type 0 where
   pub node : IsNew place.node
   pub lines : place.lines ≡ 0
@@ -38,7 +39,7 @@ pub record IsStart (place : Place) : Type 0 where
 abbrev pub HasRoom : Place → ℕ → Type 0
 HasRoom place n = (place.lines + n < 2 ^ 64) × (place.events + n < 2 ^ 64)
 
--- at most `n` lines and at most `n` events were handled between the two states
+-- `to` counts at most `n` lines and at most `n` events more than `from`
 abbrev pub IsNear : Place → ℕ → Place → Type 0
 IsNear from n to = (to.lines ≤ from.lines + n) × (to.events ≤ from.events + n)
 
@@ -46,8 +47,8 @@ IsNear from n to = (to.lines ≤ from.lines + n) × (to.events ≤ from.events +
 abbrev pub IsPending : List ℕ → Type 0
 IsPending line = Lacks 10 line × (length line ≤ 20000)
 
--- handling the event changes the state `from` to the state `to`, and the answer to the event is
--- `text`
+-- Handling the event leads from the state `from` to the state `to`, which counts one more event and
+-- the same lines. `text` is the text of the outcome, with the number of the event.
 pub record PlaysEvent (event : PlainEvent) (from to : Place) (text : List ℕ) : Type 0 where
   pub done_as : Outcome
   pub handled : IsOutcome from.node event done_as to.node
@@ -55,8 +56,9 @@ pub record PlaysEvent (event : PlainEvent) (from to : Place) (text : List ℕ) :
   pub lines : to.lines ≡ from.lines
   pub events : to.events ≡ from.events + 1
 
--- running the lines changes the state `from` to the state `to`, and the answers to their events are
--- `text`
+-- Running the lines leads from the state `from` to the state `to`, which also counts these lines
+-- and their events. `text` is the text of the outcomes, and the numbers of the events follow those
+-- of `from`.
 pub record Plays (lines : List (List ℕ)) (from to : Place) (text : List ℕ) : Type 0 where
   pub events : List PlainEvent
   pub outcomes : List Outcome
@@ -67,7 +69,8 @@ pub record Plays (lines : List (List ℕ)) (from to : Place) (text : List ℕ) :
   pub numbered : to.lines ≡ from.lines + length lines
   pub counted : to.events ≡ from.events + length outcomes
 
--- the faults that handling this line in the state `from` may have
+-- the faults of handling this line in the state `from`: `Memory`, or `BadLine` with the number of
+-- this line if the line is bad
 abbrev pub LineFails : RunFault → List ℕ → Place → Type 0
 LineFails (fault.BadLine n) line from = (n ≡ from.lines + 1) × IsBadLine line
 LineFails fault.Memory line from = Unit {0}
@@ -75,7 +78,10 @@ LineFails fault.Write line from = ⊥
 LineFails fault.Read line from = ⊥
 LineFails (fault.Node _) line from = ⊥
 
--- the possible faults of running one line, and for each fault what was written of the answer
+-- The possible faults of running one line in the state `from`. `BadLine`, with the number of this
+-- line if it is bad, and `Memory`: nothing was written. `Write`: a prefix of the text of the
+-- outcome was written. Nothing is stated about what was written if the octets of the writer are not
+-- known.
 abbrev pub LineStops : RunFault → List ℕ → Place → Option (List ℕ) → Option (List ℕ) → Type 0
 LineStops (fault.BadLine n) line from held holds =
     (n ≡ from.lines + 1) × IsBadLine line × Keeps held holds
@@ -85,8 +91,8 @@ LineStops fault.Memory line from held holds = Keeps held holds
 LineStops fault.Read line from held holds = ⊥
 LineStops (fault.Node _) line from held holds = ⊥
 
--- the faults that appending octets to an unfinished line may have, where `line` is the unfinished
--- line followed by these octets
+-- The faults of appending octets to an unfinished line, where `line` is the longer line. `BadLine`,
+-- with the number of this line: `line` has more than 20,000 octets. `Memory` is always possible.
 abbrev pub AddStops : RunFault → List ℕ → Place → Type 0
 AddStops (fault.BadLine n) line from = (n ≡ from.lines + 1) × (20000 < length line)
 AddStops fault.Memory line from = Unit {0}
@@ -94,13 +100,15 @@ AddStops fault.Write line from = ⊥
 AddStops fault.Read line from = ⊥
 AddStops (fault.Node _) line from = ⊥
 
--- whatever octets follow `stream`, the line after `lines` is bad
+-- whatever octets follow `stream`, the text begins with these lines, and the next line is bad
 abbrev pub TurnsBad : List ℕ → List (List ℕ) → Type 0
 TurnsBad stream lines = (more : List ℕ) → (line rest : List ℕ)
     × (ended (stream ++ more) ≡ joined lines ++ (ended line ++ rest)) × Lacks 10 line
     × IsBadLine line
 
--- the possible faults of handling octets in a state, and for each fault the text that was written
+-- The possible faults of handling the octets `stream` in the state `from`. They also tell what was
+-- written, if the octets of the writer are known. `BadLine`: the answers to the lines before the
+-- bad line. `Write` and `Memory`: a prefix of the answers to some first lines of `stream`.
 abbrev pub FeedStops : RunFault → List ℕ → Place → Option (List ℕ) → Option (List ℕ) → Type 0
 FeedStops (fault.BadLine n) stream from held holds =
     (lines : List (List ℕ)) × (to : Place) × (text : List ℕ) × Plays lines from to text

@@ -53,7 +53,7 @@ abbrev pub hex_word : List ℕ → List ℕ
 hex_word [] = codes "-"
 hex_word (o ∷ octets) = encode_lower (o ∷ octets)
 
--- the line of a packet that is sent
+-- the line of a packet that is sent: `>`, the face, and the octets in hexadecimal
 abbrev pub send_text : Send → List ℕ
 send_text sent = codes "> " ++ (decimal sent.0 ++ (32 ∷ (hex_word sent.1 ++ (10 ∷ []))))
 
@@ -80,6 +80,7 @@ outcomes_text rules number (event ∷ events) (done_as ∷ outcomes) =
     outcome_text rules number done_as
     ++ outcomes_text (rules_after event rules) (number + 1) events outcomes
 
--- the text of the answers to a script, for a node with these rules
+-- the text of the outcomes of these events, numbered from 1, if `rules` are in force before the
+-- first event
 abbrev pub script_text : List PlainRule → List PlainEvent → List Outcome → List ℕ
 script_text rules events outcomes = outcomes_text rules 1 events outcomes
