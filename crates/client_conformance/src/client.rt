@@ -1,4 +1,4 @@
-//! How the tests run command lines of the client and give it datagrams.
+//! Functions that run command lines of the client and pass datagrams to the client.
 
 use super::scene::{Scene, on_scene};
 use hmac_keys::KeyBook;
@@ -8,7 +8,7 @@ use ndn_client::{
 use std::alloc::Global;
 use test_support::{KEYS, typed};
 
-/// Returns the text that a word of a row stands for.
+/// Returns the options that `$KEY` or `$NODE` stands for, or any other word unchanged.
 fn spelled(word: &str) -> &str {
     match word {
         "$KEY" => "--keys F --key /ops/KEY/1",
@@ -17,7 +17,8 @@ fn spelled(word: &str) -> &str {
     }
 }
 
-/// Returns the program's name `ndn_tool`, followed by the words of a command line.
+/// Returns `ndn_tool` and then the words of a command line. The words `$KEY` and `$NODE` are
+/// expanded to options.
 fn words_of<'a>(alloc: Global, line: &'a str) -> Option<Vec<&'a str>> {
     let mut words = Vec::new(alloc);
     words.push("ndn_tool").ok()?;
@@ -29,7 +30,7 @@ fn words_of<'a>(alloc: Global, line: &'a str) -> Option<Vec<&'a str>> {
     Some(words)
 }
 
-/// Returns the exchange for a packet that is printed in hexadecimal.
+/// Returns an exchange that sends the packet in the hexadecimal `text` from port 6401 to port 6363.
 fn printed_exchange(alloc: Global, text: &[u8]) -> Option<Exchange> {
     let request = packet_in(alloc, text).ok()?;
     Some(Exchange {
@@ -41,7 +42,8 @@ fn printed_exchange(alloc: Global, text: &[u8]) -> Option<Exchange> {
     })
 }
 
-/// Returns the exchange of a plan. A packet that the plan prints is sent from port 6401.
+/// Returns the exchange of a plan. If the plan prints a packet, returns an exchange that sends the
+/// packet from port 6401.
 fn planned_exchange(alloc: Global, plan: Plan) -> Option<Exchange> {
     match plan {
         Plan::Exchange(exchange) => Some(exchange),
@@ -49,19 +51,20 @@ fn planned_exchange(alloc: Global, plan: Plan) -> Option<Exchange> {
     }
 }
 
-/// Returns the exchange of a job. A packet that the job prints is sent from port 6401.
+/// Returns the exchange of a job. If the job prints a packet, returns an exchange that sends the
+/// packet from port 6401.
 fn exchange_for(alloc: Global, job: &Job, book: &KeyBook) -> Option<Exchange> {
     planned_exchange(alloc, plan_of(alloc, job, book, "").ok()?)
 }
 
-/// Returns the job of a command line at a moment.
+/// Returns the job of a command line that is given at the time `now`.
 fn job_of(alloc: Global, line: &str, now: u64) -> Option<Job> {
     let words = words_of(alloc, line)?;
     parse_words(alloc, now, words.as_slice()).ok()
 }
 
-/// Returns the exchange of a command line at a moment. A packet that the command line prints is
-/// sent from port 6401.
+/// Returns the exchange of a command line that is given at the time `now`. If the command line
+/// prints a packet, returns an exchange that sends the packet from port 6401.
 pub fn exchange_of(alloc: Global, line: &str, now: u64, book: &KeyBook) -> Option<Exchange> {
     let job = job_of(alloc, line, now)?;
     exchange_for(alloc, &job, book)
@@ -130,8 +133,8 @@ fn word_of_outcome(outcome: Outcome) -> &'static str {
     }
 }
 
-/// Returns a word for the outcome of an exchange, and the printed text. An exchange without an
-/// answer has timed out.
+/// Returns a word for the outcome of an exchange, and the printed text. If no answer has ended the
+/// exchange, the word is the reason why no answer came, and the text is empty.
 pub fn end_of(alloc: Global, exchange: &Exchange, progress: Progress) -> (&'static str, Vec<u8>) {
     match progress {
         Progress::Done(text, outcome) => (word_of_outcome(outcome), text),
@@ -141,8 +144,8 @@ pub fn end_of(alloc: Global, exchange: &Exchange, progress: Progress) -> (&'stat
     }
 }
 
-/// Returns whether an exchange ended as `wanted` says. `wanted` is the word for the outcome. A
-/// space and the end of the printed text, with symbols for LF and tab, may follow.
+/// Returns whether an exchange ended as `wanted` says. `wanted` is the word for the outcome, or the
+/// word, a space and the end of the printed text. In this text, symbols stand for LF and tab.
 pub fn ends_as(
     alloc: Global,
     exchange: &Exchange,
@@ -155,8 +158,8 @@ pub fn ends_as(
     Some(word == wanted && printed.ends_with(lines.as_bytes()))
 }
 
-/// Returns whether a command line ends as its row says. Each command line runs one millisecond
-/// after the previous one.
+/// Runs the command line of a row, and returns whether the command line ends as the row says. Each
+/// command line runs one millisecond after the previous one.
 pub fn plays(alloc: Global, scene: &mut Scene, book: &KeyBook, row: &str) -> Option<bool> {
     let (line, wanted) = row.split_once(" => ").unwrap_or((row, "no end"));
     scene.now = scene.now.saturating_add(1);
@@ -165,8 +168,8 @@ pub fn plays(alloc: Global, scene: &mut Scene, book: &KeyBook, row: &str) -> Opt
     ends_as(alloc, &exchange, progress, wanted)
 }
 
-/// Runs all rows on one node, in order. Returns the number of the first line, counted from 1, whose
-/// row does not end as it says, or 0 if there is none.
+/// Runs all rows on one node, in order. Returns the line number, counted from 1, of the first row
+/// that `plays` does not confirm, or 0 if `plays` confirms every row.
 fn first_misplayed(alloc: Global, scene: &mut Scene, book: &KeyBook, rows: &str) -> usize {
     for (before, row) in rows.lines().enumerate() {
         if !row.is_empty() && plays(alloc, scene, book, row) != Some(true) {
@@ -176,8 +179,8 @@ fn first_misplayed(alloc: Global, scene: &mut Scene, book: &KeyBook, rows: &str)
     0
 }
 
-/// Returns what `first_misplayed` returns for a new node under these rules, or `None` if there is
-/// no such node.
+/// Runs all rows on a new node with these rules, and returns what `first_misplayed` returns.
+/// Returns `None` if the node cannot be made.
 pub fn misplayed(alloc: Global, rules: &str, rows: &str) -> Option<usize> {
     let book = KeyBook::read(alloc, KEYS).ok()?;
     on_scene(

@@ -19,8 +19,8 @@ const OPS: &str = "/ops/KEY/1 6b6579\n";
 /// A key file with one key, which is named `/k` and consists of the text `Jefe`.
 const JEFE: &str = "/k 4a656665";
 
-/// Returns the job of a command. Its arguments are separated by single spaces, and `''` stands for
-/// an empty argument.
+/// Returns the job of a command. The command's arguments are separated by single spaces, and `''`
+/// stands for an empty argument.
 fn job_of(alloc: Global, command: &str) -> Result<Job, ToolFault> {
     let mut arguments = Vec::new(alloc);
     for argument in command.split(' ') {
@@ -55,8 +55,8 @@ fn answered(alloc: Global, command: &str, keys: &str) -> Result<String, ToolFaul
     text_with(alloc, &job, keys)
 }
 
-/// Returns the exit status of a command and the text that it prints, which is the text of the fault
-/// if the command fails. Returns `None` if memory runs out for this text.
+/// Returns the exit status of a command and the text that the command prints. If the command fails,
+/// the text is the text of its fault. Returns `None` if memory runs out for the text of the fault.
 fn reply(alloc: Global, command: &str, keys: &str) -> Option<(u8, String)> {
     match answered(alloc, command, keys) {
         Ok(text) => Some((0, text)),
@@ -91,7 +91,7 @@ fn check_session(rt: &(impl Abort + AllocGlobal), keys: &str, session: &str) {
 }
 
 /// Returns whether a command ends with this exit status and a text that contains `part`. In `part`,
-/// `|` stands for an LF. The text must have one LF at its end.
+/// `|` stands for an LF. The text must have exactly one LF at its end.
 fn has_part(alloc: Global, command: &str, status: u8, part: &str) -> Option<bool> {
     let (ended, text) = reply(alloc, command, "")?;
     let text = text.as_str();
@@ -100,8 +100,8 @@ fn has_part(alloc: Global, command: &str, status: u8, part: &str) -> Option<bool
     Some(ended == status && is_line && text.contains(part.as_str()))
 }
 
-/// Checks rows. Each row is a command, ` => `, and a part of the text that the command prints when
-/// it ends with the exit status `status`.
+/// Checks that the command of each row ends with the exit status `status` and prints a text that
+/// contains the part in the row. A row is a command, ` => ` and the part.
 fn check_parts(rt: &(impl Abort + AllocGlobal), status: u8, rows: &str) {
     assert!(rt; rows.contains(" => "), "there are no rows");
     for row in rows.lines() {
@@ -149,8 +149,8 @@ $ ndn_tool interest /A --nonce 01020304 --parameters 70
 053007250801410220620e59c59d04596b40d4cbe11e875a127f928accec817bec4519ae74d661f47a0a0401020304240170
 ";
 
-/// The options of `interest` for an Interest without a token and without a signature. The packets
-/// were made by an independent program.
+/// Tests the options of `ndn_tool interest` for an Interest without a PIT token and without a
+/// signature. The packets were made by an independent program.
 #[test]
 fn interests(rt: HostRuntime) {
     check_session(&rt, "", INTERESTS);
@@ -277,8 +277,8 @@ token a1b2
 idle
 ";
 
-/// A PitToken is an element of type 98 inside a link packet, which has type 100. It precedes the
-/// Fragment, which has type 80.
+/// A PitToken is an element of type 98 inside a link packet, which has type 100. In the link
+/// packet, the PitToken precedes the Fragment, which has type 80.
 #[test]
 fn tokens(rt: HostRuntime) {
     check_session(&rt, "", TOKENS);
@@ -329,7 +329,7 @@ $ ndn_tool command /localhost/nfd/fib/add-nexthop --name /A --face 256 --cost 18
 05c5078708096c6f63616c686f737408036e66640803666962080b6164642d6e657874686f700841683f0703080141690201006a08ffffffffffffffff6b27072508096c6f63616c686f737408036e66640808737472617465677908096d756c7469636173748401000220537e6246c98bb844eb1cbc982f2e3efe4b5b176808d04ec5b44ea984277ad2850a040102030424002c101b01002801002a08ffffffffffffffff2e20682bb2cba3c2367cb040a0256086fa27e5c6e0b58b89c6bb53cf671ad336c057
 ";
 
-/// Each option of `command`. The packets were made by an independent program.
+/// Tests each option of `ndn_tool command`. The packets were made by an independent program.
 #[test]
 fn commands(rt: HostRuntime) {
     check_session(&rt, OPS, COMMANDS);
@@ -348,7 +348,7 @@ $ ndn_tool interest /localhost/nfd/fib/list --can-be-prefix --nonce 01020304
 0525071b08096c6f63616c686f737408036e6664080366696208046c69737421000a0401020304
 ";
 
-/// The example of `docs/MANAGEMENT.md`.
+/// Tests the command lines of the example in `docs/MANAGEMENT.md`.
 #[test]
 fn management(rt: HostRuntime) {
     check_session(&rt, OPS, MANAGEMENT);
@@ -413,8 +413,9 @@ $ ndn_tool command /localhost/nfd/rib/register --name /A --face 1 --cost 2 --str
 05cd078508096c6f63616c686f737408036e66640803726962080872656769737465720842684007030801416901016a01026b27072508096c6f63616c686f737408036e66640808737472617465677908096d756c7469636173746c01036d01046f01058401060220e81fe4a9c31a791ce2e0a662cf5918ee7259642c519760e37705302f0508fa090a040102030424002c1a1b01041c0f070d08036f707308034b45590801312804000f42402e2084eb55d73ad50d435aa887e0566bf99d86058dcef2a5a89ec5c86825d673df7d
 ";
 
-/// Commands for registered routes with each of their options, in the short form and as `ndn_tool
-/// command`, where each field is an option. The packets were made by an independent program.
+/// Tests commands for registered routes with each of their options. The commands are written in the
+/// short form `ndn_tool route`, and as `ndn_tool command` with an option for each field. The
+/// packets were made by an independent program.
 #[test]
 fn registered_routes(rt: HostRuntime) {
     check_session(&rt, OPS, ROUTES);
@@ -511,8 +512,9 @@ TooLong
 status 1
 ";
 
-/// Commands that cannot be written. The key is not in the key file, the name already has a digest
-/// of parameters, or the name has too many components for the parameters to follow.
+/// Tests commands that are refused. The reason is a key that is not in the key file, a name that
+/// already has a parameters digest, or a name with too many components for the parameters to
+/// follow.
 #[test]
 fn unwritten_commands(rt: HostRuntime) {
     check_session(&rt, OPS, UNWRITTEN_COMMANDS);
@@ -531,7 +533,7 @@ $ ndn_tool data /A --content 78 --freshness 10 --keys F --key /ops/KEY/1
 06450703080141140319010a15017816141b01041c0f070d08036f707308034b45590801311720c83ce207400ab45d20f532b0d226b1f316f0dc1cce9d7c01569fa389541dc48b
 ";
 
-/// Each option of `data`. The packets were made by an independent program.
+/// Tests each option of `ndn_tool data`. The packets were made by an independent program.
 #[test]
 fn data_packets(rt: HostRuntime) {
     check_session(&rt, OPS, DATA_PACKETS);
@@ -1038,8 +1040,8 @@ ndn_tool route add /A --face 1 --send 1 --from x => from: give a port
 ndn_tool route add /A --face 1 --from 1 => from: give the port to send to as well
 ";
 
-/// A wrong command line ends with exit status 2 and a text that contains the part in the command
-/// line's row.
+/// A wrong command line ends with exit status 2. The message contains the text after ` => ` in the
+/// row of the command line.
 #[test]
 fn command_lines(rt: HostRuntime) {
     check_parts(&rt, 2, COMMAND_LINES);
@@ -1131,8 +1133,8 @@ fn refused_line(alloc: Global, count: u64) -> Option<String> {
     )
 }
 
-/// A key file, a packet in hexadecimal, and a line may have as many octets as their limits, but not
-/// more.
+/// A key file, a packet in hexadecimal and a line of input each have a greatest length. This length
+/// is accepted, and one octet more is refused.
 #[test]
 fn large_input(rt: HostRuntime) {
     let alloc = rt.alloc();
@@ -1157,8 +1159,8 @@ fn key_file_status(rt: &HostRuntime, job: &Job) -> u8 {
     }
 }
 
-/// Returns whether a command names this key file, and `key_file_status` returns this status for
-/// the command's job.
+/// Returns whether a command names the key file `path`, and the function `key_file_status` returns
+/// `status` for the command's job.
 fn has_key_file(rt: &HostRuntime, command: &str, path: Option<&str>, status: u8) -> bool {
     job_of(rt.alloc(), command).is_ok_and(|job| job.key_file() == path
         && key_file_status(rt, &job) == status)
@@ -1179,8 +1181,8 @@ fn unreadable_key_file(rt: HostRuntime) {
     assert!(rt; said.as_deref() == Some(wanted));
 }
 
-/// Binds a port that another socket uses. Returns whether this is refused with exit status 3 and a
-/// text that names this port.
+/// Binds a port that another socket uses. Returns whether the bind fails with exit status 3 and a
+/// message that contains the port.
 fn refuses_taken_port(rt: &HostRuntime) -> Option<bool> {
     let other = UdpSocket::bind(rt, (Ipv4Addr::LOCALHOST, 0)).ok()?;
     let port = other.local_addr().ok()?.port();
@@ -1250,7 +1252,7 @@ $ ndn_tool cache erase /A --count 10
 0580074908096c6f63616c686f737408036e66640802637308056572617365080a6808070308014184010a0220128c0a99b3ded3189e916a1a3fc7e7c9f03d50eb050bfdbb62c4f7d45085c0b90a04ca70b69b24002c091b01002804000f42402e205d42d3fdaa6b3c11aea0be4e2784a4e1d3a0456cd9bf39ed18dae188854d34c8
 ";
 
-/// Returns whether a command prints `wanted`. Running out of memory is also accepted.
+/// Returns whether a command prints `wanted` or runs out of memory.
 fn prints_in_memory(alloc: Global, command: &str, wanted: &str) -> bool {
     match reply(alloc, command, JEFE) {
         None => true,
@@ -1271,9 +1273,9 @@ fn refused_memory(rt: HostRuntime) {
     }
 }
 
-/// A command, followed by datagrams, each with the outcome of the command if that datagram arrives.
-/// The packets in this constant, and in the constants below whose names end with `ANSWERS`, were
-/// made by an independent program.
+/// The first line is a command. Each further line is a datagram and the outcome of the command if
+/// the datagram arrives. The packets in this constant, and in the constants below whose names end
+/// with `ANSWERS`, were made by an independent program.
 const ROUTE_ANSWERS: &str =
     "0598075008096c6f63616c686f737408036e66640803666962080b6164642d6e657874686f70080a680807030801416901020220b3efe71974da9dc26e88d0c074c8f0ff34ea85c38b109d9e9c6400b87694f2f20a040102030424002c1a1b01041c0f070d08036f707308034b45590801312804000f42402e20d113cf38056af9bbbec876471f4b51934978ef69345464b05cb762148eaa5dbb
 0684075008096c6f63616c686f737408036e66640803666962080b6164642d6e657874686f70080a680807030801416901020220b3efe71974da9dc26e88d0c074c8f0ff34ea85c38b109d9e9c6400b87694f2f2150965076601c867024f4b16031b01001720b6e80976e9dc6c36e0492f03adf2cda6bfa93df5c7b4489a5fc035173b9449cc done
@@ -1305,7 +1307,8 @@ const ROUTE_ANSWERS: &str =
 0600 ignored
 ";
 
-/// A repository's insert, for which status 100 is success, and datagrams with their outcomes.
+/// The first line is an insert into a repository. Each further line is a datagram and the outcome
+/// of the insert if the datagram arrives. For an insert, status 100 is a success.
 const INSERT_ANSWERS: &str =
     "0581073908047265706f0806696e736572740807c90507030801410220856ad41dcba9cd04d16e32da8c22468001abf94c4a2d4d42b7c3a6e26de9f5910a040102030424002c1a1b01041c0f070d08036f707308034b45590801312804000f42402e2067118d1ececd0d1c18fc45b8ae9abc3778200f148c277b58cdf8f39b8cc0c96d
 0675073908047265706f0806696e736572740807c90507030801410220856ad41dcba9cd04d16e32da8c22468001abf94c4a2d4d42b7c3a6e26de9f5911511cf0fd00164670770656e64696e6784010016031b0100172007ca981da7330b26cf7f5160965fc8dceb813aed6b86cf7f235dccc6681de8df done
@@ -1316,7 +1319,8 @@ const INSERT_ANSWERS: &str =
 066d073908047265706f0806696e736572740807c90507030801410220856ad41dcba9cd04d16e32da8c22468001abf94c4a2d4d42b7c3a6e26de9f591150965076601c867024f4b16031b01001720d56beaf70800284532e7a6cd9c7891650a32fa9452c2d0cc736edff9e156e4ee no-status
 ";
 
-/// A repository's check, for which status 100 is not success, and datagrams with their outcomes.
+/// The first line is a check of a repository. Each further line is a datagram and the outcome of
+/// the check if the datagram arrives. For a check, status 100 is not a success.
 const CHECK_ANSWERS: &str =
     "0542073808047265706f0805636865636b0807c9050703080141022033b67cb5385ceddad93d0ee960679041613bed34b8b4a5e6362fe7539ba2d3ce0a04010203042400
 066f073808047265706f0805636865636b0807c9050703080141022033b67cb5385ceddad93d0ee960679041613bed34b8b4a5e6362fe7539ba2d3ce150ccf0ad001c867024f4b84010116031b01001720e321cf1c01ed9976608792d53dbe9f46213bbd83c57e8c27042f544af69c5bf6 done
@@ -1324,7 +1328,8 @@ const CHECK_ANSWERS: &str =
 0677073808047265706f0805636865636b0807c9050703080141022033b67cb5385ceddad93d0ee960679041613bed34b8b4a5e6362fe7539ba2d3ce1514cf12d002019467096e6f7420666f756e6484010016031b0100172027cb3843c2e805daa3395bfd459ed163293d13329285a18a1fdb9aeed87ff864 refused
 ";
 
-/// An Interest for `/A`, and datagrams with their outcomes.
+/// The first line is an Interest for `/A`. Each further line is a datagram and the outcome of the
+/// Interest if the datagram arrives.
 const INTEREST_ANSWERS: &str = "050b07030801410a0401020304
 062f070308014115017816031b01001720e4f0b5aed03446e702356a360c7194c208b8b6a28ff30de430f1baa08ba29266 done
 062f070308014115017816031b01001720e5f0b5aed03446e702356a360c7194c208b8b6a28ff30de430f1baa08ba29266 done
@@ -1333,20 +1338,22 @@ const INTEREST_ANSWERS: &str = "050b07030801410a0401020304
 6418fd032005fd03210196500d050b07030801410a0401020305 ignored
 ";
 
-/// An Interest with CanBePrefix, and datagrams with their outcomes.
+/// The first line is an Interest with CanBePrefix. The second line is a Data with a longer name,
+/// which answers the Interest.
 const PREFIX_ANSWERS: &str = "050d070308014121000a0401020304
 0632070608014108014215017816031b01001720ad4bdd84fe28f6c7243eef0f1dbfdb7acd041e625c59fbbdf6c87b1bb228e5a5 done
 ";
 
-/// A command with CanBePrefix, whose reply has the command's name, and datagrams with their
-/// outcomes.
+/// The first line is a command with CanBePrefix. A Data with the command's name is the reply, and a
+/// Data with a longer name is ignored.
 const PREFIX_COMMAND_ANSWERS: &str =
     "059a075008096c6f63616c686f737408036e66640803666962080b6164642d6e657874686f70080a680807030801416901020220b3efe71974da9dc26e88d0c074c8f0ff34ea85c38b109d9e9c6400b87694f2f221000a040102030424002c1a1b01041c0f070d08036f707308034b45590801312804000f42402e20d113cf38056af9bbbec876471f4b51934978ef69345464b05cb762148eaa5dbb
 0684075008096c6f63616c686f737408036e66640803666962080b6164642d6e657874686f70080a680807030801416901020220b3efe71974da9dc26e88d0c074c8f0ff34ea85c38b109d9e9c6400b87694f2f2150965076601c867024f4b16031b01001720b6e80976e9dc6c36e0492f03adf2cda6bfa93df5c7b4489a5fc035173b9449cc done
 0687075308096c6f63616c686f737408036e66640803666962080b6164642d6e657874686f70080a680807030801416901020220b3efe71974da9dc26e88d0c074c8f0ff34ea85c38b109d9e9c6400b87694f2f2080178150965076601c867024f4b16031b01001720d0d0e633fa38a1d163524163a5943e45b8e2a90e55897bb42e69fc2203e73c09 ignored
 ";
 
-/// A request that is a Data, to which no datagram is an answer, and a datagram that is ignored.
+/// The first line is a request that is a Data. No datagram answers a Data, so the datagram in the
+/// second line is ignored.
 const NO_ANSWERS: &str =
     "062f070308014115017816031b01001720e4f0b5aed03446e702356a360c7194c208b8b6a28ff30de430f1baa08ba29266
 062f070308014115017816031b01001720e4f0b5aed03446e702356a360c7194c208b8b6a28ff30de430f1baa08ba29266 ignored
@@ -1364,16 +1371,16 @@ fn word_of(outcome: Option<Outcome>) -> &'static str {
     }
 }
 
-/// Returns whether the request has the outcome `wanted` when this datagram arrives, with the key
-/// `/ops/KEY/1`.
+/// Returns whether a client with the key `/ops/KEY/1` finds the outcome `wanted` for the request
+/// when this datagram arrives.
 fn comes_to(alloc: Global, request: &[u8], datagram: &[u8], wanted: &str) -> Option<bool> {
     let book = KeyBook::read(alloc, OPS).ok()?;
     let outcome = judge(alloc, request, datagram, &book).ok()?;
     Some(word_of(outcome) == wanted)
 }
 
-/// Returns whether a row is correct. The row is a datagram in hexadecimal, or `-` for no octets,
-/// and the word for its outcome.
+/// Returns whether a row is correct. The row is a datagram in hexadecimal (`-` for no octets), and
+/// the word for the outcome of the request when this datagram arrives.
 fn row_comes_to(alloc: Global, request: &str, row: &str) -> Option<bool> {
     let (digits, wanted) = row.split_once(' ')?;
     let digits = if digits == "-" { "" } else { digits };
@@ -1382,7 +1389,7 @@ fn row_comes_to(alloc: Global, request: &str, row: &str) -> Option<bool> {
     comes_to(alloc, &request, &datagram, wanted)
 }
 
-/// Checks rows of datagrams and the words for their outcomes. The first line is the request.
+/// The first line is a request. Checks each further line with `row_comes_to`.
 fn check_answers(rt: &(impl Abort + AllocGlobal), rows: &str) {
     let (request, rows) = rows.split_once('\n').unwrap_or(("", ""));
     assert!(rt; rows.contains(' '), "there are no rows");
@@ -1406,7 +1413,7 @@ fn answers(rt: HostRuntime) {
     check_answers(&rt, NO_ANSWERS);
 }
 
-/// Returns a reply to the command with this status and a text of 9,000 spaces.
+/// Returns a reply to the command `request`. The reply has this status and a text of 9,000 spaces.
 fn long_reply(alloc: Global, request: &[u8], status: u8) -> Option<Vec<u8>> {
     let Ok(Frame::Interest(asked)) = read_frame(request) else {
         return None;
@@ -1421,8 +1428,8 @@ fn long_reply(alloc: Global, request: &[u8], status: u8) -> Option<Vec<u8>> {
     Some(reply)
 }
 
-/// Returns whether a long reply has this outcome. The last octet of its signature is combined with
-/// `change` by exclusive or.
+/// Returns whether a long reply has this outcome. The last octet of the reply's signature is
+/// combined with `change` by exclusive or.
 fn long_comes_to(alloc: Global, status: u8, change: u8, wanted: &str) -> Option<bool> {
     let (request, _) = ROUTE_ANSWERS.split_once('\n')?;
     let request = packet_in(alloc, request.as_bytes()).ok()?;
@@ -1464,13 +1471,13 @@ fn exchange_to(alloc: Global, request: Vec<u8>, to: u16) -> Exchange {
     }
 }
 
-/// Returns the outcome of a client on this socket that sends the request to a port.
+/// Sends the request to a port through the socket `client`, and returns the outcome.
 fn asks(rt: &HostRuntime, client: &UdpSocket, request: Vec<u8>, to: u16) -> Result<(), Fault> {
     let exchange = exchange_to(rt.alloc(), request, to);
     exchange_on(rt, client, exchange, &KeyBook::new(rt.alloc()))
 }
 
-/// Sends two datagrams from the node to the client. Returns `None` if one cannot be sent.
+/// Sends two datagrams from the node to the client. Returns `None` if a datagram cannot be sent.
 fn sends_both(node: &UdpSocket, client: &UdpSocket, first: &[u8], second: &[u8]) -> Option<()> {
     let address = client.local_addr().ok()?;
     node.send_to(first, address).ok()?;

@@ -26,8 +26,8 @@ fn ten_commands(rt: HostRuntime) {
     assert!(rt; row == Some(0), "line {row:?}");
 }
 
-/// The other verbs, with options. A route that expires after one millisecond is gone at the next
-/// command.
+/// Commands with verbs and options that are not in `TEN_COMMANDS`. A route that expires after one
+/// millisecond is gone at the next command.
 const OTHER_COMMANDS: &str = "
 route register /A --face 2 --cost 5 $KEY $NODE => done status 200 OK␊name /A␊face 2␊cost 5␊origin 0␊flags child-inherit␊
 route register /A/B --face 1 --flags 2 --expires 1 --origin 65 $KEY $NODE => done status 200 OK␊name /A/B␊face 1␊cost 0␊origin 65␊flags capture␊expires in 1 ms␊
@@ -53,8 +53,8 @@ fn other_commands(rt: HostRuntime) {
     assert!(rt; row == Some(0), "line {row:?}");
 }
 
-/// The statuses of `docs/MANAGEMENT.md` except those of full tables, and requests without an
-/// answer.
+/// Commands that are answered with the statuses of `docs/MANAGEMENT.md`, except 200 and 503. The
+/// last three rows are requests without an answer.
 const STATUSES: &str = "
 route add /A --face 7 $KEY $NODE => refused status 410 face not open␊
 route add /1/2/3/4/5/6/7/8/9/0/1/2/3/4/5/6/7/8/9/0/1/2/3/4/5/6/7/8/9/0/1/2/3 --face 2 $KEY $NODE => refused status 414 prefix too long␊

@@ -9,8 +9,8 @@ use std::alloc::Global;
 use test_support::{KEYS, SAMPLE, first_wrong};
 
 /// The datagrams that arrive after a command was sent, and how the command ends. `reply` is the
-/// node's reply to the command. `forged` is this reply with a wrong signature. `earlier` is the
-/// node's reply to the previous command, which arrives too late.
+/// node's reply to the command. `forged` is the node's reply with a wrong signature. `earlier` is
+/// the node's reply to the previous command, which arrives too late.
 const HEARD: &str = "
 reply => done status 200 OK␊name /A␊face 2␊cost 5␊
 forged earlier reply => done status 200 OK␊name /A␊face 2␊cost 5␊
@@ -50,7 +50,7 @@ fn reply_to(alloc: Global, scene: &mut Scene, exchange: &Exchange) -> Option<Vec
     }
 }
 
-/// Returns the node's reply to a command for another name.
+/// Returns the node's reply to a command that adds a route for `/earlier`.
 fn earlier_reply(alloc: Global, scene: &mut Scene, book: &KeyBook) -> Option<Vec<u8>> {
     let line = "route add /earlier --face 2 $KEY $NODE";
     let exchange = exchange_of(alloc, line, 1_000_000, book)?;
@@ -73,8 +73,8 @@ fn hears(
     ends_as(alloc, exchange, progress, wanted)
 }
 
-/// Does the same as `hears` on a new node. The node gets another command before the command in
-/// `line`. The reply to the command in `line` must have `len` octets.
+/// Gives the node an earlier command and then the command in `line`. Returns whether the command in
+/// `line` ends as the row says and the command's reply has `len` octets.
 fn hears_on(
     alloc: Global,
     scene: &mut Scene,
@@ -90,7 +90,7 @@ fn hears_on(
     Some(heard && reply.len() == len)
 }
 
-/// Does the same as `hears_on`, with the sample keys and rules.
+/// Returns what `hears_on` returns for a new node with the sample keys and rules.
 fn hears_of(alloc: Global, line: &str, len: usize, row: &str) -> Option<bool> {
     let book = KeyBook::read(alloc, KEYS).ok()?;
     on_scene(
@@ -101,19 +101,20 @@ fn hears_of(alloc: Global, line: &str, len: usize, row: &str) -> Option<bool> {
     )
 }
 
-/// Does the same as `hears_of` for a command that adds a route for `/A`. The reply to this command
-/// has 150 octets. Its Name, including the parameters, takes 85 of them.
+/// Returns whether a command that adds a route for `/A` ends as the row says. The reply to the
+/// command has 150 octets. The reply's Name, including the parameters, takes 85 of the 150 octets.
 fn is_heard(alloc: Global, row: &str) -> bool {
     hears_of(alloc, "route add /A --face 2 --cost 5 $KEY $NODE", 150, row) == Some(true)
 }
 
-/// A command ends only when its own reply arrives with the right signature.
+/// A command is done only when its own reply arrives with the right signature.
 #[test]
 fn forged_and_earlier_replies(rt: HostRuntime) {
     assert!(rt; first_wrong(rt.alloc(), HEARD, is_heard) == 0);
 }
 
-/// Rows as in `HEARD`, for a command with a long name, which replaces the character `~`.
+/// Rows in the form of `HEARD`, for a command with a long name. The character `~` stands for the
+/// name.
 const LONG: &str = "
 reply => done status 200 OK␊name ~␊face 2␊cost 0␊
 forged earlier reply => done status 200 OK␊name ~␊face 2␊cost 0␊
@@ -150,7 +151,7 @@ fn is_long_heard(alloc: Global, row: &str) -> bool {
 }
 
 /// A reply of 16,063 octets, which is more than 8,800, ends its command if its signature is right.
-/// With a wrong signature it is ignored.
+/// A reply with a wrong signature is ignored.
 #[test]
 fn reply_of_16063_octets(rt: HostRuntime) {
     assert!(rt; first_wrong(rt.alloc(), LONG, is_long_heard) == 0);

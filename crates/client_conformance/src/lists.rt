@@ -1,4 +1,4 @@
-//! A list of several segments, and a repository that is full.
+//! Tests of a list of several segments, and of a full repository.
 
 use super::client::{end_of, ends_as, exchange_of, plays, turn};
 use super::scene::{Scene, on_scene};
@@ -7,7 +7,8 @@ use ndn_client::{Exchange, Progress};
 use std::alloc::Global;
 use test_support::{KEYS, SAMPLE};
 
-/// The 47 letters before the number in a name, so that a route takes 64 octets in the list.
+/// The 47 letters that precede the number in the name of a route. With these letters, a route takes
+/// 64 octets in the list of routes.
 const LETTERS: &str = "xxxxxxxxxxxxxxxxxxxxxxxxxxxxxxxxxxxxxxxxxxxxxxx";
 
 /// Returns whether the node accepts 130 routes, which take 8,320 octets in the list.
@@ -33,7 +34,7 @@ fn table(alloc: Global) -> Option<String> {
     Some(table)
 }
 
-/// Returns whether a segment arrives that is not the last one.
+/// Returns whether the node answers with a segment, and this segment is not the last one.
 fn goes_on(alloc: Global, scene: &mut Scene, exchange: &mut Exchange, book: &KeyBook) -> bool {
     matches!(turn(alloc, scene, exchange, book), Some(Progress::Next))
 }
@@ -65,7 +66,7 @@ fn ends_with_change(
     Some(changed && ends_as(alloc, exchange, progress, "changed")?)
 }
 
-/// Returns whether the request for a list ends as the function `ends` says.
+/// Requests the list of routes, and returns what `ends` returns for the exchange.
 fn lists(
     alloc: Global,
     scene: &mut Scene,
@@ -78,8 +79,8 @@ fn lists(
     ends(alloc, scene, &mut exchange, book)
 }
 
-/// Returns what `plays` returns for a new node under the sample rules, or `None` if there is no
-/// such node.
+/// Returns what `plays` returns for a new node with the sample rules, or `None` if the node cannot
+/// be made.
 fn is_right<F: Fn(Global, &mut Scene, &KeyBook) -> Option<bool>>(
     alloc: Global,
     plays: &F,
@@ -90,8 +91,9 @@ fn is_right<F: Fn(Global, &mut Scene, &KeyBook) -> Option<bool>>(
     on_scene(alloc, SAMPLE, &book, plays)
 }
 
-/// Returns whether a list of 130 routes is received, a new version of the list then ends an
-/// exchange, and a further exchange receives the list again.
+/// Returns whether three exchanges for a list of 130 routes end as expected. The first exchange
+/// receives the list. The second exchange ends because the list gets a new version. The third
+/// exchange receives the list again.
 fn lists_routes(alloc: Global, scene: &mut Scene, book: &KeyBook) -> Option<bool> {
     let added = adds_routes(alloc, scene, book)?;
     let whole = lists(alloc, scene, book, ends_with_table)?;

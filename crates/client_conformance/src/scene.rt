@@ -52,7 +52,8 @@ fn node_under(alloc: Global, rules: &str) -> Option<Node> {
     Node::new(alloc, parts_of(alloc, rules)?).ok()
 }
 
-/// Returns what `play` returns for a scene, or `None` if its faces cannot be opened.
+/// Opens the faces of a scene and returns what `play` returns, or `None` if a face cannot be
+/// opened.
 fn play_on<T: Copy, F: Fn(Global, &mut Scene, &KeyBook) -> Option<T>>(
     alloc: Global,
     scene: &mut Scene,
@@ -68,9 +69,9 @@ fn play_on<T: Copy, F: Fn(Global, &mut Scene, &KeyBook) -> Option<T>>(
     }
 }
 
-/// Returns what `play` returns for a scene with a new node under these rules, or `None` if there is
-/// no such scene. The three faces are open, and the moment is 1,000,000. No other function owns a
-/// scene.
+/// Returns what `play` returns for a scene with a new node that has these rules, or `None` if the
+/// scene cannot be made. The three faces of the scene are open, and the time is 1,000,000
+/// milliseconds. This function owns the scene, and all other functions borrow it.
 pub fn on_scene<T: Copy, F: Fn(Global, &mut Scene, &KeyBook) -> Option<T>>(
     alloc: Global,
     rules: &str,
@@ -152,9 +153,9 @@ impl Scene {
         Some(true)
     }
 
-    /// Returns the packets that the node sends to a client in answer to a packet, including those
-    /// that it sends after the producer's Data. If `from` is a port, the client is at port 6401.
-    /// Otherwise the client is at a port that the node does not know yet.
+    /// Gives a client's packet to the node, and lets the producer answer the node's Interests.
+    /// Returns all packets that the node sends to the client. If `from` is `Some`, the client is at
+    /// port 6401. If `from` is `None`, the client is at a port that the node does not know yet.
     pub fn answers(
         &mut self,
         alloc: Global,

@@ -7,8 +7,8 @@ use std::alloc::Global;
 use std::test::*;
 use test_support::octets;
 
-/// Returns the HMAC of a text under a key in hexadecimal. Returns `None` if hashing the text in two
-/// parts, or with an `HmacKey`, gives another HMAC.
+/// Returns the HMAC of a text under a key. The HMAC, the text and the key are in hexadecimal.
+/// Returns `None` if hashing the text in two parts, or with an `HmacKey`, gives a different HMAC.
 fn tag(alloc: Global, input: &str) -> Option<String> {
     let (key, text) = input.split_once(" | ")?;
     let tag = tag_of_both(alloc, key, text)?;
@@ -23,8 +23,8 @@ fn tag_of_both(alloc: Global, key: &str, text: &str) -> Option<[u8; 32]> {
     tag_under(key, &text)
 }
 
-/// Returns the HMAC of a text under a key, if the HMAC of the text in two parts and the HMAC that
-/// an `HmacKey` computes are equal to it.
+/// Returns the HMAC of a text under a key. Returns `None` if hashing the text in two parts, or with
+/// an `HmacKey`, gives a different HMAC.
 fn tag_under(key: Vec<u8>, text: &[u8]) -> Option<[u8; 32]> {
     let tag = tag_of_any_parts(&key, text)?;
     (HmacKey::new(key).tag(text, &[]) == tag).then_some(tag)
@@ -41,7 +41,7 @@ fn tag_of_any_parts(key: &[u8], text: &[u8]) -> Option<[u8; 32]> {
     Some(tag)
 }
 
-/// Test cases 1, 2, 3, 4, 6 and 7 of RFC 4231.
+/// The HMAC is correct for the test cases 1, 2, 3, 4, 6 and 7 of RFC 4231.
 #[test]
 fn hmac_vectors(rt: HostRuntime) {
     let rows = "
@@ -59,8 +59,8 @@ aax131 | 5468697320697320612074657374207573696e672061206c6172676572207468616e206
     check_rows(&rt, rt.alloc(), rows, tag);
 }
 
-/// An empty key, and keys of the octets 0, 1, 2 and so on with lengths near 64 octets, the block
-/// length of SHA-256.
+/// The HMAC is correct for an empty key, and for keys with lengths near 64 octets, the block length
+/// of SHA-256. The octets of these keys are 0, 1, 2 and so on.
 #[test]
 fn keys_around_a_block(rt: HostRuntime) {
     let rows = "
@@ -72,7 +72,7 @@ fn keys_around_a_block(rt: HostRuntime) {
     check_rows(&rt, rt.alloc(), rows, tag);
 }
 
-/// Returns whether a value is equal to a tag of 32 octets.
+/// Shows whether `tags_equal` returns true for a value and a tag of 32 octets.
 fn is_tag(alloc: Global, input: &str) -> Option<String> {
     let (value, tag) = input.split_once(" | ")?;
     let tag = tag_in(alloc, tag)?;
@@ -80,7 +80,7 @@ fn is_tag(alloc: Global, input: &str) -> Option<String> {
     tags_equal(&value, &tag).to_string(alloc).ok()
 }
 
-/// Returns a tag, given as 32 octets in hexadecimal.
+/// Reads a tag of 32 octets from hexadecimal.
 fn tag_in(alloc: Global, text: &str) -> Option<[u8; 32]> {
     let octets = octets(alloc, text)?;
     <[u8; 32]>::try_from(octets.as_slice()).ok()
@@ -130,9 +130,9 @@ fn key_shown(alloc: Global, len: usize, key: &[u8]) -> Option<String> {
     format!(in alloc; "{len}: {key}").ok()
 }
 
-/// Returns the result of looking up a name, or `/` if the row has no name, in a key file. The file
-/// has the keys /0, /1 and so on, as many as the number before the bar says, followed by the lines
-/// after the bar.
+/// Looks up a name in a key file, and returns the result. A row has the form `COUNT|LINES ? NAME`.
+/// The file has `COUNT` keys with the names /0, /1 and so on, followed by `LINES`. If the row has
+/// no `COUNT`, the file has only `LINES`. If the row has no `NAME`, the name is `/`.
 fn key_file(alloc: Global, input: &str) -> Option<String> {
     let (count, rest) = input.split_once('|').unwrap_or(("0", input));
     let (end, uri) = rest.split_once(" ? ").unwrap_or((rest, "/"));
@@ -143,7 +143,7 @@ fn key_file(alloc: Global, input: &str) -> Option<String> {
     found(alloc, &file, uri)
 }
 
-/// Appends the lines of the keys /0, /1 and so on, `count` lines in all.
+/// Appends `count` lines, which give the keys /0, /1 and so on.
 fn put_keys(file: &mut String, count: u16) -> Option<()> {
     for i in 0..count {
         write!(file, "/{i} 00\n").ok()?;
@@ -151,7 +151,7 @@ fn put_keys(file: &mut String, count: u16) -> Option<()> {
     Some(())
 }
 
-/// Appends lines in which `↵` stands for an LF and `␍` for a CR.
+/// Appends lines, with an LF for each `↵` and a CR for each `␍`.
 fn put_lines(file: &mut String, lines: &str) -> Option<()> {
     for character in lines.chars() {
         file.push(match character {
@@ -217,8 +217,8 @@ A 00 -> BadLine(1)
     check_rows(&rt, rt.alloc(), rows, key_file);
 }
 
-/// Returns the result of looking up `/A` in a key file that gives `/A` the octets of the input. The
-/// key's digits at the end of the result are left out.
+/// Looks up `/A` in a key file in which the key of `/A` has the octets of the row. Returns the
+/// result without the key's hexadecimal digits at the end.
 fn file_of_key(alloc: Global, input: &str) -> Option<String> {
     let digits = digits_of(alloc, input)?;
     let found = found_with(alloc, &digits)?;
@@ -226,20 +226,21 @@ fn file_of_key(alloc: Global, input: &str) -> Option<String> {
     String::from_str(alloc, front.trim_end()).ok()
 }
 
-/// Returns the hexadecimal digits of octets that are given in words such as `5ax256`.
+/// Returns the hexadecimal digits of the octets in `words`, where `5ax256` stands for 256 octets
+/// `5a`.
 fn digits_of(alloc: Global, words: &str) -> Option<String> {
     let octets = octets(alloc, words)?;
     hex::encode(alloc, &octets).ok()
 }
 
-/// Returns the result of looking up `/A` in a key file that gives the octets of these digits to
-/// `/A`.
+/// Returns the result of looking up `/A` in a key file in which `/A` has the key with these
+/// hexadecimal digits.
 fn found_with(alloc: Global, digits: &str) -> Option<String> {
     let file = format!(in alloc; "/A {digits}\n").ok()?;
     found(alloc, &file, "/A")
 }
 
-/// Keys of 0, 1, 256 and 257 octets.
+/// A key in a key file may have from 1 to 256 octets.
 #[test]
 fn lengths_of_keys(rt: HostRuntime) {
     let rows = "
@@ -321,12 +322,12 @@ fn refused_memory(rt: HostRuntime) {
     assert!(rt; reads_or_memory(rt.alloc(), file, 3));
 }
 
-/// Returns whether a key file is refused with this fault, whether or not memory runs out.
+/// Returns whether a key file is refused with this fault, even if memory runs out.
 fn is_refused(alloc: Global, file: &str, fault: KeyFault) -> bool {
     KeyBook::read(alloc, file).err() == Some(fault)
 }
 
-/// Memory that runs out is reported only if the whole file is valid.
+/// The fault of a file that is not valid is reported even if memory runs out.
 #[test]
 fn faults_come_before_memory(rt: HostRuntime) {
     let file = "/A 00\n/seg=5 00\n; another\n/50=%05 00";

@@ -12,7 +12,8 @@ fn fault_text(alloc: Global, fault: NameFault) -> Option<String> {
     format!(in alloc; "{fault:?}").ok()
 }
 
-/// Returns the number of a name's components and the last component, or the fault of the octets.
+/// Reads a name from octets. Returns the number of the name's components and the last component, or
+/// the fault if the octets are not a name.
 fn components(alloc: Global, input: &str) -> Option<String> {
     let octets = octets(alloc, input)?;
     match Name::read(&octets) {
@@ -21,8 +22,8 @@ fn components(alloc: Global, input: &str) -> Option<String> {
     }
 }
 
-/// Returns the number of a name's components and the last component, if the iterator returns this
-/// number of components and there is no further component.
+/// Returns the number of a name's components and the last component, if the name's iterator returns
+/// the same number of components and the name has no component after the last one.
 fn number_and_last(alloc: Global, name: Name<'_>) -> Option<String> {
     let len = name.len();
     if name.iter().count() != len || name.component(len).is_some() {
@@ -98,8 +99,8 @@ fn append(alloc: Global, name: &mut NameBuf, component: &str) -> Option<()> {
     name.append(kind, &octets(alloc, value)?).ok()
 }
 
-/// Returns the octets of a name after a component is appended, or the fault. Returns `None` if a
-/// fault changed the name.
+/// Returns the octets of a name after a component is appended, or the fault if the append fails.
+/// Returns `None` if an append that failed changed the name.
 fn appended(alloc: Global, input: &str) -> Option<String> {
     let (start, component) = input.split_once("+ ")?;
     let (kind, value) = component.split_once(':')?;
@@ -173,7 +174,8 @@ fn name_order_and_uri(rt: HostRuntime) {
     check_rows(&rt, rt.alloc(), rows, relation);
 }
 
-/// Each octet in a component of its own, and all octets in one component.
+/// In a URI, every octet except letters, digits, `-`, `.`, `_` and `~` is percent-encoded. The test
+/// has each octet in a component of its own, and all octets in one component.
 #[test]
 fn every_octet(rt: HostRuntime) {
     let rows = "
@@ -263,8 +265,8 @@ fn words_of_numbers(rt: HostRuntime) {
     check_rows(&rt, rt.alloc(), rows, octets_of);
 }
 
-/// Returns the octets of the name that a URI text reads as, or the fault. Returns `None` if
-/// `uri_len` does not return the number of components, or the same fault.
+/// Returns the octets of the name that a URI text reads as, or the fault. Returns `None` if the
+/// result of `uri_len` is neither the number of components of this name nor this fault.
 fn octets_of(alloc: Global, input: &str) -> Option<String> {
     match NameBuf::from_uri(alloc, input) {
         Ok(name) => octets_counted(alloc, name.view(), uri_len(input)),
@@ -284,7 +286,7 @@ fn octets_counted(
     hex::encode(alloc, name.as_octets()).ok()
 }
 
-/// Returns a fault, if `counted` is the same fault.
+/// Returns `fault` as text, or `None` if `counted` is not this fault.
 fn fault_counted(
     alloc: Global,
     fault: NameFault,
@@ -629,7 +631,7 @@ fn order_of_components(left: &Component<'_>, right: &Component<'_>) -> Option<Or
     agree.then_some(order)
 }
 
-/// Returns how the first components of two names compare.
+/// Returns the order of the first components of two names.
 fn first_components(alloc: Global, input: &str) -> Option<String> {
     let (left, right) = input.split_once(' ')?;
     let left = NameBuf::from_uri(alloc, left).ok()?;
@@ -637,7 +639,7 @@ fn first_components(alloc: Global, input: &str) -> Option<String> {
     order_of_first(alloc, left.view(), right.view())
 }
 
-/// Returns how the first components of these names compare.
+/// Returns the order of the first components of these names.
 fn order_of_first(alloc: Global, left: Name<'_>, right: Name<'_>) -> Option<String> {
     let order = order_of_components(&left.component(0)?, &right.component(0)?)?;
     format!(in alloc; "{order:?}").ok()
@@ -656,8 +658,8 @@ fn component_order(rt: HostRuntime) {
     check_rows(&rt, rt.alloc(), rows, first_components);
 }
 
-/// Returns the number of components after the first one, if a copy of the iterator returns the same
-/// number of components.
+/// Returns the number of components after the first one, if the name's iterator and a copy of this
+/// iterator both return this number of components.
 fn count_after_first(name: Name<'_>) -> Option<usize> {
     let mut after_first = name.into_iter();
     after_first.next();
@@ -807,12 +809,12 @@ fn appends_or_memory(name: &mut NameBuf) -> bool {
     }
 }
 
-/// Returns whether a text is refused with this fault, whether or not memory runs out.
+/// Returns whether a text is refused with this fault, even if memory runs out.
 fn is_refused(alloc: Global, text: &str, fault: NameFault) -> bool {
     NameBuf::from_uri(alloc, text).err() == Some(fault)
 }
 
-/// Memory that runs out is reported only if the text reads as a name or a component.
+/// The fault of a text that is not a name or a component is reported even if memory runs out.
 #[test]
 fn faults_come_before_memory(rt: HostRuntime) {
     assert!(rt; is_refused(rt.alloc(), "/A/%4", NameFault::BadUri));

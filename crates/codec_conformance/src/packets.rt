@@ -15,8 +15,8 @@ use ndn_tlv::put_element;
 use std::alloc::Global;
 use test_support::octets;
 
-/// Returns octets inside nested elements. The types of these elements come before a bar, the
-/// outermost first.
+/// Returns octets, wrapped in nested elements. In `input`, the types of the elements are before the
+/// bar, and the octets are after the bar. The outermost type comes first.
 fn packet(alloc: Global, input: &str) -> Option<Vec<u8>> {
     let (kinds, value) = input.split_once('|').unwrap_or(("", input));
     let mut octets = octets(alloc, value)?;
@@ -24,7 +24,7 @@ fn packet(alloc: Global, input: &str) -> Option<Vec<u8>> {
     Some(octets)
 }
 
-/// Replaces octets by nested elements around them. The types are given with the outermost first.
+/// Wraps `octets` in nested elements with the types `kinds`, of which the outermost comes first.
 fn enclose(alloc: Global, octets: &mut Vec<u8>, kinds: &str) -> Option<()> {
     for kind in kinds.split_ascii_whitespace().rev() {
         *octets = element(alloc, kind, octets)?;
@@ -42,7 +42,7 @@ fn element(alloc: Global, kind: &str, value: &[u8]) -> Option<Vec<u8>> {
     Some(out)
 }
 
-/// Returns "read" for octets that are a frame, and otherwise the name of their fault.
+/// Returns "read" if the octets read as a frame, and otherwise the name of the fault.
 fn outcome_of(octets: &[u8]) -> &'static str {
     match read_frame(octets) {
         Ok(_) => "read",
@@ -50,21 +50,22 @@ fn outcome_of(octets: &[u8]) -> &'static str {
     }
 }
 
-/// Returns "read" for a packet in a row that is a frame, and otherwise the name of its fault.
+/// Returns "read" if the packet that the row `input` gives reads as a frame, and otherwise the name
+/// of the fault.
 fn outcome(alloc: Global, input: &str) -> Option<String> {
     let octets = packet(alloc, input)?;
     String::from_str(alloc, outcome_of(&octets)).ok()
 }
 
-/// Returns the outcome of reading the proper prefixes of a packet, if it is the same for all of
-/// them.
+/// Returns the outcome of reading a proper prefix of a packet, if all proper prefixes have the same
+/// outcome.
 fn cut(alloc: Global, input: &str) -> Option<String> {
     let octets = packet(alloc, input)?;
     cut_shown(alloc, &octets)
 }
 
-/// Returns the outcome of reading the proper prefixes of these octets, if it is the same for all
-/// of them.
+/// Returns the outcome of reading a proper prefix of these octets, if all proper prefixes have the
+/// same outcome.
 fn cut_shown(alloc: Global, octets: &[u8]) -> Option<String> {
     let outcome = outcome_of(&[]);
     for end in 0..octets.len() {
@@ -113,7 +114,7 @@ fn value_text(alloc: Global, value: Option<&[u8]>) -> Option<String> {
     }
 }
 
-/// Returns the name of the key in a KeyLocator, or the form of another KeyLocator.
+/// Returns the name in a KeyLocator, or a word for a KeyLocator without a name.
 fn locator_text(alloc: Global, locator: Locator<'_>) -> Option<String> {
     match locator {
         Locator::Missing => String::from_str(alloc, "missing").ok(),

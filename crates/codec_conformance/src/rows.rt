@@ -1,4 +1,4 @@
-//! Tests in rows. The first wrong row ends the test.
+//! Helpers for tests whose cases are rows of a text. The first wrong row ends the test.
 
 use std::alloc::Global;
 use std::process::Abort;

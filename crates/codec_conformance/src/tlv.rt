@@ -72,7 +72,7 @@ fn element_shown(alloc: Global, kind: u32, value: &[u8]) -> Option<String> {
     hex::encode(alloc, &out).ok()
 }
 
-/// An element of type 5, an Interest, whose value has 11 octets.
+/// An element of type 5 whose value has 11 octets is read, and is written as the same octets.
 #[test]
 fn smallest_interest(rt: HostRuntime) {
     let rows = "
@@ -140,7 +140,7 @@ Memory -> out of memory
     check_rows(&rt, rt.alloc(), rows, fault_text);
 }
 
-/// Returns the number that a whole value encodes as a NonNegativeInteger, or the fault.
+/// Reads a value, given in hexadecimal, as a NonNegativeInteger. Returns the number or the fault.
 fn integer(alloc: Global, input: &str) -> Option<String> {
     match nni_of(&octets(alloc, input)?) {
         Ok(number) => number.to_string(alloc).ok(),
@@ -219,22 +219,19 @@ fn elements_end_with_the_octets_or_a_fault(rt: HostRuntime) {
     check_rows(&rt, rt.alloc(), rows, elements);
 }
 
-/// Returns whether octets are appended if a number is written, and no octets are appended if memory
-/// runs out.
+/// Returns whether writing a number appends octets, or appends nothing if memory runs out.
 fn appends_number(alloc: Global) -> bool {
     let mut out = Vec::new(alloc);
     put_number(&mut out, 65_536).is_ok() != out.is_empty()
 }
 
-/// Returns whether octets are appended if an integer is written, and no octets are appended if
-/// memory runs out.
+/// Returns whether writing an integer appends octets, or appends nothing if memory runs out.
 fn appends_integer(alloc: Global) -> bool {
     let mut out = Vec::new(alloc);
     put_nni(&mut out, 65_536).is_ok() != out.is_empty()
 }
 
-/// Returns whether octets are appended if an element is written, and no octets are appended if
-/// memory runs out.
+/// Returns whether writing an element appends octets, or appends nothing if memory runs out.
 fn appends_element(alloc: Global) -> bool {
     let mut out = Vec::new(alloc);
     put_element(&mut out, 8, &[1; 13]).is_ok() != out.is_empty()

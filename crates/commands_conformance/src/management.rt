@@ -33,7 +33,7 @@ pub fn name_in(alloc: Global, text: &str) -> Option<NameBuf> {
     Some(name)
 }
 
-/// Returns the Data in a packet.
+/// Returns the Data that `packet` encodes.
 pub fn data_in(packet: &[u8]) -> Option<Data<'_>> {
     match read_frame(packet) {
         Ok(Frame::Data(data)) => Some(data),
@@ -49,7 +49,7 @@ pub fn interest_in(packet: &[u8]) -> Option<Interest<'_>> {
     }
 }
 
-/// Appends the components that all words but the first stand for.
+/// Appends a component for each word of `text` after the first word, which is the URI.
 fn append_all(alloc: Global, name: &mut NameBuf, text: &str) -> Option<()> {
     let mut words = text.split(' ');
     words.next()?;
@@ -59,7 +59,8 @@ fn append_all(alloc: Global, name: &mut NameBuf, text: &str) -> Option<()> {
     Some(())
 }
 
-/// Appends the component that a word stands for.
+/// Appends the component of a word: a digest of zeros for `digest`, and otherwise a
+/// GenericNameComponent with the value in hexadecimal.
 fn append(alloc: Global, name: &mut NameBuf, word: &str) -> Option<()> {
     if word == "digest" {
         return name.append(2, &[0; 32]).ok();
@@ -126,8 +127,9 @@ fn absent_fields(rt: HostRuntime) {
     check_rows(&rt, rt.alloc(), rows, command_shown);
 }
 
-/// Fields may come in any order. The first field of each type counts. A complete element of an
-/// unknown type is ignored, while a truncated element is refused with status 400.
+/// Fields may come in any order. If a command has several fields of a type, the first one is used.
+/// A complete element of an unknown type is ignored, while a truncated element is refused with
+/// status 400.
 #[test]
 fn the_first_of_each_field_counts(rt: HostRuntime) {
     let rows = "
@@ -140,7 +142,7 @@ fn the_first_of_each_field_counts(rt: HostRuntime) {
     check_rows(&rt, rt.alloc(), rows, command_shown);
 }
 
-/// Numbers of 2, 4 and 8 octets, among them the greatest number of 8 octets.
+/// Tests fields with numbers of 2, 4 and 8 octets, including the greatest number of 8 octets.
 #[test]
 fn numbers_of_each_length(rt: HostRuntime) {
     let rows = "
@@ -153,8 +155,8 @@ fn numbers_of_each_length(rt: HostRuntime) {
 }
 
 /// Commands with a field of a wrong form, commands without a required field, and commands with a
-/// field that they do not take, are refused with status 400. So is a command that unsets the
-/// strategy of `/`.
+/// field that they do not take, are refused with status 400. A command that unsets the strategy of
+/// `/` is refused with status 400, too.
 #[test]
 fn fields_that_commands_need_and_take(rt: HostRuntime) {
     let rows = "
@@ -177,21 +179,22 @@ fn fields_that_commands_need_and_take(rt: HostRuntime) {
     check_rows(&rt, rt.alloc(), rows, command_shown);
 }
 
-/// Applies a command from face 9, while the faces 2 and 9 are up. Shows its status, the body of its
-/// reply, and the dataset of routes. For a command that sets a strategy, shows the dataset of
-/// strategies instead.
+/// Applies a command from face 9, while the faces 2 and 9 are up. Shows the command's status, the
+/// body of the reply, and the dataset of routes. For a command that sets a strategy, shows the
+/// dataset of strategies instead.
 fn applied_shown(alloc: Global, row: &str) -> Option<String> {
     shown_on_station(alloc, row, applied_on)
 }
 
-/// Does what `applied_shown` does, on this station.
+/// Applies a command on `station`, and shows what `applied_shown` shows.
 fn applied_on(alloc: Global, station: &mut Station, row: &str) -> Option<String> {
     let of_strategies = row.starts_with("/localhost/nfd/strategy-choice/set ");
     let name = name_in(alloc, row)?;
     reply_and_list(alloc, station, name.view(), of_strategies)
 }
 
-/// Applies the command with this name. Shows its status, the body of its reply, and a dataset.
+/// Applies the command with this name. Shows the command's status, the body of the reply, and the
+/// dataset of strategies or of routes.
 fn reply_and_list(
     alloc: Global,
     station: &mut Station,
@@ -210,8 +213,8 @@ fn octets_shown(alloc: Global, status: u16, body: &[u8], list: &[u8]) -> Option<
     format!(in alloc; "{status} {body} {list}").ok()
 }
 
-/// Routes to another face, to the face of the command, and to a face that is not up. The reply with
-/// status 200 contains the face.
+/// Adds routes to the face of the command, to another face that is up, and to a face that is not
+/// up. A reply with status 200 contains the face of the route.
 #[test]
 fn a_route_needs_an_open_face(rt: HostRuntime) {
     let rows = "
@@ -223,8 +226,8 @@ fn a_route_needs_an_open_face(rt: HostRuntime) {
     check_rows(&rt, rt.alloc(), rows, applied_shown);
 }
 
-/// Strategies with and without a Version component, unknown strategies, and names of 32 and of 33
-/// components.
+/// Tests a strategy with and without a Version component, unknown strategies, and strategy choices
+/// for names of 32 and of 33 components.
 #[test]
 fn a_strategy_is_known_by_its_name(rt: HostRuntime) {
     let rows = "
@@ -241,8 +244,8 @@ fn a_strategy_is_known_by_its_name(rt: HostRuntime) {
     check_rows(&rt, rt.alloc(), rows, applied_shown);
 }
 
-/// Prefixes of 32 and of 33 components. A prefix that is too long is reported before a face that is
-/// not up.
+/// Adds routes for prefixes of 32 and of 33 components. A prefix that is too long is reported
+/// before a face that is not up.
 #[test]
 fn prefixes_of_32_components(rt: HostRuntime) {
     let rows = "

@@ -12,7 +12,7 @@ use repo_core::*;
 use std::alloc::Global;
 use test_support::{content_shown, data_of, octets};
 
-/// Returns a text without `mark` at its end, and whether it ends with `mark`.
+/// Returns the text without `mark` at its end, and whether the text ends with `mark`.
 fn without_mark(text: &str, mark: char) -> (&str, bool) {
     match text.strip_suffix(mark) {
         Some(text) => (text, true),
@@ -87,8 +87,8 @@ fn answered(alloc: Global, repo: &mut Repo, name: Name<'_>, now: u64) -> Option<
     reply_shown(alloc, &repo.command(name, now).ok()?)
 }
 
-/// Applies a command with this verb. The words give the name that it asks for, the time, and
-/// perhaps a lifetime. Shows the reply.
+/// Applies a command with this verb, and shows the reply. The words are the name in the command,
+/// the time, and perhaps a lifetime.
 fn command(alloc: Global, repo: &mut Repo, verb: &str, words: &str) -> Option<String> {
     let mut words = words.split(' ');
     let asked = words.next()?;
@@ -106,14 +106,15 @@ fn truth_shown(alloc: Global, truth: bool) -> Option<String> {
     format!(in alloc; "{truth}").ok()
 }
 
-/// Offers a Data, given as its name and its Content. Returns whether it answers a want.
+/// Offers a Data, given as its name and its Content. Returns whether the Data answers a want (a
+/// pending insert).
 fn offer(alloc: Global, repo: &mut Repo, words: &str) -> Option<bool> {
     let (name, content) = words.split_once(' ')?;
     let packet = data_of(alloc, name, content, None)?;
     offer_packet(repo, &packet)
 }
 
-/// Offers a Data, and returns whether it answers a want.
+/// Offers the Data that `packet` encodes, and returns whether the Data answers a want.
 fn offer_packet(repo: &mut Repo, packet: &[u8]) -> Option<bool> {
     let data = data_in(packet)?;
     repo.offer(&data).ok()
@@ -184,9 +185,9 @@ fn empty_repo(alloc: Global) -> Option<Repo> {
     repo_at(alloc, "/repo")
 }
 
-/// Returns the answers of an empty repository to calls that are separated by `, `: `insert`,
-/// `delete` or `check` with a name, a moment and perhaps a lifetime, `offer` with a name and a
-/// Content, `serve` with an Interest, or `expire` with a moment.
+/// Returns the answers of an empty repository to calls that are separated by `, `. A call is
+/// `insert`, `delete` or `check` with a name, a time and perhaps a lifetime. A call can also be
+/// `offer` with a name and a Content, `serve` with an Interest, or `expire` with a time.
 fn answers(alloc: Global, calls: &str) -> Option<String> {
     shown_on_repo(alloc, calls, answers_of)
 }
@@ -236,7 +237,8 @@ fn sameness(alloc: Global, row: &str) -> Option<String> {
     holds_same_as(alloc, &repo, others)
 }
 
-/// Shows whether a repository has the same objects and wants as one after the calls `others`.
+/// Shows whether a repository has the same objects and wants as a new repository after the calls
+/// `others`.
 fn holds_same_as(alloc: Global, repo: &Repo, others: &str) -> Option<String> {
     let other = repo_after(alloc, others)?;
     truth_shown(alloc, repo.holds_same(&other))
@@ -263,14 +265,16 @@ insert /A 0, offer /A 01; check /A 0 -> false
     check_rows(&rt, rt.alloc(), rows, sameness);
 }
 
-/// Shows whether repositories with these prefixes have the same prefix.
+/// Creates two repositories with the two prefixes in `row`, and shows whether the function
+/// `has_same_prefix` finds their prefixes equal.
 fn same_prefix(alloc: Global, row: &str) -> Option<String> {
     let (prefix, other) = row.split_once(' ')?;
     let repo = repo_at(alloc, prefix)?;
     has_prefix_of(alloc, &repo, other)
 }
 
-/// Shows whether a repository has the prefix of one that is created with the prefix `other`.
+/// Shows whether a repository has the same prefix as a repository that is created with the prefix
+/// `other`.
 fn has_prefix_of(alloc: Global, repo: &Repo, other: &str) -> Option<String> {
     let other = repo_at(alloc, other)?;
     truth_shown(alloc, repo.has_same_prefix(&other))
@@ -347,7 +351,7 @@ fn repository_commands(rt: HostRuntime) {
     check_rows(&rt, rt.alloc(), rows, first_answer);
 }
 
-/// The first field of each type counts, and unknown elements are ignored.
+/// If a command has several fields of a type, the first one is used. Unknown elements are ignored.
 #[test]
 fn the_first_of_each_field_counts(rt: HostRuntime) {
     let rows = "
@@ -379,7 +383,7 @@ fn fields_of_a_wrong_form(rt: HostRuntime) {
 }
 
 /// A command's name is the prefix, a verb, a component with a parameters element of type 201, and a
-/// digest. Other names are answered with 400.
+/// digest. Other names are answered with status 400.
 #[test]
 fn names_of_another_shape(rt: HostRuntime) {
     let rows = "
@@ -397,8 +401,8 @@ fn names_of_another_shape(rt: HostRuntime) {
     check_rows(&rt, rt.alloc(), rows, first_answer);
 }
 
-/// Encodes a reply, given as its status and a count, with the text of its status. Returns its
-/// octets in hexadecimal.
+/// Returns the octets, in hexadecimal, of the reply with the status and the count in `row` and the
+/// text of the status.
 fn reply_written(alloc: Global, row: &str) -> Option<String> {
     let (status, count) = row.split_once(' ')?;
     let status = status.parse().ok()?;
@@ -526,8 +530,9 @@ fn played_on<F: Fn(&mut Repo, Name<'_>, Name<'_>, &Data<'_>) -> Option<bool>>(
     play(repo, insert.view(), check.view(), &data)
 }
 
-/// Returns whether a prepared command and a prepared offer do not run out of memory. An offer that
-/// runs out of memory must change nothing. Returns `None` if the command cannot be prepared.
+/// Returns whether a prepared insert and a prepared offer do not run out of memory. If an offer
+/// that was not prepared runs out of memory, the offer must change nothing. Returns `None` if the
+/// insert cannot be prepared.
 fn keeps_its_promises(
     repo: &mut Repo,
     insert: Name<'_>,
@@ -569,13 +574,14 @@ fn has_effects_or_none(
     })
 }
 
-/// Returns whether a reply for which memory runs out leaves the buffer unchanged.
+/// Returns whether a reply is written whole or, if memory runs out, leaves the buffer unchanged.
 fn replies_or_leaves(alloc: Global) -> Option<bool> {
     let mut out = Vec::new(alloc);
     replies_or_leaves_in(&mut out)
 }
 
-/// Returns whether a reply is appended to the buffer after one octet, or nothing is appended.
+/// Appends one octet and then a reply to the buffer. Returns whether the buffer then has the octet
+/// and the whole reply, or only the octet if memory runs out for the reply.
 fn replies_or_leaves_in(out: &mut Vec<u8>) -> Option<bool> {
     out.push(7).ok()?;
     let len = match put_repo_reply(out, 200, "OK", 1) {

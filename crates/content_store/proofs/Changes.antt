@@ -1,5 +1,5 @@
--- The cached Data after one is added, after one is removed, and after the last one is evicted
--- because the store is full.
+-- The cached Data after one is added, after one is removed, and after the least recently used one
+-- is evicted because the store is full.
 use Rattle.std.proofs.Common.{◌≡◌, ℕ, zero, suc, ◌+◌, ◌-◌, ◌<◌, ◌≤◌, Bool, true, false, cond, eqb, eq-eqb, List, [], ◌∷◌, length, take, insert, refl, sym, ap, subst, ◌∙◌, arith}
 use borrow.Author.Tests.{eqb-false, ne_eqb}
 use Rattle.std.specs.Prelude.{Option, None, Some, IsSome, nat_eq, slice_get}
@@ -54,7 +54,7 @@ lookup_beside q p x rows zero ne = ap (λ b. cond b (Some x) (lookup (nat_eq q) 
 lookup_beside q p x [] (suc at) ne = ap (λ b. cond b (Some x) None) ne
 lookup_beside q p x (r ∷ rows) (suc at) ne = ap (λ o. cond (eqb q r.0) (Some r.1) o) (lookup_beside q p x rows at ne)
 
--- ---- the list of cached Data that serial numbers lead to
+-- ---- the list of cached Data that `cached_by` returns
 pub cached_kept : (g f : ℕ → Option CachedData) (us : List (ℕ × ℕ)) → AllByRecursion (λ u. f u.1 ≡ g u.1) us → cached_by f us ≡ cached_by g us
 unfolding cached_by
 cached_kept g f [] h = refl
@@ -156,15 +156,15 @@ module _ (rows : List Placed) (used : List (ℕ × ℕ)) (next s p : ℕ) (row :
       (subst (λ (n : ℕ). AllByRecursion (λ u. (d : CachedData) → held_in rows u.1 ≡ Some d → (full_name_of d) ≡ (full_name_of row.entry) → u.0 ≡ n) used) its (alone_in rows used next sound p row at))
       uses (ap (λ o. option_map (λ (r : Row). r.entry) o) at) refl
 
--- ---- the last row is evicted
+-- ---- the least recently used row is evicted
 pub take_whole : {X : Type 0} (n : ℕ) (us : List (ℕ × X)) → slice_get us n ≡ None → take n us ≡ us
 take_whole zero [] e = refl
 take_whole zero (u ∷ us) e = absurd cc
 take_whole (suc n) [] e = refl
 take_whole (suc n) (u ∷ us) e = ap (λ l. u ∷ l) (take_whole n us e)
 
--- Let a list with distinct keys have n + 1 elements, and let `e` be the last one. Then the first n
--- elements are the list without `e`, and a lookup of the key of `e` finds its value.
+-- if `e` is the last element of a list of n + 1 elements with distinct keys, the first n elements
+-- are the list without `e`, and a lookup of the key of `e` finds the value of `e`
 pub take_last : {X : Type 0} (n : ℕ) (us : List (ℕ × X)) (e : ℕ × X) → IsDistinct nat_eq (keys_of us) → length us ≤ n + 1 → slice_get us n ≡ Some e
     → (take n us ≡ remove_entry (nat_eq e.0) us) × (lookup (nat_eq e.0) us ≡ Some e.1)
 take_last zero [] e distinct le at = absurd cc
@@ -196,7 +196,7 @@ sound_kept rows used next n (Some e) sound le at valid =
           ∙ ap (cached_in rows) (sym last.0) ∙ take_cached (held_in rows) n used (all_map (LeadsTo rows) (λ u. IsSome (held_in rows u.1)) (some_held rows) used sound.there),
     )
 
--- a serial number above all serial numbers in use is not in use
+-- if all serial numbers in `us` are less than `s`, a lookup of `s` in `us` finds nothing
 pub not_used : (s : ℕ) (us : List (ℕ × ℕ)) → AllByRecursion (λ u. u.0 < s) us → (lookup (nat_eq s) us ≡ None) × (lookup_entry (nat_eq s) us ≡ None)
 not_used s [] h = (refl, refl)
 not_used s (u ∷ us) h =

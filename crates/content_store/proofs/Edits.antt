@@ -24,8 +24,8 @@ unfolding shown
 shown_same h f [] k = refl
 shown_same h f (p ∷ ps) k = λ i. with_slot p (k.0 i) (shown_same h f ps k.1 i)
 
--- if two slabs have the same rows, the list of slab indexes shows the same rows of both slabs, and
--- is valid for both
+-- if two slabs have the same rows, and a list of slab indexes is valid for one slab (`IsRows`), the
+-- list is valid for the other slab, and shows the same rows for both slabs
 pub same_rows : (h f : ℕ → Option Row) (ps : List ℕ) → ((q : ℕ) → f q ≡ h q) → IsRows h ps → (shown f ps ≡ shown h ps) × IsRows f ps
 same_rows h f ps e rows =
     let same = shown_same h f ps (all_map (λ q. IsSome (h q)) (λ q. f q ≡ h q) (λ q s. e q) ps rows.there) in (

@@ -187,8 +187,8 @@ laid_set n (b ∷ bs) (suc i) d b' lt start same a = (a.0, laid_set (n + length 
 next_or_last : (i n : ℕ) → i < n → (suc i < n) ⊎ (suc i ≡ n)
 next_or_last i n lt = grind arith
 
--- Let the block after index `i` begin after position `at`, or let there be no such block. Then the
--- block at index `i` ends at or after `at`. It ends after `at` if there is a slab index at position
+-- If block `i` is the last block, or if block `i + 1` begins after position `at`, then block `i`
+-- ends at or after `at`. If `at` is also less than the length of the list, block `i` ends after
 -- `at`.
 pub ends_at : (bs : List Block) (i : ℕ) (d : Block) (at : ℕ) → AreLaid 0 bs → i < length bs → (suc i < length bs → at < (get_or bs (suc i) d).start) → at ≤ length (flat bs)
     → (at ≤ (get_or bs i d).start + length (get_or bs i d).items.items) × (at < length (flat bs) → at < (get_or bs i d).start + length (get_or bs i d).items.items)

@@ -32,14 +32,15 @@ then_assoc Less p q = refl
 then_assoc Equal p q = refl
 then_assoc Greater p q = refl
 
--- if the first of two comparisons does not give Equal, both in sequence give its result
+-- if the first of two comparisons does not return Equal, the two comparisons in sequence return the
+-- result of the first
 pub decided : (o p : Ordering) → (o ≡ Equal → ⊥) → o ≡ ordering_then o p
 decided Less p never = refl
 decided Equal p never = absurd (never refl)
 decided Greater p never = refl
 
--- Let the list `v` be at most as long as the list `u`. Then `u`, extended by at least one element,
--- compares with `v` as `u` does, or is greater if `u` equals `v`.
+-- if the list `v` is at most as long as the list `u`, then `u ++ x ∷ t` compares with `v` as `u`
+-- does, or is greater if `u` equals `v`
 pub cmp_longer : (u v : List ℕ) (x : ℕ) (t : List ℕ) → length v ≤ length u → slice_cmp nat_cmp (u ++ x ∷ t) v ≡ ordering_then (slice_cmp nat_cmp u v) Greater
 cmp_longer [] [] x t le = refl
 cmp_longer [] (b ∷ v) x t le = absurd (omega arith)
@@ -47,8 +48,8 @@ cmp_longer (a ∷ u) [] x t le = refl
 cmp_longer (a ∷ u) (b ∷ v) x t le =
     ap (ordering_then (nat_cmp a b)) (cmp_longer u v x t (omega arith)) ∙ sym (then_assoc (nat_cmp a b) (slice_cmp nat_cmp u v) Greater)
 
--- Let `u` and `v` be lists of the same length. Then `u ++ x` compares with `v ++ y` as `u` does
--- with `v`, or, if `u` equals `v`, as `x` does with `y`.
+-- if `u` and `v` have the same length, `u ++ x` compares with `v ++ y` as `u` does with `v` or, if
+-- `u` equals `v`, as `x` does with `y`
 pub cmp_split : (u v x y : List ℕ) → length u ≡ length v → slice_cmp nat_cmp (u ++ x) (v ++ y) ≡ ordering_then (slice_cmp nat_cmp u v) (slice_cmp nat_cmp x y)
 cmp_split [] [] x y e = refl
 cmp_split [] (b ∷ v) x y e = absurd (omega arith)
@@ -118,9 +119,9 @@ then_less Greater cs = refl
 digest_field : (d : List ℕ) → length d ≡ 32 → octets_of ((1, d) ∷ []) ≡ digest_octets d
 digest_field d len = let o = full_octets [] d [] ((tt, refl), (omega arith, tt)) len in o.0
 
--- Let `d` and `e` be digests, and `rest` one or more components. The component of `d` compares with
--- `rest` followed by the component of `e` as it compares with `rest` alone. If the component of `d`
--- equals `rest`, the result is Less.
+-- for digests `d` and `e`, comparing the component of `d` with `rest` followed by the component of
+-- `e` yields the result of comparing the component of `d` with `rest` alone, or Less if that result
+-- is Equal
 digest_before : (rest : List Field) (d e : List ℕ) → AllByRecursion IsField rest → 0 < length (octets_of rest) → length d ≡ 32 → length e ≡ 32
     → slice_cmp nat_cmp (digest_octets d) (octets_of rest ++ digest_octets e) ≡ ordering_then (slice_cmp nat_cmp (digest_octets d) (octets_of rest)) Less
 digest_before [] d e h some dl el = absurd (omega arith)
@@ -150,9 +151,9 @@ module _ (u v front rest d e : List ℕ) (name other : List Field) (h : IsNameVa
       ∙ (λ k. slice_cmp nat_cmp (o.0 k) ((p.0 ∙ ap (λ (t : List ℕ). t ++ digest_octets e) is ∙ append_assoc front rest (digest_octets e)) k))
       ∙ cmp_split u front (digest_octets d) (rest ++ digest_octets e) (sym len)
 
-  -- Let the octets `u` of the first name equal `front`. The component of the digest `d` compares
-  -- with `rest` followed by the component of the digest `e` as it compares with `rest` alone. If
-  -- the component of `d` equals `rest`, the result is Less.
+  -- if `u` equals `front`, comparing the component of the digest `d` with `rest` followed by the
+  -- component of the digest `e` yields the result of comparing the component of `d` with `rest`
+  -- alone, or Less if that result is Equal
   behind : u ≡ front → slice_cmp nat_cmp (digest_octets d) (rest ++ digest_octets e) ≡ ordering_then (slice_cmp nat_cmp (digest_octets d) rest) Less
   behind same =
       let p = begins_with name other rest h.0.0 g.0.0 (sym g.0.1 ∙ is ∙ ap (λ (t : List ℕ). t ++ rest) (sym same ∙ h.0.1)) in
@@ -218,8 +219,8 @@ tie_is a b o is = (
   λ e. (Equal-is o).1 (is ∙ ap (λ (n : List Field). name_cmp n b) (sym e) ∙ tied_itself name_cmp-total b),
 )
 
--- Let the name `m` be a prefix of the name `n`. Then `starts_small` is the same for the components
--- after `m` in `n` as for the components after `m` in a full name of `n`.
+-- if the name `m` is a prefix of the name `n`, then `starts_small` returns the same result for the
+-- components of `n` after `m` as for the components after `m` in the full name of a Data named `n`
 pub small_full : (n m : List Field) (d : List ℕ) → IsPrefix m n → starts_small (drop (length m) (n ++ (1, d) ∷ [])) ≡ starts_small (drop (length m) n)
 small_full n m d p =
     ap (λ (t : List Field). starts_small (drop (length m) (t ++ (1, d) ∷ []))) p.1 ∙ ap (λ (t : List Field). starts_small (drop (length m) t)) (append_assoc m p.0 ((1, d) ∷ []))
@@ -259,8 +260,8 @@ module _ (u v : List ℕ) (n m : List Field) (d : List ℕ) (flag : Bool) (h : I
 
 -- ---- comparing names by their first octets
 
--- if the octets `u` and `v` differ in their first `n` octets, `u ++ x` compares with `v ++ y` as
--- these first octets do
+-- if `o` is the result of comparing the first `n` octets of `u` and `v`, and is not Equal, then `o`
+-- is also the result of comparing `u ++ x` with `v ++ y`
 first_decide : (n : ℕ) (u v x y : List ℕ) (o : Ordering) → n ≤ length u → n ≤ length v → o ≡ slice_cmp nat_cmp (take n u) (take n v) → (o ≡ Equal → ⊥) → o ≡ slice_cmp nat_cmp (u ++ x) (v ++ y)
 first_decide n u v x y o lu lv e never =
     let parts = λ (w z : List ℕ). ap (λ (t : List ℕ). t ++ z) (sym (take-append-drop n w)) ∙ append_assoc (take n w) (drop n w) z in

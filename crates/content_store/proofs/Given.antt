@@ -1,4 +1,4 @@
--- What a store returns, and its state afterwards.
+-- What a search in a store returns, and the state of the store after the search.
 use Rattle.std.proofs.Common.{◌≡◌, ℕ, List, get_or, refl, ap, sym, subst, ◌∙◌, All}
 use Rattle.std.specs.Prelude.{None, Some, nat_eq}
 use Rattle.lru.specs.LruCache.{LruCache, lru_cache, promoted}
@@ -10,7 +10,7 @@ use Rattle.content_store.specs.Uses.{IsHeld, UsesAt, cached_in}
 use Rattle.content_store.proofs.Least.{held_store, none_serves, first_is_least}
 use Rattle.content_store.proofs.Promotes.{held_used, stands_at, cached_used}
 
--- the state of a store, as its specification shows it
+-- the state of a store that has these rows, this LRU cache and this capacity
 abbrev pub seen : List Placed → LruCache ℕ ℕ → ℕ → StoreState
 seen rows used capacity = record { cached = cached_in rows used.entries; capacity = capacity }
 

@@ -1,5 +1,5 @@
--- The first row that can serve an Interest has the least full name. The cached Data and the
--- capacity are a valid state of a store.
+-- The first row that can serve an Interest has the least full name among the rows that can serve
+-- it. The state of a store with valid fields (`IsHeld`) is valid (`IsStore`).
 use Rattle.std.proofs.Common.{◌≡◌, ◌≢◌, ◌⊎◌, inl, inr, ℕ, suc, ◌<◌, ◌≤◌, Bool, true, false, cond, eqb, List, [], ◌∷◌, length, get_or, refl, sym, ap, subst, ◌∙◌, arith, All, Contains}
 use borrow.Author.Tests.{eqb-false}
 use Rattle.std.specs.Prelude.{Option, None, Some, nat_eq}
@@ -103,7 +103,7 @@ module _ (P : CachedData → Type 0) (rows : List Placed) (used : List (ℕ × �
       order_of : (m n : ℕ) → (m < n) ⊎ ((m ≡ n) ⊎ (n < m))
       order_of m n = grind arith
 
--- each full name is cached once
+-- no two cached Data have the same full name
 pub once_in : (rows : List Placed) → Rising rows → (used : List (ℕ × ℕ)) → IsDistinct nat_eq (keys_of used) → AllByRecursion (LeadsTo rows) used → EachOnce (cached_in rows used)
 unfolding cached_by
 once_in rows rising [] distinct there = tt

@@ -1,4 +1,4 @@
--- Lists with some elements removed. Also, a Data is cached with its own name, implicit digest and
+-- Lists with some elements removed. A Data is cached with its own name, implicit digest and
 -- FreshnessPeriod.
 use Rattle.std.proofs.Common.{◌≡◌, ◌⊎◌, inl, inr, Bool, true, false, cond, ◌&&◌, List, [], ◌∷◌, filter, refl, sym, ap, subst, All, Contains}
 use Rattle.std.proofs.lemmas.List.Elements.{All-same, All-filter, All-contains_itself}
@@ -28,7 +28,7 @@ all_stay (x ∷ xs) = ap (λ (t : List CachedData). x ∷ t) (all_stay xs)
 pub nothing_lost : (cs : List CachedData) → LosesSome cs cs
 nothing_lost cs = record { stays = λ _. true; left = all_stay cs }
 
--- if a store stays unchanged or becomes empty, `LosesSome` is true for its cached Data
+-- if a store stays unchanged or becomes empty, `LosesSome` is true for its old and new cached Data
 pub loses_either : (old new : StoreState) → (new ≡ old) ⊎ (new ≡ record old { cached = [] }) → LosesSome old.cached new.cached
 loses_either old new (inl e) = subst (λ (s : StoreState). LosesSome old.cached s.cached) (sym e) (nothing_lost old.cached)
 loses_either old new (inr e) =

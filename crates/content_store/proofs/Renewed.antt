@@ -156,7 +156,7 @@ none_cached : cached_in [] [] ≡ []
 unfolding cached_by
 none_cached = refl
 
--- if a store is emptied, its fields are valid, and nothing is cached
+-- if a store is emptied, its fields are valid (`IsHeld`), and nothing is cached
 pub held_none : (rows rows' : List Placed) (used used' : LruCache ℕ ℕ) (capacity next : ℕ) → IsHeld rows used capacity next → rows' ≡ [] → used' ≡ lru_cache [] used.cap
     → IsHeld rows' used' capacity 0 × (cached_in rows' used'.entries ≡ [])
 held_none rows rows' used used' capacity next h r u = (

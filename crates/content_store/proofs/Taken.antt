@@ -48,8 +48,8 @@ others_greater name ys c least =
       | inr (inr greater) ↦ absurd (not_less greater)
     ]
 
--- Let `TakesLeast` be true for n removed Data, and let the Data with the least full name that
--- begins with `name` be removed too. Then `TakesLeast` is true for n + 1 removed Data.
+-- if `TakesLeast` is true for n removed Data, and the Data `c` with the least full name that begins
+-- with `name` is removed too, then `TakesLeast` is true for n + 1 removed Data
 pub one_taken : (name : List Field) (xs ys : List CachedData) (n : ℕ) (c : CachedData) → TakesLeast name xs ys n → IsLeast (λ d. IsPrefix name (full_name_of d)) ys c
     → length (without (full_name_of c) ys) + 1 ≡ length ys → TakesLeast name xs (without (full_name_of c) ys) (n + 1)
 one_taken name xs ys n c h least fewer =
@@ -72,9 +72,9 @@ one_taken name xs ys n c h least fewer =
           ];
     }
 
--- Let at most 65,536 Data be cached, and let `most` be the count, or 2^64 - 1 if there is no count.
--- Let the Data with the n least full names that begin with `name` be removed, where n is at most
--- `most`. If n is `most`, or if no remaining full name begins with `name`, then `Erases` is true.
+-- for at most 65,536 cached Data, `Erases` is true if the n ≤ `most` Data with the least full names
+-- that begin with `name` are removed, and n is `most` or no remaining full name begins with `name`;
+-- `most` is the count, or 2^64 - 1 if there is no count
 pub erases : (name : List Field) (count : Option ℕ) (xs ys : List CachedData) (n most : ℕ) → most ≡ unwrap_or count 18446744073709551615 → TakesLeast name xs ys n → n ≤ most
     → (n ≡ most) ⊎ All (λ d. IsPrefix name (full_name_of d) → ⊥) ys → length xs ≤ 65536 → Erases name count xs ys n
 erases name None xs ys n most is taken le ended few = (

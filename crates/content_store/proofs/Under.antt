@@ -57,8 +57,8 @@ convex (c ∷ n) (d ∷ a) (e ∷ b) low less p = by (component_cmp d c) refl (c
 same_or_after : (a b : ℕ) → a ≤ b → (a ≡ b) ⊎ (a < b)
 same_or_after a b le = grind arith
 
--- Let the full name of a row be not less than a name, and not begin with this name. Then no later
--- row has a full name that begins with this name.
+-- if a row's full name is not less than the name `n` and does not begin with `n`, no later row has
+-- a full name that begins with `n`
 pub none_after : (n : List Field) (rows : List Placed) (at : ℕ) → Rising rows → at < length rows → ((d : Placed) → name_cmp (name_at (get_or rows at d)) n ≡ Less → ⊥)
     → ((d : Placed) → IsPrefix n (name_at (get_or rows at d)) → ⊥) → (k : ℕ) (d : Placed) → at ≤ k → k < length rows → IsPrefix n (name_at (get_or rows k d)) → ⊥
 none_after n rows at rising lt low never k d ge within p =
@@ -70,8 +70,8 @@ none_after n rows at rising lt low never k d ge within p =
 not_greater : (a b : List Field) → name_cmp a b ≡ Less → name_cmp a b ≡ Greater → ⊥
 not_greater a b less greater = (let clash = sym less ∙ greater in cc)
 
--- Let the full name of a row be neither less than a name nor near this name (see `is_near`). Then
--- no later row has a full name that is near this name.
+-- if a row's full name is neither less than the name `n` nor near `n` (`is_near`), no later row has
+-- a full name near `n`
 pub far_after : (n : List Field) (flag : Bool) (rows : List Placed) (at : ℕ) → Rising rows → at < length rows → ((d : Placed) → name_cmp (name_at (get_or rows at d)) n ≡ Less → ⊥)
     → ((d : Placed) → is_near n flag (name_at (get_or rows at d)) ≡ true → ⊥) → (k : ℕ) (d : Placed) → at ≤ k → k < length rows → is_near n flag (name_at (get_or rows k d)) ≡ true → ⊥
 far_after n flag rows at rising lt low never k d ge within near =
@@ -82,8 +82,7 @@ far_after n flag rows at rising lt low never k d ge within near =
           (not_greater (name_at (get_or rows at d)) (name_at (get_or rows k d)) (rising at k d after within)))
     ]
 
--- The next two lemmas: the full name of a Data that can serve an Interest begins with the
--- Interest's name, and is near this name (see `is_near`).
+-- the full name of a Data that can serve an Interest begins with the Interest's name
 pub under_served : (key : PlainKey) (now : ℕ) (c : CachedData) → CanServe key now c → IsPrefix key.name (full_name_of c)
 under_served key now c h =
     elim h.0 [
@@ -95,6 +94,7 @@ under_served key now c h =
       ]
     ]
 
+-- the full name of a Data that can serve an Interest is near the Interest's name (`is_near`)
 pub serves_near : (key : PlainKey) (now : ℕ) (c : CachedData) → CanServe key now c → is_near key.name key.can_be_prefix (full_name_of c) ≡ true
 serves_near key now c h =
     let begins = (prefix_is key.name (full_name_of c)).1 (under_served key now c h) in

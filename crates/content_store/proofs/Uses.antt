@@ -118,8 +118,8 @@ length_front s p (u ∷ us) e = split (eqb s u.0) e (length_front s p us)
 
 -- ---- one element removed from the LRU order
 module _ (g : ℕ → Option CachedData) (s : ℕ) (name : List Field) where
-  -- if the Data at the slab index of the element `u` has the full name `name`, the serial number of
-  -- `u` is `s`
+  -- `u` is a pair of a serial number and a slab index: if the Data at this slab index has the full
+  -- name `name`, the serial number is `s`
   abbrev pub Alone : ℕ × ℕ → Type 0
   Alone u = (d : CachedData) → g u.1 ≡ Some d → (full_name_of d) ≡ name → u.0 ≡ s
 

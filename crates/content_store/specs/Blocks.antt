@@ -1,4 +1,4 @@
--- The freshness bounds of the blocks of the list, for private contracts.
+-- The freshness bounds of the blocks of the list, for the contracts of private functions.
 use Rattle.std.specs.Prelude.{◌≡◌, ◌≢◌, ℕ, ◌+◌, ◌-◌, ◌^◌, ◌<◌, ◌≤◌, List, insert, length, min}
 use Rattle.std.specs.Prelude.{slice_index_or}
 use Rattle.std.specs.List.{All}
@@ -13,7 +13,8 @@ use Rattle.content_store.specs.declared.blocks.Change.TheVariants.{Added, Renewe
 abbrev pub fresh_until : CachedData → ℕ
 fresh_until c = min (c.arrival + c.freshness) (2 ^ 64 - 1)
 
--- the block's `until` is a freshness bound: from that moment on, no Data of the block is fresh
+-- the block's `until` is a freshness bound: from the moment `until` on, no Data of the block is
+-- fresh
 abbrev pub Bounds : List Placed → Block → Type 0
 Bounds rows b =
     (k : ℕ) (d : Placed) → b.start ≤ k → k < b.end → k < length rows
@@ -22,8 +23,8 @@ Bounds rows b =
 abbrev pub AreBounds : List Placed → List Block → Type 0
 AreBounds rows blocks = All (Bounds rows) blocks
 
--- `rows'` is the list `rows` after the change. A row that the change adds or renews is not fresh
--- from the change's moment `until` on.
+-- `rows'` is the list `rows` after the change. From the moment `until` of the change on, a row that
+-- the change adds or renews is not fresh.
 abbrev pub Follows : Change → List Placed → List Placed → Type 0
 Follows (Added at until) rows rows' =
     (row : Placed) × (at ≤ length rows) × (fresh_until (held_at row) ≤ until)
@@ -36,12 +37,12 @@ Follows (Renewed at until) rows rows' =
 Follows (Removed start end) rows rows' =
     (start ≤ end) × (end ≤ length rows) × (rows' ≡ without_range start end rows)
 
--- if the freshness bounds of `blocks` are true, the freshness bounds of `blocks'` are true too
+-- if each `until` in `blocks` is a freshness bound of the list, so is each `until` in `blocks'`
 abbrev pub Keeps : List Placed → List Block → List Block → Type 0
 Keeps rows blocks blocks' = AreBounds rows blocks → AreBounds rows blocks'
 
--- if the freshness bounds of `blocks` are true before a change of the list, the freshness bounds of
--- `blocks'` are true after this change
+-- if each `until` in `blocks` is a freshness bound before a change of the list, each `until` in
+-- `blocks'` is a freshness bound after this change
 abbrev pub Carries : Change → List Placed → List Block → List Block → Type 0
 Carries change rows' blocks blocks' =
     (rows : List Placed) → Follows change rows rows' → AreBounds rows blocks

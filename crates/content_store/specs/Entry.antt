@@ -1,4 +1,5 @@
--- What an entry shows, and the octets of a digest component, for private contracts.
+-- The model of a cached entry, and the octets of a digest component, for the contracts of private
+-- functions.
 use Rattle.std.specs.Prelude.{◌≡◌, ◌≢◌, ℕ, ◌<◌, ◌≤◌, List, ◌∷◌, length, take}
 use Rattle.std.specs.declared.cmp.Ordering.{Ordering}
 use Rattle.std.specs.declared.cmp.Ordering.TheVariants.{Equal}
@@ -31,8 +32,8 @@ pub record IsHead (name : List Field) (head : List ℕ) : Type 0 where
   pub long : 32 ≤ length (octets_of name)
   pub first : head ≡ take 32 (octets_of name)
 
--- If `order` is not Equal, it is the order of two pairs. These are each full name of a Data named
--- `name` against `other`, and against each full name of a Data named `other`.
+-- If `order` is not Equal, it is the result of comparing any full name of a Data named `name` with
+-- `other`, and also with any full name of a Data named `other`.
 abbrev pub OrdersFullNames : List Field → List Field → Ordering → Type 0
 OrdersFullNames name other order =
     order ≢ Equal → (d : List ℕ) → length d ≡ 32

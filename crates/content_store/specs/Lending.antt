@@ -1,4 +1,4 @@
--- The store after a call that returns a borrow of it.
+-- The store after a call that returns a borrow of the store.
 use Rattle.std.specs.Prelude.{⊤}
 use Rattle.std.specs.Borrow.{Fml, MutBor, follows_so}
 use mathlib.Core.Option.{none}

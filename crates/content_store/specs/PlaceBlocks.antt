@@ -1,4 +1,4 @@
--- A list of slab indexes in blocks, for private contracts.
+-- A list of slab indexes in blocks, for the contracts of private functions.
 use Rattle.std.specs.Prelude.{◌≡◌, ℕ, ◌+◌, ◌<◌, ◌≤◌, List, [], ◌∷◌, ◌++◌, length, slice_index_or}
 use Rattle.content_store.specs.declared.places.Block.{Block}
 
@@ -17,8 +17,8 @@ pub record IsLaid (blocks : List Block) : Type 0 where
   pub laid : AreLaid 0 blocks
   pub short : length (flat blocks) ≤ 131072
 
--- The block with index i contains position `at` or, if `at` is the end of the list, ends there. A
--- slab index that is inserted at this position goes into this block.
+-- The block with index i contains position `at` or, if `at` is the end of the list, ends at `at`. A
+-- slab index that is inserted at position `at` goes into the block with index i.
 pub record IsIn (blocks : List Block) (at i : ℕ) : Type 0 where
   pub there : i < length blocks
   pub begins : (d : Block) → (slice_index_or blocks i d).start ≤ at

@@ -1,4 +1,4 @@
--- The list of cached Data in order of their full names, for private contracts.
+-- The list of cached Data in order of their full names, for the contracts of private functions.
 use Rattle.std.specs.Prelude.{◌≡◌, ℕ, ◌<◌, ◌≤◌, List, [], ◌∷◌, length, Option, None, Some, IsSome, slice_index_or, nat_eq}
 use Rattle.std.specs.List.{AllByRecursion, IsDistinct}
 use Rattle.std.specs.Map.{keys_of}
@@ -46,7 +46,7 @@ pub record IsLower (name : List Field) (rows : List Placed) (at : ℕ) : Type 0 
       → name_cmp (name_at (slice_index_or rows k d)) name ≡ Less → ⊥
 
 -- The optional number is the position of the first row whose Data has the property `P`. None means
--- that no row has this property.
+-- that no row has the property `P`.
 abbrev pub FirstWith : (CachedData → Type 0) → List Placed → Option ℕ → Type 0
 FirstWith P rows None =
     (k : ℕ) (d : Placed) → k < length rows → ¬ P (held_at (slice_index_or rows k d))

@@ -1,4 +1,4 @@
--- What a binary search looks for, for private contracts.
+-- The name or full name that a binary search looks for, for the contracts of private functions.
 use Rattle.std.specs.Prelude.{List}
 use Rattle.sha2.specs.Sha256.{sha256}
 use Rattle.ndn_tlv.specs.Element.{Field}

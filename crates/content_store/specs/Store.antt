@@ -57,8 +57,8 @@ pub record IsCachedData (c : CachedData) : Type 0 where
   pub digest : c.digest ≡ sha256 c.octets
   pub freshness : c.freshness ≡ packet.freshness
 
--- The capacity is from 1 to 65,536, and at most that many Data are cached. No two of them have the
--- same full name, and the octets of each are a Data as recorded (`IsCachedData`).
+-- The capacity is from 1 to 65,536, and at most `capacity` Data are cached. No two cached Data have
+-- the same full name, and each cached Data agrees with its octets (`IsCachedData`).
 pub record IsStore (s : StoreState) : Type 0 where
   pub not_none : 1 ≤ s.capacity
   pub at_most_65536 : s.capacity ≤ MAX_CAPACITY
@@ -66,8 +66,8 @@ pub record IsStore (s : StoreState) : Type 0 where
   pub each_once : EachOnce s.cached
   pub each_data : All IsCachedData s.cached
 
--- a Data is fresh while `now` is less than its arrival plus its FreshnessPeriod, or less than 2^64
--- - 1 if this sum is greater
+-- a Data is fresh if `now` is less than its arrival plus its FreshnessPeriod, and less than
+-- 2^64 - 1
 abbrev pub IsFreshData : CachedData → ℕ → Type 0
 IsFreshData c now = now < min (c.arrival + c.freshness) (2 ^ 64 - 1)
 
@@ -110,9 +110,9 @@ GivesData key now cached None = All (λ c. ¬ CanServe key now c) cached
 GivesData key now cached (Some octets) =
     (c : CachedData) × IsLeast (CanServe key now) cached c × (octets ≡ c.octets)
 
--- A store returns the octets of the Data with the least full name that can serve an Interest of
--- this key, and this Data becomes the most recently used. If no Data can, it returns None and is
--- unchanged.
+-- Of the Data that can serve an Interest of this key, a store returns the octets of the one with
+-- the least full name, and this Data becomes the most recently used. If no Data can serve the
+-- Interest, the store returns None and is unchanged.
 abbrev pub Finds : PlainKey → ℕ → StoreState → Option (List ℕ) → StoreState → Type 0
 Finds key now before None after =
     All (λ c. ¬ CanServe key now c) before.cached × (after ≡ before)
@@ -120,9 +120,9 @@ Finds key now before (Some octets) after =
     (c : CachedData) × IsLeast (CanServe key now) before.cached c × (octets ≡ c.octets)
     × (after ≡ with_used before c)
 
--- `stays` marks the Data that remain, in their order. The full names of all removed Data begin with
--- `name`. The removed full names are less than each remaining full name that begins with `name`.
--- `gone` is the number of removed Data.
+-- `stays` is true for the Data that remain, and the remaining Data keep their order. The full names
+-- of all removed Data begin with `name`. The removed full names are less than each remaining full
+-- name that begins with `name`. `gone` is the number of removed Data.
 pub record TakesLeast (name : List Field) (before after : List CachedData) (gone : ℕ) : Type 0 where
   pub stays : CachedData → Bool
   pub left : after ≡ filter stays before
@@ -131,9 +131,9 @@ pub record TakesLeast (name : List Field) (before after : List CachedData) (gone
   pub least : All (λ c. stays c ≡ false → All (λ d. IsPrefix name (full_name_of d)
       → Less (full_name_of c) (full_name_of d)) after) before
 
--- The effect of an erase: it removes the Data with the least full names that begin with `name`. If
--- there is a count, it removes at most `count` Data. If it removes fewer, or if there is no count,
--- no Data remains whose full name begins with `name`.
+-- The effect of an erase: an erase removes the Data with the least full names that begin with
+-- `name`. If there is a count, an erase removes at most `count` Data. If there is no count, or an
+-- erase removes fewer Data than the count, no Data remains whose full name begins with `name`.
 abbrev pub Erases : List Field → Option ℕ → List CachedData → List CachedData → ℕ → Type 0
 Erases name count before after gone =
     TakesLeast name before after gone × IfSome count (λ n. gone ≤ n)

@@ -1,4 +1,5 @@
--- The LRU order, as a map from serial numbers to slab indexes, for private contracts.
+-- The LRU order, as a map from serial numbers to slab indexes, for the contracts of private
+-- functions.
 use Rattle.std.specs.Prelude.{◌≡◌, ◌⊎◌, ℕ, ◌<◌, ◌≤◌, List, [], ◌∷◌, ◌++◌, length, take, drop, Option, None, Some, nat_eq, slice_index_or, insert}
 use Rattle.std.specs.Option.{option_map}
 use Rattle.std.specs.List.{All, AllByRecursion, IsDistinct}
@@ -27,7 +28,8 @@ held_in rows p = option_map (λ row. row.entry) (lookup (nat_eq p) rows)
 abbrev pub cached_in : List Placed → List (ℕ × ℕ) → List CachedData
 cached_in rows used = cached_by (held_in rows) used
 
--- `u` is a serial number with a slab index: the row at this index has this serial number.
+-- `u` is a pair of a serial number and a slab index, and the row at this slab index has this serial
+-- number.
 pub record LeadsTo (rows : List Placed) (u : ℕ × ℕ) : Type 0 where
   pub row : Row
   pub there : lookup (nat_eq u.1) rows ≡ Some row
@@ -42,8 +44,8 @@ pub record Sound (rows : List Placed) (used : List (ℕ × ℕ)) (next : ℕ) : 
   pub long : length rows ≡ length used
   pub each_data : AllByRecursion (λ r. IsCachedData r.1.entry) rows
 
--- The rows and the LRU cache of a store fit together (`Sound`). The LRU cache has the capacity
--- `capacity`, which is from 1 to 65,536, and at most that many entries.
+-- The rows and the LRU cache of a store are consistent (`Sound`). The LRU cache has the capacity
+-- `capacity`, from 1 to 65,536, and at most `capacity` entries.
 pub record IsHeld (rows : List Placed) (used : LruCache ℕ ℕ) (capacity next : ℕ) : Type 0 where
   pub sound : Sound rows used.entries next
   pub cap : used.cap ≡ capacity
@@ -51,8 +53,8 @@ pub record IsHeld (rows : List Placed) (used : LruCache ℕ ℕ) (capacity next 
   pub low : 1 ≤ capacity
   pub high : capacity ≤ MAX_CAPACITY
 
--- `after` is the LRU cache `before` after the row at position `at` has become the most recently
--- used
+-- if the row at position `at` becomes the most recently used, the LRU cache `before` becomes
+-- `after`
 abbrev pub UsesAt : List Placed → LruCache ℕ ℕ → ℕ → LruCache ℕ ℕ → Type 0
 UsesAt rows before at after =
     (d : Placed) → let r = slice_index_or rows at d in after
@@ -75,7 +77,8 @@ pub record PutsNew (rows : List Placed) (used : LruCache ℕ ℕ) (at : ℕ) (ro
       ≡ evicted (displaced nat_eq used row.serial place) (insert rows at (place, row))
   pub valid : IsValidRows rows'
 
--- The Data `entry` replaces the Data at position `at`, and its row becomes the most recently used.
+-- The Data `entry` replaces the Data at position `at`, and the row at this position becomes the
+-- most recently used.
 pub record Renews (rows : List Placed) (used : LruCache ℕ ℕ) (at : ℕ) (entry : CachedData)
     (rows' : List Placed) (used' : LruCache ℕ ℕ) : Type 0 where
   pub rows_are : (d : Placed) → let r = slice_index_or rows at d in rows'
@@ -88,7 +91,8 @@ abbrev pub without_range : {X : Type 0} → ℕ → ℕ → List X → List X
 without_range start end xs = take start xs ++ drop end xs
 
 -- Of the Data whose full names begin with `name`, at most `most` are removed, those with the least
--- full names first. If fewer than `most` are removed, none of these Data remains.
+-- full names first. If fewer than `most` Data are removed, no Data remains whose full name begins
+-- with `name`.
 pub record TakesUnder (name : List Field) (most : ℕ) (rows : List Placed) (used : LruCache ℕ ℕ)
     (rows' : List Placed) (used' : LruCache ℕ ℕ) (next gone : ℕ) : Type 0 where
   pub sound : Sound rows' used'.entries next

@@ -12,7 +12,7 @@ use slab::Slab;
 const MAX_BLOCK: usize = 512;
 
 /// The list positions from `start` up to, but not including, `end`, and the freshness bound `until`
-/// of this block. From the moment `until` on, no Data at these positions is fresh.
+/// of this block. From the moment `until` on, no Data of the block is fresh.
 #[derive(Clone, Copy)]
 pub struct Block {
     pub start: usize,
@@ -23,11 +23,11 @@ pub struct Block {
 /// A change of the list of rows.
 #[derive(Clone, Copy)]
 pub enum Change {
-    /// A row was inserted before this position, and is fresh until this moment.
+    /// A row was inserted before position `.0`, and is fresh until the moment `.1`.
     Added(usize, u64),
-    /// The row at this position is now fresh until this moment.
+    /// The row at position `.0` was renewed, and is fresh until the moment `.1`.
     Renewed(usize, u64),
-    /// The rows from the first position up to, but not including, the second were removed.
+    /// The rows from position `.0` up to, but not including, position `.1` were removed.
     Removed(usize, usize),
 }
 
@@ -55,8 +55,8 @@ impl Block {
     }
 
     /// Returns the block after a row was inserted before position `at`. A row that is inserted at
-    /// the end of the block belongs to the block. A row that is inserted at its start does so only
-    /// if the start is 0.
+    /// the end of the block belongs to the block. A row that is inserted at the start of the block
+    /// belongs to the block only if the start is 0.
     fn with(self, at: usize, until: u64) -> Block
         ensures { (rows : List Placed) (row : Placed) → at ≤ length rows
             → fresh_until (held_at row) ≤ until → Bounds rows self
@@ -189,7 +189,7 @@ fn halve(entries: &Slab<Row>, order: &Places, blocks: &mut Vec<Block>, index: us
     }
 }
 
-/// Computes the freshness bound of a block from its rows.
+/// Computes the freshness bound of the block at `index` again, from the rows of the block.
 fn look_again(entries: &Slab<Row>, order: &Places, blocks: &mut Vec<Block>, index: usize)
     requires { IsRows (get entries.now) order.now }
     ensures { Keeps (shown (get entries.now) order.now) blocks.old.items blocks.new.items }
@@ -230,8 +230,8 @@ fn join(blocks: &mut Vec<Block>, index: usize)
     };
 }
 
-/// Updates the blocks after a row was inserted before position `at`. The row is fresh until
-/// `until`.
+/// Updates the blocks after a row was inserted before position `at`. The inserted row is fresh
+/// until `until`.
 pub fn add_row(entries: &Slab<Row>, order: &Places, blocks: &mut Vec<Block>, at: usize, until: u64)
     requires { IsRows (get entries.now) order.now }
     ensures { Carries (changes.Added at until) (shown (get entries.now) order.now)
@@ -243,7 +243,8 @@ pub fn add_row(entries: &Slab<Row>, order: &Places, blocks: &mut Vec<Block>, at:
     halve(entries, order, blocks, index);
 }
 
-/// Updates the blocks after the row at position `at` was removed. The row was fresh until `until`.
+/// Updates the blocks after the row at position `at` was removed. The removed row was fresh until
+/// `until`.
 pub fn remove_row(
     entries: &Slab<Row>,
     order: &Places,

@@ -19,7 +19,7 @@ use std::alloc::Global;
 use std::cmp::Ordering;
 use std::marker::Model;
 
-/// A cached Data. Its implicit digest is computed when a comparison needs it.
+/// A cached Data. The implicit digest of the Data is computed when a comparison needs it.
 #[derive(Drop)]
 pub struct Entry {
     // The first 32 octets of the name, if the name has at least 32 octets. These octets decide most
@@ -132,10 +132,10 @@ impl Entry {
         self.name.view().compare(name).is_eq() || self.compare(name).is_eq()
     }
 
-    /// Returns whether the full name is near the key's name. The full name must begin with the
-    /// key's name. If the key does not have CanBePrefix, the next component, if there is one, must
-    /// have a type number of at most 1. Only Data with a full name near a key's name can serve an
-    /// Interest of this key.
+    /// Returns whether the full name of this entry is near the key's name. A full name near the
+    /// key's name begins with the key's name. If the key lacks CanBePrefix, the component after the
+    /// key's name, if there is one, has a type number of at most 1. Only Data with a full name near
+    /// a key's name can serve an Interest of this key.
     #[inline(always)]
     pub fn is_near(&self, key: Key<'_>) -> bool
         ensures { result
@@ -168,7 +168,8 @@ impl Entry {
         self.arrival.saturating_add(self.freshness)
     }
 
-    /// Returns whether the FreshnessPeriod after the arrival ends later than `now`.
+    /// Returns whether the Data is fresh at the moment `now`: whether `now` is before the moment
+    /// that `fresh_until` returns.
     fn is_fresh(&self, now: u64) -> bool
         ensures { IsTrue result ↔ IsFreshData self.now now }
     {

@@ -1,6 +1,6 @@
 use thiserror::Error;
 
-/// Why a store cannot be created. If both faults apply, the first of this list is returned.
+/// Why a store cannot be created. If both faults apply, `BadCapacity` is returned.
 #[derive(Clone, Copy, Debug, PartialEq, Eq, Error)]
 pub enum StoreFault {
     /// The capacity is 0 or above 65,536.

@@ -16,10 +16,14 @@ use std::cmp::Ordering;
 /// The length of an implicit digest, in octets.
 const DIGEST_LEN: u8 = 32;
 
-/// The length of the head of a name, in octets.
+/// The length in octets of the head of a name. The head is the start of the encoded name.
 pub const HEAD_LEN: usize = 32;
 
-/// Compares two names by their heads. Returns `Equal` if the heads do not decide.
+/// Compares the first 32 octets of an encoded name, which are in `head`, with the first 32 octets
+/// of the encoded name `other`. Returns `Equal` if these octets are equal, or if one of the names
+/// has fewer than 32 octets. For each Data whose name is the first name, a result other than
+/// `Equal` is also the result of comparing its full name with `other`, and with the full name of
+/// each Data named `other`.
 #[inline(always)]
 pub fn compare_heads(head: &Option<[u8; HEAD_LEN]>, other: Name<'_>) -> Ordering
     ensures { (name : List Field) → IfSome head.now (λ h. IsHead name h)
@@ -78,9 +82,9 @@ pub fn compare_full_names(
     }
 }
 
-/// Compares, in canonical order, the full name of a Data with the full names of all Data of the
-/// longer name `other`. The result is the same for all of them. The Data is given by its name and
-/// octets.
+/// Compares, in canonical order, the full name of a Data with the full name of any Data named
+/// `other`. `other` must have more octets than `name`, so that the digest of the Data named `other`
+/// does not matter. The first Data is given by its name and octets.
 fn compare_longer(name: Name<'_>, octets: &[u8], other: Name<'_>) -> Ordering
     requires { AreShorter name other }
     ensures { (digest : List ℕ) → length digest ≡ 32

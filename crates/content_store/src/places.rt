@@ -35,9 +35,10 @@ impl Model for Places {
     ghost invariant = { λ p. IsLaid p.blocks.items };
 }
 
-/// Returns the index of the block that contains position `at`, or of the block into which a slab
-/// index is inserted at this position. `first` and `last` are a hint. The search leaves out the
-/// blocks before `first` if block `first` starts at or before position `at`. It leaves out the
+/// Returns the index of the block that contains position `at` or, if `at` is the end of the list,
+/// of a block that ends there. A slab index that is inserted at position `at` goes into this block.
+/// `first` and `last` are block indexes that shorten the search. The search leaves out the blocks
+/// before `first` if block `first` starts at or before position `at`. The search leaves out the
 /// blocks from `last` on if block `last` starts after position `at`.
 fn block_at(blocks: &[Block], first: usize, last: usize, at: usize) -> usize
     requires laid { IsLaid blocks.now }
@@ -94,7 +95,8 @@ fn split(alloc: Global, blocks: &mut Vec<Block>, index: usize) -> Result<(), Mem
     Ok(())
 }
 
-/// Creates the first block, or splits the block at position `at` if it is full.
+/// If there are no blocks, creates one. Otherwise splits the block that `block_at` returns for
+/// position `at`, if that block is full.
 fn make_room(alloc: Global, blocks: &mut Vec<Block>, at: usize) -> Result<(), Memory>
     requires laid { IsLaid blocks.old.items }
     requires within { at ≤ length (flat blocks.old.items) }
@@ -114,7 +116,7 @@ fn make_room(alloc: Global, blocks: &mut Vec<Block>, at: usize) -> Result<(), Me
     split(alloc, blocks, index)
 }
 
-/// Inserts a slab index into its block. Fails if memory runs out.
+/// Inserts a slab index before position `at` of the list. Fails if memory runs out.
 fn put(blocks: &mut Vec<Block>, at: usize, place: u32) -> Result<(), Memory>
     requires laid { IsLaid blocks.old.items }
     requires some { 0 < length blocks.old.items }
@@ -142,7 +144,7 @@ fn joined(alloc: Global, first: &[u32], second: &[u32]) -> Result<Vec<u32>, Memo
 }
 
 /// Removes a block if it is empty. Joins a block of fewer than `MAX_BLOCK` slab indexes with the
-/// next block, if half of its length plus the length of the next block is at most half of
+/// next block, if half the length of the block plus the length of the next block is at most half of
 /// `MAX_BLOCK`. Joins nothing if memory runs out.
 fn join(alloc: Global, blocks: &mut Vec<Block>, index: usize)
     requires { index < length blocks.old.items }
@@ -176,7 +178,7 @@ fn cut(items: &mut Vec<u32>, start: usize, end: usize)
     items.truncate(left);
 }
 
-/// Removes the list positions from `start` up to `end` from a block.
+/// Removes from a block the slab indexes at the list positions from `start` up to `end`.
 fn cut_block(block: &mut Block, start: usize, end: usize)
     requires { start ≤ end }
     ensures items { block.new.items.items ≡ without_range (start - block.old.start)
@@ -188,7 +190,7 @@ fn cut_block(block: &mut Block, start: usize, end: usize)
     cut(&mut block.items, from, to);
 }
 
-/// Removes the list positions from `start` up to `end` from all blocks.
+/// Removes from all blocks the slab indexes at the list positions from `start` up to `end`.
 fn cut_blocks(blocks: &mut Vec<Block>, start: usize, end: usize)
     requires laid { IsLaid blocks.old.items }
     requires ordered { start ≤ end }
@@ -233,9 +235,9 @@ impl Places {
     }
 
     /// Returns the slab index at position `at` of the list, and the index of its block. `first` and
-    /// `last` are a hint. The search leaves out the blocks before `first` if block `first` starts
-    /// at or before position `at`. It leaves out the blocks from `last` on if block `last` starts
-    /// after position `at`.
+    /// `last` are block indexes that shorten the search. The search leaves out the blocks before
+    /// `first` if block `first` starts at or before position `at`. The search leaves out the blocks
+    /// from `last` on if block `last` starts after position `at`.
     pub fn get_between(&self, first: usize, last: usize, at: usize) -> (usize, u32)
         requires { at < length self.now }
         ensures { result.1 ≡ slice_index self.now at }

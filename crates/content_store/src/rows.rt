@@ -38,9 +38,9 @@ pub struct Row {
 pub struct Rows {
     entries: Slab<Row>,
     order: Places,
-    // Blocks of list positions, which are not the blocks inside `order`. Each block has a moment
-    // from which on none of its Data is fresh, so that a search with MustBeFresh can skip the
-    // block.
+    // Blocks of list positions. From the moment `until` of a block on, none of its Data is fresh,
+    // so that a search with MustBeFresh can skip the block. These are not the blocks inside
+    // `order`.
     blocks: Vec<Block>,
 }
 
@@ -70,7 +70,7 @@ fn lower_bound(entries: &Slab<Row>, order: &Places, sought: Sought<'_>, steps: &
 {
     let mut low = 0;
     let mut high = order.len();
-    // The sought position is in the blocks from `first` to `last`, so only these are searched next.
+    // The next position to compare is in the blocks from `first` up to, but not including, `last`.
     let mut first = 0;
     let mut last = usize::MAX;
     while low < high {
@@ -193,8 +193,8 @@ impl Rows {
         first_serving(&self.entries, &self.order, &self.blocks, key, now, steps)
     }
 
-    /// If some Data can serve an Interest of this key, returns the position of the key's name in
-    /// the list. If no row has this name, that is the position at which to insert it.
+    /// Returns the position of the key's name in the list or, if no row has this name, the position
+    /// at which to insert it. Returns `None` if no Data can serve an Interest of this key.
     pub fn start_for(&self, key: Key<'_>, now: u64) -> Option<usize>
         requires { length self.now < 131072 }
         ensures { MatchOption result (FirstWith (CanServe (plain_key key.entry) now) self.now None)
@@ -222,7 +222,8 @@ impl Rows {
         first_from(&self.entries, &self.order, &self.blocks, start, key, now)
     }
 
-    /// Returns the number of rows. The contract also states a property of every list of rows.
+    /// Returns the number of rows. The contract also states that every list of rows is valid
+    /// (`IsValidRows`).
     pub fn len(&self) -> usize
         ensures len { result ≡ length self.now }
         ensures valid { IsValidRows self.now }
@@ -272,7 +273,7 @@ impl Rows {
         self.row(at).entry.compare_full(name, octets).is_eq()
     }
 
-    /// Inserts a row before position `at` of the list. Returns its slab index.
+    /// Inserts a row before position `at` of the list, and returns the slab index of the row.
     pub fn insert(&mut self, at: usize, row: Row) -> Result<u32, Memory>
         requires within { at ≤ length self.old }
         requires short { length self.old < 131072 }
@@ -342,9 +343,9 @@ impl Rows {
     }
 }
 
-/// Removes the Data whose full names begin with a name from the slab and from `used`. Starts at a
-/// position of the list, and removes at most `most` Data. Returns the position after the last
-/// removed Data.
+/// Removes, from the slab and from `used`, the Data whose full names begin with a name. Starts at
+/// position `start` of the list, and removes at most `most` Data. Returns the position after the
+/// last removed Data, or `start` if no Data is removed.
 fn remove_under(
     entries: &mut Slab<Row>,
     used: &mut LruCache<u64, u32>,
@@ -376,7 +377,7 @@ fn remove_under(
     order.len()
 }
 
-/// Puts a row into the slab. Returns its slab index.
+/// Puts a row into the slab, and returns the slab index of the row.
 fn hold(entries: &mut Slab<Row>, row: Row) -> Result<u32, Memory>
     ensures vacant { IfOk result (λ p. get entries.old p ≡ None) }
     ensures held { IfOk result (λ p. get entries.new p ≡ Some row) }

@@ -27,9 +27,9 @@ pub fn store_limits_are_as_promised()
     ensures { MAX_CAPACITY ≡ 65536 }
 {}
 
-/// A content store: Data that answer later Interests (NFD Developer's Guide, "Content Store"). It
-/// caches each full name once, and at most `capacity` Data. When it is full, the least recently
-/// used Data is evicted.
+/// A content store: Data that answer later Interests (NFD Developer's Guide, "Content Store"). The
+/// store caches each full name once, and at most `capacity` Data. When the store is full, the least
+/// recently used Data is evicted.
 #[derive(Drop)]
 pub struct Store {
     alloc: Global,
@@ -109,12 +109,12 @@ impl Store {
     }
 
     /// Caches a Data that arrived at `arrival`, in milliseconds since 1970, as the most recently
-    /// used. It replaces a cached Data with the same full name. If no cached Data has this full
-    /// name and the store is full, the least recently used Data is evicted. A Data that is already
-    /// cached needs no memory, and is never refused. Returns false and leaves the store unchanged
-    /// if memory runs out, or if a cached Data with the same full name has other octets. When
-    /// 2^64 - 1 new full names have been cached, the next new full name empties the store and is
-    /// not cached, and the result is false.
+    /// used. The Data replaces a cached Data with the same full name. If the full name is new and
+    /// the store is full, the least recently used Data is evicted. A Data that is already cached
+    /// needs no memory, and is never refused. Returns false and leaves the store unchanged if
+    /// memory runs out, or if a cached Data with the same full name has other octets. When 2^64 - 1
+    /// new full names have been cached, the next new full name empties the store and is not cached,
+    /// and the result is false.
     pub fn put(&mut self, packet: &Data<'_>, arrival: u64) -> bool
         ensures ok { IsTrue result
             → self.new ≡ with_cached self.old (cached_at packet.now arrival) }
@@ -169,8 +169,9 @@ impl Store {
         Some(self.rows.row(at).entry.octets())
     }
 
-    /// Returns what `find` returns. A binary search finds the first full name that is not less than
-    /// the Interest's name. Each of its comparisons adds one to `steps`, at most 17 in all.
+    /// Does the same as `find`, and counts the comparisons of the binary search. The binary search
+    /// finds the first full name that is not less than the Interest's name. Each comparison of the
+    /// search adds one to `steps`, at most 17 in all.
     pub fn find_counted(&mut self, key: Key<'_>, now: u64, steps: &mut u64) -> Option<&[u8]>
         requires { steps.old ≤ 2 ^ 64 - 1 - 17 }
         ensures found { GivesData (plain_key key.entry) now self.old.cached
@@ -198,8 +199,8 @@ impl Store {
         self.rows.start_for(key, now)
     }
 
-    /// Returns what `find` returns. No binary search is needed if `place` is what `place_for`
-    /// returned for this key and the store has not changed since.
+    /// Does the same as `find`. No binary search is needed if `place` is what `place_for` returned
+    /// for this key and the store has not changed since.
     pub fn serve_at(&mut self, place: usize, key: Key<'_>, now: u64) -> Option<&[u8]>
         ensures found { GivesData (plain_key key.entry) now self.old.cached
             (option_map (λ o. o.now) result) }
@@ -227,9 +228,9 @@ impl Store {
     }
 }
 
-/// Renews the cached Data at position `at`, which has the full name of `packet`, as if it arrived
-/// at `arrival`. The Data becomes the most recently used, and keeps its serial number. Returns
-/// false and changes nothing if the cached octets differ from those of `packet`.
+/// Sets the moment of arrival of the cached Data at position `at` to `arrival`. This Data must have
+/// the full name of `packet`. It becomes the most recently used, and keeps its serial number.
+/// Returns false and changes nothing if the cached octets differ from the octets of `packet`.
 fn put_same(
     rows: &mut Rows,
     used: &mut LruCache<u64, u32>,

@@ -27,7 +27,7 @@ fn ending(alloc: Global, command: &str) -> Option<(u8, String)> {
 }
 
 /// Returns whether a command ends with this exit status and with a text that contains `part` and
-/// has one LF at its end.
+/// ends with exactly one LF.
 fn ends_with(alloc: Global, command: &str, status: u8, part: &str) -> bool {
     ending(alloc, command).is_some_and(|(ended, text)| {
         let text = text.as_str();
@@ -35,8 +35,8 @@ fn ends_with(alloc: Global, command: &str, status: u8, part: &str) -> bool {
     })
 }
 
-/// Checks rows. Each row is a command, ` => `, and a part of the text that the command ends with.
-/// Each command must end with the exit status `status`.
+/// Checks that the command of each row ends with the exit status `status` and with a text that
+/// contains the part after ` => `. Fails if there are no rows.
 fn check_parts(rt: &(impl Abort + AllocGlobal), status: u8, rows: &str) {
     assert!(rt; rows.contains(" => "), "there are no rows");
     for row in rows.lines() {
@@ -199,7 +199,8 @@ fn shortening_text(alloc: Global, options: &ShorteningOptions) -> Option<String>
     format!(in alloc; "{journal} {repo}").ok()
 }
 
-/// Fails at the first row whose command does not make the request that the row gives as text.
+/// Fails at the first row whose command makes a request other than the one that the row gives as
+/// text.
 fn check_requests(rt: &(impl Abort + AllocGlobal), rows: &str) {
     let wrong = first_misshown(rt.alloc(), rows, request_text);
     assert!(rt; wrong.is_none(), "{wrong:?}");
@@ -333,8 +334,8 @@ fn refused_key_comment(alloc: Global, count: u64) -> Option<String> {
     refused(alloc, read_key_file(alloc, "k", repeat(b';').take(count)))
 }
 
-/// A file may have as many octets as its limit, but not more. The octets that are read of a file
-/// that is too long may end inside a character.
+/// A file may have as many octets as its limit, but not more. A file that is too long is refused as
+/// too large, even if the limit is inside a character.
 #[test]
 fn large_files(rt: HostRuntime) {
     let alloc = rt.alloc();
@@ -355,8 +356,7 @@ fn is_told(alloc: Global, fault: Fault, wanted: &str) -> bool {
     format!(in alloc; "{} {fault}", fault.exit_status()).is_ok_and(|told| told.as_str() == wanted)
 }
 
-/// Returns whether the text of the fault of a file that may not be read names the file and the
-/// cause.
+/// Returns whether the message for a file that cannot be read names the file and the cause.
 fn unread_is_told(alloc: Global) -> Option<bool> {
     let fault = Fault::Unread {
         file: "rule file",

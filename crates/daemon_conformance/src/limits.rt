@@ -46,22 +46,22 @@ fn readers(rt: HostRuntime) {
 }
 
 /// Returns whether the lines of `text`, read with a limit of four octets, are the lines of
-/// `wanted`. A `-` in `wanted` stands for a line that is too long. Lines after such a line are not
-/// read.
+/// `wanted`. A `-` in `wanted` stands for a line that is too long. Lines after a line that is too
+/// long are not read.
 fn lines_are(alloc: Global, text: &str, wanted: &str) -> Option<bool> {
     let mut lines = Vec::new(alloc);
     read_lines(alloc, text, &mut lines)?;
     Some(lines.as_slice() == wanted.as_bytes())
 }
 
-/// Appends the lines of `text` that `put_lines` reads.
+/// Reads the lines of `text` with `put_lines`, which appends them to `lines`.
 fn read_lines(alloc: Global, text: &str, lines: &mut Vec<u8>) -> Option<()> {
     let mut reader = BufReader::new(alloc, text.as_bytes()).ok()?;
     put_lines(alloc, &mut reader, text.len(), lines)
 }
 
-/// Reads `count` lines with a limit of four octets, and appends them. Appends a `-` for a line that
-/// is too long, and reads no further line.
+/// Reads at most `count` lines with a limit of four octets, and appends them. For a line that is
+/// too long, appends a `-` and stops.
 fn put_lines<R: BufRead>(
     alloc: Global,
     reader: &mut R,

@@ -106,7 +106,7 @@ fn serves<P: Ports>(
     Some(serve(rt.alloc(), node, ports, 2).is_ok())
 }
 
-/// Returns whether `writes` is true of a new node.
+/// Returns what `writes` returns for a new node without rules.
 fn written(
     rt: &(impl AllocGlobal + Net),
     octets: &[u8],
@@ -119,7 +119,7 @@ fn written(
     )
 }
 
-/// A dropped packet has a line. The face that opens for the packet has no line.
+/// The log has a line for a dropped packet, but no line for the face that opens for this packet.
 #[test]
 fn log_of_what_is_dropped(rt: HostRuntime) {
     let held = Cell::new(0);
@@ -132,7 +132,7 @@ fn log_of_what_is_dropped(rt: HostRuntime) {
     assert!(rt; held.get() == 1);
 }
 
-/// An Interest that is answered by a Nack is plain forwarding and has no line.
+/// The log has no line for plain forwarding, such as an Interest that is answered by a Nack.
 #[test]
 fn log_without_plain_forwarding(rt: HostRuntime) {
     let held = Cell::new(0);
@@ -146,8 +146,8 @@ fn log_without_plain_forwarding(rt: HostRuntime) {
     assert!(rt; held.get() == 0);
 }
 
-/// If the log shows all events, an Interest that is answered by a Nack has a line after the line
-/// of its face.
+/// If the log shows all events, it has a line for the opening of a face, and then a line for an
+/// Interest that is answered by a Nack.
 #[test]
 fn log_of_all(rt: HostRuntime) {
     let held = Cell::new(0);

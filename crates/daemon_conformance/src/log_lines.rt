@@ -19,7 +19,7 @@ const INTEREST: &str = "050b07030801610a0401020304";
 /// The Data `/a`, whose KeyLocator is the name `/k`.
 const DATA: &str = "06150703080161160a1b01041c05070308016b1702abcd";
 
-/// An element of 1 octet, and 37 octets after it.
+/// An element whose value has 1 octet, followed by 37 further octets.
 const BROKEN: &str =
     "0501ffffffffffffffffffffffffffffffffffffffffffffffffffffffffffffffffffffffffffff";
 
@@ -105,8 +105,8 @@ fn says_more(alloc: Global) -> bool {
     )
 }
 
-/// Returns four lines. They report a closed face at the last time that has a date, two closed faces
-/// one millisecond later, a failed send, and a stranger's datagram.
+/// Returns four lines of a log: a closed face at the last time that has a date, two closed faces
+/// one millisecond later, a failed send, and a datagram of a stranger.
 fn shown_notes(alloc: Global) -> Option<Vec<u8>> {
     let mut text = Vec::new(alloc);
     put_notes(alloc, &mut text)?;

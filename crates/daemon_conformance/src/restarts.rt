@@ -10,7 +10,8 @@ use node_ports::{Renewal, UdpPorts, send_one};
 use std::alloc::Global;
 use std::net::{Ipv4Addr, Net, SocketAddr};
 
-/// A journal in memory. Its octets are known, so it meets all clauses of `StoredJournal`.
+/// A journal in memory. All its octets are synced octets (`synced`), so the clauses of
+/// `StoredJournal` about synced octets apply to it.
 #[derive(Drop)]
 struct MemoryJournal<'a> {
     octets: &'a mut Vec<u8>,
@@ -89,8 +90,8 @@ fn restarts(
     Some(take_restored(rt, node, journal, ports, source, options).is_ok())
 }
 
-/// Returns whether `restarts` is true of the journal `before`, and turns this journal into
-/// `after`.
+/// Lets a node restart with the journal `before`, as `restarts` does. Returns whether the turn was
+/// taken and the journal is then `after`.
 fn leaves(
     rt: &(impl AllocGlobal + Eprint + Net + Print),
     node: &mut Node,
@@ -128,8 +129,8 @@ const NO_RULES_AND_A_FACE: &str = "rules 0 - -\nup 1 far 1000000\n";
 
 const OTHER_RULES: &str = "rules 0 - -\nup 1 far 1000000\nrules 1000000 3b -\n";
 
-/// A start adds a line of new rules only if the rules differ from the last ones of the journal. The
-/// second start adds no line of rules, but a line for the face that the datagram opens.
+/// A start adds a line of new rules only if the rules differ from the last rules in the journal. A
+/// start with the same rules adds only a line for the face that a datagram opens.
 #[test]
 fn rules_at_a_start(rt: HostRuntime) {
     assert!(rt; start_leaves(&rt, "", b"", &[], NO_RULES) == Some(true));
@@ -137,7 +138,8 @@ fn rules_at_a_start(rt: HostRuntime) {
     assert!(rt; start_leaves(&rt, NO_RULES_AND_A_FACE, b";", &[], OTHER_RULES) == Some(true));
 }
 
-/// A line that a crash cut short is removed before a line is added.
+/// If a crash cut the last line of a journal short, a start removes this line before it adds a
+/// line.
 #[test]
 fn a_cut_line_at_a_start(rt: HostRuntime) {
     let cut = "rules 0 - -\nrules 1 3b";

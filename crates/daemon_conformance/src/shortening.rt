@@ -1,5 +1,5 @@
-//! Tests of the shortening of a journal. The lines that are expected to stay follow from what the
-//! commands mean.
+//! Tests of the shortening of a journal. The meaning of the commands determines which lines must
+//! stay.
 
 use journal_shortening::{ShortenFault, ShorterJournal, shortened};
 use ndn_names::NameBuf;
@@ -26,15 +26,15 @@ fn has_text(made: Result<Option<ShorterJournal>, ShortenFault>, text: &str) -> b
     matches!(made, Ok(Some(shorter)) if shorter.text.as_slice() == text.as_bytes())
 }
 
-/// Returns whether the shorter journal has this text, and tells that the longer journal has
-/// `lines` lines, of which `kept` lines are kept.
+/// Returns whether shortening gives this text, `lines` as the number of lines of the journal, and
+/// `kept` as the number of lines that are kept.
 fn becomes(alloc: Global, journal: &str, lines: usize, kept: usize, text: &str) -> bool {
     matches!(made(alloc, "/repo", journal), Ok(Some(shorter)) if shorter.lines == lines
         && shorter.kept == kept
         && shorter.text.as_slice() == text.as_bytes())
 }
 
-/// Returns whether the shortening does not fail, but makes no shorter journal.
+/// Returns whether the shortening succeeds without making a shorter journal.
 fn stays(alloc: Global, journal: &str) -> bool {
     matches!(made(alloc, "/repo", journal), Ok(None))
 }
@@ -144,7 +144,7 @@ fn packet_in(alloc: Global, line: &str) -> Option<Vec<u8>> {
     command_of(alloc, &name, &signer, time)
 }
 
-/// Appends the line that a line of a test stands for, with its LF.
+/// Appends the journal line that a line of a test stands for, with an LF.
 fn push_line(alloc: Global, text: &mut String, line: &str) -> Option<()> {
     match word(line, 0) {
         "ask" | "data" => push_packet(alloc, text, line)?,
@@ -154,14 +154,14 @@ fn push_line(alloc: Global, text: &mut String, line: &str) -> Option<()> {
     text.push('\n').ok()
 }
 
-/// Appends the line of the packet that a line of a test stands for, without its LF.
+/// Appends the journal line of the packet that a line of a test stands for, without an LF.
 fn push_packet(alloc: Global, text: &mut String, line: &str) -> Option<()> {
     let packet = packet_in(alloc, line)?;
     let octets = hex::encode(alloc, &packet).ok()?;
     write!(text, "in {} {} {octets}", word(line, 1), word(line, 2)).ok()
 }
 
-/// Appends the line of the rules that a line of a test stands for, without its LF.
+/// Appends the journal line of the rules that a line of a test stands for, without an LF.
 fn push_rules(alloc: Global, text: &mut String, line: &str) -> Option<()> {
     let rules = hex::encode(alloc, RULES.as_bytes()).ok()?;
     let keys = hex::encode(alloc, KEYS.as_bytes()).ok()?;
@@ -202,7 +202,7 @@ fn unmarked(alloc: Global, lines: &str) -> Option<String> {
     Some(text)
 }
 
-/// Checks that the shorter journal has exactly the lines with a mark, and that this journal cannot
+/// Checks that shortening keeps exactly the lines with a mark, and that the shorter journal cannot
 /// be shortened further. The contract of `shortened` states that the shorter journal restores the
 /// same tables.
 fn keeps_marked(rt: &(impl Abort + AllocGlobal), lines: &str) {
@@ -248,8 +248,8 @@ fn a_program_that_leaves(rt: HostRuntime) {
 }
 
 /// When a face closes, the next hops on it are removed, even if they were added from another face.
-/// The last command stays because it is the last of its signer, although the next hop of `/C` is
-/// gone.
+/// The command that removes the next hop of `/C` stays because it is the last command of its
+/// signer.
 const HOPS_OF_A_CLOSED_FACE: &str = "* rules 900
 * up 1 local 1000
 up 2 far 1000
@@ -266,7 +266,8 @@ fn hops_of_a_closed_face(rt: HostRuntime) {
     keeps_marked(&rt, HOPS_OF_A_CLOSED_FACE);
 }
 
-/// Routes that last 1,000 milliseconds. The first has expired at the end.
+/// Two routes last 1,000 milliseconds. At the end of the journal the route of `/A` has expired, so
+/// its command is left out.
 const ROUTES_THAT_EXPIRE: &str = "* rules 900
 * up 1 local 1000
 ask 1 1001 /ops/KEY/1 /localhost/nfd/rib/register/%68%09%07%03%08%01A%6D%02%03%E8
@@ -292,7 +293,8 @@ fn strategies(rt: HostRuntime) {
     keeps_marked(&rt, STRATEGIES);
 }
 
-/// A stored Data needs the insert that asked for it.
+/// If a Data is still stored at the end of the journal, its line and the insert that asked for it
+/// stay.
 const A_DATA_THAT_STAYS: &str = "* rules 900
 * up 1 local 1000
 * up 2 far 1000
@@ -307,8 +309,8 @@ fn a_data_that_stays(rt: HostRuntime) {
     keeps_marked(&rt, A_DATA_THAT_STAYS);
 }
 
-/// Of the lines about a Data that was inserted and then deleted, only the delete stays. It stays
-/// because it is the last command of its signer.
+/// Of the lines about a Data that was inserted and then deleted, only the delete stays. The delete
+/// stays because it is the last command of its signer.
 const A_DATA_THAT_GOES: &str = "* rules 900
 * up 1 local 1000
 * up 2 far 1000
@@ -322,8 +324,8 @@ fn a_data_that_goes(rt: HostRuntime) {
     keeps_marked(&rt, A_DATA_THAT_GOES);
 }
 
-/// The first insert must stay, since it is the last command of its signer. So the Data that it
-/// asked for must stay too, and also the command that deletes this Data.
+/// The first insert must stay, since it is the last command of its signer. The Data that this
+/// insert asked for must stay too, and so must the command that deletes this Data.
 const ANOTHER_SIGNER_DELETES: &str = "* rules 900
 * up 1 local 1000
 * up 2 far 1000
@@ -339,7 +341,8 @@ fn another_signer_deletes(rt: HostRuntime) {
     keeps_marked(&rt, ANOTHER_SIGNER_DELETES);
 }
 
-/// The repository wants a Data for 4,000 milliseconds after the insert command.
+/// The repository wants a Data for 4,000 milliseconds after an insert command. At the end of the
+/// journal, the repository no longer wants `/A`, so the insert of `/A` is left out.
 const WANTS_THAT_EXPIRE: &str = "* rules 900
 * up 1 local 1000
 ask 1 1001 /ops/KEY/1 /repo/insert/%C9%05%07%03%08%01A
@@ -352,7 +355,7 @@ fn wants_that_expire(rt: HostRuntime) {
     keeps_marked(&rt, WANTS_THAT_EXPIRE);
 }
 
-/// A command needs the rules that allowed it. Rules that no line needs are left out if newer rules
+/// If a command stays, the rules that allowed it stay too. Other rules are left out if newer rules
 /// follow.
 const RULES_THAT_CHANGE: &str = "* rules 900
 * up 1 local 1000
@@ -367,9 +370,10 @@ fn rules_that_change(rt: HostRuntime) {
     keeps_marked(&rt, RULES_THAT_CHANGE);
 }
 
-/// If the repository has another prefix, an insert under `/repo` is an ordinary Interest, which no
-/// node journals. With the prefix `/repo`, no shorter journal is made. The prefix `/localhost` is
-/// refused.
+/// If the repository has another prefix than `/repo`, an insert under `/repo` is an ordinary
+/// Interest. No node journals an ordinary Interest, so a journal with such an insert is refused.
+/// With the prefix `/repo`, the journal is accepted, but no shorter journal is made. The prefix
+/// `/localhost` is refused.
 #[test]
 fn another_prefix(rt: HostRuntime) {
     let alloc = rt.alloc();

@@ -48,7 +48,7 @@ fn packets_at(alloc: Global, moments: &[u64]) -> Option<MemoryPorts> {
     Some(MemoryPorts::new(alloc, arrivals))
 }
 
-/// Returns whether the next arrival is a packet at the time `at`, with its octets.
+/// Returns whether the next arrival is a packet of `packets_at` at the time `at`.
 fn brings_packet<P: Ports>(ports: &mut P, at: u64) -> bool {
     let mut buffer = [0; 16];
     let Ok(Arrival::Packet { face: 1, now, len }) = ports.next(&mut buffer) else {
@@ -67,8 +67,8 @@ fn closes<P: Ports>(ports: &mut P, closed: u64, at: u64) -> bool {
     matches!(ports.next(&mut [0; 16]), Ok(Arrival::FaceDown { face, now }) if face == closed && now == at)
 }
 
-/// Returns whether the source is first checked when one second has passed since the start. The new
-/// rules must come before the packet that arrives at that time, and the packet must follow
+/// Returns whether the source of rules is first checked one second after the start. The new rules
+/// must come before the packet that arrives one second after the start, and this packet must follow
 /// unchanged.
 fn rules_come_first(alloc: Global) -> Option<bool> {
     let renewal = no_rules(alloc)?;

@@ -1,12 +1,13 @@
 //! Gives damaged packets to `read_frame`, and prints the results.
 //!
-//! Each line of standard input is a packet in hexadecimal. For each packet, its proper prefixes are
-//! read first, from the shortest on, and then the packet itself. Then the packet is read with each
-//! octet in turn set to 0, and at last with each octet in turn set to 255. Nothing is read for an
-//! octet that has the value already. For each packet, an empty line is printed, and then one line
-//! for each run of equal results. This line has the length of the run, the name of the fault or the
-//! kind of packet, the number of components of its name, and its InterestLifetime, FreshnessPeriod
-//! or NackReason. The last two numbers are 0 for a fault and for a link packet without a packet.
+//! Each line of standard input is a packet in hexadecimal. For each packet, the program reads first
+//! all proper prefixes, from the shortest to the longest, and then the packet itself. Then the
+//! program reads the packet with one octet at a time set to 0, and finally with one octet at a time
+//! set to 255. An octet that already has the value to set is skipped. For each packet, the program
+//! prints an empty line, and then one line for each run of equal results. A line for a run has the
+//! length of the run, the name of the fault or the kind of packet, the number of components of the
+//! packet's name, and the packet's InterestLifetime, FreshnessPeriod or NackReason. The last two
+//! numbers are 0 for a fault and for a link packet without a packet.
 #![tactic(auto)]
 
 use limited_reads::read_line_within;
@@ -80,8 +81,8 @@ fn print_run<R: Print>(rt: &R, run: &Run) -> io::Result<()> {
     println!(rt; "{} {word} {components} {number}", run.count)
 }
 
-/// Reads octets. If the result differs from the result of the run, the run is printed and a new run
-/// begins.
+/// Reads octets, and adds the result to the run. If the result differs from the results of the run,
+/// prints the run first and begins a new run.
 fn read<R: Print>(rt: &R, octets: &[u8], run: &mut Run) -> io::Result<()> {
     let found = found_of(octets);
     if found != run.found {

@@ -6,7 +6,7 @@ use Rattle.std.specs.declared.io.ErrorKind.TheVariants as kinds
 use Rattle.hmac_keys.specs.declared.fault.KeyFault.{KeyFault}
 use Rattle.hmac_keys.specs.declared.fault.KeyFault.TheVariants as keys
 
--- what is wrong in a key file, and how to correct it; line 0 means that the file is not UTF-8
+-- what is wrong in a key file, and how to correct it; `BadLine 0` means that the file is not UTF-8
 unfoldable pub advice_on_keys : KeyFault → List ℕ
 advice_on_keys (keys.BadLine zero) = codes "the file is not UTF-8 text: write it in UTF-8 or ASCII"
 advice_on_keys (keys.BadLine (suc line)) =
@@ -16,8 +16,9 @@ advice_on_keys keys.TooMany =
     codes "at most 256 keys are allowed: leave out those that no rule asks for"
 advice_on_keys keys.Memory = codes "out of memory"
 
--- the message for a fault in a key file: its line, which is 0 for `TooMany`, and its kind, and on
--- the next line what is wrong; the message for `Memory` is a single line
+-- The message for a fault in a key file. The first line of the message has the line number and the
+-- kind of the fault. The line number is 0 for `TooMany`. The second line of the message tells what
+-- is wrong and how to correct it. The message for `Memory` is a single line without a number.
 abbrev pub key_text : KeyFault → List ℕ
 key_text (keys.BadLine line) = codes "keys:" ++ (decimal line ++ (codes ": BadLine\n  "
     ++ (advice_on_keys (keys.BadLine line) ++ codes "\n")))

@@ -9,10 +9,10 @@ use hmac_keys::KeyFault;
 use std::fmt;
 use std::io::ErrorKind;
 
-/// The message for a fault in a key file. Its first line has the number of the faulty line and the
-/// kind of the fault. The number is 0 for `TooMany` and for a file that is not UTF-8. The second
-/// line tells what is wrong and how to correct it. The message for `Memory` is a single line
-/// without a number. Each message ends with an LF.
+/// The message for a fault in a key file. The first line of the message has the number of the
+/// faulty line and the kind of the fault. The line number is 0 for `TooMany` and for a file that is
+/// not UTF-8. The second line of the message tells what is wrong and how to correct it. The message
+/// for `Memory` is a single line without a number. Each message ends with an LF.
 #[derive(Clone, Copy)]
 pub struct KeyMessage(pub KeyFault);
 

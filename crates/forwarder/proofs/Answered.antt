@@ -1,5 +1,5 @@
--- How a Data is answered once time has advanced to the moment at which it came, and two conditions
--- under which `HandlesPacket` is true of a packet.
+-- How a Data is answered after time has advanced to the moment of its arrival. Two conditions under
+-- which `HandlesPacket` is true of a packet.
 use Rattle.std.proofs.Common.{◌≡◌, ℕ, true, false, not, List, [], refl, sym, ap, subst, ◌∙◌}
 use Rattle.std.specs.Prelude.{Result, Ok, Err, IfOk, IsErr, IsOk, nat_lt}
 use Rattle.std.proofs.lemmas.Bool.{false≢true}
@@ -37,8 +37,7 @@ use Rattle.forwarder.proofs.Handled.{where_true, where_false}
 
 -- ---- whether memory ran out, and what advancing time leaves unchanged
 
--- if memory ran out, nothing but the cache changed, and nothing was sent, then `HandlesPacket` is
--- true
+-- `HandlesPacket` is true if memory ran out, only the cache changed, and nothing was sent
 pub refused_packet : {old new : State} {before after : List Send} {face : ℕ} {token : Token} {moment : ℕ} {packet : PlainFrame} (r : Result code.Verdict Memory) → IsErr r
     → ChangesCacheOnly (state_of old) (state_of new) × (after ≡ before) → HandlesPacket old new before after face token moment packet r
 refused_packet (Ok verdict) refused kept = absurd (false≢true refused)

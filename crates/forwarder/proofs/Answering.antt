@@ -1,5 +1,6 @@
--- How an Interest for Data is answered. If the Interest loops, a Nack is sent back. If it does not
--- loop, it is answered from the cache or the repository, or forwarded as the strategy chooses.
+-- How an Interest for Data is answered. If the Interest loops, a Nack is sent back. An Interest
+-- that does not loop is answered from the cache or the repository, or is forwarded as the strategy
+-- chooses.
 use Rattle.std.proofs.Common.{◌≡◌, ℕ, ◌≤◌, Bool, true, false, cond, List, [], ◌∷◌, length, Option, None, Some, Result, Ok, Err, inl, inr, refl, sym, ap, subst, ◌∙◌}
 use Rattle.std.specs.Prelude.{◌⊎◌, IfOk, max, not, ◌&&◌, IfSome}
 use Rattle.std.specs.List.{All}
@@ -100,7 +101,7 @@ later_sound old was moment sound later = step_sound old was _ _ sound (tick_step
 
 -- ---- the Data that can answer an Interest when time has advanced to its moment
 
--- if `c` is the least cached Data that can serve the key, then some cached Data can serve the key
+-- `IsLeast` is true of no Data if no cached Data can serve the key
 pub nothing_served : (key : PlainKey) (now : ℕ) (cached : List CachedData) (c : CachedData) → IsLeast (CanServe key now) cached c → All (λ d. ¬ CanServe key now d) cached → ⊥
 nothing_served key now cached c least none = All-contains (λ d. ¬ CanServe key now d) cached c none least.is_cached least.has
 
@@ -180,8 +181,8 @@ module _ (old was : NodeState) (moment face : ℕ) (token : Token) (whole : List
     loop_answered loop = data_answered was _ (where_true _ _ is_loop loop refl) refl (λ key. refl) later.living refl
 
     module _ (once : is_loop ≡ false) (after : StoreState) where
-      -- Let the lookup of the Interest's key give `given` and leave the cache `after`. Then `after`
-      -- is as `CacheAfter` requires for an Interest that is passed.
+      -- Let the lookup of the Interest's key return `given`, and let `after` be the cache after the
+      -- lookup. Then `CacheAfter` is true of `after` for an Interest with the verdict Passed.
       looked_up : (given : Option (List ℕ)) → Finds (key_of i) was.policy.now was.cache given after
           → CacheAfter was.policy.now was.pending (packet_use was.policy.now face (AnInterest whole i) Passed) was.cache after
       looked_up given found =
@@ -208,8 +209,8 @@ module _ (old was : NodeState) (moment face : ℕ) (token : Token) (whole : List
             (looked_up None none)
 
         module _ (unheld : served i.name i.can_be_prefix was.policy.held.objects ≡ None) where
-          -- If the lookup found no Data, the cache after the lookup is as `CacheAfter` requires,
-          -- whether the Interest is passed or is dropped because the PIT is full.
+          -- if the lookup found no Data, then `CacheAfter` is true of the cache after the lookup,
+          -- both for the verdict Passed and for the verdict Dropped PitFull
           by_verdict : (new : NodeState) (v : Verdict) → (v ≡ Passed) ⊎ (v ≡ Dropped PitFull) → new.cache ≡ after
               → CacheAfter was.policy.now was.pending (packet_use was.policy.now face (AnInterest whole i) v) was.cache new.cache
           by_verdict new v (inl e) same =

@@ -44,9 +44,9 @@ use Rattle.forwarder.specs.Node.{NodeState}
 use Rattle.forwarder.specs.CommandStep.{IsCommanded}
 
 module _ (was new : NodeState) (face : ℕ) (token : Token) (status : ℕ) (i : PlainInterest) (content : List ℕ) where
-  -- Let `read` be the command, or the status of a fault, that the Interest's name is read as. If
-  -- the status, the reply and the new node are those for `read`, then a command on the tables was
-  -- carried out.
+  -- Let `read` be the result of reading the Interest's name: a command, or the status of a fault.
+  -- If the status, the reply and the new node are those for `read`, then a command on the tables
+  -- was carried out.
   pub tables_done : (read : Result PlainCommand ℕ) → command_at i.name ≡ read
       → status ≡ tables_status was.policy face read
       → content ≡ tables_reply was.policy face read
@@ -106,9 +106,9 @@ still_ready old new c same prepared ready =
     by_action UnsetStrategy h = tt
     by_action EraseCache h = tt
 
--- Let `routes` and `choices` be the routes and strategies that a command with this status leaves.
--- Then the policy with `routes`, `choices` and the next version of the lists is the policy that
--- `after_tables` gives.
+-- Let `routes` and `choices` be the routes and strategies after the command `c` with the status
+-- `status`. Then the policy with `routes`, `choices` and the next version of the lists is the
+-- policy that `after_tables` gives.
 pub after_applied : (p : Policy) (c : PlainCommand) (face status : ℕ) (routes : Routes) (choices : Choices)
     → status ≡ tables_status p face (Ok c)
     → routes ≡ if_done status (routes_after c face p.now p.routes) p.routes
@@ -122,8 +122,8 @@ after_applied p c face status routes choices is to_routes to_choices =
 same_store : (old new : StoreState) → new.cached ≡ old.cached → new.capacity ≡ old.capacity → new ≡ old
 same_store old new cached capacity = λ j. record { cached = cached j; capacity = capacity j }
 
--- if the cached Data are those that a command leaves, and the capacity is unchanged, then the
--- cache is as `CacheAfter` requires for the command's status
+-- if the cached Data are those that a command leaves, and the capacity is unchanged, then
+-- `CacheAfter` is true of the cache for the command and its status
 pub cache_applied : (now : ℕ) (waiting : Pending) (c : PlainCommand) (face status : ℕ) (up : List ℕ) (routes : Routes) (choices : Choices) (old new : StoreState)
     → status ≡ status_of c face up routes choices
     → CachedAfter c old.cached new.cached → new.capacity ≡ old.capacity

@@ -32,7 +32,7 @@ use Rattle.forwarder.specs.Event.{Token, to_each}
 use Rattle.forwarder.specs.NextHops.{sent_on}
 use Rattle.forwarder.specs.DataSends.{carries_data, holds_data, is_data, is_data_frame}
 
--- whether there is a first octet, and it is `kind`
+-- whether the first octet exists and equals `kind`
 abbrev pub begins : ℕ → List ℕ → Bool
 begins kind [] = false
 begins kind (octet ∷ octets) = octet == kind
@@ -89,8 +89,8 @@ five text false (Ok len) = by_size (ltb (length len.1) len.0) (take len.0 len.1)
     by_size false value [] = by_read (interest_of text value)
     by_size false value (octet ∷ rest) = (refl, refl)
 
--- Let octets that begin with the type of an Interest be read as exactly one element. Then
--- `holds_data` is false for the result, which may be a fault.
+-- Let octets that begin with the type of an Interest be read as one element. The result is an
+-- element of this type, or a fault. So `holds_data` is false for the result.
 five_holds : (r : Result (ℕ × List ℕ) TlvFault) → holds_data (only (r >>= sized 5)) ≡ false
 five_holds (Err f) = refl
 five_holds (Ok len) = by_size (ltb (length len.1) len.0) (take len.0 len.1) (drop len.0 len.1)
@@ -412,8 +412,8 @@ module _ (token packet : List ℕ) (is : IsToken token) (small : length (wrapped
       ∙ ap (λ (r : Result PlainFramed PacketFault). r >>= λ f. Ok f.frame)
       (link_is value ∙ ap (link_from no_headers_yet) parts_are ∙ ap (λ (r : Result LinkSoFar PacketFault). r >>= λ s. link_from s (Ok (80, packet) ∷ [])) (token_taken token is))
 
--- Let `packet` have at most 8,800 octets and not be a Nack. Then it is not a Nack either when it is
--- sent back, with a valid token or without a token.
+-- Let `packet` have at most 8,800 octets and not be a Nack. If `packet` is sent back, with a valid
+-- token or without a token, then what is sent is not a Nack.
 pub back_is_no_nack : (token : Token) (packet : List ℕ) → IfSome token IsToken → length packet ≤ 8800 → is_nack packet ≡ false → is_nack (lp_text token None packet) ≡ false
 back_is_no_nack None packet is short other = other
 back_is_no_nack (Some token) packet is short other = ap is_nack_frame (wrapped_is token packet is (wrapped_short token packet is short)) ∙ by_element (only_element packet)
@@ -445,7 +445,7 @@ back_reads None octets whole d is short read = data_alone octets whole d read
 back_reads (Some token) octets whole d is short read =
     wrapped_is token whole is (wrapped_short token whole is short) ∙ ap (λ (r : Result PlainFrame PacketFault). (r >>= λ f. Ok (framed_with (Some token) f)) >>= λ f. Ok f.frame) (data_packet octets whole d read)
 
--- octets that are read as a Data are at most 9,000 octets
+-- a text that is read as a Data has at most 9,000 octets
 never_long : (text whole : List ℕ) (d : PlainData) → frame_at text ≡ Ok (AData whole d) → length text ≤ 9000
 never_long text whole d read = by_long (nat_lt 9000 (length text)) refl
   where

@@ -1,5 +1,5 @@
--- A decision by the rules and keys alone is the decision on the packet, if this decision does not
--- allow the packet or if the packet is a Data.
+-- The decision on a packet is what the rules and keys alone decide if they do not allow the packet,
+-- or if the packet is a Data.
 use Rattle.std.proofs.Common.{◌≡◌, ℕ, refl, List, Result, Ok, Err, sym, subst, inl}
 use Rattle.std.specs.Prelude.{IfOk, MatchResult, OnErr}
 use Rattle.hmac_keys.specs.KeyFile.{NamedKey}

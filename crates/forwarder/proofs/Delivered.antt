@@ -122,7 +122,7 @@ module _ (s : NodeState) (now : ℕ) (whole : List ℕ) (d : PlainData) (askers 
       here f (differs, waits) =
           has_in f others (IsIn-filter_to but f askers (in_list f askers ((all f).1 waits)) (ap not (ne_eqb f face differs)))
 
-  -- ---- the cache after a Data that some face awaits, or that no face awaits
+  -- ---- the cache after a Data arrives, whether or not some face waits for the Data
 
   module _ (old new : StoreState) where
     pub cached : 0 < length askers → (stored : Bool) → (stored ≡ true → new ≡ with_cached old (held_from now whole d))

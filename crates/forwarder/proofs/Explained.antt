@@ -176,10 +176,11 @@ module _ (seen : Seen) (face now : ℕ) (octets whole : List ℕ) (i : PlainInte
   interest_explained answer ForRepository e h = each_is seen event answer (command_answer seen.policy face token i h.0) h.2 (command_explained (ap is_command e) h.0 h.1)
   interest_explained answer ForData e h = data_explained answer h
 
--- ---- a Data, a Nack, and all events
+-- ---- the sends in the answers to a Data, to a Nack, and to any event
 
--- Let `T` be true of all faces with tokens in `askers`. If the send of the Data to each such face
--- has the property `P`, then all sends that `sent_to` gives have the property `P`.
+-- Let `T` be true of each face with its token in `askers`. Let `P` be true of the send of `whole`
+-- to each face in `askers` for which `T` is true. Then `P` is true of all sends in
+-- `sent_to askers whole`.
 all_sent : (P : Send → Type 0) (T : ℕ × Token → Type 0) (whole : List ℕ) (askers : Askers) → All T askers
     → ((a : ℕ × Token) → IsTrue (has_face a.0 (faces_of askers)) → T a → P (sent_back a.0 a.1 whole)) → All P (sent_to askers whole)
 all_sent P T whole [] all each = All-nil P

@@ -293,8 +293,8 @@ sent_on_causes now face token whole i faces old mid new spelled apart arrives se
     ∙ ap (λ (causes : List Cause). after_causes causes key (records_after arrived key (records_at old key))) (sym (sent_to_each (key_of i) i.nonce now faces octets))
     ∙ ap (λ (causes : List Cause). after_causes causes key (records_at old key)) (sym is)
 
--- if the records of a key are alive, or fewer than 4,096 keys have records, then an Interest of
--- this key is not dropped because the PIT is full
+-- the PIT takes an Interest of a key if the records of the key are alive, or if fewer than 4,096
+-- keys have records
 pub takes_key : (alive : Bool) (n : ℕ) → ((alive ≡ false) × (4096 ≤ n) → ⊥) → (not alive && leb 4096 n) ≡ false
 takes_key true n never = refl
 takes_key false n never =
@@ -305,8 +305,8 @@ takes_key false n never =
 
 -- ---- a Nack that is sent back
 
--- a Nack around an Interest that was read is read as a Nack, if its reason is below 2^64 and its
--- token, if any, is valid
+-- if `whole` is an Interest, the reason is below 2^64, and the token, if any, is valid, then a Nack
+-- around `whole` is read as a Nack
 nack_spelled : (token : Token) (reason : ℕ) (whole : List ℕ) (i : PlainInterest) → IfSome token IsToken → IfSome token AreOctets → ∥ IsInterest whole i ∥₁ → reason < 2 ^ 64
     → is_nack (lp_text token (Some reason) whole) ≡ true
 nack_spelled token reason whole i is octets spelled fits = by_nack (is_nack (lp_text token (Some reason) whole)) refl

@@ -155,8 +155,8 @@ module _ (old new : NodeState) (face now : ℕ) (octets : List ℕ) (later : IsL
 
 -- ---- the work of a handler is one step
 
--- the node makes a step with this verdict, and appending the sends of the step to `before` gives
--- `after`
+-- a step with `verdict` leads from `old` to `new`, and appending the sends of the step to `before`
+-- gives `after`
 abbrev pub StepsBy : NodeState → NodeState → List Send → List Send → PlainEvent → code.Verdict → Type 0
 StepsBy old new before after event verdict =
     (sends : List Send) × (after ≡ before ++ sends) × IsStep old event (record { verdict = verdict_of verdict; sends = sends }) new

@@ -1,6 +1,6 @@
--- Let no book of keys have two keys of the same name. Two runs with the same events that start from
--- the same policy lead to the same policy. After them, valid answers to a request are equal, and
--- valid verdicts on a Data are equal.
+-- Let no key book have two keys of the same name. Two runs with the same events that start from the
+-- same policy lead to the same policy. After both runs, all valid answers to a request are equal,
+-- and all valid verdicts on a Data are equal.
 use Rattle.std.proofs.Common.{◌≡◌, ℕ, Bool, true, false, List, refl, sym, ap, subst, ◌∙◌, Result, Ok, Err}
 use Rattle.std.specs.Prelude.{Option, nat_le}
 use Rattle.std.specs.FinMap as map

@@ -43,7 +43,7 @@ use Rattle.forwarder.proofs.Requests.{for_list}
 
 -- ---- which cause makes an Interest pending
 
--- for each send, the cause that says that the Interest was sent to the face of the send
+-- one cause `SentTo` for each send: the Interest was sent to the face of the send
 abbrev sendings : PlainKey → List ℕ → ℕ → List Send → List Cause
 sendings key nonce now sends = map (λ (sent : Send). SentTo key sent.0 nonce now) sends
 
@@ -64,7 +64,7 @@ kept_causes now event answer key face ask kept =
     ∙ ap (λ (a : InRecord). Arrives key face a ∷ rest) (sym kept.is_record)
 
 module _ (now : ℕ) (event : PlainEvent) (answer : Answer) (key : PlainKey) (face : ℕ) (ask : InRecord) where
-  -- if `cause` is the arrival of the in-record `ask`, then the Interest becomes pending
+  -- if `cause` is the arrival of the in-record `ask`, then the Interest of `ask` becomes pending
   abbrev IsKeptBy : Cause → Type 0
   IsKeptBy cause = cause ≡ Arrives key face ask → IsKept now event answer key face ask
 
@@ -175,7 +175,7 @@ kept_waits past event answer key face ask kept =
     ∙ both (same_key key key) (eqb face face) (Some ask) (in_record_of_causes earlier key face) (same_self key) (eq-eqb face face refl)
 
 -- if a key has an in-record after one cause, then the cause is the arrival of this in-record, or
--- the in-record was there before the cause
+-- the key had the in-record before the cause
 one_cause : (cause : Cause) (key : PlainKey) (face : ℕ) (ask : InRecord) (was : Option InRecord) → in_record_after cause key face was ≡ Some ask → (cause ≡ Arrives key face ask) ⊎ (was ≡ Some ask)
 one_cause (Expires now) key face ask None e = inr e
 one_cause (Expires now) key face ask (Some a) e = by_time (ltb now a.deadline) e
@@ -232,7 +232,8 @@ module _ (key : PlainKey) (face : ℕ) (ask : InRecord) (Q : Type 0) where
       by_rest (inl q) = inl q
       by_rest (inr e) = by_cause (one_cause cause key face ask (in_record_of_causes earlier key face) e)
 
--- an in-record that remains once time has advanced to a moment was there before time advanced
+-- if an in-record exists after time has advanced to a moment, the in-record also existed before
+-- time advanced
 pub waited_before : (past : Run) (now : ℕ) (key : PlainKey) (face : ℕ) (ask : InRecord) → fin.get (records_after (Expires now) key (records_of past key)).in_records face ≡ Some ask
     → fin.get (records_of past key).in_records face ≡ Some ask
 waited_before past now key face ask e =

@@ -41,7 +41,8 @@ registered_twice m n le g =
     ∙ still_due m n le (map.get g k)
     ∙ sym (get-revise route_cmp-antisymmetric (until_due n) g k))
 
--- removing an entry that is vacant does not change what is left of the entry at the moment `n`
+-- what is left of an entry at the moment `n` is the same, whether or not the entry is first removed
+-- if it is vacant
 vacant_goes : (n : ℕ) (e : Entry) → option_and_then (entry_left_at n) (unless_vacant e) ≡ entry_left_at n e
 vacant_goes n e =
     elim (is_vacant e) as (λ b. is_vacant e ≡ b → option_and_then (entry_left_at n) (cond b None (Some e)) ≡ entry_left_at n e) [
@@ -105,9 +106,8 @@ count-left now routes =
     subst (λ es. total (λ (e : Entry). map.len e.registered) es ≤ route_count routes) (sym (entries-revise name_cmp (entry_left_at now) routes))
     (total_revised (entry_left_at now) (λ e. map.len e.registered) (entry_falls now) (map.entries routes))
 
--- Each route is counted once. The number of routes that expire by the moment `m`, plus the number
--- of remaining routes that expire by the later moment `n`, is the number of all routes that expire
--- by `n`.
+-- the number of routes that expire by the moment `m`, plus the number of remaining routes that
+-- expire by the later moment `n`, is the number of all routes that expire by `n`
 pub due_twice : (m n : ℕ) (routes : Routes) → m ≤ n → due_count m routes + due_count n (left_at m routes) ≡ due_count n routes
 due_twice m n routes le =
     let twice = ap route_count (left_twice m n routes le) in

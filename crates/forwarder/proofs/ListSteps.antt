@@ -87,8 +87,8 @@ list_answered old was moment face token whole i asked tok later is =
       cache = list_cached was face token whole i asked (for_list was.policy face i asked request);
     }
 
--- The time, routes, strategies and version that are computed before time advances to a request's
--- moment are those of the policy `p` once time has advanced.
+-- The time, routes, strategies and version for a request's moment are computed before time
+-- advances. The computed values are those of the policy `p` after time has advanced.
 pub then_listed : (old p : Policy) (moment now due number : ℕ) → p ≡ at_moment old moment → now ≡ max old.now moment → due ≡ due_count now old.routes
     → number ≡ min (old.table_number + due) (2 ^ 64 - 1)
     → (p.now ≡ now) × (p.routes ≡ left_at now old.routes) × (p.choices ≡ old.choices) × (p.table_number ≡ number)
@@ -100,8 +100,8 @@ then_listed old p moment now due number is at ends counted = (
       ∙ sym (counted ∙ ap (λ (n : ℕ). min (old.table_number + n) (2 ^ 64 - 1)) ends),
 )
 
--- Let an Interest ask for a list. Then the answer that `list_answer` gives is the answer to this
--- Interest, and it leaves the node as it is once time has advanced.
+-- Let an Interest ask for a list. Then `list_answer` gives the answer to this Interest. The node
+-- `was`, in which time has already advanced, does not change.
 pub list_handled : (old was : NodeState) (moment face : ℕ) (token : Token) (whole : List ℕ) (i : PlainInterest) (asked : ListAsked) (answer : Answer) → IfSome token IsToken → IsLater old moment was
     → request_of old.policy face i ≡ ForList asked → list_answer was.policy face token asked ≡ answer → IsAnswered was face token (AnInterest whole i) answer was
 list_handled old was moment face token whole i asked answer tok later is given =

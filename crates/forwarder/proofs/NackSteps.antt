@@ -1,5 +1,6 @@
 -- How a Nack is answered. The reserved memory is enough for the Nacks to all faces with in-records.
--- These Nacks are sent in rising order of the faces. The reason of the received Nack is recorded.
+-- The Nacks are sent in rising order of the faces that get them. The reason of the received Nack is
+-- recorded.
 use Rattle.std.proofs.Common.{◌≡◌, ◌⊎◌, inl, inr, ℕ, ◌+◌, ◌<◌, ◌≤◌, Bool, true, false, cond, eqb, ltb, List, [], ◌∷◌, ◌++◌, length, drop, Option, None, Some, refl, sym, ap, subst, ◌∙◌, arith}
 use lib.Dec.{T}
 use Rattle.std.specs.Prelude.{is_some, option_and_then, map, slice_get, unwrap_or, ◌||◌}
@@ -116,8 +117,8 @@ module _ (reason : ℕ) where
   same_nacks g h (f ∷ faces) all =
       ap (λ o. nack_for reason f o ++ nacks_by reason g faces) all.0 ∙ ap (λ l. nack_for reason f (h f) ++ l) (same_nacks g h faces all.1)
 
-  -- if all faces in `faces` are greater than the first key `k`, looking them up gives the same
-  -- results without the first entry
+  -- if all faces in `faces` are greater than the key `k` of the first entry, looking them up gives
+  -- the same results with the first entry and without it
   found_later : (k : ℕ) (ask : InRecord) (es : List (ℕ × InRecord)) (faces : List ℕ) → AllByRecursion (λ f. k < f) faces
       → AllByRecursion (λ f. find nat_cmp f ((k, ask) ∷ es) ≡ find nat_cmp f es) faces
   found_later k ask es [] all = tt
@@ -167,7 +168,7 @@ module _ (reason : ℕ) where
         kept false o some = some
 
     -- If `faces` is in rising order and contains every face that has an in-record, `nacks_by` makes
-    -- the same Nacks in the same order as `nacks_to`. It skips faces without an in-record.
+    -- the same Nacks in the same order as `nacks_to`. `nacks_by` skips faces without an in-record.
     pub nacks_to_all : IsRising faces → nacks_by reason (get asks) faces ≡ nacks_to asks reason
     nacks_to_all rising =
         same_nacks (get asks) (λ f. find nat_cmp f (entries asks)) faces (each faces)

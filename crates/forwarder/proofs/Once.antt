@@ -83,8 +83,8 @@ packet_guard p face (AData whole d) = inl refl
 packet_guard p face (ANack reason whole i) = inl refl
 packet_guard p face Idle = inl refl
 
--- a decision on a packet leaves the guard unchanged, or it allows the packet, and the packet is
--- recorded as a command
+-- either a decision on a packet leaves the guard unchanged, or the decision allows the packet and
+-- the packet is recorded as a command
 said_guard : (p : Policy) (face : ℕ) (packet : PlainFrame) (said : Decision) → ((after_decision p face packet said).guard ≡ p.guard)
     ⊎ (Records p packet (after_decision p face packet said).guard × ((rule : RuleNo) × (said ≡ decided.Allowed rule)))
 said_guard p face packet (decided.Allowed rule) = by_packet (packet_guard p face packet)
@@ -195,8 +195,8 @@ recorded_there i s (Some time) e t some = (
       ∙ ap (λ (o : Option ℕ). recorded_with s.info o) t,
 )
 
--- if no book of keys has two keys of the same name, the later of two allowed commands of a signer
--- is newer than the earlier one
+-- if no key book has two keys of the same name, the later of two allowed commands of a signer is
+-- newer than the earlier one
 pub newer : (first was : Policy) (run : Run) (event : PlainEvent) (whole other : List ℕ) (i j : PlainInterest) (r s : Recorded) → KeysAreApart first run → AllowedIn first run (AnInterest whole i)
     → IsPolicyOf first run was → Allows was event (AnInterest other j) → recorded_of i ≡ Some r → recorded_of j ≡ Some s → r.signer ≡ s.signer → (r.time < s.time) × NumberRises r.number s.number
 newer first was run event whole other i j r s apart allowed h allows is also same =
@@ -215,7 +215,7 @@ never_again first was run event whole other i j apart allowed h allows same =
     let time : r.0.time ≡ s.0.time = ap (λ (x : Recorded). x.time) one in
     let low = rises.0 in omega (arith, low, time)
 
--- `r` has the values that are recorded of some allowed command of the run
+-- `r` has the values that are recorded for some allowed command of the run
 abbrev pub IsRecordIn : Policy → Run → Recorded → Type 0
 IsRecordIn first run r = (whole : List ℕ) × (i : PlainInterest) × AllowedIn first run (AnInterest whole i) × (recorded_of i ≡ Some r)
 

@@ -105,8 +105,8 @@ more_here f (y ∷ ys) (suc i) x e =
 one_more : (i : ℕ) → suc i ≡ i + 1
 one_more i = omega arith
 
--- Let `rest` be the first `i` faces without `f`. If the face at index `i` is not `f`, then adding
--- this face to `rest` gives the first `i + 1` faces without `f`.
+-- Let `rest` be the faces before index `i`, without `f`. If the face at index `i` is not `f`, then
+-- adding this face to `rest` gives the faces before index `i + 1`, without `f`.
 pub kept_here : (f : ℕ) (xs : List ℕ) (i x : ℕ) (rest new : List ℕ) → IsRising xs → slice_get xs i ≡ Some x → i < MAX_FACES → rest ≡ but_for f (take i xs) → eqb x f ≡ false → new ≡ (adding x rest).1 → new ≡ but_for f (take (i + 1) xs)
 kept_here f xs i x rest new rising at lt was apart is =
     let few : length (but_for f (take i xs)) < MAX_FACES = omega (arith, length_filter (λ g. not (eqb g f)) (take i xs), length_here xs i, lt) in
@@ -114,14 +114,14 @@ kept_here f xs i x rest new rising at lt was apart is =
     ∙ ap (λ b. but_for f (take i xs) ++ cond (not b) (x ∷ []) []) (sym apart) ∙ sym (more_here f xs i x at)
     ∙ ap (λ m. but_for f (take m xs)) (one_more i)
 
--- Let `rest` be the first `i` faces without `f`. If the face at index `i` is `f`, then `rest` is
--- also the list of the first `i + 1` faces without `f`.
+-- Let `rest` be the faces before index `i`, without `f`. If the face at index `i` is `f`, then
+-- `rest` is also the list of the faces before index `i + 1`, without `f`.
 pub left_out : (f : ℕ) (xs : List ℕ) (i x : ℕ) (rest : List ℕ) → slice_get xs i ≡ Some x → rest ≡ but_for f (take i xs) → eqb x f ≡ true → rest ≡ but_for f (take (i + 1) xs)
 left_out f xs i x rest at was same =
     was ∙ sym (append-nil (but_for f (take i xs))) ∙ ap (λ b. but_for f (take i xs) ++ cond (not b) (x ∷ []) []) (sym same) ∙ sym (more_here f xs i x at)
     ∙ ap (λ m. but_for f (take m xs)) (one_more i)
 
--- ---- the entries that the two lists of numbers show
+-- ---- the entries made from the list of all open faces and the list of Local faces
 
 pub numbers_of_entries : (all local : List ℕ) → numbers (entries_of all local) ≡ all
 numbers_of_entries [] local = refl

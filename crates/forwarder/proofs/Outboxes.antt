@@ -20,7 +20,7 @@ slice_range-more octets more i j low high =
     let within : j - i ≤ length (drop i octets) = simp length-drop (omega arith) in
     ap (take (j - i)) (drop-append-le i octets more (omega arith)) ∙ take-append-le (j - i) (drop i octets) more within
 
--- in `octets` followed by `more`, the range from the end of `octets` to the end contains `more`
+-- in the list `octets ++ more`, the range from the end of `octets` to the end of the list is `more`
 slice_range-last : (octets more : List ℕ) → slice_range (octets ++ more) (length octets) (length (octets ++ more)) ≡ more
 slice_range-last octets more =
     let all : length more ≤ length (octets ++ more) - length octets = omega (arith, length-append octets more) in
@@ -82,9 +82,9 @@ no_more-added octets more sends faces h some =
     let sum = sum_by-append size_of sends (map (placed (length octets) (length (octets ++ more))) faces) in
     omega (arith, h, added, sum, length-append octets more)
 
--- Let `all` be `octets` followed by `more`, which lies from `start` to `end`. Let `after` be
--- `sends` followed by the sends of `more` to at least one face. If `AreOctetsOf` is true of
--- `octets` and `sends`, then it is true of `all` and `after`.
+-- Let `all` be `octets` followed by `more`, and let `more` be the range of `all` from `start` to
+-- `end`. Let `after` be `sends` followed by the sends of `more` to at least one face. If
+-- `AreOctetsOf` is true of `octets` and `sends`, then it is true of `all` and `after`.
 octets_after : (octets more all : List ℕ) (sends after : List Sent) (faces : List ℕ) (start end : ℕ)
     → start ≡ length octets → end ≡ length all → all ≡ octets ++ more → after ≡ sends ++ map (placed start end) faces
     → AreOctetsOf octets sends → 0 < length faces → AreOctetsOf all after

@@ -32,8 +32,8 @@ use Rattle.forwarder.specs.State.{IsLater, policy_of, state_of}
 use Rattle.forwarder.proofs.Answered.{unharmed}
 use Rattle.forwarder.proofs.Uses.{commanded_use}
 
--- Let a policy have the rules, the keys and the guard of `old`, and the time of `old` advanced to
--- `now`. Then the decision on the command is `said`.
+-- Let a policy have the rules, the keys and the guard of `old`, and let its time be the greater of
+-- `now` and the time of `old`. Then the decision of this policy on the command is `said`.
 abbrev pub SaysAt : Policy → ℕ → List ℕ → PlainInterest → Decision → Type 0
 SaysAt old now whole i said =
     (p : Policy) → p.rules ≡ old.rules → p.keys ≡ old.keys → p.guard ≡ old.guard → p.now ≡ max old.now now → IsDecidedAs p (AnInterest whole i) said

@@ -76,9 +76,10 @@ module _ {V : Type 0} (read : Entry → V) (routes : Routes) (n : List Field) (e
       by true t = here ∙ ap (λ (m : List Field). cond b y (read (entry_at routes m))) (sym (same_name name n t))
       by false t = refl
 
-  -- Let `read` give for the new entry `e` the value `y` if `b` is true, and the value for the old
-  -- entry of `n` if `b` is false. Then, for the changed routes, `read` gives `y` if `name` is `n`
-  -- and `b` is true. In all other cases, it gives the old value for `name`.
+  -- The value of an entry is what `read` gives for the entry. Let the new entry `e` of `n` have the
+  -- value `y` if `b` is true, and the value of the old entry of `n` if `b` is false. Then the new
+  -- entry of `name` has the value `y` if `name` is `n` and `b` is true. In all other cases, the new
+  -- entry of `name` has the value of the old entry of `name`.
   pub changed_with : (b : Bool) (y : V) → read e ≡ cond b y (read (entry_at routes n))
       → read (entry_at (map.insert routes n e) name) ≡ cond (eq_by_cmp name_cmp name n && b) y (read (entry_at routes name))
   changed_with b y = changed_there (read (entry_at (map.insert routes n e) name)) b y read_with
@@ -101,9 +102,9 @@ module _ {V : Type 0} (read : Entry → V) (routes : Routes) (n : List Field) (e
 
 -- ---- changes to all entries at once
 
--- Let two functions that leave empty maps empty change the next hops and the routes in every
--- entry, and let vacant entries then be removed. Looking up a name then gives its old entry with
--- these changes.
+-- Let `hops` change the next hops of every entry, and let `registered` change the routes of every
+-- entry. Let both functions map the empty map to the empty map. Even if vacant entries are removed
+-- afterwards, looking up a name gives its old entry, changed by `hops` and `registered`.
 revised_at : (hops : ByFace → ByFace) (registered : Registered → Registered) → hops map.empty ≡ map.empty → registered map.empty ≡ map.empty
     → (o : Option Entry)
     → unwrap_or (option_and_then (λ (e : Entry). unless_vacant (record { hops = hops e.hops; registered = registered e.registered })) o) no_entry

@@ -1,4 +1,4 @@
--- After a step of a run, the cache holds only Data that it may hold.
+-- After a step of a run, `MayHold` is true of each Data in the cache.
 use Rattle.std.proofs.Common.{◌≡◌, ℕ, List, ◌∷◌, get_or, refl, sym, ap, subst, ◌∙◌, inl, inr}
 use Rattle.std.specs.Prelude.{◌⊎◌, Option, Some, None, max, not}
 use Rattle.std.specs.List.{All, Contains}
@@ -21,7 +21,6 @@ use Rattle.forwarder.proofs.RunSteps.{is_waiting, now_is}
 
 -- ---- properties of all Data in a cache
 
--- if all Data of a list have a property, each Data in the list has the property
 all_contained : (P : CachedData → Type 0) (cs : List CachedData) (c : CachedData) → All P cs → Contains cs c → P c
 all_contained P cs c h at = subst P at.2 (h at.0 c at.1)
 
@@ -52,8 +51,8 @@ module _ (now : ℕ) (waiting : Pending) (old new : StoreState) (K K' : CachedDa
     inserted c arrives (inr (other, e)) = unchanged e
 
   -- Let `K'` follow from `K` for each Data that an erase may leave. With a count, an erase may
-  -- leave any Data. Without a count, it may leave only Data whose full names do not begin with
-  -- `name`. Then each Data that remains after the erase has the property `K'`.
+  -- leave any Data. Without a count, an erase may leave only Data whose full names do not begin
+  -- with `name`. Then each Data that remains after the erase has the property `K'`.
   erased : (name : List Field) (count : Option ℕ) (gone : ℕ) → ((c : CachedData) → K c → ¬ ((count ≡ None) × IsPrefix name (full_name_of c)) → K' c)
       → IsErased name count old.cached new.cached gone → All K' new.cached
   erased name count gone keep h = by_count h.2

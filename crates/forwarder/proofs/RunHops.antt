@@ -1,4 +1,4 @@
--- Let no book of keys have two keys of the same name, and let a run begin without routes. Then the
+-- Let no key book have two keys of the same name, and let a run begin without routes. Then the
 -- events and answers of the run determine the next hops and the registered routes after the run.
 use Rattle.std.proofs.Common.{◌≡◌, ℕ, Bool, true, false, cond, List, refl, ap, subst, ◌∙◌, Result, Ok, Err}
 use Rattle.std.specs.Prelude.{Option, Some, None, max, nat_le, option_and_then, ◌==◌, ◌&&◌}

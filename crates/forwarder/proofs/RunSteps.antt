@@ -66,9 +66,9 @@ module _ (p : Policy) (records : PlainKey → Records) (full : Bool) (G H : Plai
   more_replies (Tick now) answer h = h
   more_replies (NewRules rules keys now) answer h = h
 
--- ---- what a node shows agrees with the past
+-- ---- the time, records and cached Data of a node agree with the past
 
--- a Data that the cache gives is a Data that it may give
+-- if `MayHold` is true of all cached Data, then `MayCache` is true of what the cache gives
 gives_held : (past : Run) (now : ℕ) (cached : List CachedData) → All (MayHold past) cached → (key : PlainKey) (given : Option (List ℕ))
     → GivesData key now cached given → MayCache past now key given
 gives_held past now cached held key None h = tt

@@ -176,7 +176,7 @@ module _ (seen : Seen) (P : ℕ → Type 0) (face : ℕ) (token : Token) (asker 
   back : (octets : List ℕ) (answer : Answer) → answer ≡ passed ((face, octets) ∷ []) → PassesTo P answer
   back octets answer is e = subst (λ (a : Answer). SendsTo P a.sends) (sym is) (asker, tt)
 
--- an answer to an Interest for a list, if it is passed, is sent only to the face that asks
+-- if an Interest for a list is passed, its answer is sent only to the face that asks
 list_passes : (seen : Seen) (P : ℕ → Type 0) (face : ℕ) (token : Token) (asker : P face) (asked : ListAsked) (answer : Answer)
     → answer ≡ list_answer seen.policy face token asked → PassesTo P answer
 list_passes seen P face token asker asked answer is =

@@ -1,5 +1,5 @@
--- Let no book of keys in a valid run have two keys of the same name. If ticks at the same moments
--- replace some denied events, the run is still valid and leads to the same policy.
+-- Let no key book in a valid run have two keys of the same name. If some denied events are replaced
+-- by ticks at the moments of these events, the run is still valid and leads to the same policy.
 use Rattle.std.proofs.Common.{◌≡◌, ℕ, true, List, refl, sym, ap, subst, ◌∙◌, inl, inr}
 use Rattle.std.specs.Prelude.{[], Option, Some, None, max, nat_le}
 use Rattle.std.specs.FinMap as map

@@ -122,8 +122,8 @@ inserts_by now (DataCame whole d) c e = let same : held_from now whole d ≡ c =
 inserts_by now (NackPassed face reason i) c e = cc e
 inserts_by now (FaceClosed face) c e = cc e
 
--- if the outcome of octets read as `read` is that the Data `whole` was allowed, then `read` is
--- this Data, and the verdict `v` is `DataAllowed`
+-- Let `read` be the result of reading octets, and let the outcome be that the Data `whole` was
+-- allowed. Then `read` is this Data, and the verdict `v` is `DataAllowed`.
 data_came : (face : ℕ) (read : Result PlainFrame PacketFault) (v : Verdict) (whole : List ℕ) (d : PlainData) → read_outcome face read v ≡ DataCame whole d
     → (read ≡ Ok (AData whole d)) × ((rule : ℕ) × (v ≡ DataAllowed rule))
 data_came face (Err fault) v whole d e = cc e

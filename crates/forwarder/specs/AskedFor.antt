@@ -46,11 +46,11 @@ AnswersNow first past p face asked i whole d =
     × AllowedIn first past (AData whole d))
     ⊎ IsOwnAnswer p face asked i whole
 
--- After a run that leaves the policy `was`, the face asked for this Data. There are three cases.
--- The event brings the Data, which is allowed and answers a pending Interest of the face. Or the
--- event brings an Interest on this face, and the Data answers it, came in an event of the run, and
+-- The face asked for the Data; `was` is the policy after the run. There are three cases. The event
+-- brings the Data, which is allowed and answers a pending Interest of the face. Or the event brings
+-- an Interest on this face, and the Data answers that Interest, came in an event of the run, and
 -- was allowed at that event. Or the event brings an Interest on this face, and the Data is the
--- node's own answer to it.
+-- node's own answer to that Interest.
 abbrev pub WasAskedFor : Policy → Run → Policy → PlainEvent → ℕ → List ℕ → PlainData → Type 0
 WasAskedFor first past was event face whole d =
     (Allows was event (AData whole d)

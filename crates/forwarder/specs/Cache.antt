@@ -67,9 +67,10 @@ MayForget old new =
     All (λ c. Contains old.cached c) new.cached × (new.capacity ≡ old.capacity)
 
 -- The store `new` after a use of the store `old`. The use `Untouched` changes nothing. A Data that
--- a lookup returns becomes the most recently used. If some face waits for an inserted Data, the
--- Data is cached, or some cached Data may be dropped or reordered. If no face waits for it, nothing
--- changes. An erase removes Data as the content store's erase does.
+-- a lookup returns becomes the most recently used. If some face waits for an inserted Data, either
+-- the Data is cached, or the cache at most drops or reorders Data (`MayForget`). If no face waits
+-- for an inserted Data, nothing changes. An erase removes Data as `IsErased` specifies, and leaves
+-- the capacity unchanged.
 abbrev pub CacheAfter : ℕ → Pending → CacheUse → StoreState → StoreState → Type 0
 CacheAfter now waiting Untouched old new = new ≡ old
 CacheAfter now waiting (LooksUp key) old new =
@@ -81,9 +82,9 @@ CacheAfter now waiting (Erases name count) old new =
     ((gone : ℕ) × IsErased name count old.cached new.cached gone)
     × (new.capacity ≡ old.capacity)
 
--- The use is an erase without Count, and its name is a prefix of the full name of `c`, so the
--- erase removes `c`. An erase with Count is left out: the event does not determine which Data it
--- removes.
+-- The use is an erase without Count, and its name is a prefix of the full name of `c`, so the erase
+-- removes `c`. An erase with Count is left out, since the event does not determine which Data such
+-- an erase removes.
 abbrev pub TakesAway : CacheUse → CachedData → Type 0
 TakesAway Untouched c = ⊥
 TakesAway (LooksUp key) c = ⊥

@@ -28,8 +28,8 @@ in_record_for now token whole i = record {
   token = token;
 }
 
--- whether some send goes to this face; a send to the face that sent the event's Interest is a Data
--- or a Nack
+-- Whether some send goes to this face. If an Interest is passed, a send to its own face is a Data
+-- or a Nack.
 abbrev pub is_answered : ℕ → List Send → Bool
 is_answered face sends = list_any (λ sent. sent.0 == face) sends
 
@@ -62,8 +62,8 @@ interest_causes now face token whole i sends =
     Arrives key face (in_record_for now token whole i)
     ∷ map (λ (sent : Send). SentTo key sent.0 i.nonce now) sends)
 
--- The causes of a passed Nack. Its reason is recorded and, if the answer sends anything, the
--- records of its Interest's key are then removed.
+-- The causes of a passed Nack. The reason of the Nack is recorded. If the answer sends anything,
+-- the records of the key of the Nack's Interest are then removed.
 abbrev pub nack_causes : ℕ → ℕ → PlainInterest → List Send → List Cause
 nack_causes face reason i sends =
     NackCame (key_of i) face i.nonce reason
@@ -91,8 +91,8 @@ abbrev pub after_causes : List Cause → PlainKey → Records → Records
 after_causes [] key r = r
 after_causes (cause ∷ causes) key r = after_causes causes key (records_after cause key r)
 
--- a list of causes with the latest cause first: these causes in reverse order, followed by the
--- earlier causes
+-- `before_earlier causes earlier` is `causes` in reverse order, followed by `earlier`; so the
+-- latest cause is the first
 abbrev pub before_earlier : List Cause → List Cause → List Cause
 before_earlier [] earlier = earlier
 before_earlier (cause ∷ causes) earlier = before_earlier causes (cause ∷ earlier)

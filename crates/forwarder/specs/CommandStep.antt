@@ -22,7 +22,8 @@ request_use i status ForRepository = Untouched
 request_use i status ForData = Untouched
 
 -- An allowed command with the request `request` was answered and took effect, and was recorded.
--- `was` is the node before this effect, once time has advanced to the moment of the command.
+-- `was` is the node after time has advanced to the command's moment, and before the command takes
+-- effect.
 pub record IsCommanded (was : NodeState) (face : ℕ) (token : Token) (i : PlainInterest)
     (request : Request) (status : ℕ) (sends : List Send) (new : NodeState) : Type 0 where
   pub answered : status ≡ (allowed_reply was.policy face i request).status
@@ -35,7 +36,7 @@ pub record IsCommanded (was : NodeState) (face : ℕ) (token : Token) (i : Plain
       was.cache new.cache
 
 -- An allowed command was carried out: time advanced to `moment`, and the command was answered and
--- took effect. Its sends were appended to the sends in `before`.
+-- took effect. The sends of the answer were appended to the sends in `before`.
 abbrev pub IsCarriedOut : State → State → List Send → List Send → ℕ → Token → ℕ → PlainInterest
     → Request → ℕ → Type 0
 IsCarriedOut old new before after face token moment i request status =

@@ -45,7 +45,7 @@ NOT_AUTHORIZED = 403
 -- ---- commands on routes, strategies and the cache
 
 -- the status in the reply to a command under /localhost/nfd that came from this face and was
--- allowed; `Err` has the status of a name that encodes no command
+-- allowed; if the name encodes no command, this is the status in `Err`
 abbrev pub tables_status : Policy → ℕ → Result PlainCommand ℕ → ℕ
 tables_status p face (Err status) = status
 tables_status p face (Ok c) = status_of c face (open_faces p) p.routes p.choices
@@ -82,8 +82,7 @@ repository_content r = repo_response r.status (unwrap_or (repo_text_of r.status)
 abbrev pub after_repository : Policy → PlainInterest → Policy
 after_repository p i = record p { held = after_command p.repo i.name p.now p.held }
 
--- the octets of the Interest with this nonce by which the node asks for a Data that the repository
--- wants
+-- the octets of the Interest with this nonce by which the node fetches the Data of a want
 abbrev pub fetch_text : Want → List ℕ → List ℕ
 fetch_text want nonce =
     element (
@@ -92,9 +91,9 @@ fetch_text want nonce =
           ++ (NONCE, nonce) ∷ (INTEREST_LIFETIME, shortest_nni want.lifetime) ∷ [])),
     )
 
--- Whether the node's Interest for this want cannot be encoded. Its name is empty or has a
--- parameters digest, or the Interest has more than 8,800 octets. It is not expected to be so long,
--- since the command is longer.
+-- Whether the node's Interest for this want cannot be encoded. The Interest cannot be encoded if
+-- the want's name is empty or has a parameters digest, or if the Interest has more than 8,800
+-- octets.
 abbrev pub is_unwritable : Want → List ℕ → Bool
 is_unwritable want nonce =
     is_bad_name want.name || nat_lt 8800 (length (fetch_text want nonce))
@@ -103,7 +102,7 @@ abbrev pub to_chosen : Choice → List ℕ → List Send
 to_chosen choices.NoRoute text = []
 to_chosen (choices.Send faces) text = to_each faces text
 
--- The sends of the node's Interest to the faces that the strategy chooses. There are none if no
+-- The sends of the node's Interest to the faces that the strategy chooses. There are no sends if no
 -- Data is wanted, the Interest cannot be encoded, or the strategy finds no route. For the strategy,
 -- the Interest came from no face and was not sent before.
 abbrev pub fetch_sends : Policy → List ℕ → Option Want → List Send
@@ -165,7 +164,7 @@ reply_content p face i (decided.Denied rule reason) =
 reply_content p face i decided.NoRule = refused_content (request_of p face i) (codes "no rule")
 
 -- the answer to a command that came on this face with this token, given the decision on the
--- command: the reply and, if it is allowed, the node's Interests
+-- command: the reply and, if the command is allowed, the Interests that the node sends
 abbrev pub command_answer : Policy → ℕ → Token → PlainInterest → Decision → Answer
 command_answer p face token i (decided.Allowed rule) =
     let reply = allowed_reply p face i (request_of p face i) in
@@ -199,8 +198,8 @@ IsDenial p face token (AData whole d) decided.NoRule answer =
 IsDenial p face token (ANack reason whole i) decision answer = ⊥
 IsDenial p face token Idle decision answer = ⊥
 
--- the policy after the signer, time and number of an allowed command are recorded, or unchanged if
--- there is nothing to record (None)
+-- The policy after the signer, time and number of an allowed command are recorded. With None,
+-- nothing is recorded and the policy is unchanged.
 abbrev pub with_record : Policy → Option Recorded → Policy
 with_record p None = p
 with_record p (Some r) = record p { guard = with_recorded p.guard r }

@@ -1,5 +1,5 @@
--- Why Data are sent: each sent Data answers an Interest that is pending on the face, or the
--- Interest that the event brings.
+-- Why Data are sent: each sent Data answers an Interest that is pending on the face that the Data
+-- is sent to, or the Interest that the event brings.
 use Rattle.std.specs.Prelude.{◌≡◌, ◌≢◌, ◌⊎◌, ℕ, List, [], ◌∷◌, Bool, true, false, None, Some, All, Result, Ok, Err, ⊤, ◌==◌, ◌||◌, if◌then◌else◌}
 use Rattle.sha2.specs.Sha256.{sha256}
 use Rattle.ndn_tlv.specs.Element.{Field}
@@ -27,8 +27,8 @@ use Rattle.forwarder.specs.Replies.{Seen, Waits}
 use Rattle.forwarder.specs.Verdict.{Answer, passed}
 
 -- The event brings a Data that is allowed. The received octets of the Data are sent to another
--- face, which has a pending Interest that the Data answers. They are sent with the token of the
--- Interest with the latest deadline, among that face's pending Interests that the Data answers
+-- face, which has a pending Interest that the Data answers. The octets are sent with the token of
+-- the Interest with the latest deadline, among that face's pending Interests that the Data answers
 -- (`IsTokenFor`).
 pub record IsForwardedData (seen : Seen) (event : PlainEvent) (sent : Send) : Type 0 where
   pub face : ℕ
@@ -96,8 +96,9 @@ abbrev pub is_data_element : Result Field PacketFault → Bool
 is_data_element (Err fault) = false
 is_data_element (Ok e) = e.0 == DATA
 
--- Whether a link packet with these elements carries a Data. The element in its first Fragment has
--- the type of a Data, and neither a Nack nor a malformed element comes before this Fragment.
+-- Whether a link packet with these elements carries a Data. The link packet carries a Data if the
+-- element in the first Fragment has the type of a Data, and neither a Nack nor a malformed element
+-- comes before this Fragment.
 abbrev pub carries_data : List (Result Field TlvFault) → Bool
 carries_data [] = false
 carries_data (Err fault ∷ elements) = false

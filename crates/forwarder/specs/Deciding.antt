@@ -1,5 +1,5 @@
--- How commands and Data are decided: by the rules and, for a command, also by what was recorded of
--- its signer (NDN Packet Format 0.3, "Signed Interest").
+-- How commands and Data are decided: by the rules and, for a command, also by what was recorded for
+-- the command's signer (NDN Packet Format 0.3, "Signed Interest").
 use Rattle.std.specs.Prelude.{◌≡◌, ◌⊎◌, ◌==◌, ℕ, Option, None, Some, IfSome, ⊤, if◌then◌else◌}
 use Rattle.ndn_packets.specs.Packet.{PlainLocator, Missing, KeyName, Digest, Other, PlainSignatureInfo, PlainInterest, PlainFrame, AnInterest, AData, ANack, Idle}
 use Rattle.ndn_packets.specs.declared.types.TheConstants.{DIGEST_SHA256}

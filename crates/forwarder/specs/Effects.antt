@@ -31,7 +31,7 @@ with_open p face scope =
     if can_open p face then record p { faces = with_face face scope p.faces } else p
 
 -- The policy after a face closes. If the face was open, it is removed with its next hops and
--- routes, and the lists of routes and strategies get their next version. If it was not open,
+-- routes, and the lists of routes and strategies get their next version. If the face was not open,
 -- nothing changes.
 abbrev pub with_closed : Policy → ℕ → Policy
 with_closed p face =
@@ -84,8 +84,8 @@ undecided_effect p (FaceDown face now) = with_closed p face
 undecided_effect p (Tick now) = p
 undecided_effect p (NewRules rules keys now) = with_rules p rules keys
 
--- `new` is the policy after the effect of `event` on the policy `p`; the last argument is the
--- packet of the event, if rules decide it
+-- `new` is the policy after the effect of `event` on the policy `p`. `Some packet` is the event's
+-- packet, which rules decide. With None, the event brings no packet that rules decide.
 abbrev pub IsEffect : Policy → PlainEvent → Policy → Option PlainFrame → Type 0
 IsEffect p event new None = new ≡ undecided_effect p event
 IsEffect p event new (Some packet) =

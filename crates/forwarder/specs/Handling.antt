@@ -30,8 +30,9 @@ use Rattle.forwarder.specs.Replies.{Seen, RepliesToPacket}
 use Rattle.forwarder.specs.Node.{NodeState, FollowAll, ChangesCacheOnly, seen_in}
 use Rattle.forwarder.specs.State.{IsLater, IsSound, state_of}
 
--- `new` is the policy after a packet on the policy `p`. If rules decide the packet (`true`), it is
--- the policy after some decision on the packet; if not, it is unchanged.
+-- `new` is the policy after a packet, if `p` is the policy before the packet. If rules decide the
+-- packet (`true`), `new` is the policy after some decision on the packet. If rules do not decide
+-- the packet (`false`), `new` equals `p`.
 abbrev pub IsPacketEffect : Policy → ℕ → PlainFrame → Policy → Bool → Type 0
 IsPacketEffect p face packet new true =
     (decision : Decision) × IsDecidedAs p packet decision
@@ -41,8 +42,8 @@ IsPacketEffect p face packet new false = new ≡ p
 abbrev pub seen_by : NodeState → Seen
 seen_by s = seen_in s.policy s.pending s.cache
 
--- the causes that a packet and its answer give, in order; they apply at the moment `now`, after
--- expiry
+-- the causes of a packet and its answer, in order; they apply at the moment `now`, after the
+-- records that expire by `now` are removed
 abbrev pub packet_causes : ℕ → ℕ → Token → PlainFrame → Answer → List Cause
 packet_causes now face token packet answer =
     causes_by now token answer.sends (packet_outcome face packet answer.verdict)
@@ -50,8 +51,8 @@ packet_causes now face token packet answer =
 abbrev pub packet_use : ℕ → ℕ → PlainFrame → Verdict → CacheUse
 packet_use now face packet verdict = cache_use now (packet_outcome face packet verdict)
 
--- a packet that came with this token was answered and took effect; `was` is the node before this
--- effect, once time has advanced to the moment of the packet
+-- A packet that came with this token was answered and took effect. `was` is the node after time has
+-- advanced to the packet's moment, and before the packet takes effect.
 pub record IsAnswered (was : NodeState) (face : ℕ) (token : Token) (packet : PlainFrame)
     (answer : Answer) (new : NodeState) : Type 0 where
   pub replies : RepliesToPacket (seen_by was) face token (Ok packet) answer
@@ -64,7 +65,7 @@ pub record IsAnswered (was : NodeState) (face : ℕ) (token : Token) (packet : P
       (packet_use was.policy.now face packet answer.verdict) was.cache new.cache
 
 -- A packet was handled: time advanced to `moment`, and the packet was answered and took effect. The
--- sends of its answer were appended to the sends in `before`.
+-- sends of the answer were appended to the sends in `before`.
 abbrev pub IsHandled : State → State → List Send → List Send → ℕ → Token → ℕ → PlainFrame
     → code.Verdict → Type 0
 IsHandled old new before after face token moment packet verdict =

@@ -40,8 +40,8 @@ cost_after (DataCame whole d) name face was = was
 cost_after (NackPassed from reason i) name face was = was
 cost_after (FaceClosed closed) name face was = if face == closed then None else was
 
--- the cost that the last add-nexthop with status 200 for this next hop set, or None if there was no
--- such command or if the next hop was removed since
+-- the cost from the last add-nexthop with status 200 for this next hop; None if there was no such
+-- add-nexthop, or if the next hop was removed since
 abbrev pub cost_of : Run → List Field → ℕ → Option ℕ
 cost_of Start name face = None
 cost_of (Then before event answer) name face =

@@ -37,15 +37,16 @@ pub record IsKept (now : ℕ) (event : PlainEvent) (answer : Answer) (key : Plai
   pub is_record : in_record ≡ in_record_for now (token_in event) whole interest
 
 -- The Interest is forwarded only to faces other than its own, without its token, and unchanged
--- except for its HopLimit. It may be forwarded to no face, since the strategy may wait for the
--- faces to which an Interest of the same key was sent before.
+-- except for its HopLimit. The Interest may be forwarded to no face, since the strategy may wait
+-- for the faces to which an Interest of the same key was sent before.
 abbrev pub IsSentOn : ℕ → List ℕ → PlainInterest → List Send → Type 0
 IsSentOn face whole i sends =
     (faces : List ℕ) × (has_face face faces ≡ false)
     × (sends ≡ to_each faces (sent_on whole i.hop_limit))
 
 -- One packet is sent back to the Interest's face with its token, and nothing is sent to other
--- faces. The packet is a Nack NoRoute, or a Data from the cache, the repository or the node.
+-- faces. The packet is a Nack with the reason NoRoute, or a Data from the cache, the repository or
+-- the node.
 abbrev pub IsSentBack : Seen → ℕ → Token → List ℕ → PlainInterest → List Send → Type 0
 IsSentBack seen face token whole i sends =
     (sends ≡ nacked_back face token NO_ROUTE whole ∷ [])

@@ -37,7 +37,7 @@ abbrev pub choice_for : Policy → List Field → ByFace → Ask → Choice
 choice_for p name asked ask =
     chosen (selection_of (strategy_for p name)) (hops_for p name) asked ask
 
--- whether there is a HopLimit, and it becomes 0 when it is decremented
+-- whether there is a HopLimit that becomes 0 when it is decremented
 abbrev pub is_last_hop : Option ℕ → Bool
 is_last_hop None = false
 is_last_hop (Some limit) = limit == 1

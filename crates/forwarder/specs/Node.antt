@@ -36,8 +36,8 @@ abbrev pub FollowAll : List Cause → Pending → Pending → Type 0
 FollowAll causes old new =
     (key : PlainKey) → records_at new key ≡ after_causes causes key (records_at old key)
 
--- what an answer may depend on, as the node's policy, PIT and cache show it once time has advanced
--- to the moment of an event
+-- what an answer to an event may depend on, given the node's policy, PIT and cache after time has
+-- advanced to the event's moment
 abbrev pub seen_in : Policy → Pending → StoreState → Seen
 seen_in p waiting cache = record {
   policy = p;
@@ -75,9 +75,10 @@ pub record ChangesCacheOnly (old new : NodeState) : Type 0 where
 
 -- ---- events that need no memory
 
--- The packets that need no memory. These are octets that are no packet, a link packet that contains
--- no packet, a packet out of scope, and an Interest whose HopLimit is 0. A Data that is not allowed
--- needs none either, if no checker of the first rule that applies expands a template.
+-- The packets that need no memory. No memory is needed for octets that are no packet, a link packet
+-- that contains no packet, a packet out of scope, or an Interest whose HopLimit is 0. A Data that
+-- is not allowed needs no memory either, if no checker of the first rule that applies expands a
+-- template.
 abbrev pub NeedsNoMemory : Policy → ℕ → Result PlainFrame PacketFault → Type 0
 NeedsNoMemory p face (Err fault) = ⊤
 NeedsNoMemory p face (Ok (AnInterest whole i)) =
@@ -89,9 +90,9 @@ NeedsNoMemory p face (Ok (AData whole d)) =
 NeedsNoMemory p face (Ok (ANack reason whole i)) = is_out_of_scope p face i.name ≡ true
 NeedsNoMemory p face (Ok Idle) = ⊤
 
--- The events that need no memory if `old` is the node before the event. Of the packets, these are
--- the ones on a face that is not open and those of `NeedsNoMemory`. All other kinds of events
--- need no memory.
+-- The events that need no memory if `old` is the node before the event. A packet needs no memory if
+-- its face is not open, or if `NeedsNoMemory` is true of the packet. All other kinds of events need
+-- no memory.
 abbrev pub AsksNoMemory : NodeState → PlainEvent → Type 0
 AsksNoMemory old (Packet face now octets) =
     (is_open face old.policy.faces ≡ false) ⊎ NeedsNoMemory old.policy face (frame_at octets)

@@ -41,7 +41,6 @@ scope_in local face = if has_face face local then Local else Far
 abbrev pub entries_of : List ℕ → List ℕ → List FaceEntry
 entries_of all local = map (λ face. (face, scope_in local face)) all
 
--- `local` is the list `all` without the faces that are not in `local`: each Local face is open, and
--- both lists have the same order
+-- `local` is a sublist of `all`: each Local face is open, and both lists have the same order
 abbrev pub AreOpen : List ℕ → List ℕ → Type 0
 AreOpen all local = local ≡ filter (λ face. has_face face local) all

@@ -20,8 +20,9 @@ abbrev pub is_bad_prefix : List Field → Bool
 is_bad_prefix [] = true
 is_bad_prefix (c ∷ cs) = is_localhost c
 
--- the fault of the repository's prefix (`is_bad_prefix`) or, if it has none, of the cache's
--- capacity, which is to be from 1 to 65,536; None if neither has a fault
+-- The fault of the repository's prefix; if the prefix has no fault, the fault of the cache's
+-- capacity; None if neither has a fault. The prefix has a fault if `is_bad_prefix` is true of the
+-- prefix. The capacity has a fault if it is not from 1 to 65,536.
 abbrev pub parts_fault : List Field → ℕ → Option NodeFault
 parts_fault repo cache =
     if is_bad_prefix repo then Some BadRepoPrefix else (

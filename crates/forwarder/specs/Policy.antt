@@ -17,8 +17,8 @@ use Rattle.forwarder.specs.OpenFaces.{FaceEntry, find_scope, numbers}
 pub record Policy : Type 0 where
   -- the greatest moment of the events that were handled, in milliseconds since 1970
   pub now : ℕ
-  -- the version of the lists: the number of allowed commands under /localhost/nfd, of faces that
-  -- were closed, and of routes that expired, all counted together; at most the greatest u64
+  -- the version of the lists: the number of allowed commands under /localhost/nfd, plus the number
+  -- of closed faces, plus the number of expired routes; at most the greatest u64
   pub table_number : ℕ
   pub rules : List PlainRule
   pub keys : List NamedKey
@@ -49,8 +49,8 @@ first_policy rules keys repo = record {
 }
 
 -- The policy once time has advanced to a moment; the time stays if the moment is earlier. The
--- routes and wants that expire by the new time are removed. Each route that expires gives the lists
--- of routes and strategies their next version, at most the greatest u64.
+-- routes and wants that expire by the new time are removed. Each route that expires increases the
+-- version of the lists of routes and strategies by 1, up to the greatest u64.
 abbrev pub at_moment : Policy → ℕ → Policy
 at_moment p moment =
     let now = max p.now moment in
@@ -82,7 +82,8 @@ is_local_scope Far = false
 abbrev pub local_faces : Policy → List ℕ
 local_faces p = numbers (filter (λ entry. is_local_scope entry.1) p.faces)
 
--- whether a face is open and leads to another machine, given its scope, or None if it is not open
+-- whether a face with this scope leads to another machine; false for None, the scope of a face that
+-- is not open
 abbrev pub is_far_scope : Option Scope → Bool
 is_far_scope None = false
 is_far_scope (Some scope) = not (is_local_scope scope)

@@ -39,8 +39,8 @@ pub record Seen : Type 1 where
   -- the records of each key, and whether the PIT is full, that is, has records for 4,096 keys
   pub records : PlainKey → Records
   pub is_full : Bool
-  -- the cache may give these octets for an Interest of this key; None means that the cache may give
-  -- no Data
+  -- Whether the cache may give the Data with these octets for an Interest with this key. With None,
+  -- whether the cache may give no Data.
   pub MayGive : PlainKey → Option (List ℕ) → Type 0
 
 -- ---- Interests for Data, pipeline by pipeline
@@ -75,8 +75,10 @@ by_strategy seen key whole i face token choices.NoRoute = interest_reject face t
 by_strategy seen key whole i face token (choices.Send faces) =
     outgoing_interest seen key whole i faces
 
--- The optional octets are an object of the repository that answers the Interest. It is sent back
--- like a cached Data, even if the Interest has MustBeFresh. If there is none, the strategy chooses.
+-- The answer to an Interest that the cache does not answer, given the object of the repository that
+-- answers the Interest, if there is one. The object is sent back like a cached Data, even if the
+-- Interest has MustBeFresh. If there is no object, the strategy chooses the faces to send the
+-- Interest to.
 abbrev pub by_repository : Seen → ℕ → Token → List ℕ → PlainInterest → Option (List ℕ) → Answer
 by_repository seen face token whole i (Some octets) = content_store_hit face token octets
 by_repository seen face token whole i None =

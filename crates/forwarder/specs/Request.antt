@@ -20,11 +20,11 @@ pub use Rattle.forwarder.specs.declared.request.ListAsked.{ListAsked}
 abbrev pub generic : List ℕ → Field
 generic text = (GENERIC, text)
 
--- The next two names: the prefix /localhost, whose names stay on this machine, and the prefix
--- /localhost/nfd of the names of commands and lists.
+-- the prefix /localhost, whose names stay on this machine
 abbrev pub localhost : List Field
 localhost = generic (codes "localhost") ∷ []
 
+-- the prefix /localhost/nfd of the names of commands and lists
 abbrev pub management : List Field
 management = generic (codes "localhost") ∷ generic (codes "nfd") ∷ []
 
@@ -61,9 +61,9 @@ abbrev pub segmented : ListKind → Option ℕ → Option ℕ → Option ListAsk
 segmented kind version None = None
 segmented kind version (Some segment) = versioned kind segment version
 
--- The request that the components after a list's name encode. A version and a segment number
--- request that segment. If the Interest has CanBePrefix, a version alone, or no component at all,
--- requests the segment 0. Anything else is no request for a list (None).
+-- The request that the components after a list's name encode. A version followed by a segment
+-- number requests this segment of this version. If the Interest has CanBePrefix, a version alone,
+-- or no component at all, requests the segment 0. Anything else is no request for a list (None).
 abbrev pub list_after : ListKind → Bool → List Field → Option ListAsked
 list_after kind can_be_prefix [] =
     if can_be_prefix then Some (record { kind = kind; version = None; segment = 0 }) else None
@@ -104,7 +104,7 @@ named_request p i None =
     if is_some (verb_at p.repo i.name) then ForRepository else
     ForData)
 
--- a request as the code reads it off a name, as plain data
+-- the plain data of a request that the code reads off a name
 abbrev pub request_named : NamedRequest → Request
 request_named (named.ForList asked) = ForList asked
 request_named named.ForTables = ForTables

@@ -50,9 +50,9 @@ route_after (DataCame whole d) now name face origin was = was
 route_after (NackPassed from reason i) now name face origin was = was
 route_after (FaceClosed closed) now name face origin was = if face == closed then None else was
 
--- The route that the last register of this name, face and origin with status 200 gave. It is None
--- if there was none, or if an unregister, the closing of its face, or any event at or after its
--- deadline has ended it since.
+-- The route from the last register with status 200 of this name, face and origin. The result is
+-- None if there was no register with status 200, or if the route has ended since: by an unregister,
+-- by the closing of its face, or by an event at or after its deadline.
 abbrev pub route_of : Run → List Field → ℕ → ℕ → Option Route
 route_of Start name face origin = None
 route_of (Then before event answer) name face origin =

@@ -1,5 +1,5 @@
--- Runs of events and answers, and what the past of a run determines. These definitions use neither
--- timers nor a cache, and of the PIT only the number of keys with records.
+-- Runs of events and answers, and what the past of a run determines. The definitions in this file
+-- use no timers and no cache, and nothing of the PIT except the number of keys with records.
 use Rattle.std.specs.Prelude.{◌≡◌, ◌⊎◌, ℕ, Bool, true, false, List, [], ◌∷◌, ◌++◌, Option, None, Some, All, Result, Ok, Err, max, nat_le, ⊤}
 use Rattle.std.specs.FinMap as map
 use Rattle.hmac_keys.specs.KeyFile.{AreApart, NamedKey}
@@ -50,8 +50,8 @@ BringsKeysApart (FaceDown face t) = ⊤
 BringsKeysApart (Tick t) = ⊤
 BringsKeysApart (NewRules rules keys t) = AreApart keys
 
--- No book of keys in the run has two keys of the same name: neither the book of the policy `first`
--- nor a book that an event brought.
+-- No key book in the run has two keys of the same name: neither the key book of the policy `first`
+-- nor a key book that an event brought.
 abbrev pub KeysAreApart : Policy → Run → Type 0
 KeysAreApart first Start = AreApart first.keys
 KeysAreApart first (Then before event answer) = KeysAreApart first before × BringsKeysApart event
@@ -73,7 +73,7 @@ events_back (Then before event answer) = event ∷ events_back before
 abbrev pub HasNoNewRules : Run → Type 0
 HasNoNewRules past = All BringsNoRules (events_back past)
 
--- the last event of the run that brings rules and keys brings these rules and keys
+-- `rules` and `keys` come from the last event of the run that brings rules and keys
 pub record AreLastRules (past : Run) (rules : List PlainRule) (keys : List NamedKey) : Type 0 where
   pub later : List PlainEvent
   pub now : ℕ
@@ -132,8 +132,9 @@ seen_after past p waiting = record {
   MayGive = MayCache past p.now;
 }
 
--- The answer to the event is valid after the run `past`. This depends on the policy, the records of
--- the keys that then have an in-record, and the Data that the cache may hold.
+-- The answer to the event is valid after the run `past`. The validity depends on the policy, on the
+-- Data that the cache may hold, and on the records of those keys that have an in-record at the
+-- event's moment.
 pub record MayReply (first : Policy) (past : Run) (event : PlainEvent)
     (answer : Answer) : Type 0 where
   pub was : Policy
@@ -211,7 +212,8 @@ is_denied (Denied kind rule reason) = true
 is_denied (NoRule kind) = true
 is_denied (Dropped reason) = false
 
--- the second run is the first one, except that ticks at the same moments may replace denied events
+-- the second run is the first run, except that denied events may be replaced by ticks at the
+-- moments of these events
 abbrev pub HasTicksForDenied : Run → Run → Type 0
 HasTicksForDenied Start Start = ⊤
 HasTicksForDenied Start (Then other another reply) = ⊥

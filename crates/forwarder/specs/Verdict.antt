@@ -39,7 +39,7 @@ pub data Verdict : Type 0 where
   NoRule : (kind : Kind) → Verdict
   Dropped : (reason : DropReason) → Verdict
 
--- a reason of the code as plain data
+-- a DropReason of the Rust code as a value of the data type above
 abbrev pub reason_of : code_reason.DropReason → DropReason
 reason_of why.NoFace = NoFace
 reason_of (why.Malformed fault) = Malformed fault

@@ -31,9 +31,9 @@ use pit_fib::{Faces, MAX_FACES};
 
 impl State {
     /// Handles a Data (NFD Developer's Guide, "Incoming Data Pipeline"). A Data that the rules
-    /// allow is sent unchanged to each other face with a pending Interest for the Data. The Data is
-    /// offered to the cache if any face, even the incoming face, has a pending Interest for the
-    /// Data. The Data is stored if the repository wants the Data.
+    /// allow is sent, without changes, to each face with a pending Interest for the Data, except
+    /// the incoming face. The Data is offered to the cache if any face, even the incoming face, has
+    /// a pending Interest for the Data. The Data is stored if the repository wants the Data.
     pub fn receive_data(
         &mut self,
         arrived: &Arrived<'_, Data<'_>>,
@@ -85,10 +85,11 @@ impl State {
         Ok(Verdict::DataAllowed(rule))
     }
 
-    /// Sends an allowed Data to the other faces with a pending Interest for the Data. If any face
-    /// has a pending Interest for the Data, offers it to the cache, which leaves it out if memory
-    /// runs out. Stores the Data if the repository wants it. The call never fails: memory for 64
-    /// sends and their octets is already reserved, and the offer to the repository is prepared.
+    /// Sends an allowed Data to each face with a pending Interest for the Data, except `face`, from
+    /// which the Data came. If any face has a pending Interest for the Data, offers the Data to the
+    /// cache, which does not store the Data if memory runs out. Stores the Data if the repository
+    /// wants it. The call never fails: memory for 64 sends and their octets is already reserved,
+    /// and the offer to the repository is prepared.
     fn deliver(
         &mut self,
         face: u64,
@@ -130,9 +131,9 @@ impl State {
         Ok(())
     }
 
-    /// Sends a Data to each other face with a pending Interest for it. Each face gets the token of
-    /// the Interest with the latest deadline, among the face's Interests that the Data answers (see
-    /// `Pit::token_for`).
+    /// Sends a Data to each face with a pending Interest for the Data, except `face`, from which
+    /// the Data came. Each face gets the token of the Interest with the latest deadline, among the
+    /// face's Interests that the Data answers (see `Pit::token_for`).
     fn send_with_tokens(&self, face: u64, packet: &Data<'_>, out: &mut Sends) -> Result<(), Memory>
         requires places { MAX_FACES ≤ out.old.places }
         requires space { room_for_data packet.now.whole.now true ≤ out.old.space }

@@ -123,9 +123,9 @@ fn append_number(alloc: Global, name: &mut NameBuf, kind: u16, number: u64) -> R
     name.append(kind, &value).map_err(|_| Memory)
 }
 
-/// Returns a segment as a Data that is signed with DigestSha256. Its FinalBlockId contains the
-/// number of the last segment. The Data is never too long to be encoded, so the call fails only if
-/// memory runs out.
+/// Returns a segment as a Data that is signed with DigestSha256. The FinalBlockId of the Data
+/// contains the number of the last segment. The Data is never too long to be encoded, so the call
+/// fails only if memory runs out.
 fn segment_data<'a>(
     alloc: Global,
     name: Name<'a>,

@@ -53,9 +53,9 @@ fn signed_by<'a>(interest: &Interest<'a>) -> Option<Signed<'a>>
     })
 }
 
-/// Returns whether the time of a command is near `now`, in milliseconds since 1970, and the command
-/// is newer than all recorded commands of its signer. Returns true if the command has no signature
-/// or no SignatureTime.
+/// Returns whether the SignatureTime of a command differs from `now` by at most 120,000
+/// milliseconds, and the command is newer than all recorded commands of its signer. `now` is in
+/// milliseconds since 1970. Returns true if the command has no signature or no SignatureTime.
 fn is_fresh(guard: &Guard, interest: &Interest<'_>, now: u64) -> bool
     ensures { (p : Policy) → p.guard ≡ guard.now.latest → p.now ≡ now
         → IsTrue result ↔ IsFreshCommand p (plain_interest interest.now) }

@@ -56,9 +56,10 @@ impl State {
         }
     }
 
-    /// Handles an Interest for Data. If the Interest loops, sends a Nack back. If it does not loop,
-    /// answers it from the cache or the repository, or forwards it. Looks up the cache and the
-    /// repository before a PIT record is prepared, since a hit needs no PIT record.
+    /// Handles an Interest for Data. If the Interest loops, sends a Nack back. If the Interest does
+    /// not loop, answers the Interest from the cache or the repository, or forwards the Interest.
+    /// Looks up the cache and the repository before a PIT record is prepared, since a hit needs no
+    /// PIT record.
     fn answer(
         &mut self,
         arrived: &Arrived<'_, Interest<'_>>,
@@ -205,8 +206,8 @@ impl State {
     }
 
     /// Forwards an Interest, which neither the cache nor the repository answers, to the faces that
-    /// its strategy chooses. If no next hop may get the Interest, removes the in-record that the
-    /// face has under this key, and sends a Nack back.
+    /// its strategy chooses. If no next hop may get the Interest, removes the in-record of `face`
+    /// under the Interest's key, and sends a Nack back.
     fn forward(
         &mut self,
         face: u64,
@@ -243,8 +244,8 @@ impl State {
         }
     }
 
-    /// Adds the in-record of the incoming face, and forwards the Interest to these faces. Drops the
-    /// Interest if the PIT is full.
+    /// Adds the in-record of the incoming face `face`, and forwards the Interest to `faces`. Drops
+    /// the Interest if its key is not in the PIT and the PIT is full.
     fn send_on(
         &mut self,
         face: u64,

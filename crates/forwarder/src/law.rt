@@ -46,8 +46,8 @@ pub fn events_have_one_effect()
 {}
 
 /// Law: two steps of the same node with the same event give the same policy, whatever their answers
-/// are, if no two keys of the node's book have the same name. Only pending Interests and the cache
-/// may differ.
+/// are, if no two keys of the node's key book have the same name. Only pending Interests and the
+/// cache may differ.
 pub fn steps_have_one_effect()
     ensures { (old new other : NodeState) (event : PlainEvent) (answer another : Answer)
         → AreApart old.policy.keys → IsStep old event answer new → IsStep old event another other
@@ -55,7 +55,8 @@ pub fn steps_have_one_effect()
 {}
 
 /// Law: advancing time to two moments, one after the other, has the same effect as advancing time
-/// to the later moment. Each route that expires is counted once.
+/// to the later moment. In both cases, each expired route is counted once in the version of the
+/// lists.
 pub fn moments_in_a_row_are_as_the_later()
     ensures { (p : Policy) (m n : ℕ) → at_moment (at_moment p m) n ≡ at_moment p (max m n) }
 {}
@@ -94,11 +95,12 @@ pub fn refused_steps_stand_still()
         → ChangesCacheOnly old new → Stands first past new }
 {}
 
-/// Law: if no book has two keys of the same name, two runs of the same events that start from the
-/// same policy give the same policy. For the next event, all valid answers after both runs are
-/// equal if the event brings a command, a request for a list, or an Interest that is dropped
-/// because of its HopLimit or scope. The verdicts of these answers are equal if the event brings a
-/// Data. It follows that these statements are true at each event of two runs with the same events.
+/// Law: let no key book have two keys of the same name. Two runs with the same events that start
+/// from the same policy lead to the same policy. For the next event, all valid answers after both
+/// runs are equal if the event brings a command, a request for a list, or an Interest that is
+/// dropped because of its HopLimit or scope. If the event brings a Data, the verdicts of all valid
+/// answers after both runs are equal. It follows that all clauses of this law are true at each
+/// event of two runs with the same events.
 pub fn histories_decide()
     ensures policy { (first p q : Policy) (past other : Run) → KeysAreApart first past
         → HaveOneHistory past other → IsPolicyOf first past p → IsPolicyOf first other q → p ≡ q }
@@ -111,9 +113,9 @@ pub fn histories_decide()
         → MayReply first past event a → MayReply first other event b → a.verdict ≡ b.verdict }
 {}
 
-/// Law: let no book of keys have two keys of the same name. If ticks at the same moments replace
-/// some denied events of a valid run, the result is still a valid run, and the policy after the run
-/// is the same.
+/// Law: let no key book have two keys of the same name. If some denied events of a valid run are
+/// replaced by ticks at the moments of these events, the run is still valid and leads to the same
+/// policy.
 pub fn denied_events_change_nothing()
     ensures run { (first : Policy) (past other : Run) → KeysAreApart first past → IsRun first past
         → HasTicksForDenied past other → IsRun first other }
@@ -122,11 +124,11 @@ pub fn denied_events_change_nothing()
         → IsPolicyOf first other p }
 {}
 
-/// Law: each Data that a valid answer sends is of one of two kinds. Either it came in this event,
-/// is allowed, and is sent to another face with a pending Interest for it. Or it answers the
-/// Interest of this event, from the cache, the repository or the node itself, and is sent back to
-/// the Interest's face. Nothing else that is sent is a Data. The event's packet must consist of
-/// octets, as the packet of each event of a node does.
+/// Law: each send of a valid answer is of one of three kinds. In the first kind, the Data of this
+/// event, which is allowed, is sent to another face with a pending Interest for the Data. In the
+/// second kind, a Data from the cache, the repository or the node itself answers the Interest of
+/// this event, and is sent back to the Interest's face. In the third kind, what is sent is no Data.
+/// The numbers in the event's packet must be below 256, which is true of every event of a node.
 pub fn each_send_is_explained()
     ensures { (first : Policy) (past : Run) (event : PlainEvent) (answer : Answer)
         (reply : MayReply first past event answer) → BringsOctets event
@@ -134,9 +136,9 @@ pub fn each_send_is_explained()
         event answer }
 {}
 
-/// Law: let the keys of the first book of keys have different names, and let the keys that each
-/// event brings have different names. Then the keys of each book of the run, and of the book in
-/// force after the run, have different names.
+/// Law: let the keys of the first key book have different names, and let the keys that any one
+/// event brings have different names. Then the keys of each key book of the run, and of the key
+/// book in force after the run, have different names.
 pub fn keys_stay_apart()
     ensures books { (first : Policy) (past : Run) → AreApart first.keys
         → All BringsKeysApart (events_back past) → KeysAreApart first past }
@@ -144,9 +146,9 @@ pub fn keys_stay_apart()
         → IsPolicyOf first past p → AreApart p.keys }
 {}
 
-/// Law: the rules and keys in force after a run decide its next event. They are the rules and keys
-/// of the latest event that brought rules and keys, or those in force before the run if no event
-/// brought rules and keys.
+/// Law: the rules and keys in force after a run decide the event that follows the run. The rules
+/// and keys in force are those of the latest event that brought rules and keys. If no event brought
+/// rules and keys, those from before the run are still in force.
 pub fn rules_in_force()
     ensures last { (first p : Policy) (past : Run) (rules : List PlainRule) (keys : List NamedKey)
         → IsPolicyOf first past p → AreLastRules past rules keys
@@ -162,9 +164,9 @@ pub fn rules_in_force()
 /// Law: if the repository was empty at first, each Data that is sent was asked for by the face that
 /// it is sent to. Either the event brings the Data, the first rule that applies allows the Data,
 /// and the Data answers an Interest that is pending on that face. Or the event brings an Interest
-/// on that face. In this case, the Data answers the Interest and was allowed in an earlier event,
-/// or it is the node's own reply or segment for the Interest. The event's packet must consist of
-/// octets, as the packet of each event of a node does.
+/// on that face, and one of two things is true: the Data answers the Interest and was allowed in an
+/// earlier event, or the Data is the node's own reply or segment for the Interest. The numbers in
+/// the event's packet must be below 256, which is true of every event of a node.
 pub fn every_data_sent_was_asked_for()
     ensures read { (first : Policy) (past : Run) (event : PlainEvent) (answer : Answer) (face : ℕ)
         (octets whole : List ℕ) (d : PlainData) (reply : MayReply first past event answer)
@@ -180,7 +182,7 @@ pub fn every_data_sent_was_asked_for()
         → AnswersItself reply.was event (face, octets) }
 {}
 
-/// Law: let no book of keys have two keys of the same name. Then each allowed command has a greater
+/// Law: let no key book have two keys of the same name. Then each allowed command has a greater
 /// SignatureTime than each earlier allowed command of its signer and, if both commands have a
 /// SignatureSeqNum, a greater SignatureSeqNum. It follows that no signature is allowed twice,
 /// whatever else the Interest contains.
@@ -194,8 +196,9 @@ pub fn commands_are_allowed_once()
         (i j : PlainInterest) → KeysAreApart first past → AllowedIn first past (AnInterest whole i)
         → IsPolicyOf first past was → Allows was event (AnInterest other j)
         → i.signature ≡ j.signature → ⊥ }
-    // Conversely, if no command was recorded before the run, a command is fresh if its time is near
-    // the moment and it is newer than all allowed commands of its signer in the run.
+    // Conversely, let no command be recorded before the run. Then a command is fresh if its
+    // SignatureTime differs from the node's time by at most 120,000 milliseconds, and the command
+    // is newer than all allowed commands of its signer in the run.
     ensures fresh { (first was : Policy) (past : Run) (now : ℕ) (i : PlainInterest) (r : Recorded)
         → first.guard ≡ map.empty → IsPolicyOf first past was → recorded_of i ≡ Some r
         → AreNear r.time (at_moment was now).now
@@ -214,7 +217,7 @@ pub fn guards_hold_allowed_commands()
 {}
 
 /// Law: each object of a repository that was empty at first is a Data that was allowed in an event
-/// of the run. It is stored under its full name.
+/// of the run. The object is stored under its full name.
 pub fn objects_were_allowed()
     ensures { (first p : Policy) (past : Run) (name : List Field) (octets : List ℕ)
         → first.held.objects ≡ map.empty → IsPolicyOf first past p
@@ -233,8 +236,8 @@ pub fn cached_data_were_allowed()
 
 /// Law: the causes in the past of a run determine the records of each key, face by face. The
 /// in-record is that of the latest Interest that the face sent under this key. The out-record is
-/// that of the latest Interest under this key that was sent to the face. There is no such record if
-/// a later cause has ended it.
+/// that of the latest Interest under this key that was sent to the face. If a later cause has ended
+/// a record, the record no longer exists.
 pub fn records_are_read_off_the_run()
     ensures in_records { (past : Run) (key : PlainKey) (face : ℕ)
         → map.get (records_of past key).in_records face
@@ -245,11 +248,12 @@ pub fn records_are_read_off_the_run()
 {}
 
 /// Law: an Interest becomes pending exactly if it was passed, nothing was sent back to its face,
-/// and no Nack was sent. An in-record after an event comes from that event's Interest, or was there
-/// before. If the answer is valid, there are two cases for a passed Interest. Either it becomes
-/// pending and is forwarded to other faces, possibly to none. Or one packet is sent back to its
-/// face: a Nack, or a Data from the cache, the repository or the node. For these two cases, the
-/// event's packet must consist of octets, as the packet of each event of a node does.
+/// and no Nack was sent. An in-record that exists after an event comes from that event's Interest,
+/// or existed before the event. If the answer is valid, there are two cases for a passed Interest.
+/// Either the Interest becomes pending and is forwarded to other faces, possibly to none. Or one
+/// packet is sent back to the Interest's face: a Nack, or a Data from the cache, the repository or
+/// the node. The two cases require that the numbers in the event's packet are below 256, which is
+/// true of every event of a node.
 pub fn unanswered_interests_wait()
     ensures arrives { (now : ℕ) (event : PlainEvent) (answer : Answer) (key : PlainKey) (face : ℕ)
         (in_record : InRecord) → Contains (causes_of now event answer) (Arrives key face in_record)
@@ -273,11 +277,11 @@ pub fn unanswered_interests_wait()
         ⊎ IsSentBack seen face (token_in event) whole i answer.sends }
 {}
 
-/// Law: let no book of keys have two keys of the same name, and let a run begin without routes. The
-/// cost of a next hop after the run was set by the latest add-nexthop of its name and face that was
-/// answered with status 200. Since then, no remove-nexthop of this name and face was answered with
-/// status 200, and the face was not closed. If there is no such add-nexthop, there is no such next
-/// hop.
+/// Law: let no key book have two keys of the same name, and let a run begin without routes. A next
+/// hop is removed when a remove-nexthop of its name and face is answered with status 200, or when
+/// its face is closed. After the run, a next hop exists exactly if an add-nexthop of its name and
+/// face was answered with status 200, and the next hop was not removed since. The cost of a next
+/// hop was set by the latest add-nexthop of its name and face that was answered with status 200.
 pub fn routes_are_read_off_the_run()
     ensures { (first p : Policy) (past : Run) (name : List Field) (face : ℕ)
         → KeysAreApart first past
@@ -285,13 +289,14 @@ pub fn routes_are_read_off_the_run()
         → map.get (costs_at p.routes name) face ≡ cost_of past name face }
 {}
 
-/// Law: let no book of keys have two keys of the same name, and let a run begin without routes, at
-/// the moment 0. A registered route after the run was given by the latest register of its name,
-/// face and origin that was answered with status 200. It has the cost and flags of that register
-/// and, if the register had a period, a deadline: the time of the register plus the period, at most
-/// the greatest u64. Since then no unregister of this name, face and origin was answered with
-/// status 200, the face was not closed, and no later event came at or after the deadline. If there
-/// is no such register, there is no such route.
+/// Law: let no key book have two keys of the same name, and let a run begin without routes, at the
+/// moment 0. A registered route ends when an unregister of its name, face and origin is answered
+/// with status 200, when its face is closed, or when a later event comes at or after its deadline.
+/// After the run, a registered route exists exactly if a register of its name, face and origin was
+/// answered with status 200, and the route has not ended since the latest such register. The cost
+/// and flags of the route are those of the latest register of its name, face and origin that was
+/// answered with status 200. The deadline of the route is the time of that register plus the
+/// register's period, at most the greatest u64. A register without a period gives no deadline.
 pub fn registered_routes_are_read_off_the_run()
     ensures { (first p : Policy) (past : Run) (name : List Field) (face origin : ℕ)
         → KeysAreApart first past → first.now ≡ 0
@@ -300,10 +305,10 @@ pub fn registered_routes_are_read_off_the_run()
         ≡ route_of past name face origin }
 {}
 
-/// Law: a denial in a valid answer is the decision on the event's packet. It gives the rule that
-/// denies the packet, or states that no rule applies. A denied command is answered by a reply with
-/// status 403 that gives the reason and the rule, and a denied Data is not answered. It follows
-/// that the kind in the verdict is the kind of the packet.
+/// Law: a denial in a valid answer is the decision on the event's packet. The denial gives the rule
+/// that denies the packet, or states that no rule applies. A denied command is answered by a reply
+/// with status 403 that gives the reason and the rule, and a denied Data is not answered. It
+/// follows that the kind in the verdict is the kind of the packet.
 pub fn denials_name_their_rule()
     ensures denied { (first : Policy) (past : Run) (event : PlainEvent) (answer : Answer)
         (kind : Kind) (rule : ℕ) (reason : Reason) (reply : MayReply first past event answer)

@@ -20,8 +20,8 @@ use pit_fib::{MAX_FACES, Nacked};
 
 impl State {
     /// Handles a Nack (NFD Developer's Guide, "Incoming Nack Pipeline"). When each out-record of
-    /// the key has the reason of a received Nack, each face with an in-record gets a Nack with the
-    /// least of these reasons. The records of the key are then removed.
+    /// the Interest's key has the reason of a received Nack, each face with an in-record of the key
+    /// gets a Nack with the least of these reasons. The records of the key are then removed.
     pub fn receive_nack(
         &mut self,
         reason: u64,

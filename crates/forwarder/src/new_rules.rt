@@ -17,14 +17,14 @@ impl State {
     pub fn replace_rules(&mut self, rules: Rules, keys: KeyBook, now: u64) -> Verdict
         ensures step { IsStep (state_of self.old) (NewRules rules keys now)
             (record { verdict = verdict_of result; sends = [] }) (state_of self.new) }
-        // No two keys have the same name; this is true of every book of keys.
+        // No two keys have the same name; this is true of every key book.
         ensures apart { AreApart keys }
     {
         self.pass_time(now);
         self.rules = rules;
         self.keys = keys;
-        // This makes the clauses of `KeyBook::len`, which are true of every book, available to the
-        // proof.
+        // The call of `KeyBook::len` makes its clauses, which are true of every key book, available
+        // to the proof.
         prove!(self.keys.len() <= usize::MAX);
         Verdict::Passed
     }

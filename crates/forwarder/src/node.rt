@@ -145,7 +145,7 @@ impl Node {
     }
 
     /// Returns the keys that the rules refer to. No two keys have the same name, as `KeyBook::len`
-    /// ensures of every book.
+    /// ensures of every key book.
     pub fn keys(&self) -> &KeyBook
         ensures { result.now ≡ self.now.policy.keys }
     {
@@ -232,7 +232,7 @@ impl Node {
         ensures memory { OnErr result (ChangesCacheOnly self.old self.new
             × (outbox.new ≡ outbox.old)) }
         ensures without_memory { AsksNoMemory self.old (plain event.entry) → IsOk result }
-        // The following clauses are true of every event.
+        // The clauses `octets` and `keys` are true of every event.
         ensures octets { BringsOctets (plain event.entry) }
         ensures keys { BringsKeysApart (plain event.entry) }
     {

@@ -12,8 +12,8 @@ use ndn_names::Name;
 use ndn_tlv::Memory;
 use repo_core::{RepoReply, put_repo_reply, repo_status_text};
 
-/// The greatest number of octets of a reply in addition to its name and its Content. These octets
-/// are the headers and the signature.
+/// The greatest length of a reply without its name and its Content, in octets. Apart from its name
+/// and its Content, a reply consists of headers and a signature.
 const REPLY_EXTRA: usize = 77;
 
 /// Returns a number of octets that is enough for a reply of this name with a token, if its Content
@@ -31,8 +31,8 @@ pub(crate) fn reply_room(name: Name<'_>, content_len: usize) -> Result<usize, Me
     Ok(room)
 }
 
-/// Appends the Content of a reply of this status, with the text of the status. Appends nothing if
-/// memory runs out.
+/// Appends the Content of a reply: the status, the text of the status, and `body`. Appends nothing
+/// if memory runs out.
 pub(crate) fn put_status(out: &mut Vec<u8>, status: u16, body: &[u8]) -> Result<(), Memory>
     ensures ok { OnOk result (out.new.items ≡ out.old.items
         ++ response status (unwrap_or (text_of status) []) body.now) }

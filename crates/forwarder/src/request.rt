@@ -57,8 +57,8 @@ pub(crate) fn is_local_name(name: Name<'_>) -> bool
     begins(name, b"\x08\x09localhost")
 }
 
-/// Returns whether the name begins with `/localhost/nfd`, as do the names of lists, and the names
-/// of commands on routes, strategies and the cache.
+/// Returns whether the name begins with `/localhost/nfd`. The names of lists, and of commands on
+/// routes, strategies and the cache, begin with this prefix.
 pub(crate) fn is_management(name: Name<'_>) -> bool
     ensures { result ≡ begins_with management (components name.entry) }
 {

@@ -18,8 +18,8 @@ use pit_fib::{Faces, MAX_FACES};
 use std::alloc::Global;
 use std::marker::Model;
 
-/// The greatest number of octets by which a link packet is longer than the packet in it. These
-/// octets are the headers, a token of 32 octets, and a Nack with its reason.
+/// The greatest number of octets by which a link packet is longer than the packet in it. A link
+/// packet adds headers, a token of at most 32 octets, and a Nack with its reason.
 pub const LINK_EXTRA: usize = 70;
 
 /// One send: the face, and the range of its octets.
@@ -120,7 +120,7 @@ impl Sends {
         // If enough memory is reserved, memory does not run out.
         ensures promised { 1 ≤ self.old.places → length octets.now ≤ self.old.space
             → IsOk result }
-        // The call uses up at most the reserved memory for one send.
+        // The call uses up reserved memory for at most one send.
         ensures room { self.old.places ≤ self.new.places + 1 }
         ensures space { self.old.space ≤ self.new.space + length octets.now }
     {
@@ -145,14 +145,14 @@ impl Sends {
         // If enough memory is reserved, memory does not run out.
         ensures promised { 1 ≤ self.old.places → length packet.now + LINK_EXTRA ≤ self.old.space
             → IsOk result }
-        // The call uses up at most the reserved memory for one send.
+        // The call uses up reserved memory for at most one send.
         ensures room { self.old.places ≤ self.new.places + 1 }
         ensures space { self.old.space ≤ self.new.space + (length packet.now + LINK_EXTRA) }
     {
         self.push_lp(face, token, None, packet)
     }
 
-    /// Adds a Nack with this reason, which contains the octets of an Interest and has the
+    /// Adds a Nack with this reason. The Nack contains the octets of an Interest and has the
     /// Interest's token.
     pub fn push_nack(
         &mut self,
@@ -168,7 +168,7 @@ impl Sends {
         // If enough memory is reserved, memory does not run out.
         ensures promised { 1 ≤ self.old.places → length interest.now + LINK_EXTRA ≤ self.old.space
             → IsOk result }
-        // The call uses up at most the reserved memory for one send.
+        // The call uses up reserved memory for at most one send.
         ensures room { self.old.places ≤ self.new.places + 1 }
         ensures space { self.old.space ≤ self.new.space + (length interest.now + LINK_EXTRA) }
     {
@@ -217,7 +217,7 @@ impl Sends {
         ensures promised { 1 ≤ self.old.places
             → length (reply_text (components name.entry) content.now) + LINK_EXTRA
             ≤ self.old.space → IsOk result }
-        // The call uses up at most the reserved memory for one send.
+        // The call uses up reserved memory for at most one send.
         ensures room { self.old.places ≤ self.new.places + 1 }
         ensures space { self.old.space ≤ self.new.space
             + (length (reply_text (components name.entry) content.now) + LINK_EXTRA) }
@@ -250,8 +250,8 @@ impl Sends {
         Ok(())
     }
 
-    /// Adds an Interest as it is forwarded to each face: its HopLimit, if it has one, is
-    /// decremented, and nothing else changes. The octets are stored once, or not at all if there is
+    /// Adds a send of an Interest to each face. The HopLimit, if there is one, is decremented, and
+    /// nothing else in the Interest changes. The octets are stored once, or not at all if there is
     /// no face.
     pub fn push_interest(&mut self, faces: &Faces, interest: &Interest<'_>) -> Result<(), Memory>
         requires hops { interest.now.hop_limit ≢ Some 0 }
@@ -366,7 +366,8 @@ fn written(done: Result<(), WriteFault>) -> Result<bool, Memory>
     }
 }
 
-/// Appends an Interest as it is forwarded, or nothing if memory runs out.
+/// Appends an Interest with its HopLimit, if there is one, decremented. Appends nothing if memory
+/// runs out.
 fn put_sent_on(out: &mut Vec<u8>, interest: &Interest<'_>) -> Result<(), Memory>
     requires hops { interest.now.hop_limit ≢ Some 0 }
     ensures ok { OnOk result (out.new.items

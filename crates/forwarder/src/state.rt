@@ -32,9 +32,9 @@ pub struct State {
 }
 
 impl State {
-    /// Advances time to `moment`, if `moment` is later than all earlier moments, and removes the
-    /// in-records, routes and wants that have expired. Adds the number of expired routes to the
-    /// version of the lists. Preparations remain valid.
+    /// Sets the time to the greater of `now` and `moment`, and removes the in-records, routes and
+    /// wants that have expired. Adds the number of expired routes to the version of the lists. What
+    /// was prepared in the PIT, the tables, the guard and the repository stays prepared.
     pub fn pass_time(&mut self, moment: u64)
         ensures later { IsLater (state_of self.old) moment (state_of self.new) }
         ensures pit { self.new.pit.prepared ≡ self.old.pit.prepared }

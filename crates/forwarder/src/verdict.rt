@@ -34,8 +34,9 @@ pub enum DropReason {
     HopLimit,
     /// A name under `/localhost` came from another machine.
     Scope,
-    /// The Interest loops: another face's in-record or an out-record of its key has its Nonce, but
-    /// the in-record of its own face does not. A Nack with the reason Duplicate was sent back.
+    /// The Interest loops: an in-record of another face, or an out-record, has the Interest's key
+    /// and Nonce, but no in-record of the Interest's own face has them. A Nack with the reason
+    /// Duplicate was sent back.
     Loop,
     /// The PIT is full: Interests of 4,096 other keys are pending.
     PitFull,

@@ -115,8 +115,8 @@ apart_more (first ∷ keys) key apart h =
     others [] h last = (last, tt)
     others (other ∷ rest) h last = (h.0, others rest h.1 last)
 
--- if a key is added at the end of a book, its plain data is added at the end of the book's plain
--- data
+-- if `key` is added at the end of `keys`, the pair of its name and octets is added at the end of
+-- `named_keys keys`
 pub named_more : (keys after : List Key) (key : Key) (shown : List NamedKey) → named_keys keys ≡ shown → after ≡ keys ++ key ∷ [] → named_keys after ≡ shown ++ (key.name, key.hmac) ∷ []
 named_more keys after key shown view e =
     ap named_keys e ∙ map-append (λ k. (k.name, k.hmac)) keys (key ∷ []) ∙ ap (λ (front : List NamedKey). front ++ (key.name, key.hmac) ∷ []) view

@@ -15,8 +15,7 @@ use Rattle.ndn_names.proofs.TextReading.{hex_length}
 digit_again : (c : ℕ) → digit_value c < 16 → hex_digit_value c ≡ Some (digit_value c)
 digit_again c h = grind arith
 
--- the characters 0 to 9 have a digit value below 16; by `upper_digit` and `lower_digit`, so have
--- the letters A to F and a to f
+-- the characters 0 to 9 have a digit value below 16
 decimal_digit : (c : ℕ) → 48 ≤ c → c < 58 → digit_value c < 16
 decimal_digit c a b = grind arith
 
@@ -79,8 +78,6 @@ pairs_again i text [] h = ap (decode_pairs i) h
 pairs_again i text (octet ∷ octets) h =
     ap (decode_pairs i) h.3 ∙ decode_pairs-ok_pair i h.0 h.1 octet h.2 (pair_again h.0 h.1 i octet h.4) ∙ ap (cons_byte octet) (pairs_again (i + 2) h.2 octets h.5)
 
--- if a conditional whose first alternative is a fault equals `Ok octets`, its second alternative is
--- `Ok octets`
 passed : (b : Bool) (fault : FromHexError) (r : Result (List ℕ) FromHexError) (octets : List ℕ) → cond b (Err fault) r ≡ Ok octets → r ≡ Ok octets
 passed true fault r octets e = absurd cc
 passed false fault r octets e = e

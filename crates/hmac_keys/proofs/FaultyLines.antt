@@ -14,7 +14,7 @@ use Rattle.hmac_keys.proofs.Keys.{key_found, key_again}
 use Rattle.hmac_keys.proofs.Files.{keys_through}
 use Rattle.hmac_keys.proofs.Books.{none_among, among_from_has, has_from_among, named_twice, one_too_many, key_added, apart_more}
 
--- a skipped line that is added at the end of the lines does not change their keys
+-- adding a skipped line at the end of the lines does not change the keys
 skipped_after : (before : List (List ℕ)) (keys : List NamedKey) (line : List ℕ) → AreKeysOf before keys → is_skipped line ≡ true → AreKeysOf (before ++ line ∷ []) keys
 skipped_after [] keys line h skipped = inl (skipped, h)
 skipped_after (first ∷ before) keys line (inl h) skipped = inl (h.0, skipped_after before keys line h.1 skipped)
@@ -26,14 +26,11 @@ key_after (first ∷ before) keys line key (inl h) kept is = inl (h.0, key_after
 key_after (first ∷ before) keys line key (inr h) kept is =
     inr (h.0, (h.1.0, h.1.1 ++ key ∷ [], ap (λ (k : List NamedKey). k ++ key ∷ []) h.1.2, h.1.3, key_after before h.1.1 line key h.1.4 kept is))
 
--- Let one result be both the fault `found` and the fault `told`. If lines have the fault `found`,
--- they have the fault `told`.
 is_told : (lines : List (List ℕ)) (found told : KeyFault) → (r : Result (List NamedKey) KeyFault) → r ≡ Err found → r ≡ Err told → FaultIn lines found → FaultIn lines told
 is_told lines found told r e f h = let same : Err found ≡ Err told = sym e ∙ f in subst (FaultIn lines) (cc) h
 
--- `line`, which is not skipped, follows the lines `before`, which have no fault. If reading
--- `line` and then `lines` returns a fault, all these lines together have this fault. A premise
--- states this for the case that `line` adds its key.
+-- Let the lines `before` have no fault, and let `line` not be skipped. If reading `line` and then
+-- `lines` returns `fault`, the lines `before ++ line ∷ lines` have the fault `fault`.
 line_faulty : (n : ℕ) (before lines : List (List ℕ)) (line : List ℕ) (keys : List NamedKey) (fault : KeyFault) → n ≡ length before + 1 → is_skipped line ≡ false → AreKeysOf before keys → AreApart keys → length keys ≤ 256
     → ((key : NamedKey) → IsKeyLine line key → has_name key.0 keys ≡ false → length keys ≢ 256 → keys_from (n + 1) (keys ++ key ∷ []) lines ≡ Err fault → FaultIn (before ++ line ∷ lines) fault)
     → (r : Option NamedKey) → key_in line ≡ r → on_result (λ more. keys_from (n + 1) more lines) (λ told. Err told) (on_option (with_key n keys) (Err (BadLine n)) r) ≡ Err fault → FaultIn (before ++ line ∷ lines) fault

@@ -41,14 +41,14 @@ line_failed n keys rest line after fault begins (inl failed) = inl (line_told n 
 
 -- ---- the keys in the lines
 
--- if two steps in sequence succeed, the first step succeeds, and the second step, applied to its
--- result, returns the result of the sequence
+-- if the step `r` followed by the step `f` returns `y`, then `r` succeeds, and `f` applied to the
+-- result of `r` returns `y`
 ok_of : {A B : Type 0} (r : Result A KeyFault) (f : A → Result B KeyFault) (y : B) → on_result f (λ fault. Err fault) r ≡ Ok y → (x : A) × (r ≡ Ok x) × (f x ≡ Ok y)
 ok_of (Ok x) f y e = (x, refl, e)
 ok_of (Err fault) f y e = absurd cc
 
--- The keys `all` are the earlier keys `keys`, followed by the keys in the lines. All these keys
--- have different names, and they are at most 256.
+-- The keys `all` are the earlier keys `keys`, followed by the keys in the lines. No two keys in
+-- `all` have the same name, and `all` has at most 256 keys.
 record AreRead (lines : List (List ℕ)) (keys all : List NamedKey) : Type 0 where
   new : List NamedKey
   whole : all ≡ keys ++ new
@@ -56,8 +56,8 @@ record AreRead (lines : List (List ℕ)) (keys all : List NamedKey) : Type 0 whe
   apart : AreApart all
   few : length all ≤ 256
 
--- The line adds its key to `keys`, which gives `more`: no earlier key has the name of this key,
--- and the number of earlier keys is not 256.
+-- The list `more` is `keys` followed by the key in `line`. No key in `keys` has the name of the
+-- added key, and the number of keys in `keys` is not 256.
 pub record IsAdded (n : ℕ) (keys : List NamedKey) (line : List ℕ) (more : List NamedKey) : Type 0 where
   pub key : NamedKey
   pub read : key_in line ≡ Some key
@@ -82,9 +82,7 @@ key_is_added n keys more line kept e = from_key (key_in line) refl (sym (rw kept
 pub line_skipped : (n : ℕ) (keys : List NamedKey) (line : List ℕ) → is_skipped line ≡ true → after_line n keys line ≡ Ok keys
 line_skipped n keys line skipped = rw skipped refl
 
--- The next two lemmas are about a line in front of lines whose keys are known. If it is a skipped
--- line, the keys stay the same. If it is a line with a key, this key comes before the keys in the
--- lines.
+-- adding a skipped line in front of the lines does not change the keys
 skipped_before : (line : List ℕ) (lines : List (List ℕ)) (keys all : List NamedKey) → is_skipped line ≡ true → AreRead lines keys all → AreRead (line ∷ lines) keys all
 skipped_before line lines keys all skipped rest =
     record { new = rest.new; whole = rest.whole; are = inl (skipped, rest.are); apart = rest.apart; few = rest.few }

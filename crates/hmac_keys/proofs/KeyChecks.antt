@@ -66,7 +66,7 @@ some_key line uri digits e named spelled =
 
 -- ---- lines that have a name
 
--- two texts read as the same name
+-- the URIs `a` and `b` read as the same name
 abbrev AreOne : List ℕ → List ℕ → Type 0
 AreOne a b = (cs : List Field) × ReadsAs a cs × ReadsAs b cs
 
@@ -153,8 +153,8 @@ one_more n all line key b kept e is f room = after_key n all line key kept e ∙
 
 -- ---- the lines that have been checked so far
 
--- The first `before` lines of the text have been read without a fault, and have `keys` keys, at
--- most 256. `rest` is the text after these lines.
+-- The first `before` lines of the text have been read without a fault, and contain `keys` keys.
+-- There are at most 256 keys. `rest` is the text after the first `before` lines.
 pub record HasChecked (before keys : ℕ) (text rest : List ℕ) : Type 0 where
   pub all : List NamedKey
   pub count : keys ≡ length all
@@ -176,8 +176,8 @@ cut_here (suc n) [] line others e = absurd cc
 cut_here (suc n) (first ∷ lines) line others e =
     let here = cut_here n lines line others e in (ap (λ (ls : List (List ℕ)). first ∷ ls) here.0, here.1)
 
--- Let a line be read without a fault. Afterwards, a name is among the names of the keys exactly if
--- it was among them before, or the line has this name.
+-- if reading `line` turns the keys `all` into the keys `more`, then `more` has a key named `name`
+-- exactly if `all` has such a key or `line` has this name
 line_name : (n : ℕ) (all more : List NamedKey) (line : List ℕ) → after_line n all line ≡ Ok more → (name : List Field) → has_name name more ≡ (has_name name all || line_has_name name line)
 line_name n all more line e name = elim (cases_Bool (is_skipped line)) [
   | inl skipped ↦

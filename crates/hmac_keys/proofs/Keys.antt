@@ -84,8 +84,8 @@ digits_lack_space digits (o ∷ octets) h = subst (Lacks 32) (sym h.3) (no_digit
     no_digit : (digit : ℕ) → digit_value digit < 16 → digit ≢ 32
     no_digit digit lt is = let h : digit_value 32 < 16 = subst (λ (d : ℕ). digit_value d < 16) is lt in omega arith
 
--- if two steps in sequence return a value, the first step returns a value, and the second step,
--- applied to this value, returns the value of the sequence
+-- if the step `r` followed by the step `f` returns the value `y`, then `r` returns a value, and `f`
+-- applied to this value returns `y`
 pub some_of : {A B : Type 0} (r : Option A) (f : A → Option B) (y : B) → on_option f None r ≡ Some y → (x : A) × (r ≡ Some x) × (f x ≡ Some y)
 some_of None f y e = absurd cc
 some_of (Some x) f y e = (x, refl, e)

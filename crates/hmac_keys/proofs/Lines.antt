@@ -48,13 +48,13 @@ unfolding at_last_space
 space_again [] digits h = rw (no_space digits h) refl
 space_again (o ∷ uri) digits h = rw (space_again uri digits h) refl
 
--- The texts before and after the last space of `o ∷ line`, or `None` if there is no space. The last
--- argument `rest` is this result for `line`, without the octet `o`.
+-- The texts before and after the last space of `o ∷ line`, or `None` if there is no space. The
+-- argument `rest` is the pair of texts before and after the last space of `line`, or `None`.
 abbrev with_octet : ℕ → List ℕ → Option (List ℕ × List ℕ) → Option (List ℕ × List ℕ)
 with_octet o line rest = on_option (λ x. Some (o ∷ x.0, x.1)) (cond (eqb o 32) (Some ([], line)) None) rest
 
--- if a line consists of the two parts `x` with a space between them, and `Some x` equals `Some y`,
--- the line consists of the two parts `y` with a space between them
+-- if a line consists of the two texts in the pair `x` with a space between them, and `Some x`
+-- equals `Some y`, the line consists of the two texts in the pair `y` with a space between them
 parts_are : (line : List ℕ) (x y : List ℕ × List ℕ) → Some x ≡ Some y → line ≡ x.0 ++ 32 ∷ x.1 → line ≡ y.0 ++ 32 ∷ y.1
 parts_are line x y e h = let same : x ≡ y = cc in subst (λ (p : List ℕ × List ℕ). line ≡ p.0 ++ 32 ∷ p.1) same h
 

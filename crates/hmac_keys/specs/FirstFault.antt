@@ -4,8 +4,8 @@ use Rattle.hmac_keys.specs.declared.fault.KeyFault.{KeyFault}
 use Rattle.hmac_keys.specs.declared.fault.KeyFault.TheVariants.{BadLine, TwiceNamed, TooMany, Memory}
 use Rattle.hmac_keys.specs.KeyFile.{NamedKey, AreApart, AreKeysOf, IsAmong, IsKeyLine, is_skipped, lines_of}
 
--- `line` is line n, which is not skipped. The lines before it have no fault, and contain these
--- keys.
+-- `line` is line n, which is not skipped. The lines before line n have no fault, and contain the
+-- keys `keys`.
 pub record IsReached
     (lines : List (List ℕ)) (n : ℕ) (line : List ℕ) (keys : List NamedKey) : Type 0 where
   pub before : List (List ℕ)
@@ -17,13 +17,13 @@ pub record IsReached
   pub apart : AreApart keys
   pub few : length keys ≤ 256
 
--- line n is the first faulty line: it is not a valid line of a key
+-- line n is the first faulty line, and is not a valid line of a key
 abbrev pub HasBadLine : List (List ℕ) → ℕ → Type 0
 HasBadLine lines n =
     (line : List ℕ) × (keys : List NamedKey) × IsReached lines n line keys
     × ((key : NamedKey) → IsKeyLine line key → ⊥)
 
--- line n is the first faulty line: its key has the name of an earlier key
+-- line n is the first faulty line, and its key has the name of an earlier key
 abbrev pub HasNameTwice : List (List ℕ) → ℕ → Type 0
 HasNameTwice lines n =
     (line : List ℕ) × (keys : List NamedKey) × IsReached lines n line keys

@@ -23,12 +23,13 @@ lines_have_name name lines = list_any (line_has_name name) lines
 abbrev pub HaveNames : List (List ℕ) → List NamedKey → Type 0
 HaveNames lines keys = (name : List Field) → lines_have_name name lines ≡ has_name name keys
 
--- this line has no fault, and after it there are `count` keys; `before` lines come before this
--- line, and contain `keys`
+-- `line`, which has number `before + 1` and follows lines with the keys `keys`, has no fault; the
+-- lines up to and including `line` have `count` keys
 abbrev pub AreReadAfter : ℕ → List NamedKey → List ℕ → ℕ → Type 0
 AreReadAfter before keys line count =
     (all : List NamedKey) × (after_line (before + 1) keys line ≡ Ok all) × (count ≡ length all)
 
--- this line has this fault; `before` lines come before this line, and contain `keys`
+-- `line`, which has number `before + 1` and follows lines with the keys `keys`, has the fault
+-- `fault`
 abbrev pub IsFaultAfter : ℕ → List NamedKey → List ℕ → KeyFault → Type 0
 IsFaultAfter before keys line fault = after_line (before + 1) keys line ≡ Err fault

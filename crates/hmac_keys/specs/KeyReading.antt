@@ -47,21 +47,23 @@ abbrev pub has_name : List Field → List NamedKey → Bool
 has_name name [] = false
 has_name name (key ∷ keys) = is_eq (name_cmp key.0 name) || has_name name keys
 
--- The keys after the key of line n is added. The fault is `TwiceNamed n` if one of the keys has its
--- name, and `TooMany` if there are 256 keys with other names.
+-- The list `keys` followed by `key`, which is the key of line n, or a fault. The fault is
+-- `TwiceNamed n` if `keys` has a key with the same name as `key`, and `TooMany` if `keys` has 256
+-- keys with other names.
 abbrev pub with_key : ℕ → List NamedKey → NamedKey → Result (List NamedKey) KeyFault
 with_key n keys key =
     if has_name key.0 keys then Err (TwiceNamed n) else (
     if length keys == 256 then Err TooMany else
     Ok (keys ++ key ∷ []))
 
--- the keys after line n is read, or the fault of line n
+-- the list `keys` followed by the key of line n, if this line is not skipped, or the fault of line
+-- n
 abbrev pub after_line : ℕ → List NamedKey → List ℕ → Result (List NamedKey) KeyFault
 after_line n keys line =
     if is_skipped line then Ok keys else on_option (with_key n keys) (Err (BadLine n)) (key_in line)
 
--- the keys after these lines are read, or the first fault, where n is the number of the first of
--- these lines, and `keys` are the keys of the lines before it
+-- the list `keys` followed by the keys in the lines, or the first fault in the lines; the first
+-- line has number n, and `keys` are the keys of the lines before line n
 unfoldable pub keys_from : ℕ → List NamedKey → List (List ℕ) → Result (List NamedKey) KeyFault
 keys_from n keys [] = Ok keys
 keys_from n keys (line ∷ lines) =

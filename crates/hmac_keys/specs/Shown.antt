@@ -1,4 +1,4 @@
--- The keys of a key book as plain data.
+-- The keys of a key book as pairs of a name and octets.
 use Rattle.std.specs.Prelude.{List, map}
 use Rattle.hmac_keys.specs.declared.key_book.Key.{Key}
 use Rattle.hmac_keys.specs.KeyFile.{NamedKey}

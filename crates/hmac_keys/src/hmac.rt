@@ -14,8 +14,8 @@ const OUTER_PAD: u8 = 0x5c;
 
 const INNER_PAD: u8 = 0x36;
 
-/// The inner and the outer hash of a key. Each hash has read the key's block, combined with its
-/// pad.
+/// The inner and the outer hash of a key. The inner hash has read the key's block XOR the inner
+/// pad. The outer hash has read the key's block XOR the outer pad.
 #[derive(Drop)]
 pub(crate) struct Blocks {
     inner: Sha256,

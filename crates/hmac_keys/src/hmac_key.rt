@@ -3,8 +3,8 @@
 use crate::hmac::Blocks;
 use std::marker::Model;
 
-/// A key for HMAC with SHA-256. Its blocks are hashed only once, even if the key signs or checks
-/// many texts.
+/// A key for HMAC with SHA-256. The blocks of the key are hashed only once, even if the key signs
+/// or checks many texts.
 #[derive(Drop)]
 pub struct HmacKey {
     octets: Vec<u8>,
@@ -42,7 +42,7 @@ impl HmacKey {
         &self.octets
     }
 
-    /// Returns the HMAC of `first` followed by `second`, as `hmac_sha256` does (RFC 2104): 32
+    /// Returns the HMAC with SHA-256 of `first` followed by `second`, under this key (RFC 2104): 32
     /// octets, not truncated. The call never fails, and allocates nothing.
     pub fn tag(&self, first: &[u8], second: &[u8]) -> [u8; 32]
         ensures { result ≡ Mac self.now (first.now ++ second.now) }

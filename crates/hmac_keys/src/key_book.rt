@@ -84,10 +84,11 @@ impl KeyBook {
         }
     }
 
-    /// Reads a key file of at most 256 keys. LF separates its lines. The last space of a line
-    /// separates the URI of a nonempty name, as `NameBuf::from_uri` reads it, from the key: 1 to
-    /// 256 octets in hexadecimal digits of either case. A CR is part of its line. Empty lines, and
-    /// lines that begin with `;`, are skipped, but line numbers count them.
+    /// Reads a key file of at most 256 keys. The lines of the file are separated by LF. The line of
+    /// a key is the URI of a nonempty name, a space, and the key: 1 to 256 octets in hexadecimal
+    /// digits of either case. The space is the last one of the line, and the URI is read as by
+    /// `NameBuf::from_uri`. A CR is an ordinary character of a line, and does not end the line.
+    /// Empty lines, and lines that begin with `;`, are skipped, but line numbers count them.
     ///
     /// If the file is refused, returns the fault of the first faulty line, and no keys: see
     /// `KeyFault`. Two names are the same if their components are the same, even if the spellings
@@ -222,8 +223,8 @@ fn read_keys(alloc: Global, text: &str) -> Result<KeyBook, KeyFault>
     }
 }
 
-/// Law: a text is a key file of at most one list of keys. If there is such a list, `keys_in`
-/// returns it. Otherwise `keys_in` returns the fault of the first faulty line.
+/// Law: a text is a key file of at most one list of keys. For a key file, `keys_in` returns the
+/// keys. For any other text, `keys_in` returns the fault of the first faulty line.
 pub fn key_files_have_one_reading()
     ensures exact { (text : List ℕ) (keys : List NamedKey) → (keys_in text ≡ Ok keys)
         ↔ KeysOf text keys }

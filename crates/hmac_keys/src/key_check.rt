@@ -88,8 +88,8 @@ fn have_name(text: &str, lines: u64, uri: &str) -> bool
     false
 }
 
-/// Returns the number of keys up to and including the line `line` of a text, or the fault of this
-/// line. The `before` lines before this line have `keys` keys.
+/// Returns the number of keys in the lines of a text up to and including `line`, or the fault of
+/// `line`. There are `before` lines before `line`, and they have `keys` keys.
 fn check_line(text: &str, before: u64, keys: usize, line: &str) -> Result<usize, KeyFault>
     requires short { before < length text.now }
     requires few { keys ≤ 256 }
@@ -112,8 +112,8 @@ fn check_line(text: &str, before: u64, keys: usize, line: &str) -> Result<usize,
     Ok(keys + 1)
 }
 
-/// Returns the first fault of a key file, if it has one. No name is stored: the line of each key is
-/// compared with the lines before it, at most 256 of which have a key.
+/// Returns the first fault of a key file, if it has one. No name is stored: the name in each line
+/// is compared with the names in all earlier lines. There are at most 256 earlier names.
 pub(crate) fn check_keys(text: &str) -> Result<(), KeyFault>
     ensures { MatchResult result (λ _. (keys : List NamedKey) × (keys_in text.now ≡ Ok keys))
         (λ fault. keys_in text.now ≡ Err fault) }

@@ -34,7 +34,8 @@ pub(crate) fn is_skipped(line: &str) -> bool
     line.is_empty() || line.starts_with(';')
 }
 
-/// Returns the name of a URI in line `number`, if the name is not empty.
+/// Returns the name that the URI in line `number` reads as. Returns `BadLine` if the URI reads as
+/// no name or as the empty name, and `Memory` if memory runs out.
 pub(crate) fn name_of(alloc: Global, number: u64, uri: &str) -> Result<NameBuf, KeyFault>
     ensures { MatchResult result (λ name. name_of uri.now ≡ Some name)
         (IsLineFault number (name_of uri.now)) }

@@ -119,7 +119,7 @@ from_line n mode line (o ∷ text) h =
 
 -- ---- on which lines faults are
 
--- `On` is true of the line of the block that is inside eight others, if there is one
+-- the property `On` holds for the line of the block inside eight others, if there is such a block
 abbrev DeepOn : (ℕ → Type 0) → Option ℕ → Type 0
 DeepOn On None = ⊤
 DeepOn On (Some line) = On line
@@ -176,8 +176,8 @@ fitting_err draft line Close fault e = by_depth (eqb draft.depth 0) e
     by_depth false e = absurd cc
 fitting_err draft line Broken fault e = cc
 
--- Let `On` be true of the line of a block inside eight others, if there is one, and of the line of
--- the fault of `read`. Then `On` is true of the line of the fault that `unless_fault` returns.
+-- if `On` holds for the line `deep` of a block inside eight others, and for the line of a fault in
+-- `read`, then `On` also holds for the line of the fault that `unless_fault` returns
 unless_deep : {A : Type 0} (On : ℕ → Type 0) (deep : Option ℕ) (line : ℕ) (read : Result A RulesFault) (fault : RulesFault) → DeepOn On deep → (read ≡ Err fault → On fault.line) → unless_fault (deep_before deep line) read ≡ Err fault → On fault.line
 unless_deep On None line read fault h behind e = behind e
 unless_deep On (Some deep) line read fault h behind e = by_test (eqb deep line) e
@@ -223,8 +223,8 @@ whole_err On line draft fault here deep e =
     by_depth true e = by_deep draft.deep deep e
     by_depth false e = let same : syntax line ≡ fault = cc in at_fault On (syntax line) fault same here
 
--- the entries of a whole text, or its fault, where `read` is the result of adding all tokens of the
--- text
+-- the entries of a text that ends on `line`, or the fault of the text; `read` is the result of
+-- adding all tokens of the text to a draft
 abbrev ending : ℕ → Result PlainDraft RulesFault → Result (List PlainEntry) RulesFault
 ending line read = on_result (whole_of line) (λ fault. Err fault) read
 
@@ -237,8 +237,8 @@ ending_err On line tokens draft fault all here deep e = by_read (with_tokens dra
 
 -- ---- the lines before the fault
 
--- the octets `front` are `n` whole lines: their tokens are on these lines, and after them reading
--- is between tokens, at the beginning of the next line
+-- `front` consists of `n` whole lines: all tokens of `front` are on these lines, and the text after
+-- `front` begins between tokens, on line `n + 1`
 record AreRead (n : ℕ) (front : List ℕ) : Type 0 where
   within : AllOn (λ l. l ≤ n) (ended Between 1 front)
   mode : mode_at Between front ≡ Between
@@ -338,7 +338,7 @@ begins_some n front mid h e shallow =
     let entries : entries_in text ≡ Ok (entries_of closed.final) = rw (read, closed.shallow, closed.depth) refl in
     (closers mid.depth, entries_of closed.final, entries_found text (entries_of closed.final) entries)
 
--- ---- the lines before the fault begin a text that spells entries, those up to the fault do not
+-- ---- the line of the fault
 
 end_up : (n : ℕ) (front rest : List ℕ) → AreRead n front → n + 1 ≤ end_line (front ++ rest)
 end_up n front rest h = omega (arith, h.next, line_more 1 front, line_more 1 (front ++ rest), line_past 1 front rest, line_kept (line_at 1 front) rest)

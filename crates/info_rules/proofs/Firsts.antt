@@ -34,6 +34,5 @@ none_more rules kind name n rule low is other none =
 pub none_applies : (rules : List PlainRule) (kind : Kind) (name : List Field) (n : ℕ) → length rules ≤ n → NoneOfFirst rules kind name n → NoneApplies rules kind name
 none_applies rules kind name n all none = subst (λ (rs : List PlainRule). NoneApplies rs kind name) (take_all n rules all) none
 
--- if the first rule that applies is at position `n`, the item at position `n` is this rule
 pub chosen : (rules : List PlainRule) (kind : Kind) (name : List Field) (n : ℕ) (item rule : PlainRule) → item ≡ get_or rules n item → IsFirst rules kind name n rule → item ≡ rule
 chosen rules kind name n item rule is first = is ∙ get_or_from_slice_get rules n rule item first.there

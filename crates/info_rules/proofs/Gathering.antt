@@ -9,7 +9,7 @@ use Rattle.info_rules.specs.Faults.{kind_number, sooner}
 use Rattle.info_rules.specs.Keys.{is_word, named}
 use Rattle.info_rules.specs.Found.{Found, sooner_of, followed, each, and_one, joined}
 
--- the first pair of numbers is less than the second in lexicographic order
+-- the pair `(a, b)` is less than the pair `(c, d)` in lexicographic order
 abbrev less : ℕ → ℕ → ℕ → ℕ → Bool
 less a b c d = ltb a c || (eqb a c && ltb b d)
 
@@ -45,7 +45,7 @@ joined_more (Err d) (Ok part) (Err f) = refl
 joined_more (Err d) (Err e) (Ok others) = refl
 joined_more (Err d) (Err e) (Err f) = ap Err (sooner_chain d e f)
 
--- the loop invariant still holds after one more key that is `word`, whose value is appended
+-- the loop invariant still holds after the value of one more key that is `word` is appended
 pub loop_step : {A : Type 0} (f : Block → Found A) (word : List ℕ) (keys others all : List Block) (key : Block) (before after : Found (List A)) (one : Found A) → keys ≡ key ∷ others → is_word word key ≡ true
     → one ≡ f key → after ≡ and_one before one → joined before (each f (named word keys)) ≡ each f (named word all) → joined after (each f (named word others)) ≡ each f (named word all)
 unfolding each
@@ -70,7 +70,8 @@ pub loop_start : {A : Type 0} (parts : List A) (found : Found (List A)) → part
 loop_start parts (Ok others) none = rw none refl
 loop_start parts (Err f) none = refl
 
--- the loop invariant still holds after one more key that is not `word`
+-- the loop invariant still holds after one more key that is not `word`, for which nothing is
+-- appended
 pub loop_past : {A : Type 0} (f : Block → Found A) (word : List ℕ) (keys others all : List Block) (key : Block) (before : Found (List A)) → keys ≡ key ∷ others → is_word word key ≡ false
     → joined before (each f (named word keys)) ≡ each f (named word all) → joined before (each f (named word others)) ≡ each f (named word all)
 loop_past f word keys others all key before keys_are is h = rw (keys_are, is) at h

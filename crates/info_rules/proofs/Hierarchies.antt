@@ -13,7 +13,7 @@ use Rattle.name_patterns.specs.Match.{Passes, IsSplit, IsGreatestSplit, Match, p
 use Rattle.name_patterns.specs.Template.{OfGroup, part_of}
 use Rattle.info_rules.specs.Locator.{key_component, IsKeyOf, IsHierarchical, hierarchical_pattern}
 
--- the atoms of the pattern after `(<>*)`: one for KEY, and one for one to three more components
+-- the atoms `<KEY>` and `<>{1,3}` of the pattern `^(<>*)<KEY><>{1,3}$`
 abbrev late_atoms : List PlainAtom
 late_atoms = record { test = OneOf (key_component ∷ []); bounds = once } ∷ record { test = Anything; bounds = record { least = 1; most = Some 3 } } ∷ []
 
@@ -38,8 +38,8 @@ key_split prefix name h =
     let following : drop (length prefix) name ≡ key_component ∷ h.0 = ap (drop (length prefix)) h.1 ∙ drop_front prefix (key_component ∷ h.0) in
     (omega arith, tt, long, all_pass (take (length prefix) name), subst (λ (cs : List Field). IsSplit late_atoms cs (1 ∷ length h.0 ∷ [])) (sym following) (late_split h.0 h.2 h.3))
 
--- a split of components by the atoms after `(<>*)`: one component KEY, then one to three more
--- components
+-- `cs` is the component KEY followed by one to three more components. `counts` lists how many
+-- components each atom of `late_atoms` matches.
 pub record Late (cs : List Field) (counts : List ℕ) : Type 0 where
   pub rest : List Field
   pub begins : cs ≡ key_component ∷ rest
@@ -69,8 +69,8 @@ late_of (c ∷ rest) (suc zero ∷ b ∷ more) s =
     key (inl e) = sym e
     key (inr x) = absurd x
 
--- a split of a name by the whole pattern: `front` components, then KEY, then one to three more
--- components
+-- `name` consists of `front` components, KEY, and one to three more components; `counts` lists the
+-- number of components in each of these three parts
 pub record Whole (name : List Field) (counts : List ℕ) : Type 0 where
   pub front : ℕ
   pub rest : List Field

@@ -5,7 +5,7 @@ use Rattle.std.proofs.lemmas.Bool.Decides.{nat_tests}
 use Rattle.info_rules.specs.declared.fault.RulesFault.{RulesFault}
 use Rattle.info_rules.specs.Faults.{kind_number, sooner, after, IsAmong, NoneIsSooner}
 
--- the first pair of numbers is less than the second in lexicographic order
+-- the pair `(a, b)` is less than the pair `(c, d)` in lexicographic order
 abbrev less : ℕ → ℕ → ℕ → ℕ → Bool
 less a b c d = ltb a c || (eqb a c && ltb b d)
 
@@ -26,7 +26,7 @@ along a b c h k = less_along a.line (kind_number a.kind) b.line (kind_number b.k
 itself : (a : RulesFault) → sooner a a ≡ false
 itself a = less_itself a.line (kind_number a.kind)
 
--- `told` is the one of two faults that is reported
+-- `told` is the one of the faults `a` and `b` that is reported
 record IsTold (a b told : RulesFault) : Type 0 where
   one : (told ≡ a) ⊎ (told ≡ b)
   first : sooner a told ≡ false

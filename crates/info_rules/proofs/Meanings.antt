@@ -114,7 +114,8 @@ lacks words word (key ∷ keys) e h = by_test (bytes_eq key.0.key word) refl (la
 
 -- ---- how often the table allows each key
 
--- `keys` has no more keys that are `word` than the first argument allows
+-- the number of keys that are `word` is allowed: at most one for `Once`, at most `most` for
+-- `UpTo most`, and any number for `AnyNumber`
 abbrev pub Stands : Times → List ℕ → List Block → Type 0
 Stands Once word keys = others_of (named word keys) ≡ []
 Stands (UpTo most) word keys = length (named word keys) ≤ most
@@ -169,7 +170,7 @@ stand_again [] keys h = refl
 stand_again (f ∷ forms) keys h = rw (stands_again f.word f.takes f.times keys h.0, stand_again forms keys h.1) refl
 
 -- if a block allows no keys outside the table and has no fault, all its keys are in the table, and
--- none is given too many times
+-- no key is given too many times
 pub fits : (block : BlockKind) (keys : List Block) → is_closed block ≡ true → after None (walk_faults block keys) ≡ None → HasOnly (words_of (table block)) keys × Stand (table block) keys
 unfolding walk_faults
 fits block keys closed e =
@@ -206,8 +207,8 @@ value_is key text e = by_block key.0.has_block refl e
     by_block true is e = absurd cc
     by_block false is e = (e, is)
 
--- if the value `x` is read, and at most one key is `word`, exactly one key is `word`, and its text
--- is read as `x`
+-- if the value `x` is read and at most one key is `word`, then exactly one key is `word`, and the
+-- text of this key is read as `x`
 pub has : {A : Type 0} (kind : RulesFaultKind) (read : List ℕ → Option A) (word : List ℕ) (keys : List Block) (x : A) → value_in kind read word keys ≡ Ok (Some x) → others_of (named word keys) ≡ []
     → (text : List ℕ) × HasValue word keys text × (read text ≡ Some x)
 has kind read word keys x e once =
@@ -253,7 +254,6 @@ lacks_again kind read word keys h = rw h refl
 pub lacks_once : (word : List ℕ) (keys : List Block) → Lacks word keys → others_of (named word keys) ≡ []
 lacks_once word keys h = rw h refl
 
--- if a key is `word` and there is no second such key, exactly one key is `word`
 pub one_there : (word : List ℕ) (keys : List Block) → is_there word keys ≡ true → others_of (named word keys) ≡ [] → (key : Block) × (named word keys ≡ key ∷ [])
 one_there word keys e once = by_first (first_of (named word keys)) refl e
   where

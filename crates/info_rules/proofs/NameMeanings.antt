@@ -29,12 +29,12 @@ use Rattle.info_rules.proofs.WordMeanings.{name_means, name_meant, pattern_means
 
 -- ---- the form of a key
 
--- the keys that a block with a requirement on this name may have
+-- the keys that a filter (`PacketName`) or a key locator (`KeyName`) may have
 abbrev pub words_for : Tested → List (List ℕ)
 words_for PacketName = codes "type" ∷ codes "name" ∷ codes "relation" ∷ codes "regex" ∷ []
 words_for KeyName = codes "type" ∷ codes "name" ∷ codes "relation" ∷ codes "regex" ∷ codes "hyper-relation" ∷ []
 
--- the keys that a block may have in this form
+-- the keys that a block may have if it states its requirement in this form
 abbrev pub words_by : Form → List (List ℕ)
 words_by forms.Related = codes "type" ∷ codes "name" ∷ codes "relation" ∷ []
 words_by forms.Matching = codes "type" ∷ codes "regex" ∷ []
@@ -165,9 +165,9 @@ first_there tested form word (key ∷ keys) rest found may means e = by_key (for
     by_key None is further = further (by_word (bytes_eq key.0.key word) is refl e)
     by_key (Some f) is further = (key.0.line, ap (λ (g : Form). Some (g, key.0.line)) (same_form tested f form key is may.0))
 
--- ---- when the keys have no fault of their form
+-- ---- keys whose forms have no fault
 
--- all keys that belong to a form belong to the same form
+-- no two keys belong to different forms
 abbrev HasForm : Tested → List Block → Type 0
 HasForm tested keys = (form : Form) × AllMayStand tested form keys
 
@@ -288,8 +288,8 @@ all_may : (tested : Tested) (form : Form) (keys : List Block) → ((key : Block)
 all_may tested form [] may only = tt
 all_may tested form (key ∷ keys) may only = (may key only.0, all_may tested form keys may only.1)
 
--- if the forms have no fault and the type is `name`, the requirement is made from the names that
--- are read
+-- if the forms have no fault and the type is `name`, the requirement is made from `names`: the
+-- name, the relation and the pattern that are read
 asked_again : (tested : Tested) (line : ℕ) (keys : List Block) (names : Names) → form_fault tested line keys ≡ None → HasValue (codes "type") keys (codes "name") → names_in keys ≡ Ok names → asked_in tested line keys ≡ Ok (test_of names)
 unfolding asked_in
 asked_again tested line keys names none type read =
@@ -335,7 +335,8 @@ test_meant tested line keys (tests.Matching pattern) (only, type, given) =
     let read : names_in keys ≡ Ok ((None, None), Some pattern) = rw (name, relation, regex_read) refl in
     asked_again tested line keys ((None, None), Some pattern) (no_form_fault tested forms.Matching line first.0 keys may first.1 refl) type read
 
--- if `keys` mean `test`, each of the words in `StandOnce` is given at most once
+-- if `keys` mean `test`, each of the keys `type`, `name`, `relation` and `regex` is given at most
+-- once
 pub once_there : (keys : List Block) (test : NameTest) → AsksOfName keys test → StandOnce keys
 once_there keys (tests.Related stands name) (only, type, given, how) = record {
   type = has_once (codes "type") keys (codes "name") type;

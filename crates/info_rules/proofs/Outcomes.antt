@@ -1,5 +1,5 @@
--- Decisions and refusals about a packet as the code sees it (`seen_of`) are decisions and refusals
--- about the packet's frame (`frame_of`).
+-- A decision on a packet as the rules see it (`seen_of`) is a decision on the frame of the packet
+-- (`frame_of`). If deciding the packet may need memory, deciding the frame may need memory.
 use Rattle.std.proofs.Common.{◌≡◌, ℕ, List, get_or, subst, sym}
 use Rattle.std.specs.Prelude.{Result, Ok, Err, IfOk, MatchResult}
 use Rattle.hmac_keys.specs.KeyFile.{NamedKey}
@@ -23,9 +23,6 @@ pub decides_shown : (rules : List PlainRule) (keys : List NamedKey) (packet : Pa
 decides_shown rules keys (packets.Interest i) decision h = h
 decides_shown rules keys (packets.Data d) decision h = h
 
--- Let the first rule for the kind and the name of a packet be at position `n`, and let `item` be
--- the rule at this position. Then `item` is the first rule that applies to the packet as the code
--- sees it.
 pub first_item : (all : List PlainRule) (packet : Packet) (kind : Kind) (name : List Field) (n : ℕ) (item : PlainRule) → kind ≡ (seen_of packet).kind → name ≡ (seen_of packet).name → item ≡ get_or all n item → First all kind name n
     → IsFirst all (seen_of packet).kind (seen_of packet).name n item
 first_item all packet kind name n item kind_is name_is is first =

@@ -11,7 +11,7 @@ same n = grind (arith, nat_tests)
 other : (n m : ℕ) → m < n → eqb n m ≡ false
 other n m h = grind (arith, nat_tests)
 
--- the result of `parted` for a list with one more entry in front
+-- the result of `parted` for a list with one more entry in front, if this entry is not at `depth`
 abbrev Front : ℕ → PlainEntry → List PlainEntry → List PlainEntry × List Block
 Front depth entry entries = (entry ∷ (parted depth entries).0, (parted depth entries).1)
 
@@ -24,7 +24,8 @@ a_key : (depth : ℕ) (entry : PlainEntry) (entries : List PlainEntry) → eqb e
 unfolding parted
 a_key depth entry entries e = rw e refl
 
--- the result of `parted` for a list with several more entries in front
+-- the result of `parted` for a list with the entries `before` in front, if none of them is at the
+-- depth at which `parted` splits; `rest` is the result for the list without them
 abbrev After : List PlainEntry → List PlainEntry × List Block → List PlainEntry × List Block
 After before rest = (before ++ rest.0, rest.1)
 

@@ -64,8 +64,8 @@ past_front depth entries i none h =
     past_at depth entries i h ∙ ap (λ (l : List PlainEntry). (map entry_of (take i entries) ++ l, (parted depth (map entry_of (drop i entries))).1)) none
     ∙ ap (λ (l : List PlainEntry). (l, (parted depth (map entry_of (drop i entries))).1)) (append-nil (map entry_of (take i entries)))
 
--- the result of `parted` for a list with one more entry in front; the flag tells whether that entry
--- is at the depth
+-- the result of `parted` for a list with `entry` in front; `rest` is the result for the list
+-- without `entry`, and `b` is true if `entry` is at the depth at which `parted` splits
 abbrev with_entry : PlainEntry → List PlainEntry × List Block → Bool → List PlainEntry × List Block
 with_entry entry rest b = cond b ([], (entry, rest.0) ∷ rest.1) (entry ∷ rest.0, rest.1)
 

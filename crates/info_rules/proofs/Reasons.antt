@@ -10,7 +10,8 @@ use Rattle.info_rules.specs.Seen.{PlainSigned}
 use Rattle.info_rules.specs.Checks.{Checks}
 use Rattle.info_rules.specs.Decides.{reason_number, IsGreater, IsAtMost, IsGreatest}
 
--- the last argument is the greatest reason of the first `n` checkers, or `None` if `n` is 0
+-- for `Some reason`, `reason` is the greatest reason of the first `n` checkers; for `None`, no
+-- checker has been examined (`n` is 0)
 abbrev pub SoFar : List NamedKey → List Checker → PlainSigned → ℕ → Option Reason → Type 0
 SoFar keys all signed n None = n ≡ 0
 SoFar keys all signed n (Some reason) =

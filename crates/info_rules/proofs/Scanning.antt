@@ -116,7 +116,7 @@ begun_by_lf : begun_by 10 ≡ Between
 unfolding begun_by is_separator
 begun_by_lf = refl
 
--- when reading is between tokens, an LF is no token, and begins the next line
+-- an LF between tokens adds no token, and the text after the LF is on the next line
 lf_step : (o : ℕ) (text : List ℕ) (line : ℕ) → o ≡ 10 → tokens_from Between (line + 1) text ≡ tokens_from Between line (o ∷ text)
 unfolding tokens_from
 lf_step o text line e = rw (ap begun_by e ∙ begun_by_lf, eq-eqb o 10 e) refl
@@ -191,8 +191,8 @@ quote_closes : (escaped : Bool) (o : ℕ) → is_closing escaped o ≡ true → 
 unfolding is_closing
 quote_closes escaped o h = eqb-true o 34 (and_parts (eqb o 34) (not escaped) h).0
 
--- the first `len` octets of `text` are the remaining octets of a quoted text, of which `inner` has
--- been read; the closing quote and then `rest` follow them
+-- The part `inner` of a quoted text has been read, and `text` is the text after `inner`. `text`
+-- consists of the other `len` octets of the quoted text, the closing quote, and `rest`.
 pub record IsQuoted (escaped : Bool) (inner : List ℕ) (line len : ℕ) (text : List ℕ) : Type 0 where
   pub rest : List ℕ
   pub closes : drop len text ≡ 34 ∷ rest
@@ -261,8 +261,8 @@ broken_through (o ∷ text) escaped inner line e =
 
 -- ---- the search for the closing quote, octet by octet
 
--- searching the closing quote from index `place` on, and adding `place` to the length that is
--- found, gives the length of the whole quoted text
+-- the search for the closing quote may continue at index `place`: the length that it finds there,
+-- plus `place`, is the length of the whole quoted text
 abbrev pub IsSearched : List ℕ → ℕ → Bool → Type 0
 IsSearched text place escaped = quoted_len false text ≡ option_map (λ n. n + place) (quoted_len escaped (drop place text))
 

@@ -1,4 +1,4 @@
--- The tokens of a text that is read as entries are the tokens of a tree.
+-- If a text is read as entries without a fault, its tokens spell a tree with these entries.
 use Rattle.std.proofs.Common.{◌≡◌, ◌≢◌, ℕ, ◌+◌, ◌-◌, ◌<◌, Bool, true, false, cond, eqb, leb, ltb, List, [], ◌∷◌, ◌++◌, length, Result, Ok, Err, refl, sym, ap, subst, ◌∙◌, append_assoc, inl, inr, arith}
 use Rattle.std.specs.Prelude.{◌⊎◌, Option, Some, None, IfOk, MatchResult}
 use Rattle.std.proofs.lemmas.Bool.{leb-false, eqb-true, ltb-false, le-ltb}
@@ -123,8 +123,8 @@ abbrev StartsOff : Option ℕ → Nodes → Type 0
 StartsOff None nodes = Unit {0}
 StartsOff (Some line) nodes = BeginsOff line nodes
 
--- No entry is pending. The remaining tokens spell the remaining entries of the open blocks. All
--- entries are the finished entries, then the remaining entries.
+-- No entry is pending. The remaining tokens spell the remaining entries of the open blocks.
+-- `entries` consists of the finished entries `ended`, followed by the remaining entries.
 record IsBetweenEntries (closed : Option ℕ) (depth : ℕ) (ended : List PlainEntry) (tokens : List (ℕ × Token)) (entries : List PlainEntry) : Type 0 where
   levels : Levels
   spelled : tokens ≡ level_tokens levels
@@ -147,9 +147,10 @@ blocked before (Block opened block closed) = true
 abbrev finished : PlainEntry → Option (List ℕ) → Tail → PlainEntry
 finished entry value tail = record entry { value = valued entry.value value; has_block = blocked entry.has_block tail }
 
--- `entry` may still get a value and a block. The remaining tokens spell this value and this
--- block, if present, and then the remaining entries of the open blocks. All entries are the
--- finished entries, `entry`, the entries of its block, and then the remaining entries.
+-- `entry` may still get a value and a block. The remaining tokens spell the value and the block of
+-- `entry`, if present, and then the remaining entries of the open blocks. `entries` consists of
+-- `ended` (the finished entries), then `entry`, then the entries of the block of `entry`, and then
+-- the remaining entries.
 record IsGoing (entry : PlainEntry) (depth : ℕ) (ended : List PlainEntry) (tokens : List (ℕ × Token)) (entries : List PlainEntry) : Type 0 where
   value : Option (List ℕ)
   tail : Tail
@@ -165,9 +166,9 @@ abbrev Means : Option PlainEntry → PlainDraft → List (ℕ × Token) → List
 Means None draft tokens entries = IsBetweenEntries draft.closed draft.depth draft.ended tokens entries
 Means (Some entry) draft tokens entries = IsGoing entry draft.depth draft.ended tokens entries
 
--- Let the remaining tokens spell the remaining entries, and let `entries` be the entries of the
--- draft followed by the remaining entries. If the first remaining entry of the innermost open block
--- is on a new line, then `Means` holds.
+-- `Means` holds if the remaining tokens spell the remaining entries, if `entries` is the entries of
+-- the draft followed by the remaining entries, and if the first remaining entry of the innermost
+-- open block is on a new line
 further : (draft : PlainDraft) (tokens : List (ℕ × Token)) (entries : List PlainEntry) (levels : Levels) → (pending : Option PlainEntry) → draft.pending ≡ pending → tokens ≡ level_tokens levels
     → (draft.pending ≡ None → StartsOff draft.closed (top levels)) → ((entry : PlainEntry) → draft.pending ≡ Some entry → BeginsOff entry.line (top levels)) → AreLevels draft.depth levels
     → entries ≡ entries_of draft ++ level_outline draft.depth levels → Means pending draft tokens entries

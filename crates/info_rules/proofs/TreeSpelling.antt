@@ -60,7 +60,7 @@ head_read draft head tokens shallow may = by_value head.value refl
 
 -- ---- the tokens of entries in sequence are read
 
--- the first of the entries, if there is one, may begin after this draft
+-- the first of the entries, if there is one, may be the next entry that is added to the draft
 abbrev Starts : PlainDraft → Nodes → Type 0
 Starts draft NoNode = Unit {0}
 Starts draft (Leaf head others) = MayBegin head.line draft.pending draft.closed
@@ -81,9 +81,9 @@ starts_opened draft entry line NoNode = tt
 starts_opened draft entry line (Leaf next others) = tt
 starts_opened draft entry line (Branch next opened block closed others) = tt
 
--- Reading the tokens of the entries `nodes` from `draft` gives the draft `after`. This draft has as
--- many open blocks as `draft`, no block inside eight others, and the entries of `draft` followed by
--- `nodes`.
+-- After the tokens of the entries `nodes` are added to `draft`, the draft is `after`. `after` has
+-- as many open blocks as `draft`, and no block inside eight others. The entries of `after` are
+-- those of `draft` followed by `nodes`.
 record Passed (draft : PlainDraft) (nodes : Nodes) (tokens : List (ℕ × Token)) : Type 0 where
   after : PlainDraft
   read : with_tokens draft (tokens_of nodes ++ tokens) ≡ with_tokens after tokens

@@ -31,7 +31,7 @@ none_at (c ∷ name) (suc i) none =
 none_in : (text : List ℕ) (i : PlainInterest) → IsInterest text i → i.parameters ≡ None → digests_in i.name ≡ []
 none_in text i read without = subst (λ (p : Option (List ℕ)). IsDigested i.name read.fields.elements p) without read.digested
 
--- the rules see the whole name of an Interest without parameters
+-- if an Interest has no parameters, the rules see its whole name
 pub undigested : (i : Interest) → i.parameters ≡ None → without_digest (components i.name) ≡ components i.name
 undigested i without =
     let name = components i.name in

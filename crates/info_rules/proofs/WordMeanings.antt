@@ -27,8 +27,7 @@ use Rattle.info_rules.specs.ValueWords.{kind_in, relation_in, checker_type_in, s
 use Rattle.info_rules.specs.Values.{ok_of, id_in, name_word_in}
 use Rattle.info_rules.specs.Meaning.{IsKind, IsRelation, IsId}
 
--- `IsCheckerType` gives the words for the types of checkers, and `IsSignatureType` those for the
--- types of signatures
+-- the text is the word for this type of checker
 abbrev pub IsCheckerType : List ℕ → CheckerType → Type 0
 IsCheckerType text Customized = text ≡ codes "customized"
 IsCheckerType text Hierarchical = text ≡ codes "hierarchical"

@@ -43,7 +43,8 @@ is_digest (Err fault) = false
 abbrev pub block_of : Bool → BlockKind
 block_of hierarchical = if hierarchical then blocks.Hierarchical else blocks.Customized
 
--- a customized checker needs a key locator, unless it accepts digests, which have no key
+-- whether the checker needs a key locator: a customized checker needs one, unless it accepts
+-- digests, which have no key
 abbrev pub needs_locator : Found (Option CheckerType) → Found (Option SignatureType) → Bool
 needs_locator type signature = is_customized type && not (is_digest signature)
 
@@ -52,15 +53,16 @@ abbrev pub has_locator : List Block → Found (Option CheckerType) → Found (Op
 has_locator keys type signature =
     not (needs_locator type signature) || is_there (codes "key-locator") keys
 
--- the requirement on the key's name, if the block has one: that of a hierarchical checker, or that
--- of the first key locator
+-- the requirement on the key's name, if the block has one: `Hierarchical` for a hierarchical
+-- checker, otherwise the requirement of the first key locator
 abbrev pub locator_of : Bool → List Block → Found (Option LocatorTest)
 locator_of hierarchical keys =
     if hierarchical then Ok (Some locators.Hierarchical)
     else shown first_of (each locator_in (named (codes "key-locator") keys))
 
--- The checker with this signature type. Without a signature type, it requires HMAC with SHA-256.
--- HMAC needs a requirement on the key's name, and without one the fault is `Missing` at this line.
+-- The checker with this signature type. Without a signature type, the checker requires HMAC with
+-- SHA-256. An HMAC checker needs a requirement on the key's name: without one, the fault is
+-- `Missing` at this line.
 abbrev pub checker_with : ℕ → Option SignatureType → Option LocatorTest → Found Checker
 checker_with line None test = shown checkers.HmacSha256 (needed_one line test)
 checker_with line (Some HmacSha256) test = shown checkers.HmacSha256 (needed_one line test)

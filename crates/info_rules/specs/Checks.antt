@@ -31,8 +31,8 @@ ChecksKey keys name signed given =
     ⊎ ((key : List ℕ) × IsAmong (name, key) keys × ChecksTag (Mac key signed.covered) signed given)
 
 -- `given` is the result of these checks: the KeyLocator has the name of a key, this name meets the
--- requirement, and the checks of `ChecksKey` pass for this name. If one of the first two fails, the
--- reason is `KeyLocator`.
+-- requirement, and the checks of `ChecksKey` pass for this name. If the KeyLocator has no name, or
+-- a name that does not meet the requirement, `given` is the reason `KeyLocator`.
 abbrev pub ChecksLocator : List NamedKey → LocatorTest → PlainLocator → PlainSigned → Option Reason
     → Type 0
 ChecksLocator keys test (KeyName name) signed given =
@@ -43,8 +43,9 @@ ChecksLocator keys test Digest signed given = given ≡ Some reasons.KeyLocator
 ChecksLocator keys test Other signed given = given ≡ Some reasons.KeyLocator
 
 -- `given` is the checker's result for the packet. Signature type 0 is DigestSha256 and type 4 is
--- HmacWithSha256 (NDN Packet Format 0.3, "Signature"). Another type than the checker's, and every
--- type for `Unsupported`, has the reason `SigType`.
+-- HmacWithSha256 (NDN Packet Format 0.3, "Signature"). If the packet's signature type is not the
+-- checker's type, `given` is the reason `SigType`. The checker `Unsupported` denies every packet
+-- with the reason `SigType`.
 abbrev pub Checks : List NamedKey → Checker → PlainSigned → Option Reason → Type 0
 Checks keys checkers.Sha256 signed given =
     Unless (signed.signature.info.kind ≡ 0) reasons.SigType given

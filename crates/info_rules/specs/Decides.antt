@@ -26,36 +26,37 @@ reason_number reasons.KeyUnknown = 5
 reason_number reasons.Tag = 6
 reason_number reasons.Replay = 7
 
--- `greatest` is the greater of the earlier reason, if there is one, and the new reason
+-- `greatest` is the one of the reasons `earlier` and `reason` that has the greater rank, or
+-- `reason` if `earlier` is `None`
 abbrev pub IsGreater : Option Reason → Reason → Reason → Type 0
 IsGreater None reason greatest = greatest ≡ reason
 IsGreater (Some earlier) reason greatest =
     ((greatest ≡ earlier) × (reason_number reason ≤ reason_number earlier))
     ⊎ ((greatest ≡ reason) × (reason_number earlier ≤ reason_number reason))
 
--- at least one checker passes the packet
+-- the packet passes at least one checker
 abbrev pub IsPassed : List NamedKey → List Checker → PlainSigned → Type 0
 IsPassed keys all signed = Any (λ checker. Checks keys checker signed None) all
 
--- the checker denies the packet, and the rank of its reason is at most that of this reason
+-- the checker denies the packet for a reason whose rank is at most the rank of `reason`
 abbrev pub IsAtMost : List NamedKey → PlainSigned → Reason → Checker → Type 0
 IsAtMost keys signed reason checker =
     (given : Reason) × Checks keys checker signed (Some given)
     × (reason_number given ≤ reason_number reason)
 
--- No checker passes the packet, and `reason` is the greatest of the checkers' reasons. If the rule
--- has no checkers, `reason` is `KeyLocator`.
+-- The packet passes no checker, and `reason` is the one of the checkers' reasons that has the
+-- greatest rank. If the rule has no checkers, `reason` is `KeyLocator`.
 abbrev pub IsGreatest : List NamedKey → List Checker → PlainSigned → Reason → Type 0
 IsGreatest keys all signed reason =
     ((all ≡ []) × (reason ≡ reasons.KeyLocator))
     ⊎ (All (IsAtMost keys signed reason) all
     × Any (λ checker. Checks keys checker signed (Some reason)) all)
 
--- the packet is signed as `IsSigned` states, and at least one checker passes it
+-- the packet is signed as `IsSigned` states, and it passes at least one checker
 abbrev pub Allow : List NamedKey → List Checker → SeenPacket → Type 0
 Allow keys all packet = (signed : PlainSigned) × IsSigned packet signed × IsPassed keys all signed
 
--- the packet is signed as `IsSigned` states, no checker passes it, and `reason` is the reason that
+-- the packet is signed as `IsSigned` states, it passes no checker, and `reason` is the reason that
 -- `IsGreatest` states
 abbrev pub DenyBy : List NamedKey → List Checker → SeenPacket → Reason → Type 0
 DenyBy keys all packet reason =
@@ -68,8 +69,8 @@ IsMisshaped packet signature =
     (¬ SaysWhen packet.kind signature)
     ⊎ ((first second : List ℕ) → Covered packet.frame first second → ⊥)
 
--- the packet is denied before any checker examines it: for `NotSigned` without a signature, or for
--- `Shape` if it is misshaped
+-- the packet is denied before any checker examines it: the reason is `NotSigned` for a packet
+-- without a signature, and `Shape` for a misshaped packet
 abbrev pub IsUnfit : SeenPacket → Reason → Type 0
 IsUnfit packet reasons.NotSigned = packet.signature ≡ None
 IsUnfit packet reasons.Shape =

@@ -12,7 +12,7 @@ Found A = Result A RulesFault
 abbrev pub sooner_of : RulesFault → RulesFault → RulesFault
 sooner_of a b = if sooner b a then b else a
 
--- both values, or the fault that is reported, which is the sooner of two faults
+-- both values, or the fault that is reported; of two faults, the sooner one is reported
 abbrev pub both : {A B : Type 0} → Found A → Found B → Found (A × B)
 both (Ok a) (Ok b) = Ok (a, b)
 both (Ok a) (Err f) = Err f
@@ -25,13 +25,13 @@ beside None found = found
 beside (Some e) (Ok a) = Err e
 beside (Some e) (Err f) = Err (sooner_of e f)
 
--- the value after a function is applied to it
+-- the function applied to the value that was read; a fault is returned unchanged
 abbrev pub shown : {A B : Type 0} → (A → B) → Found A → Found B
 shown f (Ok a) = Ok (f a)
 shown f (Err e) = Err e
 
--- the value after a function is applied to it, where the function may return a fault, or the
--- earlier fault
+-- the function, which may return a fault, applied to the value that was read; an earlier fault is
+-- returned unchanged
 abbrev pub then_made : {A B : Type 0} → (A → Found B) → Found A → Found B
 then_made f (Ok a) = f a
 then_made f (Err e) = Err e

@@ -38,8 +38,9 @@ half_with template_word keys pattern =
     shown (λ half. option_zip half.0 half.1) (both pattern (value_in Pattern
     (λ text. ok_of (template_in (groups_of pattern) text)) template_word keys))
 
--- a pattern, and a template that uses the groups of this pattern, each read from the first key with
--- its word, or the fault that is reported; `None` if one of the keys is absent
+-- A pattern, and a template that uses the groups of this pattern, or the fault that is reported.
+-- The pattern and the template are each read from the first key with the given word. The result is
+-- `None` if one of these two keys is absent.
 unfoldable pub half_in : List ℕ → List ℕ → List Block → Found Half
 half_in pattern_word template_word keys = half_with template_word keys
     (value_in Pattern (λ text. ok_of (pattern_in text)) pattern_word keys)

@@ -54,8 +54,8 @@ is_there word keys = is_some (first_of (named word keys))
 abbrev pub missing_unless : Bool → ℕ → Option RulesFault
 missing_unless there line = if there then None else Some (record { line = line; kind = Missing })
 
--- what `f` reads from the block of a key, whose keys are at this depth, or the fault that is
--- reported; a key with a value or without a block has the fault `BadValue`
+-- What `f` reads from the keys of the key's block, or the fault that is reported. The keys of the
+-- block are at `depth`. A key that has a value, or that has no block, has the fault `BadValue`.
 abbrev pub block_in : {A : Type 0} → ℕ → (ℕ → List Block → Found A) → Block → Found A
 block_in depth f key =
     if key.0.has_block then beside (shape_fault key) (f key.0.line (blocks_of depth key.1))

@@ -79,7 +79,8 @@ IsId text id =
 
 -- ---- names: the requirement of a filter on a packet's name, or of a key locator on a key's name
 
--- either a name with its relation to the tested name, or a pattern for the tested name
+-- the keys state the requirement: either a name and its relation to the tested name, or a pattern
+-- for the tested name
 abbrev pub AsksOfName : List Block → NameTest → Type 0
 AsksOfName keys (tests.Related relation name) =
     HasOnly (codes "type" ∷ codes "name" ∷ codes "relation" ∷ []) keys
@@ -95,7 +96,8 @@ IsFilter key test = OpensBlock key × AsksOfName (blocks_of 2 key.1) test
 
 -- ---- checkers
 
--- two patterns, a template for each pattern, and the relation between the expanded names
+-- the keys state the hyper-relation: two patterns, a template for each pattern, and the relation
+-- between the expanded names
 abbrev pub AsksOfBoth : List Block → PlainHyper → Type 0
 AsksOfBoth keys hyper =
     HasOnly (codes "k-regex" ∷ codes "k-expand" ∷ codes "h-relation" ∷ codes "p-regex"
@@ -135,9 +137,10 @@ abbrev pub TakesAsymmetric : List Block → Type 0
 TakesAsymmetric keys = HasValue (codes "sig-type") keys (codes "rsa-sha256")
     ⊎ HasValue (codes "sig-type") keys (codes "ecdsa-sha256")
 
--- A checker of `type customized`. Its key locator states the requirement on the key's name. A
--- digest has no key, so a checker of digests needs no key locator, and ignores a key locator that
--- it has.
+-- A checker of `type customized`. In a checker of HMAC, the key locator states the requirement on
+-- the key's name. A checker of RSA or ECDSA must have a valid key locator, which has no effect. A
+-- checker of digests needs no key locator, because a digest has no key. The key locator of a
+-- checker of digests, if present, must be valid, but has no effect.
 abbrev pub AsksAsTold : List Block → Checker → Type 0
 AsksAsTold keys (checkers.HmacSha256 test) =
     TakesHmac keys × HasBlock IsLocator (codes "key-locator") keys test
@@ -167,7 +170,7 @@ IsChecker key checker = OpensBlock key × AsksOfSignature (blocks_of 2 key.1) ch
 
 -- ---- rules
 
--- the keys of a rule, with its filters and its checkers in order, at most 16 of each
+-- the keys state the rule, with its filters and its checkers in order, at most 16 of each
 abbrev pub AreOfRule : List Block → PlainRule → Type 0
 AreOfRule keys rule =
     HasOnly (codes "id" ∷ codes "for" ∷ codes "filter" ∷ codes "checker" ∷ []) keys
@@ -187,8 +190,8 @@ IsAnchor key =
     × ((text : List ℕ) × HasValue (codes "type") (blocks_of 1 key.1) text
     × IsOneOf (codes "file" ∷ codes "dir" ∷ codes "base64" ∷ []) text)
 
--- the entries of a rule file, with its rules in order; there are at most 256 rules, and all have
--- different ids; each trust anchor is valid
+-- the entries are those of a rule file with the rules `rules`, in order; there are at most 256
+-- rules, and all have different ids; each trust anchor is valid
 abbrev pub IsRuleFile : List PlainEntry → List PlainRule → Type 0
 IsRuleFile entries rules =
     HasOnly (codes "rule" ∷ codes "trust-anchor" ∷ []) (blocks_of 0 entries)

@@ -24,7 +24,7 @@ abbrev pub tests_key : Tested → Bool
 tests_key PacketName = false
 tests_key KeyName = true
 
--- the form of a requirement that the key belongs to, or `None` if it belongs to none
+-- the form that the key belongs to, or `None` if the key belongs to no form
 unfoldable pub form_of : Tested → Block → Option Form
 form_of tested key =
     if is_word (codes "name") key || is_word (codes "relation") key then Some forms.Related else (
@@ -53,7 +53,8 @@ other_form_of tested other key =
     on_option (λ form. if is_other other form then Some (form, key.0.line) else None) None
     (form_of tested key)
 
--- the form and the line of the first key that belongs to a form, where this form is not `other`
+-- the form and the line of the first key that belongs to a form other than `other`, or to any form
+-- if `other` is `None`
 abbrev pub first_other : Tested → Option Form → List Block → Option (Form × ℕ)
 first_other tested other keys = first_of (filter_map (other_form_of tested other) keys)
 
@@ -72,8 +73,9 @@ second_fault tested line keys form =
     on_option (λ second. Some (record { line = second.1; kind = BadValue }))
     (half_fault line keys form) (first_other tested (Some form) keys)
 
--- the fault of the forms in a block, which must have exactly one form: `Missing` without a form, or
--- the fault that `second_fault` returns, if any
+-- The fault of a block if it does not state its requirement in exactly one form, otherwise `None`.
+-- If no key belongs to a form, the fault is `Missing`. If a key belongs to a form, the result is
+-- that of `second_fault` for the form of the first such key.
 unfoldable pub form_fault : Tested → ℕ → List Block → Option RulesFault
 form_fault tested line keys = on_option (λ first. second_fault tested line keys first.0)
     (Some (record { line = line; kind = Missing })) (first_other tested None keys)

@@ -4,8 +4,8 @@ use Rattle.info_rules.specs.declared.rule.Kind.{Kind}
 use Rattle.info_rules.specs.declared.rule.NameTest.{NameTest}
 use Rattle.info_rules.specs.declared.rule.Checker.{Checker}
 
--- A rule. It applies to packets of its kind and, if it has filters, only to those whose name passes
--- a filter. It allows a packet that passes one of its checkers.
+-- A rule applies to packets of its kind. If the rule has filters, it applies only to packets whose
+-- name passes a filter. The rule allows a packet that passes one of its checkers.
 pub record PlainRule : Type 0 where
   pub id : List ℕ
   pub kind : Kind

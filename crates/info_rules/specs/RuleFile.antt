@@ -35,7 +35,7 @@ unfoldable pub repeated_faults : Block → List Block → List RulesFault
 repeated_faults key later =
     on_option (λ id. flat_map (same_id_faults id) later) [] (id_key key >>= value_of)
 
--- for each two rules with the same id, the fault of the later rule
+-- for each pair of rules with the same id, the fault of the later rule
 unfoldable pub id_faults : List Block → List RulesFault
 id_faults [] = []
 id_faults (key ∷ keys) = repeated_faults key keys ++ id_faults keys

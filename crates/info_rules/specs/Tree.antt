@@ -15,8 +15,9 @@ pub record PlainEntry : Type 0 where
 abbrev pub Block : Type 0
 Block = PlainEntry × List PlainEntry
 
--- the entries before the first entry at this depth, and the blocks at this depth: each entry at
--- this depth, together with the entries after it and before the next entry at this depth
+-- A pair: the entries before the first entry at this depth, and the blocks at this depth. A block
+-- is an entry at this depth, together with all entries between this entry and the next entry at
+-- this depth.
 unfoldable pub parted : ℕ → List PlainEntry → List PlainEntry × List Block
 parted depth [] = ([], [])
 parted depth (entry ∷ entries) =

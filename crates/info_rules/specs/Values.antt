@@ -37,14 +37,15 @@ abbrev pub read_at : {A : Type 0} → RulesFaultKind → ℕ → Option A → Fo
 read_at kind line None = Err (record { line = line; kind = kind })
 read_at kind line (Some value) = Ok (Some value)
 
--- the value that is read from the text of a key; a key without a text is a fault
+-- the value that is read from the text of a key; the fault is `BadValue` if the key has no text,
+-- and `kind` if the text is not valid
 abbrev pub given_in : {A : Type 0} → RulesFaultKind → (List ℕ → Option A) → ℕ → Option (List ℕ)
     → Found (Option A)
 given_in kind read line None = Err (record { line = line; kind = BadValue })
 given_in kind read line (Some text) = read_at kind line (read text)
 
--- the value of the first key that is `word`, or `None` if there is no such key; a wrong value has
--- the fault `kind`, and a key without a value `BadValue`
+-- the value of the first key that is `word`, or `None` if there is no such key; the fault is `kind`
+-- for an invalid value, and `BadValue` for a key without a value
 unfoldable pub value_in : {A : Type 0} → RulesFaultKind → (List ℕ → Option A) → List ℕ → List Block
     → Found (Option A)
 value_in kind read word keys = on_option (λ key. given_in kind read key.0.line (value_of key))
@@ -57,8 +58,8 @@ id_in text = if is_id text then Some text else None
 abbrev pub name_word_in : List ℕ → Option (Unit {0})
 name_word_in text = if bytes_eq text (codes "name") then Some tt else None
 
--- `Some` if the text is the type of a trust anchor; the type `any` has the fault `AnyAnchor`, and
--- every other text has `BadValue`
+-- `Some` if the text is a type that a trust anchor may have; the type `any` has the fault
+-- `AnyAnchor`, and every other text has `BadValue`
 abbrev pub anchor_type_in : ℕ → List ℕ → Found (Option (Unit {0}))
 anchor_type_in line text =
     if bytes_eq text (codes "any") then Err (record { line = line; kind = AnyAnchor }) else (

@@ -34,12 +34,12 @@ pub data Mode : Type 0 where
   -- inside a quoted text, after these octets; the Boolean is true if the last octet is a backslash
   InQuotes : Bool → List ℕ → Mode
 
--- the state after an octet that does not belong to an earlier word
+-- the state after an octet that is read between tokens, or that ends a word
 unfoldable pub begun_by : ℕ → Mode
 begun_by o = if o == 34 then InQuotes false []
     else (if o == 59 then InComment else (if is_separator o then Between else InWord (o ∷ [])))
 
--- a quote closes a quoted text if no backslash is directly before it
+-- whether the octet closes a quoted text: it is a quote with no backslash directly before it
 unfoldable pub is_closing : Bool → ℕ → Bool
 is_closing escaped o = (o == 34) && not escaped
 
@@ -79,7 +79,7 @@ tokens_from mode line [] = with_ended line (ended_at_end mode) []
 tokens_from mode line (o ∷ text) =
     with_ended line (ended_by mode o) (tokens_from (mode_after mode o) (line_after line o) text)
 
--- the length of the quoted text up to the closing quote, if it is closed on its line
+-- the number of octets before the closing quote, if the quoted text is closed on its line
 unfoldable pub quoted_len : Bool → List ℕ → Option ℕ
 quoted_len escaped [] = None
 quoted_len escaped (o ∷ text) =

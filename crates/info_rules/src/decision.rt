@@ -22,8 +22,8 @@ use std::alloc::Global;
 use thiserror::Error;
 
 /// Why a packet is denied. If several checkers have different reasons, the reason that is last in
-/// this list is reported. The printed text says what was wrong and what the signer or the operator
-/// can do.
+/// this list is reported. The error message of a reason states what was wrong, and what the signer
+/// or the operator can do.
 #[derive(Clone, Copy, Debug, PartialEq, Eq, Error)]
 pub enum Reason {
     /// The Interest is not signed.
@@ -124,9 +124,9 @@ impl Rules {
     /// Decides a packet from its received octets, by the first rule that applies. The name of an
     /// Interest is used without a parameters digest at its end.
     ///
-    /// Memory is needed only if a checker of that rule has a hyper-relation that expands both the
-    /// key's name and the packet's name, each to at most 64 components. If a template expands to a
-    /// longer name, the packet does not pass that checker.
+    /// Memory is needed only if the first rule that applies has a checker whose hyper-relation
+    /// expands both the key's name and the packet's name, each to at most 64 components. A packet
+    /// does not pass a checker whose template expands to more than 64 components.
     pub fn decide(
         &self,
         alloc: Global,
@@ -169,7 +169,7 @@ fn reason_against(
     }
 }
 
-/// Returns `None` if a checker passes the packet. Otherwise returns the checkers' reason that is
+/// Returns `None` if the packet passes a checker. Otherwise returns the checkers' reason that is
 /// last in the list of reasons, or `KeyLocator` if there are no checkers.
 fn greatest(alloc: Global, keys: &KeyBook, checkers: &[Checker], signed: &Signed<'_>) -> Checked
     ensures { MatchResult result
@@ -194,8 +194,8 @@ pub fn decisions_are_unique()
         → Decides rules keys packet a → Decides rules keys packet b → a ≡ b }
 {}
 
-/// Law: every Interest and every Data has a decision. Since decisions are unique, each has exactly
-/// one.
+/// Law: every Interest and every Data has a decision. If no two keys of the book have the same
+/// name, every Interest and every Data has exactly one decision, because decisions are unique.
 pub fn no_packet_is_undecided()
     ensures { (rules : List PlainRule) (keys : List NamedKey) (packet : PlainFrame)
         → IsDecided packet

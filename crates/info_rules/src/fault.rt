@@ -66,7 +66,7 @@ impl RulesFaultKind {
         }
     }
 
-    /// Returns a fault of this kind at the line.
+    /// Returns a fault of this kind at `line`.
     pub(crate) fn at(self, line: u32) -> RulesFault
         ensures { result ≡ record { line = line; kind = self } }
     {

@@ -60,8 +60,8 @@ fn other_form_of(tested: Tested, other: Option<Form>, key: Key<'_>) -> Option<(F
     }
 }
 
-/// Returns the form and the line of the first key that belongs to a form, where this form is not
-/// `other`.
+/// Returns the form and the line of the first key that belongs to a form other than `other`, or to
+/// any form if `other` is `None`.
 pub fn first_other(tested: Tested, other: Option<Form>, keys: Keys<'_>) -> Option<(Form, u32)>
     ensures { option_map found_form_of result
         ≡ first_other (tested_of tested) (option_map name_form_of other) (keys_of keys.entry) }

@@ -58,8 +58,8 @@ pub fn both<A: Drop, B: Drop>(first: Found<A>, second: Found<B>) -> Found<(A, B)
     }
 }
 
-/// Returns the value that was read. If `fault` is present or the value is a fault, returns the
-/// fault that is reported.
+/// Returns the value that was read if there is no fault. If `fault` is present or `read` is a
+/// fault, returns the fault that is reported.
 pub fn beside<A: Drop>(fault: Option<RulesFault>, read: Found<A>) -> Found<A>
     ensures { result ≡ found.beside fault read }
 {
@@ -78,8 +78,8 @@ pub fn needed<A: Drop>(line: u32, read: Found<Option<A>>) -> Found<A>
     read?.ok_or(RulesFaultKind::Missing.at(line))
 }
 
-/// Appends a value that was read to a list of values. If the value or the list is a fault, returns
-/// the fault that is reported.
+/// Appends a value that was read to a list of values. If `parts` or `read` is a fault, returns the
+/// fault that is reported.
 pub fn with_one<A: Drop>(parts: Found<Vec<A>>, read: Found<A>) -> Read<Vec<A>>
     ensures { IfOk result (λ all. shown (λ parts. parts.items) all
         ≡ found.and_one (shown (λ parts. parts.items) parts) read) }
@@ -93,8 +93,8 @@ pub fn with_one<A: Drop>(parts: Found<Vec<A>>, read: Found<A>) -> Read<Vec<A>>
     }
 }
 
-/// Returns the fault `Missing` at the line if `there` is false, otherwise `None`. `there` tells
-/// whether all needed keys are present.
+/// Returns the fault `Missing` at `line` if `there` is false, otherwise `None`. `there` is true if
+/// all needed keys are present.
 pub fn missing_unless(there: bool, line: u32) -> Option<RulesFault>
     ensures { result ≡ missing_unless there line }
 {

@@ -96,7 +96,7 @@ fn made_of(parts: Found<Parts>) -> Found<Option<HyperRelation>>
     Ok(hyper_with(key, relation, packet))
 }
 
-/// Reads the hyper-relation that the keys give.
+/// Reads the hyper-relation that the keys state, if all its parts are present.
 #[tactic(auto, unfolding(crate::specs::HyperBlock::parts_in))]
 fn read_hyper(alloc: Global, keys: Keys<'_>) -> Read<Option<HyperRelation>>
     ensures { IfOk result

@@ -17,7 +17,8 @@ use crate::table::Block;
 use crate::walk::walk;
 use std::alloc::Global;
 
-/// Returns whether the block has no key of another form beside `hyper-relation`.
+/// Returns whether the block has none of the keys `name`, `relation` and `regex`, which state a
+/// requirement of another form than `hyper-relation`.
 #[tactic(auto, unfolding(crate::specs::LocatorBlock::is_hyper_alone))]
 fn is_hyper_alone(keys: Keys<'_>) -> bool
     ensures { result ≡ is_hyper_alone (keys_of keys.entry) }

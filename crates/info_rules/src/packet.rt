@@ -126,9 +126,9 @@ fn signed_data<'a>(packet: &'a Data<'a>, name: Name<'a>) -> Result<Signed<'a>, R
     })
 }
 
-/// Law: checkers can examine every Data that was read. They can also examine every signed Interest
-/// that was read, if the Interest has a SignatureTime and its parameters digest is the last
-/// component of its name.
+/// Law: checkers can examine every Data that was read. Checkers can also examine every signed
+/// Interest that was read, if the Interest has a SignatureTime and its parameters digest is the
+/// last component of its name.
 pub fn read_packets_have_a_shape()
     ensures data { (text : List ℕ) (d : PlainData) (reason : Reason) → IsData text d
         → ¬ IsUnfit (seen_data text d) reason }

@@ -18,7 +18,8 @@ use ndn_tlv::Memory;
 use std::alloc::Global;
 
 /// Reads the value of the first key that is `word`, if there is one. If the value is invalid,
-/// returns a fault of the kind `kind`.
+/// returns a fault of the kind `kind`. If the key has no value, or has a block, returns the fault
+/// `BadValue`.
 #[tactic(auto, unfolding(crate::specs::Values::value_in))]
 pub fn read_value<V: Value>(
     alloc: Global,

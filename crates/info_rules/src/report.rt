@@ -8,7 +8,7 @@ use crate::fault::RulesFault;
 /// The fault to report, of the faults that were found so far, or `None` if no fault was found.
 pub type Report = Option<RulesFault>;
 
-/// Adds `fault` to the report, which keeps only the soonest fault, as `is_sooner` compares faults.
+/// Adds `fault` to the report, which keeps only the soonest fault in the order of `is_sooner`.
 #[tactic(auto, unfolding(crate::specs::Faults::after))]
 pub fn note(report: &mut Report, fault: RulesFault)
     ensures { report.new ≡ after report.old (fault ∷ []) }
@@ -16,8 +16,8 @@ pub fn note(report: &mut Report, fault: RulesFault)
     *report = Some(report.map_or(fault, |told| told.sooner_of(fault)));
 }
 
-/// Law: the reported fault is one of a series of faults, and no fault of the series is sooner.
-/// Nothing is reported if and only if the series is empty.
+/// Law: the reported fault is one of a series of faults, and no fault of the series is sooner. No
+/// fault is reported if and only if the series of faults is empty.
 pub fn the_least_is_reported()
     ensures { (faults : List RulesFault)
         → MatchOption (after None faults) (faults ≡ [])

@@ -11,13 +11,15 @@ pub enum Kind {
     Interest,
 }
 
-/// The relation of the name in a rule to another name.
+/// The relation of a first name to a second name. In a name test, the first name is the given name,
+/// and the second is the tested name. In a hyper-relation, the first name is expanded from the
+/// key's name, and the second from the packet's name.
 #[derive(Clone, Copy, Debug)]
 pub enum Relation {
     Equal,
-    /// The name in the rule is a prefix of the other name, or equal to it.
+    /// The first name is a prefix of the second name, or equal to it.
     IsPrefixOf,
-    /// The name in the rule is a proper prefix of the other name.
+    /// The first name is a proper prefix of the second name.
     IsStrictPrefixOf,
 }
 
@@ -31,8 +33,8 @@ pub enum NameTest {
 }
 
 /// A relation between a key's name and a packet's name. Each of the two names must match its
-/// pattern, and a template expands the match to a new name. The new name of the key must have the
-/// relation to the new name of the packet.
+/// pattern, and a template expands the match to a new name. The name expanded from the key's name
+/// must have the relation `relation` to the name expanded from the packet's name.
 #[derive(Debug, Drop)]
 pub struct HyperRelation {
     pub key_pattern: Pattern,
@@ -80,14 +82,14 @@ pub enum LocatorTest {
 pub enum Checker {
     /// DigestSha256, with any KeyLocator.
     Sha256,
-    /// HmacWithSha256 with a key of the key book, whose name meets the requirement.
+    /// HmacWithSha256 with a key of the key book. The key's name meets the requirement.
     HmacSha256(LocatorTest),
     /// A signature type for RSA or ECDSA, which is never accepted.
     Unsupported,
 }
 
-/// A rule. It applies to packets of its kind, and if it has filters, only to those whose name
-/// passes a filter. It allows a packet whose signature passes a checker.
+/// A rule applies to packets of its kind. If the rule has filters, it applies only to packets whose
+/// name passes a filter. The rule allows a packet whose signature passes one of its checkers.
 #[derive(Debug, Drop)]
 pub struct Rule {
     pub id: String,

@@ -83,8 +83,9 @@ fn judge_ids(keys: Keys<'_>, report: &mut Report)
     }
 }
 
-/// Returns the fault that is reported for the keys of a file. Faults are unknown keys, more than
-/// 256 rules, and ids that two rules have. Ids are compared only if there are at most 256 rules.
+/// Returns the fault that is reported for the keys of a file. The possible faults are unknown keys,
+/// more than 256 rules, and an id that two rules have. Ids are compared only if there are at most
+/// 256 rules.
 #[tactic(auto, using(crate::proofs::Reports::after_append, crate::proofs::Reports::after_none))]
 fn judge_file(alloc: Global, keys: Keys<'_>) -> Result<Report, Memory>
     ensures { IfOk result (λ fault. fault ≡ after None
@@ -126,9 +127,9 @@ fn read_file(alloc: Global, tree: &InfoTree) -> Result<Rules, RulesFault>
 impl Rules {
     /// Reads the rules of a file, at most 256, in the order of the text.
     ///
-    /// If the file has faults, returns the fault on the least line. Of several faults on that line,
-    /// returns the one whose kind comes first in `RulesFaultKind`. `Memory` may be returned for any
-    /// file.
+    /// If the file has faults, returns the fault on the least line. Of several faults on the least
+    /// line, returns the one whose kind comes first in `RulesFaultKind`. `Memory` may be returned
+    /// for any file.
     pub fn read(alloc: Global, tree: &InfoTree) -> Result<Rules, RulesFault>
         // The returned rules are the meaning of the entries.
         ensures found { IfOk result (IsRuleFile tree.now) }
@@ -144,7 +145,8 @@ impl Rules {
     }
 }
 
-/// Law: entries mean at most one list of rules. If they mean one, `rules_in` returns it.
+/// Law: entries mean at most one list of rules. `rules_in` returns a list of rules if and only if
+/// the entries mean this list.
 pub fn rule_files_have_one_reading()
     ensures exact { (entries : List PlainEntry) (rules : List PlainRule)
         → (rules_in entries ≡ Ok rules) ↔ IsRuleFile entries rules }

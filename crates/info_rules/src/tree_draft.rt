@@ -15,8 +15,8 @@ const MAX_DEPTH: usize = 8;
 /// The outcome of adding a token. `Err` is the fault of a token that cannot be added, or `Memory`.
 type Added = Result<(), RulesFault>;
 
-/// Returns the fault of the block that is inside eight others, if there is such a block on a line
-/// before `line`.
+/// Returns the fault of the block that is inside eight others, or `None` if there is no such block,
+/// or if this block is on `line`.
 fn deep_before(deep: Option<u32>, line: u32) -> Option<RulesFault>
     ensures { result ≡ read.deep_before deep line }
 {

@@ -57,14 +57,14 @@ impl InfoTree {
     /// with `"` continues to the next `"` on the same line that has no backslash directly before
     /// it. In words, quoted or not, `\\` means a backslash and `\"` a quote. An entry is a key, at
     /// most one value on the key's line, and at most one block of entries between braces. The
-    /// opening brace may be on a later line. An entry ends with its line, or before a `}`.
+    /// opening brace may be on a later line. After an entry, only a comment or the closing brace of
+    /// the enclosing block may follow on the same line.
     ///
-    /// On failure, returns the first of the following faults. A word or a brace where it is not
-    /// allowed is `Syntax`, and so is a quote that is not closed on its line. A block that is not
-    /// closed is `Syntax` at the line where the text ends. A block inside eight others is
-    /// `TooDeep`, or `Syntax` if the same line also has a `Syntax` fault. A text of more than
-    /// 65,536 octets is refused before all these checks (`TooLarge`). `Memory` may be returned for
-    /// any text.
+    /// On failure, returns the first fault of the text. A word or a brace where it is not allowed
+    /// is `Syntax`, and so is a quote that is not closed on its line. A block that is not closed is
+    /// `Syntax` at the line where the text ends. A block inside eight others is `TooDeep`, or
+    /// `Syntax` if the same line also has a `Syntax` fault. A text of more than 65,536 octets has
+    /// the fault `TooLarge`, whatever other faults it has. `Memory` may be returned for any text.
     pub fn read(alloc: Global, text: &str) -> Result<InfoTree, RulesFault>
         // The text spells the entries that are returned.
         ensures found { IfOk result (TreeOf text.now) }
@@ -87,16 +87,16 @@ pub fn trees_have_one_reading()
     ensures one { (text : List ℕ) (a b : List PlainEntry) → TreeOf text a → TreeOf text b → a ≡ b }
 {}
 
-/// Law: `outline` lists the entries of a block and of the blocks inside it. From this list,
-/// `blocks_of` gets back the keys of the block, each with the entries of its own block.
+/// Law: from the list of entries that `outline` returns for a block, `blocks_of` returns the keys
+/// of the block, each with the entries of its own block.
 pub fn outlines_keep_blocks()
     ensures { (depth : ℕ) (nodes : Nodes) → blocks_of depth (outline depth nodes)
         ≡ keyed depth nodes }
 {}
 
-/// Law: every fault except `TooLarge` is on a line of the text. The lines before that line are a
-/// prefix of some text that spells entries. If that line ends with an LF, the text up to and
-/// including this LF is not a prefix of any text that spells entries.
+/// Law: every fault except `TooLarge` is on a line of the text. The lines before the line of the
+/// fault are a prefix of some text that spells entries. If the line of the fault ends with an LF,
+/// the text up to and including this LF is not a prefix of any text that spells entries.
 pub fn faults_stand_at_their_line()
     ensures { (text : List ℕ) (fault : RulesFault) → tree_in text ≡ Err fault
         → fault.kind ≢ RulesFaultKind.TooLarge → StandsAt text fault.line }

@@ -41,8 +41,9 @@ fn judge_unknown(forms: &[Form], keys: Keys<'_>, report: &mut Report)
     }
 }
 
-/// Returns the fault of a repeated key: `BadValue` if the key's own value is wrong, otherwise
-/// `TwiceNamed`. The value of the first key with the same word is checked when the block is read.
+/// Returns the fault of a repeated key: `BadValue` if the key's own value is wrong or missing,
+/// otherwise `TwiceNamed`. The value of the first key with the same word is checked when the block
+/// is read.
 fn again_kind(alloc: Global, takes: Takes, key: Key<'_>) -> Result<RulesFaultKind, Memory>
     ensures { IfOk result (λ kind. kind ≡ again_kind (takes_of takes) (key_of key.entry)) }
 {

@@ -9,7 +9,7 @@ ghost use Rattle.info_rules.specs.Shown.{token_of};
 /// A word, a brace that stands alone, or a quoted text.
 #[derive(Clone, Copy)]
 pub enum Token<'a> {
-    /// A word, or the text between two quotes. Its backslashes are kept as in the text.
+    /// A word, or the text between two quotes. The backslashes of the word are kept as in the text.
     Word(&'a str),
     Open,
     Close,
@@ -17,7 +17,8 @@ pub enum Token<'a> {
     Broken,
 }
 
-/// A token, the line of the token, and the text after the token. That text begins on the same line.
+/// A token, the line of the token, and the text after the token. The text after the token begins on
+/// the line of the token.
 #[derive(Clone, Copy)]
 pub struct NextToken<'a> {
     pub token: Token<'a>,
@@ -66,8 +67,8 @@ fn is_closing(is_escaped: bool, octet: u8) -> bool
     octet == b'"' && !is_escaped
 }
 
-/// Returns the length in octets of the quoted text, if it is closed on its line. `text` begins
-/// after the opening quote.
+/// Returns the number of octets before the closing quote, if the quoted text is closed on its line.
+/// `text` begins after the opening quote.
 fn quoted_len(text: &[u8]) -> Option<usize>
     ensures { result ≡ quoted_len false text.now }
 {

@@ -66,7 +66,7 @@ pub record Keeps (first p : Policy) (again : Run) (journal : List PlainEvent) : 
   pub same : IsJournalOf first again journal
   pub apart : KeysAreApart first again
 
--- The next lemmas are about a run with one more event.
+-- In this module, a run is extended by one event.
 module _ (first was p : Policy) (event : PlainEvent) (earlier journal : List PlainEvent) (keys : AreApart was.keys) (brings : BringsKeysApart event) (after : IsAfter was event p)
     (before_keeps : (again : Run) → events_of again ≡ earlier → Keeps first was again earlier) where
   -- if the event is not journalled, replaying the journal still leads to the policy of the run

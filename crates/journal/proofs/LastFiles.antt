@@ -97,7 +97,7 @@ no_files_or_last text files h k =
 -- ---- the loop over the lines of the text
 
 -- The lines that were read so far. `last` is the text of the files in the last line of new rules
--- among these lines, or None if there is no such line.
+-- that was read, or None if no line of new rules was read.
 pub record ReadSoFar {A : Type 0} (items : A → List ℕ) (unread left : Option (List ℕ)) (last : Option A) : Type 0 where
   pub lines : List (List ℕ)
   pub are_lines : AreLines lines
@@ -145,8 +145,8 @@ are_none items None last files none h = tt
 are_none items (Some text) None files none h = (λ no. absurd cc, λ is. absurd (no_files_or_last text files h is))
 are_none items (Some text) (Some found) files none h = absurd cc
 
--- Let a line of new rules have been found. Then `files` are the last files of the text exactly if
--- comparing the found files with `spelled`, the octets of `files`, finds no difference.
+-- if a line of new rules was found, `files` are the last files of the text exactly if the
+-- octet-by-octet comparison of the found files with `files` finds no difference
 pub are_last : {A : Type 0} (items : A → List ℕ) (unread : Option (List ℕ)) (last : Option A) (found : A) (spelled files : List ℕ) (same : Bool) → last ≡ Some found
     → same ≡ pointwise eqb (items found) spelled → spelled ≡ files
     → IfSome unread (λ text. MatchOption last (HasNoFiles text) (λ found. HasLastFiles text (items found)))

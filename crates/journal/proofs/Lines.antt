@@ -27,7 +27,7 @@ say_at_end (line ∷ lines) [] h = (h.0, say_at_end lines [] h.1)
 say_at_end (line ∷ lines) (event ∷ events) (inl h) = inl (h.0, say_at_end lines (event ∷ events) h.1)
 say_at_end (line ∷ lines) (event ∷ events) (inr h) = inr (h.0, say_at_end lines events h.1)
 
--- whole lines that spell these events are a script of these events
+-- if `lines` are whole lines that spell `events`, the text of `lines` is a script of `events`
 whole_script : (lines : List (List ℕ)) (events : List PlainEvent) → AreLines lines → SpellEvents lines events → IsScript (joined lines) events
 whole_script lines events are say =
     (lines ++ ([] ∷ []), (none_at_end lines are, joined_at_end lines ∙ sym (append-nil (joined (lines ++ ([] ∷ []))))), say_at_end lines events say)

@@ -7,8 +7,8 @@ use Rattle.forwarder.specs.Policy.{Policy, at_moment}
 use Rattle.forwarder.proofs.LaterMoments.{moments_in_a_row}
 use Rattle.journal.specs.Journal.{AreOneFrom}
 
--- the policy at the time `now`: the routes and wants that expire by `now` are removed, and each
--- route that expires gives the lists their next version
+-- the policy at the time `now`: the routes and wants that expire by `now` are removed, and the
+-- version of the lists grows by the number of removed routes, up to 2^64 - 1
 abbrev with_time : Policy → ℕ → Policy
 with_time p now = record p {
   now = now;
@@ -22,8 +22,8 @@ at_greatest p m =
     let same : max p.now (max p.now m) ≡ max p.now m = omega arith in
     ap (with_time p) same
 
--- Let two policies be the same from a time on, and let one of them be advanced to a later time.
--- Then they are the same from that later time on.
+-- if two policies are the same from a time on, and one of them is advanced to a later time, the two
+-- policies are the same from the later time on
 pub one_later : (was q : Policy) (m : ℕ) → AreOneFrom was.now q was → AreOneFrom (max was.now m) q (at_moment was m)
 one_later was q m one n le =
     let after : was.now ≤ n = omega arith in

@@ -1,5 +1,5 @@
--- Changing only the time of an event does not change its effect, nor whether it is journalled, if
--- the policy at the new time equals the policy at the old time.
+-- Let the policy at a new time equal the policy at the time of an event. If the event is moved to
+-- the new time, its effect is the same, and it is journalled exactly if it was journalled before.
 use Rattle.std.proofs.Common.{◌≡◌, ℕ, Bool, refl, sym, ap, subst, ◌∙◌}
 use Rattle.std.specs.Prelude.{Option, Some, None}
 use Rattle.ndn_packets.specs.Packet.{PlainFrame}
@@ -69,9 +69,10 @@ module _ (p : Policy) (now : ℕ) where
   moved_choice event chosen None h = h ∙ same_choice event
   moved_choice event chosen (Some packet) h = h
 
--- Let the policy `q`, advanced to the time `now`, equal the policy `was`, advanced to the event's
--- moment. Then the event, moved to `now`, has the effect on `q` that the event has on `was`, and
--- it is journalled for `q` exactly if the event is journalled for `was`.
+-- In this module, the policy `q`, advanced to the time `now`, equals the policy `was`, advanced to
+-- the event's moment. The event, changed to the time `now`, has the same effect on `q` as the
+-- unchanged event on `was`. The changed event is journalled for `q` exactly if the unchanged event
+-- is journalled for `was`.
 module _ (was q : Policy) (now : ℕ) (event : PlainEvent) (met : at_moment q now ≡ at_moment was (moment event)) where
   comes : at_moment was (moment event) ≡ at_moment q (moment (with_moment now event))
   comes = sym met ∙ ap (at_moment q) (sym (moved_moment now event))

@@ -63,7 +63,7 @@ short_line line (event ∷ events) (inr h) = h.0.0
 
 -- ---- the loop over the lines
 
--- `number` lines were replayed. They have `events` events and `whole` octets.
+-- `number` lines were replayed. The replayed lines have `events` events and `whole` octets.
 pub record SoFar (old new : NodeState) (unread left : Option (List ℕ)) (number events whole : ℕ) : Type 0 where
   pub lines : List (List ℕ)
   pub said : List PlainEvent
@@ -139,7 +139,7 @@ pub none_lacks : (octets : List ℕ) → length octets ≡ 0 → Lacks 10 octets
 none_lacks [] none = tt
 none_lacks (o ∷ octets) none = absurd (omega (arith, none))
 
--- if the event of a line was answered, the line was handled, and the line has an event
+-- `PlaysLine` is true of a line with an event if a step answered the event
 pub plays_step : (line : List ℕ) (event : PlainEvent) (verdict : Verdict) (held out : List Send) (old new : NodeState) → Lacks 10 line → IsEventLine event line → IsEvent event
     → (sends : List Send) × (out ≡ held ++ sends) × IsStep old event (record { verdict = verdict_of verdict; sends = sends }) new → PlaysLine line old new true
 plays_step line event verdict held out old new lacks is is_event h =
@@ -177,7 +177,7 @@ stops_reading fault.Memory old node unread between left number events whole rest
 
 -- ---- the end of the text
 
--- if the octets read up to the next LF contain no LF, they are all the remaining octets
+-- if the octets that were read up to the next LF contain no LF, all remaining octets were read
 all_through : (text : List ℕ) → Lacks 10 (take_through 10 text) → (take_through 10 text ≡ text) × (drop_through 10 text ≡ [])
 all_through [] lacks = (refl, refl)
 all_through (o ∷ text) lacks = by (o == 10) refl lacks (λ h. all_through text h)
@@ -211,8 +211,8 @@ part_apart first part Start begins apart = subst (KeysAreApart first) (sym begin
 part_apart first part (Then before event answer) (inl same) apart = subst (KeysAreApart first) (sym same) apart
 part_apart first part (Then before event answer) (inr begins) apart = part_apart first part before begins apart.0
 
--- if `left` is the text of `events` with an unfinished line after it, then the whole lines of
--- `left` are the text of `events`
+-- if `left` is the text of `events` followed by an unfinished line, the whole lines of `left` are
+-- the text of `events`
 whole_text : (events : List PlainEvent) (lines : List (List ℕ)) (left cut : List ℕ) → AreLines lines → Lacks 10 cut → left ≡ joined lines ++ cut → IsCutTextOf events left
     → IsTextOf events (take (length (joined lines)) left)
 whole_text events lines left cut are lacks had h =

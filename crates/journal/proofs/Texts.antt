@@ -44,8 +44,9 @@ texts_join (event ∷ journal) added text more h k =
 
 -- ---- a prefix of a text
 
--- `left` is `line`, an LF and `more`, and `rest` is `more` followed by `lost`. So `left` is a
--- prefix of the text `line`, LF, `rest`, and has the whole first line of this text.
+-- `left` is the concatenation of `line`, an LF and `more`, and `rest` is `more` followed by `lost`.
+-- So `left` is a prefix of the concatenation of `line`, an LF and `rest`, and contains `line` with
+-- its LF.
 pub record HoldsLine (line rest left lost : List ℕ) : Type 0 where
   pub more : List ℕ
   pub front : left ≡ line ++ (10 ∷ more)
@@ -65,7 +66,7 @@ front_of (x ∷ line) rest (o ∷ left) lost lacks e =
       | (inr g) ↦ inr (record { more = g.more; front = (let f = g.front in cc (first, f)); back = g.back })
     ]
 
--- `left` is the text of the first events of the journal, with an unfinished line after it
+-- `left` is the text of the first events of the journal, followed by an unfinished line
 pub record LeftOf (journal : List PlainEvent) (left : List ℕ) : Type 0 where
   pub events : List PlainEvent
   pub others : List PlainEvent
@@ -101,7 +102,7 @@ left_of (event ∷ journal) text left lost h e =
       | (inr g) ↦ one_left event journal h.0 h.1 left lost h.2 h.3 g (left_of journal h.1 g.more lost h.5 g.back)
     ]
 
--- ---- a journal whose whole text is left is read whole
+-- ---- if the whole text of a journal is left, the whole journal is read
 
 pub record Begins (journal events : List PlainEvent) : Type 0 where
   pub others : List PlainEvent

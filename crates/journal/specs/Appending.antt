@@ -10,9 +10,9 @@ use Rattle.journal.specs.Line.{IsEventOf, entry_text, is_change_entry}
 use Rattle.journal.specs.Journalled.{is_journalled_by, is_journalled_where}
 use Rattle.journal.specs.Text.{IsTextOf}
 
--- A step answers the event and leads from the node `old` to the node `new`. `added` is the line of
--- the event with the greater of the times of the node and the event. If the event is not
--- journalled, `added` is empty.
+-- A step answers the event and leads from the node `old` to the node `new`. If the event is
+-- journalled, `added` is its line. The time in the line is the greater of the time of `old` and the
+-- time of the event. If the event is not journalled, `added` is empty.
 pub record Steps (old : NodeState) (event : PlainEvent) (wanted : Bool) (verdict : Verdict)
     (sends : List Send) (new : NodeState) (added : List ℕ) : Type 0 where
   pub step : IsStep old event (record { verdict = verdict; sends = sends }) new
@@ -31,14 +31,14 @@ abbrev pub added_text : Bool → ℕ → Entry → List ℕ
 added_text true now e = entry_text now e
 added_text false now e = []
 
--- the line of the entry with this time is the line of each event that the entry stands for at this
--- time
+-- the line of the entry with this time encodes each event that the entry stands for at this time
 abbrev pub IsLineAt : ℕ → Entry → Type 0
 IsLineAt time e =
     (event : PlainEvent) → IsEventOf time e event → IsTextOf (event ∷ []) (entry_text time e)
 
 -- If the event is journalled, its line with this time was appended, and the line spells the event.
--- Otherwise nothing was appended. Nothing is stated if the old content of the journal is not known.
+-- If the event is not journalled, nothing was appended. Nothing is stated if the old content of the
+-- journal is not known.
 abbrev pub Journals : Option (List ℕ) → Option (List ℕ) → ℕ → Coming → Verdict → Type 0
 Journals None new time coming verdict = ⊤
 Journals (Some text) new time coming verdict =

@@ -1,5 +1,5 @@
--- The journal of a node: the events of a run that may change more than the time. They alone
--- determine the policy that the run leads to.
+-- The journal of a node: the events of a run that may change more than the time. The events of the
+-- journal alone determine the policy that the run leads to.
 use Rattle.std.specs.Prelude.{◌≡◌, ◌⊎◌, ◌≤◌, ℕ, Bool, true, false, List, [], ◌∷◌, ◌++◌, Option, None, Some, max}
 use Rattle.sha2.specs.Sha256.{sha256}
 use Rattle.ndn_packets.specs.Packet.{PlainFrame, AnInterest, AData, ANack, Idle}
@@ -31,8 +31,8 @@ is_journalled_as p packet (Allowed rule) = is_journalled_packet p packet
 is_journalled_as p packet (Denied rule reason) = false
 is_journalled_as p packet NoRule = false
 
--- Whether an event without a packet to decide is journalled. The journalled ones are: a face that
--- can open, an open face that closes, and new rules.
+-- Whether an event without a packet to decide is journalled. True for the opening of a face that
+-- can open, the closing of an open face, and new rules.
 abbrev pub is_journalled_undecided : Policy → PlainEvent → Bool
 is_journalled_undecided p (Packet face now octets) = false
 is_journalled_undecided p (FaceUp face scope now) = can_open p face
@@ -40,8 +40,9 @@ is_journalled_undecided p (FaceDown face now) = is_open face p.faces
 is_journalled_undecided p (Tick now) = false
 is_journalled_undecided p (NewRules rules keys now) = true
 
--- `chosen` tells whether the event is journalled. `p` is the policy at the time of the event. The
--- last argument is the packet to decide, or None for an event without such a packet.
+-- `chosen` tells whether the event is journalled. `p` is the policy at the time of the event.
+-- `Some packet` is the event's packet, which rules decide. With None, the event brings no packet
+-- that rules decide.
 abbrev pub IsChosen : Policy → PlainEvent → Bool → Option PlainFrame → Type 0
 IsChosen p event chosen None = chosen ≡ is_journalled_undecided p event
 IsChosen p event chosen (Some packet) =
@@ -92,9 +93,9 @@ abbrev pub events_of : Run → List PlainEvent
 events_of Start = []
 events_of (Then before event answer) = events_of before ++ (event ∷ [])
 
--- From the time `now` on, the two policies are the same. Before `now`, they may differ in their
--- time, in the wants and routes that expire by `now`, and in the version of the lists, which may
--- not count these routes yet.
+-- From the time `now` on, the two policies are the same. Before `now`, the two policies may differ
+-- in their time, in the wants (pending inserts) and routes that expire by `now`, and in the version
+-- of the lists, which may not count the expired routes yet.
 abbrev pub AreOneFrom : ℕ → Policy → Policy → Type 0
 AreOneFrom now p q = (m : ℕ) → now ≤ m → at_moment p m ≡ at_moment q m
 
@@ -106,8 +107,8 @@ IsBeginningOf part (Then before event answer) =
 
 -- The events `left` are the journal of `part`, a prefix of the run `past`. If `left` begins with
 -- the whole journal of some prefix of the run, then that prefix is also a prefix of `part`.
--- Replaying `left` from the policy `first` leads to a policy that equals `policy`, the policy after
--- `part`, from the time of `policy` on.
+-- `policy` is the policy after `part`. Replaying `left` from the policy `first` leads to a policy
+-- that is the same as `policy` from the time of `policy` on.
 pub record KeepsBeginning (first : Policy) (past : Run) (left : List PlainEvent) : Type 0 where
   pub part : Run
   pub policy : Policy

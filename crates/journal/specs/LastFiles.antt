@@ -15,14 +15,14 @@ IsRulesLine line files =
 abbrev pub HaveNoRules : List (List ℕ) → Type 0
 HaveNoRules lines = AllByRecursion (λ line. (files : List ℕ) → IsRulesLine line files → ⊥) lines
 
--- some line is a line of new rules, and the last one of these has the text `files` after its time
+-- there is a line of new rules, and the last line of new rules has the text `files` after its time
 abbrev pub HaveLastRules : List (List ℕ) → List ℕ → Type 0
 HaveLastRules [] files = ⊥
 HaveLastRules (line ∷ lines) files =
     (IsRulesLine line files × HaveNoRules lines) ⊎ HaveLastRules lines files
 
--- Some line of the text is a line of new rules, and the last one of these has the text `files`
--- after its time. Octets after the last LF of the text are ignored.
+-- The text has a line of new rules, and the last line of new rules has the text `files` after its
+-- time. Octets after the last LF of the text are ignored.
 abbrev pub HasLastFiles : List ℕ → List ℕ → Type 0
 HasLastFiles text files =
     (lines : List (List ℕ)) × (cut : List ℕ) × AreLines lines × Lacks 10 cut
@@ -34,7 +34,7 @@ HasNoFiles text =
     (lines : List (List ℕ)) × (cut : List ℕ) × AreLines lines × Lacks 10 cut
     × (text ≡ joined lines ++ cut) × HaveNoRules lines
 
--- the octets of a rule file and of a key file as a line of new rules has them: in hexadecimal, with
--- a space between them
+-- the text for a rule file and a key file in a line of new rules: the octets of the two files in
+-- hexadecimal, with a space between the files
 abbrev pub files_text : List ℕ → List ℕ → List ℕ
 files_text rules keys = hex_word rules ++ (32 ∷ hex_word keys)

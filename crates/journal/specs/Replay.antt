@@ -15,9 +15,9 @@ use Rattle.journal.specs.declared.replaying.ReplayFault.TheVariants as fault
 use Rattle.journal.specs.Journal.{AreOneFrom, IsJournalOf}
 use Rattle.journal.specs.Text.{IsTextOf, Survives}
 
--- The events of these lines were answered in order and led from the old node to the new one. If the
--- old node agrees with a valid run from a policy at time 0, the answered events extend it to a
--- valid run that the new node agrees with.
+-- The events of these lines were answered in order and led from the old node to the new node. If
+-- the old node agrees with a valid run from a policy at time 0, then this run, extended by the
+-- answered events, is valid. The new node agrees with the extended run.
 pub record Plays (lines : List (List ℕ)) (events : List PlainEvent)
     (old new : NodeState) : Type 0 where
   pub are_lines : AreLines lines
@@ -27,8 +27,9 @@ pub record Plays (lines : List (List ℕ)) (events : List PlainEvent)
   pub goes_on : ExtendsRuns old events (map Answered answers) new
 
 -- Everything was read: whole lines, whose events were answered, and then octets without an LF,
--- which were ignored. If the octets of the reader were known, they were exactly these, and none
--- remain. `done` counts the events, the octets of the whole lines, and the ignored octets.
+-- which were ignored. If the octets of the reader were known, these octets were the whole lines and
+-- the ignored octets, and no octets remain. `done` counts the events, the octets of the whole
+-- lines, and the ignored octets.
 pub record Replays (old new : NodeState) (unread left : Option (List ℕ))
     (done : Replayed) : Type 0 where
   pub lines : List (List ℕ)
@@ -41,9 +42,10 @@ pub record Replays (old new : NodeState) (unread left : Option (List ℕ))
   pub whole_is : done.whole ≡ length (joined lines)
   pub cut_is : done.cut ≡ length cut
 
--- The events of the earlier lines were answered. Then line `n`, counted from 1, was bad; or the
--- reader failed; or memory ran out for a line or for the step of its event. Such a step may drop or
--- reorder cached Data. What was read is stated only if the octets of the reader were known.
+-- A replay stopped with this fault, after the events of all earlier lines were answered. `BadLine`:
+-- line `n`, counted from 1, was bad. `Read`: the reader failed. `Memory`: memory ran out for a line
+-- or for the step of the line's event, and the cache may have dropped or reordered Data. If the
+-- octets of the reader were not known (None), nothing is stated about what was read.
 abbrev pub StopsReplay : NodeState → NodeState → Option (List ℕ) → Option (List ℕ) → ReplayFault
     → Type 0
 StopsReplay old new unread left (fault.BadLine n) =
@@ -59,10 +61,10 @@ StopsReplay old new unread left fault.Memory =
     × Consumes unread left (joined lines ++ rest)
 
 -- What a replay restores, if a crash left the octets `left` of the text of a run's journal. The
--- whole lines of `left` are the journal of a prefix of the run, as `Survives` states. From the
--- last time of this prefix on, the node has the policy of the prefix. The node agrees with a run
--- whose journal's text is exactly these lines, so lines that are appended after them continue
--- that journal.
+-- whole lines of `left` are the journal of a prefix of the run, as `Survives` states. From the last
+-- time of this prefix on, the node has the policy of the prefix. The node agrees with a run whose
+-- journal's text is exactly the whole lines of `left`. So lines that are appended after the whole
+-- lines continue the journal of that run.
 pub record Restores (first : Policy) (past : Run) (left : List ℕ) (done : Replayed)
     (new : NodeState) : Type 0 where
   pub survives : Survives first past left
@@ -74,9 +76,9 @@ pub record Restores (first : Policy) (past : Run) (left : List ℕ) (done : Repl
   pub is_journal : IsJournalOf first again survives.events
   pub is_text : IsTextOf survives.events (take done.whole left)
 
--- `Restores` holds for each run whose journal's text begins with `left`, under two conditions: no
--- book of keys in the run has two keys of the same name, and the old node has the run's first
--- policy, whose time is 0, and has not handled any event.
+-- `Restores` is true for each run whose journal's text begins with `left`, under two conditions. No
+-- key book in the run has two keys of the same name. The old node has not handled any event and has
+-- the run's first policy, whose time is 0.
 abbrev pub RestoresRuns : NodeState → NodeState → List ℕ → Replayed → Type 0
 RestoresRuns old new left done =
     (first p : Policy) (past : Run) (journal : List PlainEvent) (text lost : List ℕ)
@@ -86,8 +88,8 @@ RestoresRuns old new left done =
 
 -- ---- one line
 
--- this line was replayed and led from the old node to the new one; the flag tells whether the line
--- has an event
+-- replaying this line leads from the old node to the new node; the Bool tells whether the line has
+-- an event
 abbrev pub PlaysLine : List ℕ → NodeState → NodeState → Bool → Type 0
 PlaysLine line old new true = (event : PlainEvent) × Plays (line ∷ []) (event ∷ []) old new
 PlaysLine line old new false = Plays (line ∷ []) [] old new

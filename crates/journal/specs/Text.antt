@@ -15,7 +15,7 @@ IsTextOf (event ∷ events) text =
     × IsTextOf events rest
 
 -- The text that a crash may leave: the whole lines of these events, and then octets without an LF.
--- A replay ignores these octets.
+-- A replay ignores the octets after the last LF.
 abbrev pub IsCutTextOf : List PlainEvent → List ℕ → Type 0
 IsCutTextOf events text =
     (whole cut : List ℕ) × (text ≡ whole ++ cut) × IsTextOf events whole × Lacks 10 cut

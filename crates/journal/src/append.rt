@@ -29,9 +29,9 @@ pub enum AppendFault {
     File,
 }
 
-/// Appends the line of an event with this verdict, if the event is journalled. The call succeeds
-/// only when the line survives a crash. `time` is the latest time of any event so far, in
-/// milliseconds since 1970.
+/// Appends the line of an event with this verdict, if the event is journalled. For a journalled
+/// event, the call succeeds only when the line survives a crash. `time` is the latest time of any
+/// event so far, in milliseconds since 1970.
 pub fn append_event<F: JournalFile>(
     alloc: Global,
     file: &mut F,

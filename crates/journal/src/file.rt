@@ -11,10 +11,11 @@ pub enum FileFault {
     Failed,
 }
 
-/// The file that contains a journal. It contains the octets of key files, which are secrets.
+/// The file that contains a journal. The file contains the octets of key files, which are secrets.
 pub trait JournalFile {
     // The octets of the file that survive a crash, or `None` if they are not known. For a file of
-    // the operating system they are not known, and no contract states its content.
+    // the operating system, the octets are not known, and no contract states the content of the
+    // file.
     ghost synced: { Self → Option (List ℕ) };
 
     /// Appends octets, and succeeds only when they survive a crash. On failure, a prefix of the

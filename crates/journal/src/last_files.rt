@@ -50,7 +50,7 @@ pub fn are_last_rules<R: BufRead>(
     }
 }
 
-/// Returns the text that a line of new rules with these two files has after its time.
+/// Returns the text after the time in a line of new rules with these two files.
 fn text_of_files(alloc: Global, rules: &[u8], keys: &[u8]) -> Result<String, AllocError>
     ensures { IfOk result (λ text. string_bytes text ≡ files_text rules.now keys.now) }
 {

@@ -14,7 +14,7 @@ ghost use Rattle.journal.specs.Appending.{Steps};
 ghost use Rattle.journal.specs.Text.{IsCutTextOf, IsTextOf, Survives};
 ghost use Rattle.journal.specs.Journal.{AreOneFrom, IsJournalled, IsJournalOf, KeepsBeginning, events_of, with_event, with_moment};
 
-/// Law: let the keys of a policy have different names. Then the policy and the next event decide
+/// Law: if the keys of a policy have different names, the policy and the next event determine
 /// whether the event is journalled, and an event that is not journalled only advances the policy's
 /// time.
 pub fn other_events_bring_their_moments()
@@ -34,7 +34,7 @@ pub fn verdicts_say_what_is_journalled()
         (is_journalled_by event (brings_wanted p event) answer.verdict) }
 {}
 
-/// Law: let a node agree with a run. If the event of the node's next step is journalled, the step
+/// Law: if a node agrees with a run, and the event of the node's next step is journalled, the step
 /// appends the event to the run's journal and the event's line to the journal's text. If the event
 /// is not journalled, the step appends nothing.
 pub fn journals_grow_by_steps()
@@ -47,8 +47,8 @@ pub fn journals_grow_by_steps()
         (with_moment p.now event) journal) }
     ensures text { (journal added : List PlainEvent) (text more : List ℕ) → IsTextOf journal text
         → IsTextOf added more → IsTextOf (journal ++ added) (text ++ more) }
-    // The text of a run's journal, followed by what a step appends, is the text of the longer run's
-    // journal.
+    // The text of a run's journal, followed by the text that a step appends, is the text of the
+    // journal of the run with this step.
     ensures both { (first : Policy) (past : Run) (old new : NodeState) (event : PlainEvent)
         (verdict : Verdict) (sends : List Send) (journal : List PlainEvent) (text added : List ℕ)
         → Stands first past old → IsJournalOf first past journal → IsTextOf journal text
@@ -69,9 +69,10 @@ pub fn journals_are_one()
         → IsJournalOf first past a → IsJournalOf first past b → a ≡ b }
 {}
 
-/// Law: replaying the events of a run's journal from the first policy leads to a policy that is the
-/// run's policy from the run's last time on. The replayed run has the same journal, so the run can
-/// be continued after the replay. The keys of each key book in the run must have different names.
+/// Law: let the events of a run's journal be replayed from the first policy of the run. From the
+/// last time of the run on, the policy after the replay is the same as the policy after the run.
+/// The replay is a run with the same journal, so the run can be continued after the replay. The
+/// keys of each key book in the run must have different names.
 pub fn journals_keep_policy()
     ensures policy { (first p q : Policy) (past again : Run) (journal : List PlainEvent)
         → KeysAreApart first past → IsPolicyOf first past p → IsJournalOf first past journal
@@ -79,12 +80,12 @@ pub fn journals_keep_policy()
     ensures journal { (first p : Policy) (past again : Run) (journal : List PlainEvent)
         → KeysAreApart first past → IsPolicyOf first past p → IsJournalOf first past journal
         → events_of again ≡ journal → IsJournalOf first again journal }
-    // The replayed run leads to a policy.
+    // The replay leads to a policy.
     ensures some { (first p : Policy) (past again : Run) (journal : List PlainEvent)
         → KeysAreApart first past → IsPolicyOf first past p → IsJournalOf first past journal
         → events_of again ≡ journal → (q : Policy) × IsPolicyOf first again q }
-    // The next event has the same effect after the replay as after the run, if its time is not
-    // before the run's last time.
+    // The next event has the same effect after the replay as after the run, if the event's time is
+    // not before the run's last time.
     ensures next { (p q r : Policy) (event : PlainEvent) → AreOneFrom p.now q p
         → p.now ≤ moment event → IsAfter p event r → IsAfter q event r }
 {}
@@ -100,9 +101,9 @@ pub fn rules_at_the_start_are_the_first()
 {}
 
 /// Law: if a crash leaves only the first events of a run's journal, these events are the journal of
-/// a prefix of the run and lead to the policy of that prefix. That prefix includes each shorter
-/// prefix whose whole journal is left. The keys of each key book in the run must have different
-/// names.
+/// a prefix `part` of the run and lead to the policy of `part`. Each prefix of the run whose whole
+/// journal is left is also a prefix of `part`. The keys of each key book in the run must have
+/// different names.
 pub fn crashes_leave_a_beginning()
     ensures { (first p : Policy) (past : Run) (journal left lost : List PlainEvent)
         → KeysAreApart first past → IsPolicyOf first past p → IsJournalOf first past journal

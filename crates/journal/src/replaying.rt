@@ -19,7 +19,7 @@ pub struct Replayed {
     pub events: u64,
     /// The number of octets in the whole lines, including their LFs.
     pub whole: u64,
-    /// The number of octets after the last LF. They are not a whole line.
+    /// The number of octets after the last LF. These octets are not a whole line.
     pub cut: u64,
 }
 
@@ -104,7 +104,8 @@ pub(crate) fn whole_line(octets: &[u8]) -> Option<&[u8]>
 }
 
 #[tactic(auto, using(crate::proofs::Replays::plays_step, crate::proofs::Replays::plays_skipped))]
-/// Handles the event of the line with this number on a node. Returns whether the line has an event.
+/// Handles the event of a line on a node, if the line has an event, and returns whether the line
+/// has one. `number` is the number of the line in the journal.
 fn play_line(
     alloc: Global,
     node: &mut Node,

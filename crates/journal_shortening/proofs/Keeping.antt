@@ -1,13 +1,12 @@
--- The lines that were appended so far, and what the remaining flags may add.
+-- The lines that were appended so far, and the lines that the remaining flags keep.
 use Rattle.std.proofs.Common.{◌≡◌, ℕ, suc, ◌+◌, ◌<◌, Bool, false, List, [], ◌∷◌, ◌++◌, length, get_or, drop, refl, sym, ap, ◌∙◌, subst, inl, inr, append_assoc, add-one}
 use Rattle.std.proofs.Math.Seq.{drop-cons, drop-length}
 use Rattle.std.proofs.lemmas.List.{append-nil}
 use Rattle.node_core.specs.Script.Line.{Lacks}
 use Rattle.journal_shortening.specs.Needed.{KeepsLines, kept_line}
 
--- The loop invariant. If the flags from index `i` on keep the lines `more` of the remaining text
--- `rest`, then all flags keep some lines of the journal, and `text` followed by `more` is `old`
--- followed by these lines.
+-- the loop invariant: `text`, followed by the lines of the remaining text `rest` that the flags
+-- from index `i` on keep, is `old` followed by all lines of the journal that the flags keep
 abbrev pub SoFar : List Bool → List ℕ → List ℕ → ℕ → List ℕ → List ℕ → Type 0
 SoFar flags journal old i rest text =
     (more : List ℕ) → KeepsLines (drop i flags) rest more
@@ -21,7 +20,8 @@ Done flags journal old text =
 pub so_far_none : (flags : List Bool) (journal old : List ℕ) → SoFar flags journal old 0 journal old
 so_far_none flags journal old more h = (more, h, refl)
 
--- if the next line is appended or left out as its flag says, the loop invariant still holds
+-- if the next line is appended when its flag is true, and left out when its flag is false, the loop
+-- invariant still holds
 pub so_far_line : (flags : List Bool) (journal old : List ℕ) (i : ℕ) (rest text line after new : List ℕ) (flag : Bool)
     → SoFar flags journal old i rest text → i < length flags → get_or flags i false ≡ flag
     → rest ≡ line ++ (10 ∷ after) → Lacks 10 line → new ≡ text ++ kept_line flag line

@@ -6,12 +6,14 @@ use Rattle.journal.specs.LastFiles.{HasLastFiles, HasNoFiles}
 use Rattle.journal.specs.Replay.{Replays}
 use Rattle.journal.specs.declared.replaying.Replayed.{Replayed}
 
--- The whole lines of these octets were replayed on the old node, which led to the new one.
+-- Replaying the whole lines of these octets leads from the old node to the new node.
 abbrev pub IsReplayed : List ℕ → NodeState → NodeState → Type 0
 IsReplayed octets old new =
     (left : Option (List ℕ)) × (done : Replayed) × Replays old new (Some octets) left done
 
--- Each of two journals was replayed on its node, and then the two nodes have the same tables.
+-- Replaying `text` leads from the node `old` to the node `new`, and replaying `other_text` leads
+-- from the node `other_old` to the node `other_new`. The nodes `new` and `other_new` have the same
+-- tables.
 abbrev pub HaveSameTables : List ℕ → NodeState → NodeState → List ℕ → NodeState → NodeState → Type 0
 HaveSameTables text old new other_text other_old other_new =
     IsReplayed text old new × IsReplayed other_text other_old other_new

@@ -46,8 +46,8 @@ abbrev pub KeepsSomeLines : List ℕ → List ℕ → Type 0
 KeepsSomeLines journal text =
     (flags : List Bool) × (moment : ℕ) × PutsNeeded journal flags moment [] text
 
--- `text` has some lines of `journal` and then a line `tick`. It is shorter than `journal`, restores
--- the same tables, and has the same last rules and keys.
+-- `text` has some lines of `journal` and then a line `tick`. `text` is shorter than `journal`,
+-- restores the same tables, and has the same last rules and keys.
 pub record Shortens (repo : List Field) (journal text : List ℕ) : Type 0 where
   pub lines : KeepsSomeLines journal text
   pub shorter : length text < length journal

@@ -7,8 +7,8 @@ use journal::{last_rules, replay};
 use std::alloc::Global;
 
 /// Replays the whole lines of the journal `old` on node `a`, and the whole lines of the journal
-/// `new` on node `b`. Returns whether the nodes then have the same tables. If the function fails,
-/// it may have replayed a part of the journals.
+/// `new` on node `b`. Returns whether both nodes have the same tables after the replay. On failure,
+/// a part of the journals may have been replayed.
 ///
 /// The tables are everything in a node's policy except the rules, the keys and the version of the
 /// lists.
@@ -42,8 +42,8 @@ fn play_all(alloc: Global, node: &mut Node, journal: &[u8]) -> Result<(), Shorte
 }
 
 /// Returns whether the last whole lines of new rules in two journals have the same rules and keys,
-/// octet by octet. Also returns `true` if neither journal has such a line. The fault is `TooLong`
-/// or `Memory`.
+/// octet by octet. Also returns `true` if neither journal has a whole line of new rules. The fault
+/// is `TooLong` or `Memory`.
 pub fn have_same_last_rules(alloc: Global, old: &[u8], new: &[u8]) -> Result<bool, ShortenFault>
     ensures { IfOk result (λ same. IsTrue same → HaveSameLastRules old.now new.now) }
 {

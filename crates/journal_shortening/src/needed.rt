@@ -14,14 +14,15 @@ use std::alloc::Global;
 /// The lines of a journal that a shorter journal keeps.
 #[derive(Debug, Drop)]
 pub struct Needed {
-    /// For each whole line whether it is needed.
+    /// One flag for each whole line of the journal: whether the line is needed.
     pub lines: Vec<bool>,
     /// The node's time after the last line, in milliseconds since 1970.
     pub moment: u64,
 }
 
-/// Replays the whole lines of a journal on a node that has not handled any event. Returns the lines
-/// that, according to the survey, are needed to restore the same tables.
+/// Replays the whole lines of a journal on a node that has not handled any event, and surveys the
+/// lines (`Survey`). Returns the lines that, according to the survey, are needed to restore the
+/// same tables.
 ///
 /// No contract states that these lines restore the same tables. `restores_same_tables` compares the
 /// tables that two journals restore.
@@ -92,7 +93,7 @@ fn put_lines(text: &mut Vec<u8>, journal: &[u8], needed: &[bool]) -> Result<(), 
     Ok(())
 }
 
-/// Appends a line with its LF, if it is needed.
+/// If `is_needed` is true, appends the line and an LF. Otherwise appends nothing.
 fn put_line(text: &mut Vec<u8>, line: &[u8], is_needed: bool) -> Result<(), Memory>
     ensures { OnOk result (text.new.items ≡ text.old.items ++ kept_line is_needed line.now) }
 {

@@ -49,8 +49,8 @@ impl Desk {
     }
 }
 
-/// Returns what an event changes if it takes effect. For every packet this is `Stored`, because
-/// only the verdict tells whether the packet is a command, and its status.
+/// Returns what an event changes if it takes effect. Returns `Stored` for every packet, because
+/// only the verdict tells whether the packet is a command and which status the command has.
 fn change_of(event: &OwnedEvent) -> Change {
     match event {
         OwnedEvent::Packet { face, .. } => Change::Stored(*face),

@@ -13,7 +13,7 @@ const PENDING: u16 = 100;
 const DIGEST_COMPONENT_LEN: usize = 34;
 
 impl Survey {
-    /// Forgets the wants that have expired at the time `now`.
+    /// Forgets the wants (pending inserts) that have expired at the time `now`.
     pub fn forget_expired(&mut self, now: u64) {
         self.wants.retain(|want| now < want.deadline);
     }
@@ -37,7 +37,8 @@ impl Survey {
         }
     }
 
-    /// Notes that an insert is waiting for its Data. The insert ends an equal want.
+    /// Notes that an insert is waiting for its Data. If there is a want with the same name and
+    /// CanBePrefix, the insert ends that want.
     fn note_want(&mut self, at: Place, asked: &Asked<'_>) -> Result<(), Memory> {
         self.end_want(at.line, asked)?;
         let name = NameBuf::from_name(self.alloc, asked.name)?;
@@ -50,8 +51,8 @@ impl Survey {
         Ok(())
     }
 
-    /// Notes that a line ended the want with this name and CanBePrefix, if there is one. The line
-    /// of the want needs this line.
+    /// Notes that the line `line` ended the want with the name and the CanBePrefix of `asked`, if
+    /// there is such a want. The line of the ended want needs the line `line`.
     fn end_want(&mut self, line: u32, asked: &Asked<'_>) -> Result<(), Memory> {
         for want in &self.wants {
             if is_equal(want, asked) {
@@ -63,8 +64,9 @@ impl Survey {
     }
 
     /// Notes that stored objects answered an insert. The line of the insert needs the line of the
-    /// first of these objects, since without any object the insert would wait for a Data. If no
-    /// such object is known, the line needs all lines before it.
+    /// first object that answers the insert, because the insert would wait for a Data if no object
+    /// answered. If no object that answers is known, the line of the insert needs all lines before
+    /// it.
     fn note_answered(&mut self, line: u32, asked: &Asked<'_>) -> Result<(), Memory> {
         let start = key_of(self.alloc, Kind::Object, &[], asked.name.as_octets())?;
         match self.first_object(start, asked) {
@@ -88,8 +90,8 @@ impl Survey {
         None
     }
 
-    /// Notes that a delete removed the objects that answer the command, and that it ended the equal
-    /// want if there was one.
+    /// Notes that a delete removed the objects that answer it, and that it ended the want with the
+    /// same name and CanBePrefix, if there was one.
     fn note_delete(&mut self, line: u32, asked: &Asked<'_>) -> Result<(), Memory> {
         self.end_want(line, asked)?;
         let start = key_of(self.alloc, Kind::Object, &[], asked.name.as_octets())?;

@@ -22,7 +22,7 @@ pub struct ShorterJournal {
     pub text: Vec<u8>,
     /// The number of whole lines of the longer journal.
     pub lines: usize,
-    /// How many of these lines are kept.
+    /// The number of lines of the longer journal that are kept.
     pub kept: usize,
 }
 

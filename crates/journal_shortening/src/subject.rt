@@ -5,7 +5,7 @@ use ndn_packets::{DIGEST_SHA256, Data, FullName, Locator, Signature};
 use ndn_tlv::Memory;
 use std::alloc::Global;
 
-/// A kind of subject. Its number is the first octet of the subject's key.
+/// A kind of subject. The number of the kind is the first octet of the subject's key.
 #[derive(Clone, Copy, Debug, PartialEq, Eq)]
 pub enum Kind {
     /// The greatest time of a signer.
@@ -22,8 +22,8 @@ pub enum Kind {
     Object = 6,
 }
 
-/// Returns the key of the subject of this kind with these numbers and these octets. All subjects of
-/// one kind have equally many numbers, so different subjects have different keys.
+/// Returns the key of the subject of this kind with these numbers and these octets. The length of
+/// `numbers` depends only on the kind, so different subjects have different keys.
 pub fn key_of(
     alloc: Global,
     kind: Kind,
@@ -50,9 +50,9 @@ pub fn route_key(alloc: Global, command: &Command<'_>, face: u64) -> Result<Vec<
     }
 }
 
-/// Returns the key of a signer's greatest time or greatest sequence number, as `kind` says. All
-/// commands that are signed with DigestSha256, or whose KeyLocator names no key, have one signer,
-/// as in the node's guard against replays.
+/// Returns the key of a signer's greatest time if `kind` is `Signer`, or of the signer's greatest
+/// sequence number if `kind` is `Numbered`. All commands that are signed with DigestSha256 or have
+/// no key name count as commands of one signer, as in the node's guard against replays.
 pub fn signer_key(alloc: Global, kind: Kind, signature: &Signature<'_>) -> Result<Vec<u8>, Memory> {
     match signature.locator {
         Locator::Name(name) if signature.kind != DIGEST_SHA256 => {

@@ -29,8 +29,8 @@ pub struct Want {
 
 /// What is known of the lines that were replayed. Lines are counted from 0.
 ///
-/// Line `a` needs line `b` if a journal that has `a` but not `b` might not restore what `a`
-/// restores in the whole journal.
+/// Line `a` needs line `b` if the effect of `a` on the restored tables may change when `b` is left
+/// out.
 #[derive(Drop)]
 pub struct Survey {
     pub alloc: Global,
@@ -42,7 +42,7 @@ pub struct Survey {
     pub ups: BTreeMap<u64, u32>,
     /// The last line that set or removed each subject, by the subject's key.
     pub writers: BTreeMap<Vec<u8>, Writer>,
-    /// The wants that no line has ended. Some may have expired.
+    /// The wants (pending inserts) that no line has ended. Some of these wants may have expired.
     pub wants: Vec<Want>,
     /// Pairs of a line and a line that it needs.
     pub links: Vec<(u32, u32)>,
@@ -76,8 +76,8 @@ impl Survey {
         Ok(())
     }
 
-    /// Notes what a line did to a subject. If `needs_next` is true for the last line on the subject
-    /// before this line, that line needs this line.
+    /// Notes what a line did to a subject. The previous line on the subject needs this line if
+    /// `needs_next` is true for the previous line.
     pub fn write(&mut self, key: Vec<u8>, line: u32, effect: Effect) -> Result<(), Memory> {
         let before = self.writers.insert(key, Writer { line, effect })?;
         match before {
@@ -176,8 +176,8 @@ impl Survey {
     }
 
     /// Notes that this line has the last command of its signer among the lines that were replayed
-    /// so far. The node allows only commands whose time and number are greater than those of all
-    /// earlier allowed commands of the signer.
+    /// so far. The node allows a command only if its time, and its sequence number if there is one,
+    /// are greater than in all earlier allowed commands of the signer.
     fn note_signer(&mut self, line: u32, signature: &Signature<'_>) -> Result<(), Memory> {
         if signature.time.is_none() {
             return Ok(());
@@ -211,7 +211,7 @@ impl Survey {
 
     /// Marks the lines that are needed even if no other line needs them: the line of the last
     /// rules, the lines that opened the open faces, the lines of wants that have not expired at the
-    /// time `now`, and the lines that set what the subjects are at this time.
+    /// time `now`, and the line that set each subject that exists at this time.
     pub fn mark_roots(&self, now: u64, reach: &mut Reach) -> Result<(), Memory> {
         if let Some(rules) = self.rules {
             reach.mark(rules)?;
@@ -228,7 +228,7 @@ impl Survey {
         Ok(())
     }
 
-    /// Marks the lines that set what the subjects are at the time `now`.
+    /// Marks the line that set each subject that exists at the time `now`.
     fn mark_writers(&self, now: u64, reach: &mut Reach) -> Result<(), Memory> {
         for (_, writer) in &self.writers {
             if self.has_effect(now, writer.effect) {
@@ -238,7 +238,7 @@ impl Survey {
         Ok(())
     }
 
-    /// Returns whether an effect lasts until the time `now`.
+    /// Returns whether a subject whose last effect is `effect` exists at the time `now`.
     fn has_effect(&self, now: u64, effect: Effect) -> bool {
         match effect {
             Effect::Removed => false,
@@ -250,7 +250,7 @@ impl Survey {
     }
 }
 
-/// The status of a command that had its effect.
+/// The status of a command that took effect.
 pub const OK: u16 = 200;
 
 /// The status of a command for which a table had no room.

@@ -1,17 +1,17 @@
 /// What a line did to its subject, such as a route or a signer.
 #[derive(Clone, Copy, Debug, PartialEq, Eq)]
 pub enum Effect {
-    /// It removed the subject, as the deletion of an object does.
+    /// The line removed the subject: for example, a delete removes an object.
     Removed,
-    /// It set the subject, whatever earlier lines had done to it. For example, a signer's last
-    /// command sets the greatest time of the signer.
+    /// The line set the subject, whatever earlier lines had done to the subject. For example, a
+    /// signer's last command sets the greatest time of the signer.
     Renewed,
-    /// It set the subject. If the line is needed, the next line on the subject is needed too, since
-    /// the next line may remove or change what this line set.
+    /// The line set the subject. If the line is needed, the next line on the subject is needed too,
+    /// since the next line may remove or change the subject.
     Set,
-    /// It set a next hop or a route through `face`, which the line with the number `up` opened.
-    /// This is like `Set`, but the next hop or route ends when the face closes, or at the deadline,
-    /// which is in milliseconds since 1970.
+    /// The line set a next hop or a route through `face`, which the line with the number `up`
+    /// opened. The next hop or route ends when the face closes, or at `deadline`, in milliseconds
+    /// since 1970. As for `Set`, if the line is needed, the next line on the subject is needed too.
     Routed {
         face: u64,
         up: u32,
@@ -27,7 +27,7 @@ pub struct Writer {
 }
 
 impl Writer {
-    /// Returns whether the next line on the subject is needed whenever this line is.
+    /// Returns whether the next line on the subject is needed if this line is needed.
     pub fn needs_next(&self) -> bool {
         matches!(self.effect, Effect::Set | Effect::Routed { .. })
     }

@@ -12,8 +12,8 @@ use std::io::{BufRead, Read};
 /// The greatest length of a key file, in octets. The programs refuse longer key files. The format
 /// of key files sets no limit, since a valid key file may have any number of comments and empty
 /// lines, and names of any length. A key whose name fits into a packet has a line of less than
-/// 28,000 octets, even if each octet of the name is escaped. The limit allows 256 such lines, and
-/// more than 1,000,000 octets of comments.
+/// 28,000 octets, even if each octet of the name is escaped. The limit allows 256 lines of 28,000
+/// octets, and more than 1,000,000 octets of comments.
 pub const MAX_KEY_FILE: u32 = 8_388_608;
 
 /// Returns all octets of a reader, or `None` if the reader has more than `limit` octets. At most

@@ -21,11 +21,11 @@ use Rattle.ndn_tlv.specs.Writing.{number, octets, optional}
 use Rattle.mgmt_core.specs.Writing.{body_after, reply_body, response, strategy_value}
 use Rattle.ndn_tlv.proofs.Lengths.{length-element, element_fits, number_fits}
 
--- a number field with a type below 253, in front of other fields, adds at most 10 octets
+-- a number field whose type is below 253 adds at most 10 octets to the fields `rest`
 and_one : (kind n : ℕ) (rest : List Field) → kind < 253 → length (octets ((kind, shortest_nni n) ∷ rest)) ≤ 10 + length (octets rest)
 and_one kind n rest lt = omega (arith, number_fits kind n lt, length-append (element (kind, shortest_nni n)) (octets rest))
 
--- an optional number field with a type below 253, at the end, has at most 10 octets
+-- an optional number field whose type is below 253 has at most 10 octets
 last_one : (kind : ℕ) (o : Option ℕ) → kind < 253 → length (octets (number kind o ++ [])) ≤ 10
 last_one kind None lt = omega arith
 last_one kind (Some n) lt = let le = and_one kind n [] lt in omega (arith, le)
@@ -35,7 +35,7 @@ unfolding spelling
 strategy_len BestRoute = omega arith
 strategy_len Multicast = omega arith
 
--- the fields after the name, for a command with this action
+-- the fields that follow the Name in the reply to a command with this action
 abbrev other_fields : Action → PlainCommand → ℕ → List Field
 other_fields a c face =
     number FACE_ID (cond (takes FACE_ID (row_of a)) (Some (face_of c face)) None)

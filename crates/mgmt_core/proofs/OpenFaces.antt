@@ -1,5 +1,5 @@
 -- If each face of one ascending list is in another ascending list, the first list is at most as
--- long as the second. Ascending lists are those with `IsRising`.
+-- long as the second. A list is ascending if `IsRising` is true of the list.
 use Rattle.std.proofs.Common.{◌≡◌, ℕ, ◌<◌, ◌≤◌, true, List, [], ◌∷◌, length, sym, subst, inl, inr, arith}
 use Rattle.std.specs.Prelude.{◌⊎◌}
 use Rattle.std.specs.List.{AllByRecursion}
@@ -12,7 +12,7 @@ use Rattle.mgmt_core.specs.Tables.{AllAreUp}
 abbrev pub AreIn : List ℕ → List ℕ → Type 0
 AreIn xs ys = AllByRecursion (λ f. has_face f ys ≡ true) xs
 
--- if a face in a list is greater than the first face of the list, it is among the other faces
+-- a face that is in the list `y ∷ ys` and is greater than `y` is in the list `ys`
 in_rest : (x y : ℕ) (ys : List ℕ) → y < x → has_face x (y ∷ ys) ≡ true → has_face x ys ≡ true
 in_rest x y ys lt h = grind (arith, h)
 
@@ -64,8 +64,8 @@ no_longer (x ∷ xs) (y ∷ ys) rx ry h =
           omega (arith, le)
     ]
 
--- Let at most 64 faces be up, and let each face that has a next hop or a route be up. Then the
--- table has room for each face that is up.
+-- if at most 64 faces are up, and each face that has a next hop or a route is up, the table has
+-- room for each face that is up
 pub has_room : (routes : Routes) (face : ℕ) (up : List ℕ) → length up ≤ 64 → IsRising up → has_face face up ≡ true → AllAreUp routes up → HasRoomFor routes face
 has_room routes face up small rising there all faces rises each =
     let le = no_longer faces up rises rising (are_in faces each) in

@@ -48,9 +48,9 @@ entry_up routes up all n = λ face leads. all face (n, leads)
 entries_up : (routes : Routes) (up : List ℕ) → ((n : List Field) → AreUp (entry_at routes n) up) → AllAreUp routes up
 entries_up routes up each = λ face w. each w.0 face w.1
 
--- The lemmas of this module are about the value that a lookup gives in an empty map, or in a map
--- after an insertion, a removal or a change of its values. If there is a value, then `A` follows,
--- provided that `A` follows from each way in which the value can be there.
+-- The lemmas of this module are case distinctions for a lookup in an empty map, or in a map after
+-- an insertion, a removal or a change of its values. Each lemma concludes `A` from a lookup that
+-- finds a value, if `A` follows in each case.
 module _ {X A : Type 0} where
   none_there : (o : Option X) → o ≡ None → IsSome o → A
   none_there o e some = absurd cc
@@ -145,8 +145,9 @@ module _ (up : List ℕ) where
   not_refused true e = refl
   not_refused false e = absurd cc
 
-  -- Let adding a next hop or a route on a face that is up leave all faces up. Then the command that
-  -- adds it leaves all faces up, whatever its status.
+  -- After a command, the routes are `after` if the status is 200, otherwise `before`. All faces of
+  -- these routes are up under two conditions: all faces of `before` are up, and all faces of
+  -- `after` are up if the face of the command is open.
   if_added : (too_long not_open full : Bool) (after before : Routes) → (not_open ≡ false → AllAreUp after up) → AllAreUp before up
       → AllAreUp (if_done (cond too_long 414 (cond not_open 410 (cond full 503 200))) after before) up
   if_added true not_open full after before done left = left

@@ -33,8 +33,8 @@ same_octets octets name s is =
     sym (is_eq-slice_cmp octets (octets_of (strategy_name s)))
     ∙ ap is_eq (values_cmp octets (octets_of (strategy_name s)) name (strategy_name s) is (strategy_is_name s))
 
--- the Name element of a strategy without its first two octets, the type and the length, is the
--- value of the name
+-- the encoded name of a strategy consists of two octets, its type and its length, followed by the
+-- TLV-VALUE of the name
 pub value_begins : (s : StrategyId) → drop 2 (strategy_value s) ≡ octets_of (strategy_name s)
 unfolding spelling
 value_begins BestRoute = refl

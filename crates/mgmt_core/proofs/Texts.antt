@@ -1,4 +1,4 @@
--- Lengths of elements, and lists of texts.
+-- Indexes of lists, segments of texts, and concatenations of texts.
 use Rattle.std.proofs.Common.{◌≡◌, ℕ, suc, zero, ◌+◌, ◌<◌, ◌≤◌, List, [], ◌∷◌, ◌++◌, length, take, drop, refl, sym, ap, ◌∙◌, append_assoc, append-nil, add-one, arith, inl, inr}
 use Rattle.std.specs.Prelude.{flat_map, slice_get, unwrap_or, Some, None, ◌-◌, ◌*◌, ◌/◌, min}
 use Rattle.std.proofs.lemmas.List.{take_all}
@@ -24,8 +24,8 @@ segment_is text k last rest at_last le is =
     ap (λ (t : List ℕ). Some (t, last)) (take_min 4096 rest ∙ ap (take 4096) is)
     ∙ grind (arith, at_last, le)
 
--- the texts of the first `at + 1` items are the texts of the first `at` items, followed by the text
--- of one more item
+-- the concatenated texts of the first `at + 1` items are the concatenated texts of the first `at`
+-- items, followed by the text of the item `x` at index `at`
 pub texts_and_one : {X : Type 0} (text_of : X → List ℕ) (xs : List X) (at : ℕ) (x : X) → slice_get xs at ≡ Some x
     → flat_map text_of (take at xs) ++ text_of x ≡ flat_map text_of (take (at + 1) xs)
 texts_and_one text_of [] at x is = absurd cc

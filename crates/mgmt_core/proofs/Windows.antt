@@ -26,7 +26,7 @@ take_begun zero xs ys = refl
 take_begun (suc n) [] ys = refl
 take_begun (suc n) (x ∷ xs) ys = ap (λ l. x ∷ l) (take_begun n xs ys)
 
--- the state after an empty text has no octets and an empty segment
+-- before any octet is written, the length is 0 and the segment is empty
 pub nothing_kept : (from : ℕ) → ◌≡◌ {A = Kept} (record { from = from; len = 0; segment = [] }) (kept_of from [])
 nothing_kept from = λ i. record { from = from; len = 0; segment = ap (take 4096) (sym (drop_past from [] (omega arith))) i }
 
@@ -69,11 +69,12 @@ module _ {X : Type 0} (entry : List ℕ → X → List ℕ) (from : ℕ) where
       ∙ written (text ++ one) es
       ∙ ap (kept_of from) (append_assoc text one (flat_map (λ (e : List Field × X). entry (octets_of e.0) e.1) es))
 
-  -- the state after all entries are written, one by one, is the state for their whole text
+  -- writing all entries one by one gives the same state as writing the concatenated texts of all
+  -- entries at once
   pub all_written : (es : List (List Field × X)) → shown_each (λ k name x. with_more k (entry name x)) (kept_of from []) es ≡ kept_of from (flat_map (λ e. entry (octets_of e.0) e.1) es)
   all_written es = written [] es
 
--- appending the entries one by one appends the text of all entries
+-- appending all entries one by one appends the concatenated texts of all entries
 pub text_written : {X : Type 0} (entry : List ℕ → X → List ℕ) (text : List ℕ) (es : List (List Field × X))
     → shown_each (λ t name x. t ++ entry name x) text es ≡ text ++ flat_map (λ e. entry (octets_of e.0) e.1) es
 text_written entry text [] = sym (append-nil text)

@@ -1,6 +1,6 @@
 -- The commands, one row for each (NFD Management, "FIB Management", "RIB Management", "Strategy
--- Choice Management", "Content Store Management"). This file also defines the texts of the
--- statuses; `src/types.rt` defines their numbers.
+-- Choice Management", "Content Store Management"). This file also defines the status texts;
+-- `src/types.rt` defines the status codes.
 use Rattle.std.specs.Prelude.{ℕ, List, [], ◌∷◌, Bool, true, false, ◌==◌, ◌&&◌, ◌||◌, Option, codes, find, bytes_eq}
 use Rattle.std.specs.Option.{option_map}
 use Rattle.std.specs.List.{list_any}
@@ -99,7 +99,7 @@ is_named part verb action =
 abbrev pub action_named : List ℕ → List ℕ → Option Action
 action_named part verb = find (is_named part verb) actions
 
--- the fields that parameters can have; elements of other types are ignored
+-- the types of the fields that command parameters can have; elements of other types are ignored
 abbrev pub parameter_fields : List ℕ
 parameter_fields =
     NAME ∷ FACE_ID ∷ COST ∷ STRATEGY ∷ FLAGS ∷ EXPIRATION_PERIOD ∷ ORIGIN ∷ COUNT ∷ []

@@ -47,8 +47,9 @@ asked c = record {
 
 -- ---- fields
 
--- whether the element can be read and, if it is a field of `parameter_fields`, is a field that the
--- command takes
+-- whether the element is allowed among the parameters of a command: false if the element cannot be
+-- decoded, or if its type is in `parameter_fields` and the command does not take a field of this
+-- type; otherwise true
 abbrev pub fits : Row → Result Field TlvFault → Bool
 fits row (Ok e) = not (has e.0 parameter_fields && not (takes e.0 row))
 fits row (Err fault) = false
@@ -56,8 +57,8 @@ fits row (Err fault) = false
 abbrev pub number_of : List ℕ → Option ℕ
 number_of value = on_result (λ n. Some n) (λ _. None) (nni_at value)
 
--- the value of an optional field: Some None if the field is absent, and None if it cannot be
--- decoded
+-- the value of an optional field: Some None if the field is absent, and None if the field is
+-- present but cannot be decoded
 abbrev pub optional_of : {X : Type 0} → (List ℕ → Option X) → Option (List ℕ) → Option (Option X)
 optional_of form None = Some None
 optional_of form (Some value) = option_map (λ x. Some x) (form value)
@@ -68,8 +69,8 @@ number_in kind es = optional_of number_of (first_of kind es)
 abbrev pub name_in : Elements → Option (List Field)
 name_in es = first_of NAME es >>= name_of
 
--- the name in the Strategy field: Some None if the field is absent, and None if it does not contain
--- exactly one Name that can be decoded
+-- the name in the Strategy field: Some None if the field is absent, and None if the field does not
+-- contain exactly one valid Name element
 abbrev pub strategy_in : Elements → Option (Option (List Field))
 strategy_in es =
     optional_of (λ value. single NAME (elements_of value) >>= name_of) (first_of STRATEGY es)
@@ -139,8 +140,9 @@ action_at cs = do
   if bytes_eq localhost (codes "localhost") && bytes_eq nfd (codes "nfd")
       then action_named part verb else None
 
--- the command whose parameters are the only element in the fifth component; None if there are no
--- such parameters, or they are not valid for the action
+-- the command with this action and the parameters in the fifth component; None unless the fifth
+-- component is a GenericNameComponent that contains exactly one ControlParameters element with
+-- parameters that are valid for the action
 unfoldable pub parameters_at : Action → List Field → Option PlainCommand
 parameters_at action cs = do
   value ← generic_at cs 4

@@ -7,7 +7,7 @@ use Rattle.mgmt_core.specs.Reading.{PlainCommand}
 use Rattle.ndn_tlv.specs.Writing.{octets}
 use Rattle.mgmt_core.specs.Writing.{reply_body, reply_fields}
 
--- the reserved memory is enough for the reply to the command, whichever face it comes from
+-- the reserved memory is enough for the reply to the command, whichever face the command comes from
 abbrev pub HasRoomForReply : ReplyRoom → PlainCommand → Type 0
 HasRoomForReply room c =
     (face : ℕ) → face < 2 ^ 64
@@ -30,6 +30,6 @@ IsCallPrepared t c =
 abbrev pub IsPrepared : Tables → PlainCommand → Type 0
 IsPrepared t c = HasRoomForReply t.room c × IsCallPrepared t c
 
--- the preparation `after` is the same as `before`, or there is none any more
+-- the preparation is unchanged, or has ended (None)
 abbrev pub IsKeptOrEnded : {X : Type 0} → Option X → Option X → Type 0
 IsKeptOrEnded before after = (after ≡ before) ⊎ (after ≡ None)

@@ -1,5 +1,5 @@
--- The statuses of commands that enlarge a table, and the parts of a reply's fields, for private
--- contracts.
+-- Definitions for the contracts of private functions: the statuses of commands that enlarge a
+-- table, and the first and the last fields of a reply.
 use Rattle.std.specs.Prelude.{ℕ, List, ◌∷◌, ◌++◌, length, not, nat_lt, Option, None, Some, if◌then◌else◌}
 use Rattle.std.specs.Option.{option_map}
 use Rattle.ndn_tlv.specs.Element.{Field}

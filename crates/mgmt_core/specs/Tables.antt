@@ -57,8 +57,8 @@ face_of c face = if c.face == 0 then face else c.face
 abbrev pub key_of : PlainCommand → ℕ → RouteKey
 key_of c face = record { face = face_of c face; origin = c.origin }
 
--- the moment when a route that is registered at `now` with this lifetime expires, at most 2^64 - 1;
--- None if there is no lifetime
+-- the deadline of a route that is registered at `now` with the lifetime `expires` in milliseconds;
+-- at most 2^64 - 1; None if the route has no lifetime
 abbrev pub deadline_of : ℕ → Option ℕ → Option ℕ
 deadline_of now expires = option_map (λ period. min (now + period) (2 ^ 64 - 1)) expires
 
@@ -76,8 +76,8 @@ route_asked c now = record {
 abbrev pub is_full : {X : Type 0} → ByName X → List Field → Bool
 is_full table name = not (map.contains_key table name) && nat_le MAX_ENTRIES (map.len table)
 
--- Whether the table that the command enlarges has no room. Its name is new and the table has 4,096
--- names, or the command registers a new route and the table has 16,384 routes.
+-- whether the table has no room for the command: the command's name is new and the table already
+-- has 4,096 names, or the command registers a new route and the table already has 16,384 routes
 abbrev pub is_full_for : PlainCommand → ℕ → Routes → Choices → Bool
 is_full_for c face routes choices =
     elim c.action [
@@ -114,8 +114,8 @@ AllAreUp routes up = (face : ℕ) → LeadsTo routes face → has_face face up �
 
 -- ---- the effects of commands
 
--- the routes after the effect of a command that came from `face` at `now`; a command that changes
--- no routes leaves them as they are
+-- the routes after a command that came from `face` takes effect at `now`; only `fib` and `rib`
+-- commands change the routes
 abbrev pub routes_after : PlainCommand → ℕ → ℕ → Routes → Routes
 routes_after c face now routes =
     elim c.action [

@@ -1,5 +1,5 @@
--- One segment of a text, for private contracts. Only the segment is stored while the text is
--- written.
+-- One segment of a text, for the contracts of private functions. Only the segment is stored while
+-- the text is written.
 use Rattle.std.specs.Prelude.{ℕ, ◌+◌, ◌-◌, ◌*◌, ◌^◌, List, [], ◌∷◌, ◌++◌, length, take, drop, flat_map, min}
 use Rattle.ndn_tlv.specs.Element.{element}
 use Rattle.ndn_tlv.specs.Writing.{octets}
@@ -13,13 +13,12 @@ use Rattle.mgmt_core.specs.Writing.{hop_text, strategy_value}
 pub record Kept : Type 0 where
   -- the number of octets before the segment
   pub from : ℕ
-  -- the number of octets written, including those outside the segment
+  -- the number of octets written so far, including the octets outside the segment
   pub len : ℕ
-  -- the octets of the segment that are written
+  -- the octets of the segment that are written so far
   pub segment : List ℕ
 
--- the state after the whole text was written, for the segment that begins after `from` octets of
--- the text
+-- the state after the whole text is written; the segment begins at index `from` of the text
 abbrev pub kept_of : ℕ → List ℕ → Kept
 kept_of from text =
     record {
@@ -28,7 +27,7 @@ kept_of from text =
       segment = take SEGMENT_LEN (drop from text);
     }
 
--- the state `k` after the octets `more` of the text were written too
+-- the state after the octets `more` are written in the state `k`
 abbrev pub with_more : Kept → List ℕ → Kept
 with_more k more =
     record {
@@ -37,7 +36,7 @@ with_more k more =
       segment = take SEGMENT_LEN (k.segment ++ drop (k.from - k.len) more);
     }
 
--- the number of octets before the segment with this number, at most 2^64 - 1
+-- the number of octets before segment `number`, at most 2^64 - 1; the first segment has number 0
 abbrev pub start_of : ℕ → ℕ
 start_of number = min (number * SEGMENT_LEN) (2 ^ 64 - 1)
 
@@ -50,14 +49,14 @@ abbrev pub choice_octets : List ℕ → StrategyId → List ℕ
 choice_octets name strategy =
     element (ENTRY, octets ((NAME, name) ∷ (STRATEGY, strategy_value strategy) ∷ []))
 
--- the state `k` after an entry with this encoded name and these next hops was written too
+-- the state after an entry with this encoded name and these next hops is written in the state `k`
 abbrev pub with_route : Kept → List ℕ → List Hop → Kept
 with_route k name hops = with_more k (route_octets name hops)
 
 abbrev pub with_choice : Kept → List ℕ → StrategyId → Kept
 with_choice k name strategy = with_more k (choice_octets name strategy)
 
--- a text with one more entry, which has this encoded name and these next hops
+-- the text followed by an entry of the dataset of routes with this encoded name and these next hops
 abbrev pub text_with_route : List ℕ → List ℕ → List Hop → List ℕ
 text_with_route text name hops = text ++ route_octets name hops
 

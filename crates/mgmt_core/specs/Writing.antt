@@ -29,8 +29,9 @@ strategy_value strategy = element (NAME, octets_of (strategy_name strategy))
 abbrev pub given : {X : Type 0} → PlainCommand → ℕ → Option X → Option X
 given c kind x = if takes kind (row_of c.action) then x else None
 
--- the fields of a reply to a command from this face: the fields that the command takes and that
--- have a value, with the face that the command applies to
+-- The fields of a reply to a command that came from `face`. The reply has the Name, and each other
+-- field that the command takes and that has a value. Its FaceId is the face that the command
+-- applies to.
 abbrev pub reply_fields : PlainCommand → ℕ → List Field
 reply_fields c face =
     (NAME, octets_of c.name)
@@ -59,11 +60,11 @@ response status text body =
           ++ body,
     )
 
--- The next two definitions: limits on the length in octets of a reply's body, and of a whole reply
--- with any status.
+-- an upper bound of the length of the body of a reply to the command, in octets
 abbrev pub body_limit : PlainCommand → ℕ
 body_limit c = length (octets_of c.name) + BODY_EXTRA
 
+-- an upper bound of the length of a whole reply to the command, in octets, for every status
 abbrev pub reply_limit : PlainCommand → ℕ
 reply_limit c = length (octets_of c.name) + REPLY_EXTRA
 
@@ -82,11 +83,11 @@ abbrev pub choice_text : List Field × StrategyId → List ℕ
 choice_text entry =
     element (ENTRY, octets ((NAME, octets_of entry.0) ∷ (STRATEGY, strategy_value entry.1) ∷ []))
 
--- The next two definitions: the content of the dataset of routes at `now`, and of the dataset of
--- strategies.
+-- the content of the dataset of routes at `now`
 abbrev pub fib_text : ℕ → Routes → List ℕ
 fib_text now routes = flat_map route_text (listed (left_at now routes))
 
+-- the content of the dataset of strategies
 abbrev pub strategy_text : Choices → List ℕ
 strategy_text choices = flat_map choice_text (entries choices)
 

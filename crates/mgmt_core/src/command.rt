@@ -48,8 +48,8 @@ impl<'a> Command<'a> {
     ///
     /// If this is not the name of a valid command, returns the first status that applies, in this
     /// order: 400 if there are fewer than four components before the digest; 501 if the command
-    /// does not exist or the name does not begin with `/localhost/nfd`; 400 if the parameters are
-    /// not valid for the command.
+    /// does not exist or the name does not begin with `/localhost/nfd`; 400 if there are not
+    /// exactly five components before the digest, or the parameters are not valid for the command.
     pub fn read(name: Name<'a>) -> Result<Command<'a>, u16>
         ensures { on_result (λ c. Ok (asked c)) Err result ≡ command_at (components name.entry) }
     {

@@ -28,12 +28,13 @@ use pit_fib::{Faces, Fib, MAX_DEPTH, StrategyTable};
 /// - 410 if the face is not up (`fib/add-nexthop`, `rib/register`);
 /// - 404 if the strategy does not exist (`strategy-choice/set`);
 /// - 503 if the name is new and the table already has 4,096 names (`fib/add-nexthop`,
-/// `rib/register`, `strategy-choice/set`), or the route is new and the table already has 16,384
-/// routes (`rib/register`);
-/// - 200 if none of these applies. All other commands, such as `rib/unregister`, always return 200.
+///   `rib/register`, `strategy-choice/set`), or the route is new and the table already has 16,384
+///   routes (`rib/register`);
+/// - 200 if none of these statuses applies. All other commands, such as `rib/unregister`, always
+///   return 200.
 ///
-/// Only a command with status 200 changes a table. If memory runs out, which can happen only with
-/// status 200 and for a command that was not prepared, `Memory` is returned and no table changes.
+/// Only a command with status 200 changes a table. If memory runs out, `Memory` is returned and no
+/// table changes. Memory can run out only for a command that has status 200 and was not prepared.
 ///
 /// If the command gives a lifetime, the registered route expires after this lifetime, at `u64::MAX`
 /// at the latest. A registered route replaces the route with the same name, face and origin.
@@ -165,7 +166,7 @@ fn set_status(choices: &StrategyTable, command: &Command<'_>) -> u16
     OK
 }
 
-/// Adds a next hop on this face, or sets its cost. Precondition: no status other than 200 applies.
+/// Adds a next hop on this face, or sets its cost. Precondition: the command is not refused.
 fn add_nexthop(fib: &mut Fib, command: &Command<'_>, face: u64) -> Result<(), Memory>
     requires room { HasRoomFor fib.old.table face }
     requires taken { refusal fib.old.table (components command.now.name) ≡ None }
@@ -208,7 +209,7 @@ fn register(fib: &mut Fib, command: &Command<'_>, face: u64, now: u64) -> Result
     }
 }
 
-/// Sets a strategy. Precondition: no status other than 200 applies.
+/// Sets a strategy. Precondition: the command is not refused.
 fn set_strategy(choices: &mut StrategyTable, command: &Command<'_>) -> Result<(), Memory>
     requires { refusal choices.old.table (components command.now.name) ≡ None }
     ensures ok { OnOk result (choices.new.table ≡ with_choice choices.old.table

@@ -54,8 +54,8 @@ pub fn replies_are_bounded()
     ensures whole { (c : PlainCommand) (face status : ℕ) (text : List ℕ)
         → text_of status ≡ Some text
         → length (response status text (body_after c face status)) ≤ reply_limit c }
-    // The bound on a reply with any text and body, such as the refusal of a command that no rule
-    // allows.
+    // The bound on every reply, whatever its text and body are. For example, the reply to a command
+    // that no rule allows has a text of its own.
     ensures any { (status : ℕ) (text body : List ℕ)
         → length (response status text body) ≤ length text + length body + 30 }
 {}

@@ -22,8 +22,8 @@ use std::alloc::Global;
 use std::mem;
 
 /// The greatest number of octets in the body of a reply, not counting the octets of the command's
-/// name. The headers and the fields after the name count. They are longest in the reply to
-/// `rib/register`.
+/// name. The counted octets are the headers and the fields after the name. A reply to
+/// `rib/register` has the most of them.
 pub const BODY_EXTRA: usize = 70;
 
 /// The greatest number of octets in a whole reply, not counting the octets of the command's name.
@@ -40,7 +40,7 @@ impl Command<'_> {
         self.name.as_octets().len() + REPLY_EXTRA
     }
 
-    /// Returns the face that the command applies to, if it came from `face`.
+    /// Returns the face that the command applies to, if the command came from `face`.
     pub(crate) fn face_from(&self, face: u64) -> u64
         ensures { result ≡ face_of (asked self.now) face }
     {
@@ -85,7 +85,8 @@ impl Command<'_> {
         }
     }
 
-    /// Appends the fields of the reply. If memory runs out, some of their octets may be appended.
+    /// Appends the fields of the reply. If memory runs out, some octets of the fields may be
+    /// appended.
     fn put_fields(&self, out: &mut Vec<u8>, face: u64) -> Result<(), Memory>
         ensures ok { OnOk result
             (out.new.items ≡ out.old.items ++ octets (reply_fields (asked self.now) face)) }
@@ -96,8 +97,8 @@ impl Command<'_> {
         self.put_given(out)
     }
 
-    /// Appends the Name, the FaceId and the Origin of the reply. If memory runs out, some of their
-    /// octets may be appended.
+    /// Appends the Name, the FaceId and the Origin of the reply. If memory runs out, some octets of
+    /// these fields may be appended.
     fn put_about(&self, out: &mut Vec<u8>, face: u64) -> Result<(), Memory>
         ensures ok { OnOk result
             (out.new.items ≡ out.old.items ++ octets (about_fields (asked self.now) face)) }
@@ -113,7 +114,7 @@ impl Command<'_> {
     }
 
     /// Appends the fields of the reply that follow the Name, the FaceId and the Origin. If memory
-    /// runs out, some of their octets may be appended.
+    /// runs out, some octets of these fields may be appended.
     fn put_given(&self, out: &mut Vec<u8>) -> Result<(), Memory>
         ensures ok { OnOk result
             (out.new.items ≡ out.old.items ++ octets (given_fields (asked self.now))) }
@@ -132,8 +133,8 @@ impl Command<'_> {
     }
 }
 
-/// Appends a Strategy field if `strategy` is given. If memory runs out, some of its octets may be
-/// appended.
+/// Appends a Strategy field if `strategy` is given. If memory runs out, some octets of the field
+/// may be appended.
 fn put_strategy(out: &mut Vec<u8>, strategy: Option<StrategyId>) -> Result<(), Memory>
     ensures ok { OnOk result (out.new.items
         ≡ out.old.items ++ octets (optional STRATEGY (option_map strategy_value strategy))) }

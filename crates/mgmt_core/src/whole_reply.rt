@@ -47,7 +47,7 @@ pub fn put_response(out: &mut Vec<u8>, status: u16, text: &str, body: &[u8]) -> 
     done
 }
 
-/// Appends a reply. If memory runs out, some of its octets may be appended.
+/// Appends a reply. If memory runs out, some octets of the reply may be appended.
 fn put_parts(out: &mut Vec<u8>, status: u16, text: &[u8], body: &[u8]) -> Result<(), Memory>
     ensures ok { OnOk result
         (out.new.items ≡ out.old.items ++ response status text.now body.now) }

@@ -76,7 +76,8 @@ impl Window {
     }
 }
 
-/// Appends as many octets to the segment as fit into `SEGMENT_LEN`.
+/// Appends the octets `more` to the segment until the segment has `SEGMENT_LEN` octets. Ignores the
+/// remaining octets.
 fn put_up_to(segment: &mut Vec<u8>, more: &[u8]) -> Result<(), Memory>
     requires { length segment.old.items ≤ SEGMENT_LEN }
     ensures ok { OnOk result
@@ -223,7 +224,7 @@ fn put_route(
     put_element(text, ENTRY, fields)
 }
 
-/// Appends next hops. If memory runs out, some of their octets may be appended.
+/// Appends next hops. If memory runs out, some octets of the next hops may be appended.
 fn put_hops(text: &mut Vec<u8>, hops: &Hops) -> Result<(), Memory>
     ensures { OnOk result (text.new.items ≡ text.old.items ++ flat_map hop_text hops.now) }
 {
@@ -235,7 +236,7 @@ fn put_hops(text: &mut Vec<u8>, hops: &Hops) -> Result<(), Memory>
     Ok(())
 }
 
-/// Appends a next hop. If memory runs out, some of its octets may be appended.
+/// Appends a next hop. If memory runs out, some octets of the next hop may be appended.
 fn put_hop(text: &mut Vec<u8>, hop: Hop) -> Result<(), Memory>
     ensures { OnOk result (text.new.items ≡ text.old.items ++ hop_text hop) }
 {

@@ -14,7 +14,7 @@ use std::io;
 /// The number of names.
 const NAMES: u64 = 1_000_000;
 
-/// How many of the latest names stay in the map.
+/// The number of names that stay in the map: the names that were put in last.
 const STANDING: u64 = 64;
 
 /// Returns the name for a number. The names of 4,096 consecutive numbers have the same first
@@ -29,7 +29,7 @@ fn name_of(alloc: Global, number: u64) -> Result<NameBuf, Memory> {
 }
 
 /// Puts a name into the map, and removes the name that was put in `STANDING` names earlier. Returns
-/// how many names the map then has.
+/// the number of names in the map after the removal.
 fn put_and_remove(alloc: Global, names: &mut NameMap<u64>, number: u64) -> Result<usize, Memory> {
     let name = name_of(alloc, number)?;
     if names.len() < usize::MAX {

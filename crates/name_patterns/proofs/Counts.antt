@@ -11,14 +11,14 @@ use Rattle.name_patterns.proofs.Places.{in_both, in_either, one_before, passes_n
 use Rattle.name_patterns.proofs.Rows.{count_by_places}
 use Rattle.name_patterns.proofs.Splits.{no_greatest, IsGreatest, some_greatest}
 
--- the `k` components from position `place` on pass, where `k` is the last argument, and the later
+-- `takes passed after place k`: the `k` components from position `place` on pass, and the later
 -- atoms have a split from the position after these components
 abbrev pub takes : ℕ → ℕ → ℕ → ℕ → Bool
 takes passed after place zero = has_place after place
 takes passed after place (suc k) = has_place passed place && takes passed after (place + 1) k
 
--- `takes` is true of at least one of the counts from `least` up to, but not including, the last
--- argument
+-- `takes_some passed after place least n`: at least one `k` with `least ≤ k < n` satisfies
+-- `takes passed after place k`
 abbrev pub takes_some : ℕ → ℕ → ℕ → ℕ → ℕ → Bool
 takes_some passed after place least zero = false
 takes_some passed after place least (suc n) = takes_some passed after place least n || (not (ltb n least) && takes passed after place n)
@@ -38,18 +38,12 @@ and_false : (a : Bool) → a && false ≡ false
 and_false true = refl
 and_false false = refl
 
--- Let `begins` be the set of positions at which `takes` is true of the count `n`, and `split` the
--- set of positions at which `takes_some` is true of `least` and `n`. If `least` is at most `n`,
--- the union of both sets is the set of positions at which `takes_some` is true of `least` and `n
--- + 1`.
 pub some_step : (passed after begins split least n : ℕ) → ((p : ℕ) → has_place begins p ≡ takes passed after p n)
     → ((p : ℕ) → has_place split p ≡ takes_some passed after p least n) → least ≤ n
     → (p : ℕ) → has_place (bit_or split begins) p ≡ takes_some passed after p least (n + 1)
 some_step passed after begins split least n are some low p =
     rw (add-one, le-ltb n least low) (in_either split begins p ∙ rw (some p, are p) refl)
 
--- Let `n` be below `least`. If `split` is the set of positions at which `takes_some` is true of
--- `least` and `n`, it is also the set for `least` and `n + 1`.
 pub few_step : (passed after split least n : ℕ) → ((p : ℕ) → has_place split p ≡ takes_some passed after p least n) → n < least
     → (p : ℕ) → has_place split p ≡ takes_some passed after p least (n + 1)
 few_step passed after split least n some few p =
@@ -121,8 +115,8 @@ passing test cs passed place are there =
       | inr above ↦ absurd (true≢false (sym there ∙ (are place ∙ passes_no_end test cs place above)))
     ]
 
--- Let `takes` be true of the position `place` and the count `k`. Then at least `k` components in a
--- row pass from `place` on, and the later atoms have a split after these `k` components.
+-- if `takes` is true for the position `place` and the count `k`, at least `k` consecutive
+-- components pass from `place` on, and the later atoms have a split after these `k` components
 taken_of_run : (test : PlainTest) (cs : List Field) (passed after place k : ℕ) → ArePassed test cs passed → takes passed after place k ≡ true
     → (k ≤ run_of test (drop place cs)) × (has_place after (place + k) ≡ true)
 taken_of_run test cs passed after place zero are e = let is : place + 0 ≡ place = omega arith in (omega arith, rw is e)

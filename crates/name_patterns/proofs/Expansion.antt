@@ -49,8 +49,8 @@ is_short captures cs parts h e =
     let few : sum_by (part_len captures) parts ≤ 64 = ltb-false 64 _ (sym e) in
     omega (arith, few, expansion_length captures cs parts h)
 
--- Let the parts before a part leave room for only `room` of 64 components. If this part is longer
--- than `room`, all parts together have more than 64 components.
+-- if the parts before index `i` have `64 - room` components together, and the part at index `i` has
+-- more than `room` components, all parts together have more than 64 components
 pub over_room : {X : Type 0} (len : PlainPart → ℕ) (shown : X → PlainPart) (xs : List X) (i : ℕ) (x : X) (room : ℕ) → i < length xs → x ≡ get_or xs i x
     → room + sum_by len (map shown (take i xs)) ≡ 64 → room < len (shown x) → 64 < sum_by len (map shown xs)
 over_room len shown xs i x room lt is sum over =
@@ -64,9 +64,9 @@ stands_at [] i d lt h = absurd (omega arith)
 stands_at (part ∷ parts) zero d lt h = h.0
 stands_at (part ∷ parts) (suc i) d lt h = stands_at parts i d (omega arith) h.1
 
--- If the name of all parts has at most 64 components, the name up to and including the part at
--- index `i` has at most 64 components too. If each part can be in a name, so can the part at
--- index `i`.
+-- If the name that all parts expand to has at most 64 components, the name up to and including the
+-- part at index `i` has at most 64 components too. If each part can be in a name, so can the part
+-- at index `i`.
 pub part_fits : {X : Type 0} (captures : List (ℕ × ℕ)) (cs : List Field) (shown : X → PlainPart) (xs : List X) (i : ℕ) (x : X) → i < length xs → x ≡ get_or xs i x
     → AllByRecursion CanStand (map shown xs) → length (expansion_of (map shown xs) captures cs) ≤ 64
     → CanStand (shown x) × (length (expansion_of (map shown (take i xs)) captures cs) + length (part_of captures cs (shown x)) ≤ 64)

@@ -1,4 +1,4 @@
--- What reading a pattern tells about its text.
+-- The reader accepts exactly the patterns of the grammar.
 use Rattle.std.proofs.Common.{◌≡◌, ◌≢◌, ◌⊎◌, ℕ, zero, suc, ◌+◌, ◌-◌, ◌<◌, ◌≤◌, Bool, true, false, cond, eqb, leb, ◌==◌, List, [], ◌∷◌, ◌++◌, length, Option, Some, None, Result, Ok, Err, IfOk, MatchResult, refl, sym, ap, subst, ◌∙◌, arith, inl, inr, eq-eqb, append_assoc, codes, bytes_eq}
 use Rattle.std.specs.Prelude.{is_some}
 use Rattle.std.specs.List.{flat_map, list_any}
@@ -95,7 +95,8 @@ whole_group atoms groups more items after =
     λ i. record { atoms = all i; groups = places i }
 
 -- `pattern` is `atoms` and `groups`, followed by the atoms and groups that `text` denotes, where no
--- group is open at the front of `text`. It has at most 32 written atoms and at most 9 groups.
+-- group is open at the front of `text`. The pattern has at most 32 written atoms and at most 9
+-- groups.
 record IsRest (atoms : List PlainAtom) (written : ℕ) (groups : List (ℕ × ℕ)) (text : List ℕ) (pattern : PlainPattern) : Type 0 where
   middle : List ℕ
   end : List ℕ
@@ -108,8 +109,8 @@ record IsRest (atoms : List PlainAtom) (written : ℕ) (groups : List (ℕ × �
   few_atoms : written + length (flat_map item_atoms items) ≤ 32
   few_groups : length pattern.groups ≤ 9
 
--- `text` begins inside a group that has `first` atoms before it. It consists of the remaining atoms
--- of the group, the closing parenthesis, and text that completes the pattern.
+-- `text` begins inside a group that has `first` atoms before it. `text` consists of the remaining
+-- atoms of the group, the closing parenthesis, and a text that completes the pattern.
 abbrev IsInGroup : ℕ → List PlainAtom → ℕ → List (ℕ × ℕ) → List ℕ → PlainPattern → Type 0
 IsInGroup first atoms written groups text pattern =
     (inner rest : List ℕ) × (more : List PlainAtom) × (text ≡ inner ++ (41 ∷ rest)) × AreAtoms inner more
@@ -119,8 +120,8 @@ abbrev IsLeft : PlainDraft → Option OpenGroup → List ℕ → PlainPattern �
 IsLeft draft None text pattern = IsRest draft.atoms draft.written draft.groups text pattern
 IsLeft draft (Some group) text pattern = IsInGroup group.first draft.atoms draft.written draft.groups text pattern
 
--- Let `text` be an atom followed by `rest`. If `rest` completes the pattern (`IsRest`) once this
--- atom is added, then `text` completes the pattern.
+-- if `rest` completes the pattern (`IsRest`) after `atom` is added, then the text of `atom`
+-- followed by `rest` completes the pattern
 atom_before : (atoms : List PlainAtom) (written : ℕ) (groups : List (ℕ × ℕ)) (text front rest : List ℕ) (atom : PlainAtom) (pattern : PlainPattern)
     → text ≡ front ++ rest → IsAtom front atom → IsRest (atoms ++ atom ∷ []) (written + 1) groups rest pattern → IsRest atoms written groups text pattern
 atom_before atoms written groups text front rest atom pattern is h r =
@@ -161,8 +162,8 @@ group_before atoms written groups text pattern h =
       few_groups = r.few_groups;
     }
 
--- Let `text`, inside a group, be an atom followed by `rest`. If `rest` completes the pattern
--- (`IsInGroup`) once this atom is added, then `text` completes the pattern.
+-- inside a group, if `rest` completes the pattern (`IsInGroup`) after `atom` is added, then the
+-- text of `atom` followed by `rest` completes the pattern
 atom_inside : (first : ℕ) (atoms : List PlainAtom) (written : ℕ) (groups : List (ℕ × ℕ)) (text front rest : List ℕ) (atom : PlainAtom) (pattern : PlainPattern)
     → text ≡ front ++ rest → IsAtom front atom → IsInGroup first (atoms ++ atom ∷ []) (written + 1) groups rest pattern → IsInGroup first atoms written groups text pattern
 atom_inside first atoms written groups text front rest atom pattern is h g =
@@ -200,9 +201,9 @@ abbrev HasRoom : PlainDraft → Option OpenGroup → Type 0
 HasRoom draft None = (draft.written ≤ 32) × (length draft.groups ≤ 9)
 HasRoom draft (Some group) = (draft.written ≤ 32) × (length draft.groups < 9)
 
--- A step from `draft` and `text` leaves a shorter text and a draft within its limits. Each pattern
--- that the remaining text completes for the new draft is also a pattern that `text` completes for
--- the old draft.
+-- A step from `draft` and `text` leaves a shorter text and a draft within its limits. If the
+-- remaining text completes a pattern from the new draft, `text` completes this pattern from
+-- `draft`.
 record IsStep (draft : PlainDraft) (text : List ℕ) (next : PlainDraft × List ℕ) : Type 0 where
   shorter : length next.1 < length text
   room : HasRoom next.0 next.0.open_group
@@ -276,8 +277,8 @@ item_step draft at (o ∷ text) next room e =
           ]
     ]
 
--- if the remaining text is `$`, or is empty and implies an atom, this text completes the pattern
--- that `whole_of` returns for the draft with the implied atom
+-- if `text` is `$` or empty, it completes the pattern that `whole_of` returns for the draft
+-- followed by the implied atoms `after`
 end_found : (draft : PlainDraft) (text end : List ℕ) (after : List PlainAtom) (group : Option OpenGroup) (pattern : PlainPattern) → text ≡ end → IsAnchor (codes "$") end after → HasRoom draft group
     → whole_of (record draft { atoms = draft.atoms ++ after }) group ≡ Ok pattern → IsLeft draft group text pattern
 end_found draft text end after (Some group) pattern is ends room e = absurd cc
@@ -367,8 +368,8 @@ pattern_found (o ∷ text) pattern e =
 
 -- ---- a pattern that the text spells is read
 
--- whether the text begins with `^` or with a repeat; in the grammar, the text after an item never
--- does
+-- Whether the text begins with `^` or with a repeat. In the grammar, the text after an item begins
+-- with neither.
 abbrev begins_other : List ℕ → Bool
 begins_other [] = false
 begins_other (o ∷ text) = list_any (λ sign. sign == o) (codes "^*+?{")
@@ -418,8 +419,8 @@ not_end o text h =
     let some : eqb (length (o ∷ text)) 0 ≡ false = ne_eqb (length (o ∷ text)) 0 (omega arith) in
     rw (some, ne_eqb o 36 h) refl
 
--- Let the text after an atom begin neither with `^` nor with a repeat. If the draft has fewer than
--- 32 written atoms, `with_atom` reads the atom and adds it to the draft.
+-- `with_atom` reads an atom and adds it to the draft, if the draft has fewer than 32 written atoms
+-- and the text after the atom begins neither with `^` nor with a repeat
 one_again : (draft : PlainDraft) (at : ℕ) (front rest : List ℕ) (atom : PlainAtom) → IsAtom front atom → begins_other rest ≡ false → draft.written < 32
     → with_atom draft at (front ++ rest) ≡ Ok (with_one draft atom, rest)
 one_again draft at front rest atom h free few =
@@ -465,8 +466,8 @@ unfolding items_within
 step_close n len atoms written groups group text free =
     rw (not_end 41 text (λ e. absurd (omega arith)), other_repeat text free) refl
 
--- `read` is the result of reading `rest` from the draft to which the atoms `more` are added, and in
--- which the group is then closed
+-- `read` is the result of reading `rest` after the atoms `more` are added to the open group and the
+-- group is closed
 abbrev IsOn : (len : ℕ) → List PlainAtom → ℕ → List (ℕ × ℕ) → OpenGroup → List PlainAtom → List ℕ → Result PlainPattern PatternFault → Type 0
 IsOn len atoms written groups group more rest read =
     (m : ℕ) × (length rest ≤ m)

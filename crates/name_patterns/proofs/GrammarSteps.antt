@@ -1,4 +1,4 @@
--- What the steps of a reading tell about its result.
+-- If a sequence of reading steps succeeds, each of its steps succeeds.
 use Rattle.std.proofs.Common.{◌≡◌, ℕ, Bool, true, false, cond, Option, Some, None, Result, Ok, Err, refl, subst}
 use Rattle.ndn_tlv.specs.Reading.{on_result}
 use Rattle.name_patterns.specs.declared.fault.PatternFault.{PatternFault}
@@ -39,9 +39,9 @@ pub ok_is : {A B : Type 0} (r : Result A PatternFault) (f : A → Result B Patte
 ok_is (Ok x) f y e = (x, refl, e)
 ok_is (Err fault) f y e = absurd cc
 
--- A sequence of two steps replaces the fault of the first step by `g`. If the sequence succeeds,
--- the first step succeeds, and the second step, applied to its result, returns the result of the
--- sequence.
+-- In the sequence of two steps, the function `g` is applied to a fault of the first step. If the
+-- sequence succeeds, the first step succeeds, and the second step, applied to its result, returns
+-- the result of the sequence.
 pub result_is : {A B : Type 0} (f : A → Result B PatternFault) (g : PatternFault → PatternFault) (r : Result A PatternFault) (y : B) → on_result f (λ fault. Err (g fault)) r ≡ Ok y
     → (x : A) × (r ≡ Ok x) × (f x ≡ Ok y)
 result_is f g (Ok x) y e = (x, refl, e)

@@ -110,7 +110,7 @@ items_end len begun items draft rest h ends = h.2 ∙ last h.0
     last zero = refl
     last (suc n) = rw ends refl
 
--- a pattern that does not end with the anchor `$` is read as if an atom for any components followed
+-- if no text remains, the anchor `$` is missing, and the atom `anything` is added to the pattern
 pub end_implied : (draft : PlainDraft) (rest : List ℕ) → length rest ≡ 0 → at_end draft rest ≡ whole_of (with_implied draft) draft.open_group
 end_implied draft [] none = refl
 end_implied draft (o ∷ rest) none = absurd (omega arith)

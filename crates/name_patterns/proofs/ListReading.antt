@@ -13,7 +13,8 @@ abbrev pub before_others : List Field → Bool → Option (FrontPart (List Field
 before_others cs is_inner listed =
     listed >>= λ others. Some (record { part = cs ++ others.part; is_inner = is_inner || others.is_inner; rest = others.rest })
 
--- reading the list in `text` gives the components `cs`, followed by the components read from `rest`
+-- reading the list in `text` returns the components `cs`, followed by the components read from
+-- `rest`
 abbrev pub HasListed : List Field → Bool → List ℕ → List ℕ → Type 0
 HasListed cs is_inner text rest =
     (n : ℕ) × (length rest ≤ n) × (listed_within (length text) text ≡ before_others cs is_inner (listed_within n rest))

@@ -29,8 +29,8 @@ no_place place = is_not_there 0 place (bit_at-zero place)
 pub no_place_from : (places k place : ℕ) → places < 2 ^ k → k ≤ place → has_place places place ≡ false
 no_place_from places k place small from = is_not_there places place (bit_at_above places k place small from)
 
--- The next two lemmas are about a set to which the position `k` is added. Then `k` is in the set,
--- and each other position is in the set exactly if it was in the set before.
+-- adding the position `k` to a set: `k` is in the new set (`added_same`), and the other positions
+-- are in it exactly if they were in the old set (`added_other`)
 pub added_same : (places k : ℕ) → k < 128 → has_place (bit_or places (1 * 2 ^ k % 2 ^ 128)) k ≡ true
 added_same places k low = is_there _ k (bit_at_set_same w128 places k low)
 
@@ -48,8 +48,8 @@ first_same k low = added_same 0 k low
 pub first_other : (k place : ℕ) → k < 128 → place ≢ k → has_place (1 * 2 ^ k % 2 ^ 128) place ≡ false
 first_other k place low other = added_other 0 k place low other ∙ no_place place
 
--- the next two lemmas: `bit_and` computes the intersection of two sets, and `bit_or` computes their
--- union
+-- `bit_and` computes the intersection of two sets (`in_both`), and `bit_or` computes their union
+-- (`in_either`)
 pub in_both : (a b place : ℕ) → has_place (bit_and a b) place ≡ (has_place a place && has_place b place)
 in_both a b place = rw (bit_at_and a b place) (of_bits (bit_at a place) (bit_at b place) (bit_at-lt a place) (bit_at-lt b place))
   where
@@ -216,8 +216,8 @@ none_later places end place low high skips =
     is_not_there places place
     (rw place_is at (sym (bit_of_shl places (127 - end) (127 - end + place) (omega arith) (omega arith)) ∙ none))
 
--- Let `most` minus `skipped places (place + most)` be at least `least`. Then this difference is the
--- greatest count from `least` to `most` that leads from `place` to a position in the set `places`.
+-- if `most` minus `skipped places (place + most)` is at least `least`, this difference is the
+-- greatest count from `least` to `most` that leads from `place` to a position in the set `places`
 pub greatest_taken : (places place least most : ℕ) → place + most ≤ 64 → skipped places (place + most) ≤ most → least ≤ most - skipped places (place + most)
     → greatest (λ count. has_place places (place + count)) least most ≡ Some (most - skipped places (place + most))
 greatest_taken places place least most low skips enough =

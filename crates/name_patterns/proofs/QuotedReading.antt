@@ -1,4 +1,5 @@
--- What reading a component's text between `<` and `>` tells about the text.
+-- A text between `<` and `>` without special characters is read as a component exactly if the
+-- grammar has this component text.
 use Rattle.std.proofs.Common.{◌≡◌, ◌≢◌, ℕ, ◌<◌, false, eqb, List, [], ◌∷◌, ◌++◌, length, Some, None, Result, Ok, Err, refl, sym, ap, subst, ◌∙◌, append_assoc, codes}
 use Rattle.std.specs.List.{AllByRecursion}
 use Rattle.std.proofs.lemmas.Bool.{eqb-true, or_parts}

@@ -1,4 +1,4 @@
--- What reading a repeat tells about its text.
+-- The reader accepts exactly the repeats of the grammar.
 use Rattle.std.proofs.Common.{◌≡◌, ◌⊎◌, ℕ, ◌<◌, ◌≤◌, false, cond, eqb, ltb, leb, ◌&&◌, ◌||◌, List, [], ◌∷◌, ◌++◌, length, Option, Some, None, refl, sym, ap, subst, ◌∙◌, arith, inl, inr, eq-eqb, append_assoc, codes}
 use Rattle.std.specs.Str.{all_ascii_digits}
 use Rattle.std.specs.Str.Parse.{digits_value}
@@ -103,7 +103,7 @@ range_again text least (Some most) (inr (inr h)) =
     range_cut text h.0 h.1 h.2 (count_lacks 44 (inl (omega arith)) h.0 least h.3)
     ∙ rw (some_digits h.1 most h.4, some_digits h.0 least h.3, count_again h.0 least h.3, count_again h.1 most h.4, le-leb least most h.5) refl
 
--- the next three lemmas: a count, the text after a comma and a range contain no closing brace
+-- neither a count nor a range contains a closing brace (code 125)
 count_no_brace : (text : List ℕ) (n : ℕ) → IsCount text n → Lacks 125 text
 count_no_brace text n h = count_lacks 125 (inr (omega arith)) text n h
 
@@ -121,7 +121,7 @@ range_no_brace text least (Some most) (inr (inr h)) =
 
 -- ---- reading a repeat
 
--- a repeat, or an empty text, which stands for one component
+-- the text of a repeat with these bounds, or the empty text with the bounds `once`
 abbrev pub IsRepeatOrNone : List ℕ → Bounds → Type 0
 IsRepeatOrNone text bounds = ((text ≡ []) × (bounds ≡ once)) ⊎ IsRepeat text bounds
 
@@ -137,8 +137,8 @@ braced_found text found e =
     given_to (IsRepeatAt (123 ∷ text)) (b.0, a.0.1) found b.2
     (123 ∷ (a.0.0 ++ codes "}"), ap (λ (t : List ℕ). 123 ∷ t) whole, inr (inr (inr (inr (a.0.0, refl, range_found a.0.0 b.0 b.1)))))
 
--- if the character `sign` is a repeat with these bounds, and is read as this repeat at the front of
--- a text, this reading is in the grammar
+-- a repeat that consists of the one character `sign`, and is read at the front of a text, is in the
+-- grammar
 sign_found : (o sign : ℕ) (text : List ℕ) (bounds : Bounds) (found : Bounds × List ℕ) → o ≡ sign → IsRepeat (sign ∷ []) bounds → Some (bounds, text) ≡ Some found → IsRepeatAt (o ∷ text) found
 sign_found o sign text bounds found is h e =
     given_to (IsRepeatAt (o ∷ text)) (bounds, text) found e (sign ∷ [], ap (λ (first : ℕ). first ∷ text) is, inr h)

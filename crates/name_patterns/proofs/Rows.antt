@@ -1,4 +1,4 @@
--- The rows of the search, and the positions at which they are read.
+-- The rows of the search's table, and the sets of positions in the rows.
 use Rattle.std.proofs.Common.{◌≡◌, ◌≢◌, ℕ, zero, suc, ◌+◌, ◌-◌, ◌*◌, ◌<◌, ◌≤◌, Bool, true, false, List, [], ◌∷◌, ◌++◌, length, length-drop, map, drop, get_or, Option, Some, None, is_some, refl, sym, ◌∙◌, ap, arith, inl, inr}
 use Rattle.std.specs.Prelude.{slice_get, slice_set, IsSomeAnd}
 use Rattle.std.proofs.Math.Seq.{drop-length}
@@ -75,7 +75,8 @@ count_by_places atom atoms cs bounds after place run bounds_is are run_is low =
     (same_greatest (λ count. has_place after (place + count)) (λ count. is_some (first_count atoms (drop count (drop place cs)))) bounds.least
     (at_most bounds.most run) (λ k h. are (place + k) (omega arith) ∙ ap (λ (left : List Field). is_some (first_count atoms left)) (sym (drop-drop k place cs))))
 
--- if `atoms` have no split from any position, they have none with one more atom in front either
+-- if `atoms` have no split from any position, `atom` followed by `atoms` has no split from any
+-- position either
 none_in_front : (atom : PlainAtom) (atoms : List PlainAtom) (cs : List Field) → AreSplit atoms cs 0 → AreSplit (atom ∷ atoms) cs 0
 none_in_front atom atoms cs none place low =
     let no_count : first_count (atom ∷ atoms) (drop place cs) ≡ None =
@@ -99,9 +100,9 @@ none_there atoms cs place none low = of_test (first_count atoms (drop place cs))
     of_test None e = refl
     of_test (Some k) e = absurd cc
 
--- Let `next` be `places` with the position of one more component `c` added exactly if `c` passes.
--- If `places` are the positions of the passing components of `cs`, `next` are those of `cs`
--- followed by `c`.
+-- if `places` are the positions of the passing components of `cs`, and `next` also has the position
+-- of the next component `c` exactly if `c` passes, then `next` are the positions of the passing
+-- components of `cs ++ c ∷ []`
 pub pushed : (test : PlainTest) (cs : List Field) (c : Field) (places next place : ℕ) → ArePassed test cs places → length cs ≡ place → has_place next place ≡ passes test c
     → ((other : ℕ) → other ≢ place → has_place next other ≡ has_place places other) → ArePassed test (cs ++ c ∷ []) next
 pushed test cs c places next place are len there others p =
@@ -128,7 +129,8 @@ drop_map_end : {X Y : Type 0} (f : X → Y) (xs : List X) → drop (length xs) (
 drop_map_end f [] = refl
 drop_map_end f (x ∷ xs) = drop_map_end f xs
 
--- dropping all atoms of a list leaves the empty list, and both have a split from the same positions
+-- if all atoms of a list are dropped, the remaining list has a split from the same positions as the
+-- empty list
 pub after_all : {X : Type 0} (f : X → PlainAtom) (xs : List X) (cs : List Field) (places : ℕ) → AreSplit [] cs places → AreSplit (drop (length xs) (map f xs)) cs places
 after_all f xs cs places are = rw (drop_map_end f xs) are
 
@@ -144,8 +146,8 @@ drop_map f (y ∷ xs) (suc at) x h is = rw next (drop_map f xs at x (omega arith
     next : suc at + 1 ≡ suc (at + 1)
     next = omega arith
 
--- Let the rows after index `at`, up to index `n`, have the property `P`. If the row at index `at`
--- is set to a row with this property, all rows from `at` to `n` have it.
+-- if the rows from index `at + 1` to `n` have the property `P`, and the row at index `at` is set to
+-- a row with this property, all rows from `at` to `n` have the property
 pub table_step : {X : Type 0} (P : ℕ → X → Type 0) (rows : List X) (at n : ℕ) (row : X) → at < length rows → P at row
     → ((k : ℕ) → at + 1 ≤ k → k ≤ n → IsSomeAnd (slice_get rows k) (P k)) → (k : ℕ) → at ≤ k → k ≤ n → IsSomeAnd (slice_get (slice_set rows at row) k) (P k)
 table_step P rows at n row room here following k from low =

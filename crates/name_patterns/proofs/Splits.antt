@@ -182,8 +182,9 @@ some_splits atoms cs (Some k) counts h split = refl
 abbrev AreSearched : List PlainAtom → Type 0
 AreSearched atoms = (cs : List Field) → IsSearched atoms cs (first_count atoms cs)
 
--- The first count of a split is at most the greatest number of the first atom, and at most the run
--- of components that pass. The other atoms have a split of the components after this count.
+-- If `count ∷ counts` is a split, `count` is at most the greatest number of `atom`, and at most the
+-- number of components before the first one that fails. The other atoms have a split of the
+-- components after the first `count`.
 taken : (atom : PlainAtom) (atoms : List PlainAtom) (cs : List Field) (count : ℕ) (counts : List ℕ) → AreSearched atoms → IsSplit (atom ∷ atoms) cs (count ∷ counts)
     → (count ≤ at_most atom.bounds.most (run_of atom.test cs)) × (is_some (first_count atoms (drop count cs)) ≡ true)
 taken atom atoms cs count counts following split = (
@@ -191,7 +192,7 @@ taken atom atoms cs count counts following split = (
   some_splits atoms (drop count cs) (first_count atoms (drop count cs)) counts (following (drop count cs)) split.4,
 )
 
--- if an atom in front of others has no first count, there is no split
+-- if `first_count` returns `None` for the atoms `atom ∷ atoms`, these atoms have no split
 no_split : (atom : PlainAtom) (atoms : List PlainAtom) (cs : List Field) → AreSearched atoms → first_count (atom ∷ atoms) cs ≡ None
     → (counts : List ℕ) → IsSplit (atom ∷ atoms) cs counts → ⊥
 unfolding first_count
@@ -200,8 +201,8 @@ no_split atom atoms cs following e (count ∷ counts) split =
     let t = taken atom atoms cs count counts following split in
     no_greatest (λ n. is_some (first_count atoms (drop n cs))) atom.bounds.least (at_most atom.bounds.most (run_of atom.test cs)) e count split.0 t.0 t.1
 
--- Let `k` be the greatest possible first count, and `best` the greatest split of the components
--- after the first `k`. Then every split is equal to `k ∷ best` or less than `k ∷ best`.
+-- if `k` is the greatest possible first count, and `best` is the greatest split of the components
+-- after the first `k`, every split is at most `k ∷ best`
 not_greater : (atom : PlainAtom) (atoms : List PlainAtom) (cs : List Field) (k : ℕ) (best : List ℕ) → AreSearched atoms
     → IsGreatest (λ n. is_some (first_count atoms (drop n cs))) atom.bounds.least (at_most atom.bounds.most (run_of atom.test cs)) k
     → IsGreatestSplit atoms (drop k cs) best
@@ -230,8 +231,8 @@ unfolding first_count
 first_is atom atoms cs k e =
     some_greatest (λ n. is_some (first_count atoms (drop n cs))) atom.bounds.least (at_most atom.bounds.most (run_of atom.test cs)) k e
 
--- if the results for `atoms` satisfy `IsSearched`, the result for one atom in front of `atoms`
--- satisfies it too
+-- if the results for `atoms` satisfy `IsSearched`, the result for `atom` followed by `atoms`
+-- satisfies `IsSearched` too
 step : (atom : PlainAtom) (atoms : List PlainAtom) (cs : List Field) → AreSearched atoms
     → (r : Option ℕ) → first_count (atom ∷ atoms) cs ≡ r → IsSearched (atom ∷ atoms) cs r
 unfolding greedy
@@ -309,8 +310,8 @@ none_first atom atoms cs once_is no_run =
     let most : min 1 0 ≡ 0 = omega arith in
     rw (once_is, no_run, most) (greatest_no_one (λ count. is_some (first_count atoms (drop count cs))))
 
--- if an atom matches exactly one component, and no component at the front passes, `greedy`
--- returns `None`
+-- if the first atom matches exactly one component, and the first component fails or is missing,
+-- `greedy` returns `None`
 pub no_single : (atom : PlainAtom) (atoms : List PlainAtom) (cs : List Field) → atom.bounds ≡ once → run_of atom.test cs ≡ 0 → greedy (atom ∷ atoms) cs ≡ None
 no_single atom atoms cs once_is no_run = greedy_none atom atoms cs (none_first atom atoms cs once_is no_run)
 
@@ -322,8 +323,8 @@ single_first atom atoms c cs once_is is =
     let most : min 1 (1 + run_of atom.test cs) ≡ 1 = omega arith in
     rw (once_is, run, most) (greatest_one (λ count. is_some (first_count atoms (drop count (c ∷ cs)))))
 
--- Let the first atom match exactly one component, and let the first component pass. Then `greedy`
--- returns the count 1, followed by the counts for the other atoms and components.
+-- if the first atom matches exactly one component, and the first component passes, `greedy` returns
+-- the count 1, followed by the counts for the other atoms and components
 pub single_taken : (done : List ℕ) (atom : PlainAtom) (atoms : List PlainAtom) (c : Field) (cs : List Field) → atom.bounds ≡ once → passes atom.test c ≡ true
     → after_counts done (greedy (atom ∷ atoms) (c ∷ cs)) ≡ after_counts (done ++ 1 ∷ []) (greedy atoms cs)
 single_taken done atom atoms c cs once_is is = by_rest (first_count atoms cs) refl

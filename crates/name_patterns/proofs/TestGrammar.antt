@@ -1,4 +1,4 @@
--- What reading a test of components tells about its text.
+-- A test whose component texts have no special characters is read exactly if it is in the grammar.
 use Rattle.std.proofs.Common.{◌≡◌, ◌≢◌, ◌⊎◌, ℕ, zero, suc, ◌≤◌, false, cond, eqb, ◌||◌, List, [], ◌∷◌, ◌++◌, length, Some, None, refl, sym, ap, subst, ◌∙◌, arith, inl, inr, eq-eqb, append_assoc, codes}
 use Rattle.std.proofs.lemmas.Bool.{cases_eq, cases_Bool, or_parts, eqb-true, eqb-false, ne_eqb}
 use Rattle.std.proofs.lemmas.List.{length-append, nil_from_length}
@@ -176,7 +176,7 @@ one_again front rest c h =
     ap (λ (t : List ℕ). test_in (t ++ rest)) f.1 ∙ ap (λ (t : List ℕ). quoted_test_in (t ++ rest)) (sym f.1) in
     begins ∙ rw (quoted_again front rest c h, other, text_again h.0 c h.2, text_none h.0 c h.2) refl
 
--- a list of quoted texts that is not empty begins with `<`
+-- if a list has at least one quoted text, the text of the list begins with `<`
 list_begins : (inner : List ℕ) (cs : List Field) → cs ≢ [] → AreQuoted inner cs → (text : List ℕ) × (inner ≡ 60 ∷ text)
 list_begins inner [] some h = absurd (some refl)
 list_begins inner (c ∷ cs) some h =

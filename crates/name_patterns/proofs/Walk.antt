@@ -18,8 +18,8 @@ pub some_of : {X : Type 0} (P : X → Type 0) (o : Option X) → IsSomeAnd o P �
 some_of P None h = absurd h
 some_of P (Some x) h = (x, refl, h)
 
--- if the rows of a table from `first` on are valid, the row at index `i`, which is at least
--- `first`, is valid
+-- if all rows of a table from index `first` on are valid, and `i` is at least `first`, the row at
+-- index `i` is valid
 pub row_at : (atoms : List PlainAtom) (cs : List Field) (rows : List Row) (first i : ℕ) (d : Row) → IsTable first atoms cs rows → first ≤ i → i ≤ length atoms → IsRow (drop i atoms) cs (get_or rows i d)
 row_at atoms cs rows first i d table from low =
     let row = some_of (IsRow (drop i atoms) cs) (slice_get rows i) (table i from low) in
@@ -105,8 +105,8 @@ walk_step atoms cs i place starts done k w low room e =
     take_step atoms cs i place starts done k w room (omega (arith, length-drop place cs, left, w.fits))
     (rw a.1 (greedy_some done a.0 (drop (i + 1) atoms) (drop place cs) k first ∙ rw moved refl))
 
--- if an atom matches exactly one component, and no component passes at its position, there is no
--- split
+-- if the atom at index `i` matches exactly one component, and the component at position `i` fails
+-- or is missing, there is no split
 pub single_none : (atoms : List PlainAtom) (cs : List Field) (i : ℕ) (starts done : List ℕ) (atom : PlainAtom) → IsTaken atoms cs i i starts done
     → drop i atoms ≡ atom ∷ drop (i + 1) atoms → atom.bounds ≡ once → run_of atom.test (drop i cs) ≡ 0 → greedy atoms cs ≡ None
 single_none atoms cs i starts done atom w cut once_is no_run =

@@ -29,8 +29,8 @@ AreQuoted text (c ∷ cs) =
     (front rest : List ℕ) × (text ≡ front ++ rest) × IsQuoted front c × AreQuoted rest cs
 
 -- The text of a test. `<>` denotes any component. A quoted text denotes the component with this
--- text. One or more quoted texts in brackets denote any of their components, or, if `^` follows the
--- opening bracket, any other component.
+-- text. One or more quoted texts between [ and ] denote any component in this list. One or more
+-- quoted texts between [^ and ] denote any component that is not in this list.
 abbrev pub IsTestText : List ℕ → PlainTest → Type 0
 IsTestText text Anything = text ≡ codes "<>"
 IsTestText text (OneOf cs) =
@@ -95,7 +95,7 @@ item_atoms (Alone atom) = atom ∷ []
 item_atoms (Group atoms) = atoms
 
 -- The groups among these items, where `n` atoms come before the items. A group is a pair: the
--- number of atoms before its first atom, and before its end.
+-- number of atoms before its first atom, and the number of atoms before its end.
 abbrev pub groups_from : ℕ → List Item → List (ℕ × ℕ)
 groups_from n [] = []
 groups_from n (Alone atom ∷ items) = groups_from (n + 1) items

@@ -22,17 +22,18 @@ at_most (Some most) n = min most n
 abbrev pub run_of : PlainTest → List Field → ℕ
 run_of test cs = prefix_len (passes test) cs
 
--- the greatest number from `least` up to the last argument for which `can_take` is true, or `None`
--- if there is no such number
+-- `greatest can_take least most` is the greatest `n` from `least` to `most` for which `can_take n`
+-- is true, or `None` if there is none
 unfoldable pub greatest : (ℕ → Bool) → ℕ → ℕ → Option ℕ
 greatest can_take least zero = if (least == 0) && can_take 0 then Some 0 else None
 greatest can_take least (suc n) =
     if nat_lt (suc n) least then None else (
     if can_take (suc n) then Some (suc n) else greatest can_take least n)
 
--- The count of the first atom in the greatest split: the greatest number of passing components
--- within the atom's bounds after which the other atoms have a split. Without atoms, the count is 0
--- if there are no components. The result is `None` if there is no split.
+-- The count of the first atom in the greatest split. This is the greatest `count` within the atom's
+-- bounds with two properties: the first `count` components pass the atom's test, and the other
+-- atoms have a split of the remaining components. Without atoms, the count is 0 if there are no
+-- components. The result is `None` if there is no split.
 unfoldable pub first_count : List PlainAtom → List Field → Option ℕ
 first_count [] [] = Some 0
 first_count [] (c ∷ cs) = None
@@ -60,7 +61,7 @@ abbrev pub ArePassed : PlainTest → List Field → ℕ → Type 0
 ArePassed test cs places =
     (place : ℕ) → has_place places place ≡ passes_there test (slice_get cs place)
 
--- of the positions up to the end of `cs`, `places` are those from which the atoms have a split of
+-- `places` has exactly those positions, up to the end of `cs`, from which the atoms have a split of
 -- the remaining components
 abbrev pub AreSplit : List PlainAtom → List Field → ℕ → Type 0
 AreSplit atoms cs places =
@@ -85,13 +86,13 @@ abbrev pub AreStarts : List PlainAtom → List ℕ → List ℕ → Type 0
 AreStarts atoms counts starts =
     (i : ℕ) → i ≤ length atoms → slice_get starts i ≡ Some (sum (take i counts))
 
--- the counts `done` followed by the later counts, if there are later counts
+-- the counts `done` followed by the counts in `later`, or `None` if `later` is `None`
 abbrev pub after_counts : List ℕ → Option (List ℕ) → Option (List ℕ)
 after_counts done later = option_map (λ counts. done ++ counts) later
 
 -- The counts `done` are those of the first `i` atoms in the greatest split, if there is a split.
--- These atoms match the first `place` components. `starts` has the positions before each of these
--- atoms and after the last one.
+-- The first `i` atoms match the first `place` components. `starts` has the positions before each of
+-- the first `i` atoms, and the position after the last of them.
 pub record IsTaken (atoms : List PlainAtom) (cs : List Field) (i place : ℕ)
     (starts done : List ℕ) : Type 0 where
   pub len : length done ≡ i

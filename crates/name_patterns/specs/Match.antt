@@ -20,9 +20,9 @@ abbrev pub IsAtMost : ℕ → Option ℕ → Type 0
 IsAtMost count None = ⊤
 IsAtMost count (Some most) = count ≤ most
 
--- A split gives each atom in order a count of components. The count is within the atom's bounds,
--- and each of these components passes the atom's test. The later atoms split the remaining
--- components. No component remains after the last atom.
+-- A split assigns a count of components to each atom, in order. The count of an atom is within the
+-- atom's bounds, and that many components at the front pass the atom's test. The later atoms split
+-- the remaining components. No component remains after the last atom.
 abbrev pub IsSplit : List PlainAtom → List Field → List ℕ → Type 0
 IsSplit [] cs counts = (cs ≡ []) × (counts ≡ [])
 IsSplit (atom ∷ atoms) cs [] = ⊥
@@ -34,8 +34,7 @@ IsSplit (atom ∷ atoms) cs (count ∷ counts) =
 abbrev pub HasNoSplit : List PlainAtom → List Field → Type 0
 HasNoSplit atoms cs = (counts : List ℕ) → IsSplit atoms cs counts → ⊥
 
--- The split whose list of counts is the greatest, compared from the left: at the first difference,
--- any other split has the lesser count.
+-- The split whose list of counts is the greatest in lexicographic order.
 pub record IsGreatestSplit (atoms : List PlainAtom) (cs : List Field)
     (counts : List ℕ) : Type 0 where
   pub split : IsSplit atoms cs counts

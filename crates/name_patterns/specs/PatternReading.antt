@@ -34,8 +34,8 @@ pub record FrontPart (A : Type 0) : Type 0 where
   pub is_inner : Bool
   pub rest : List ℕ
 
--- the text between < at the front and the first > after it, which may be empty, and the remaining
--- text, or `None`
+-- The text between < at the front and the first > after it, and the remaining text. The text
+-- between < and > may be empty. The result is `None` if < or > is missing.
 abbrev pub quoted_in : List ℕ → Option (List ℕ × List ℕ)
 quoted_in [] = None
 quoted_in (o ∷ text) = if o == 60 then cut_at 62 text else None
@@ -46,8 +46,9 @@ list_end [] = None
 list_end (o ∷ text) =
     if o == 93 then Some (record { part = []; is_inner = false; rest = text }) else None
 
--- the components whose texts stand between `<` and `>` before the bracket that closes the list, and
--- the text after it, or `None`; the first argument limits their number
+-- `listed_within n text` is the components of a list, each written between < and >, up to the
+-- closing bracket, and the text after this bracket. The result is `None` if the text is not a list,
+-- or if the list has more than `n` components.
 unfoldable pub listed_within : ℕ → List ℕ → Option (FrontPart (List Field))
 listed_within zero text = list_end text
 listed_within (suc n) text = option_map_or
@@ -95,7 +96,7 @@ count_in text =
     then Some (digits_value 10 text) else None
 
 -- The range whose text has `low` before its comma and `high` after it, or `None`. An empty `low` is
--- 0, and an empty `high` sets no upper bound. At most one of them may be empty.
+-- 0, and an empty `high` sets no upper bound. If both texts are empty, the result is `None`.
 abbrev pub range_by_comma : List ℕ → List ℕ → Option Bounds
 range_by_comma low high =
     if length high == 0 then (do
@@ -121,8 +122,8 @@ abbrev pub begins_repeat : List ℕ → Bool
 begins_repeat [] = false
 begins_repeat (o ∷ text) = list_any (λ sign. sign == o) (codes "*+?{")
 
--- a repeat in braces, read from the text after its opening brace, and the remaining text, or `None`
--- if it is no range
+-- the range in braces, read from the text after the opening brace, and the text after the closing
+-- brace, or `None` if the text is not a range with a closing brace
 abbrev pub braced_in : List ℕ → Option (Bounds × List ℕ)
 braced_in text = do
   parts ← cut_at 125 text
@@ -159,8 +160,9 @@ pub record PlainDraft : Type 0 where
   pub groups : List (ℕ × ℕ)
   pub open_group : Option OpenGroup
 
--- the draft after the atom at offset `at` is added, and the remaining text; the fault is `Syntax`
--- if there is no atom or it is the 33rd, and `Inner` if its text has a special character
+-- The draft after the atom at offset `at` is added, and the remaining text. The fault is `Syntax`
+-- if there is no atom, or if the atom is the 33rd. The fault is `Inner` if the text of the atom has
+-- a special character.
 abbrev pub with_atom : PlainDraft → ℕ → List ℕ → Result (PlainDraft × List ℕ) PatternFault
 with_atom draft at text = on_result
     (λ found.
@@ -175,8 +177,9 @@ with_atom draft at text = on_result
     )))
     Err (read_at at (atom_in text))
 
--- The draft after a parenthesis at offset `at` opens a group, and `text`, which follows it. The
--- fault is `Nested` if a group is open, and `BadGroup` if there are nine groups.
+-- The draft after the opening parenthesis at offset `at`, and `text`, the text after this
+-- parenthesis. The fault is `Nested` if a group is already open, and `BadGroup` if there are
+-- already nine groups.
 abbrev pub with_open : PlainDraft → ℕ → List ℕ → Option OpenGroup
     → Result (PlainDraft × List ℕ) PatternFault
 with_open draft at text (Some group) = Err (Nested at)
@@ -190,9 +193,9 @@ with_open draft at text None =
       text,
     )
 
--- The draft after a parenthesis at offset `at` closes a group, and `text`, which follows it. If no
--- group is open, the fault is `Syntax`. A repeat after the parenthesis has the fault `Nested`, or
--- `Syntax` if it is not valid, at the next offset.
+-- The draft after the closing parenthesis at offset `at`, and `text`, the text after this
+-- parenthesis. If no group is open, the fault is `Syntax`. If a repeat follows the parenthesis, the
+-- fault is at offset `at + 1`: `Nested` for a valid repeat, and `Syntax` for an invalid repeat.
 abbrev pub with_closed : PlainDraft → ℕ → List ℕ → Option OpenGroup
     → Result (PlainDraft × List ℕ) PatternFault
 with_closed draft at text None = Err (Syntax at)
@@ -216,15 +219,15 @@ with_item draft at (o ∷ text) =
     if o == 41 then with_closed draft at text draft.open_group else
     with_atom draft at (o ∷ text))
 
--- whether the text contains a closing parenthesis outside all < and >; `is_inside` says whether the
+-- whether the text contains a closing parenthesis outside all < and >; `is_inside` is true if the
 -- text begins between < and >
 unfoldable pub is_closed : Bool → List ℕ → Bool
 is_closed is_inside [] = false
 is_closed is_inside (o ∷ text) =
     if is_inside then is_closed (not (o == 62)) text else ((o == 41) || is_closed (o == 60) text)
 
--- The fault to report when the item at the front of this text has the fault `fault`. If a group is
--- open and never closed, the fault is `Syntax` at its parenthesis.
+-- The fault to report when the item at the front of the text has the fault `fault`. If a group is
+-- open and never closed, the fault to report is `Syntax` at the opening parenthesis of this group.
 abbrev pub first_fault : Option OpenGroup → List ℕ → PatternFault → PatternFault
 first_fault None text fault = fault
 first_fault (Some group) text fault = if is_closed false text then fault else Syntax group.place
@@ -238,8 +241,8 @@ whole_of draft None = Ok (record { atoms = draft.atoms; groups = draft.groups })
 abbrev pub with_implied : PlainDraft → PlainDraft
 with_implied draft = record draft { atoms = draft.atoms ++ anything ∷ [] }
 
--- the complete pattern, where the remaining text is empty or is the anchor `$`, or a fault if a
--- group is still open; an empty text implies a last atom
+-- The complete pattern at the end of its text, or a fault if a group is still open. The remaining
+-- text is empty or is the anchor `$`. An empty remaining text implies a last atom.
 abbrev pub at_end : PlainDraft → List ℕ → Result PlainPattern PatternFault
 at_end draft [] = whole_of (with_implied draft) draft.open_group
 at_end draft (o ∷ text) = whole_of draft draft.open_group
@@ -247,8 +250,9 @@ at_end draft (o ∷ text) = whole_of draft draft.open_group
 abbrev pub is_end : List ℕ → Bool
 is_end text = (length text == 0) || bytes_eq text (codes "$")
 
--- the pattern of a text of length `len`, or its first fault, where `text` is the text that is still
--- to be read; the first argument limits the number of further items
+-- `items_within n len draft text` is the pattern of a text of length `len`, or the first fault.
+-- `draft` is the part that has been read, and `text` is the remaining text. At most `n` further
+-- items are read.
 unfoldable pub items_within : ℕ → ℕ → PlainDraft → List ℕ → Result PlainPattern PatternFault
 items_within zero len draft text = at_end draft text
 items_within (suc n) len draft text =

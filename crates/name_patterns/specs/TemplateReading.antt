@@ -15,8 +15,8 @@ digit_in [] = None
 digit_in (o ∷ text) = if nat_le 48 o && nat_le o 57 then Some (o - 48, text) else None
 
 -- The group whose digit is at the front of the text, and the remaining text. The backslash before
--- the digit is at offset `at`. The fault there is `Syntax` without a digit, and `BadGroup` if the
--- number exceeds `groups`.
+-- the digit is at offset `at`. The fault is `Syntax` at `at` if there is no digit, and `BadGroup`
+-- at `at` if the number exceeds `groups`.
 abbrev pub group_in : ℕ → ℕ → List ℕ → Result (PlainPart × List ℕ) PatternFault
 group_in groups at text =
     on_result (λ digit. if nat_lt groups digit.0 then Err (BadGroup at)
@@ -29,8 +29,9 @@ single_in text = do
   c ← text_in quoted.0
   Some (record { part = c; is_inner = has_special quoted.0; rest = quoted.1 })
 
--- The part between < and > at offset `at`, and the remaining text. The fault is `Syntax` if there
--- is no such part, and `Inner` if its text contains a special character.
+-- The component between < and > at offset `at`, and the remaining text. The fault is `Syntax` if
+-- there is no component between < and >, and `Inner` if the text of the component contains a
+-- special character.
 abbrev pub single_part_in : ℕ → List ℕ → Result (PlainPart × List ℕ) PatternFault
 single_part_in at text =
     on_result (λ found. if found.is_inner then Err (Inner at)
@@ -43,8 +44,8 @@ part_in groups at [] = Err (Syntax at)
 part_in groups at (o ∷ text) =
     if o == 92 then group_in groups at text else single_part_in at (o ∷ text)
 
--- the parts of a template of length `len`, or its first fault, where `text` is the text that is
--- still to be read; the first argument limits the number of further parts
+-- `parts_within n groups len text` is the list of the parts in `text`, or the first fault. `text`
+-- is the remaining text of a template of length `len`. At most `n` parts are read.
 unfoldable pub parts_within : ℕ → ℕ → ℕ → List ℕ → Result (List PlainPart) PatternFault
 parts_within zero groups len text = Ok []
 parts_within (suc n) groups len text =

@@ -25,8 +25,7 @@ impl Model for Captures {
 impl Captures {
     ghost use Rattle.std.specs.Prelude.{◌≡◌, ◌<◌, ◌∷◌, ◌++◌, [], length, slice_get};
 
-    /// Returns captures with group 0 only. This group is the whole name, which has `len`
-    /// components.
+    /// Returns captures with group 0 only: the whole name, which has `len` components.
     pub(crate) fn of_name(len: usize) -> Captures
         ensures { result ≡ (0, len) ∷ [] }
     {

@@ -56,8 +56,8 @@ impl Test {
         }
     }
 
-    /// Returns whether this is the test `anything`, which every component passes. If so, no
-    /// component needs to be tested.
+    /// Returns whether this is the test `anything`, which every component passes. If the test is
+    /// `anything`, no component needs to be tested.
     #[inline(always)]
     pub fn is_anything(&self) -> bool
         ensures { IsTrue result ↔ (test_of self.now ≡ Anything) }

@@ -58,8 +58,8 @@ impl Draft {
         Ok(())
     }
 
-    /// Adds the atom at the front of the text, at offset `at` of the pattern. Returns the remaining
-    /// text.
+    /// Adds the atom at the front of the text. The atom is at offset `at` of the pattern. Returns
+    /// the remaining text.
     fn add_atom<'a>(
         &mut self,
         alloc: Global,
@@ -122,8 +122,8 @@ impl Draft {
         Ok(())
     }
 
-    /// Adds the item at the front of the text, at offset `at` of the pattern. Returns the remaining
-    /// text.
+    /// Adds the item at the front of the text. The item is at offset `at` of the pattern. Returns
+    /// the remaining text.
     pub fn add_item<'a>(
         &mut self,
         alloc: Global,

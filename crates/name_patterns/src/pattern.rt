@@ -47,7 +47,8 @@ impl Pattern {
     /// Returns what the groups capture, if the pattern matches the name. From left to right, each
     /// atom matches as many components as a match of the whole name allows. Nothing is allocated.
     pub fn matches(&self, name: Name<'_>) -> Option<Captures>
-        // The returned captures are those of the match.
+        // If captures are returned, the pattern matches the name, and the captures are the
+        // positions of the groups in the greatest split.
         ensures found { IfSome result (Match self.now (components name.entry)) }
         // If the result is `None`, the pattern does not match the name.
         ensures none { IfNone result (HasNoSplit self.now.atoms (components name.entry)) }

@@ -29,8 +29,8 @@ fn is_closed(text: &[u8]) -> bool
     false
 }
 
-/// Returns the fault to report when the item at the front of this text is faulty. If the open group
-/// is never closed, its parenthesis is the leftmost faulty item.
+/// Returns the fault to report when the item at the front of the text has the fault `fault`. If the
+/// open group is never closed, its opening parenthesis is the leftmost faulty item.
 fn first_fault(open_group: Option<OpenGroup>, text: &str, fault: PatternFault) -> PatternFault
     ensures { result ≡ read.first_fault open_group text.now fault }
 {
@@ -81,10 +81,10 @@ impl Pattern {
     /// Reads a pattern: `^`, items and `$`. If an anchor is missing, `<>*` is implied in its place.
     /// An item is an atom, or a group: atoms between `(` and `)`. The atom `<>` matches any
     /// component. The URI text of a component between `<` and `>` matches that component. A list of
-    /// such texts between `[` and `]` matches any component in the list. A list between `[^` and
-    /// `]` matches any component that is not in the list. A repeat may follow the atom: `*`, `+`,
-    /// `?`, `{2}`, `{2,}`, `{,4}` or `{2,4}`, with numbers up to 64. A pattern has at most 32
-    /// written atoms and 9 groups.
+    /// components, each between `<` and `>`, in the brackets `[` and `]` matches any component in
+    /// the list. A list between `[^` and `]` matches any component that is not in the list. A
+    /// repeat may follow an atom: `*`, `+`, `?`, `{2}`, `{2,}`, `{,4}` or `{2,4}`, with numbers up
+    /// to 64. A pattern has at most 32 written atoms and 9 groups.
     ///
     /// Returns the fault of the leftmost faulty item if the text is not a pattern: see
     /// `PatternFault`. A faulty item is an atom with its repeat, a repeat that follows another

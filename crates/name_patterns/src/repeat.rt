@@ -5,7 +5,7 @@ ghost use Rattle.name_patterns.specs.Pattern.{once};
 ghost use Rattle.name_patterns.specs.PatternReading as read;
 ghost use Rattle.name_patterns.specs.Shown.{bounds_of};
 
-/// The greatest number in a repeat. A name has at most as many components.
+/// The greatest number in a repeat, and the greatest number of components in a name.
 pub const MAX_COUNT: u8 = 64;
 
 /// The least number of components, and the greatest number, which may be absent.
@@ -39,8 +39,8 @@ fn count_of(text: &str) -> Option<u8>
     }
 }
 
-/// Returns the range whose text has `low` before its comma and `high` after it. One of these two
-/// texts may be empty.
+/// Returns the range whose text has `low` before its comma and `high` after it, or `None` if this
+/// text is not a range. `low` or `high` may be empty, but not both.
 fn range_by_comma(low: &str, high: &str) -> Option<Repeat>
     ensures { option_map bounds_of result ≡ read.range_by_comma low.now high.now }
 {

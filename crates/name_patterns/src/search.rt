@@ -95,8 +95,8 @@ fn most_of(repeat: Repeat, run: u8) -> u8
     }
 }
 
-/// Returns the greatest count from `least` to `most` for which the position `place` plus the count
-/// is in `after`.
+/// Returns the greatest `count` from `least` to `most` for which the position `place + count` is in
+/// `after`, or `None` if there is none.
 #[inline(always)]
 fn greatest(least: u8, most: u8, after: Places, place: usize) -> Option<u8>
     requires { most + place ≤ 64 }
@@ -110,9 +110,10 @@ fn greatest(least: u8, most: u8, after: Places, place: usize) -> Option<u8>
     None
 }
 
-/// Returns the greatest number of components that an atom can match from position `place` on.
-/// `passed` are the positions of the components that pass its test. `after` are the positions from
-/// which the later atoms can match all remaining components.
+/// Returns the greatest number of components that an atom can match from position `place` on, so
+/// that the later atoms can match all remaining components. Returns `None` if there is no such
+/// number. `passed` are the positions of the components that pass the atom's test. `after` are the
+/// positions from which the later atoms can match all remaining components.
 #[inline(always)]
 fn first_count(repeat: Repeat, passed: Places, after: Places, place: usize) -> Option<u8>
     requires { (passed < 2 ^ 64) × (place ≤ 64) }
@@ -148,10 +149,10 @@ fn split_before(repeat: Repeat, passed: Places, after: Places) -> Places
     split
 }
 
-/// Fills the table from its last row back to the row of the atom `first`, for a name of `len`
-/// components. If an atom and the later atoms cannot match from any position, the atoms before them
-/// cannot match either: the function then stops and returns false. Each atom is tested against each
-/// component at most once.
+/// Fills the table from its last row back to the row of the atom at index `first`, for a name of
+/// `len` components. Stops and returns false if an atom and the later atoms cannot match from any
+/// position, because the name then has no split. Each atom is tested against each component at most
+/// once.
 fn fill(
     atoms: &[Atom],
     first: usize,
@@ -185,9 +186,10 @@ fn fill(
     true
 }
 
-/// Matches the atoms at the front that match exactly one component each, up to the first other
-/// atom. These atoms need no table, because their counts are fixed. Returns the number of these
-/// atoms, or `None` if a component is missing or does not pass.
+/// Matches the leading atoms that match exactly one component each. Stops before the first atom
+/// that may match another number of components. Atoms that match exactly one component need no
+/// table, because their counts are fixed. Returns the number of matched atoms, or `None` if a
+/// component is missing or does not pass.
 fn take_singles(
     atoms: &[Atom],
     components: &mut Components<'_>,
@@ -222,9 +224,9 @@ fn take_singles(
     Some(atoms.len())
 }
 
-/// Matches the atoms from `first` on with the remaining components, by means of a table. The name
-/// has `len` components. Returns the position after the last matched component, or `None` if there
-/// is no split.
+/// Matches the atoms from index `first` on with the components from position `first` on, by means
+/// of a table. The name has `len` components. Returns the position after the last matched
+/// component, or `None` if there is no split.
 fn take_others(
     atoms: &[Atom],
     first: usize,

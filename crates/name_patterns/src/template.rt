@@ -68,8 +68,8 @@ impl Template {
     /// Returns the name that the template expands to. `captures` are the positions of the groups in
     /// `name`.
     ///
-    /// Returns `TooManyComponents`, before any allocation, if the name would be too long, or
-    /// `Memory` if memory runs out.
+    /// Returns `TooManyComponents`, before any allocation, if the name would have more than 64
+    /// components, or `Memory` if memory runs out.
     pub fn expand(
         &self,
         alloc: Global,
@@ -122,7 +122,8 @@ fn append_part(
     ensures ok { OnOk result
         (expanded.new ≡ expanded.old ++ template.part_of captures.now (components name.entry)
         (part_of part.now)) }
-    // If the result has at most 64 components, the call fails only if memory runs out.
+    // If the part can be in a name, and the result has at most 64 components, the call fails only
+    // if memory runs out.
     ensures room { CanStand (part_of part.now)
         → length expanded.old + length
         (template.part_of captures.now (components name.entry) (part_of part.now)) ≤ 64

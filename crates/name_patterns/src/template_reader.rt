@@ -23,8 +23,8 @@ fn first_digit(text: &str) -> Option<(u8, &str)>
     Some((digit - b'0', text.strip_prefix(digit as char)?))
 }
 
-/// Reads the group whose digit is at the front of the text, after a backslash at offset `at`.
-/// Returns the group and the remaining text.
+/// Reads a group from the text after its backslash: the digit of the group is at the front of this
+/// text. The backslash is at offset `at` of the template. Returns the group and the remaining text.
 fn read_group(at: usize, text: &str, groups: u8) -> Result<(Part, &str), PatternFault>
     ensures read { let group = read.group_in groups at text.now in
         MatchResult result (λ found. group ≡ Ok (part_of found.0, found.1.now))
@@ -40,8 +40,8 @@ fn read_group(at: usize, text: &str, groups: u8) -> Result<(Part, &str), Pattern
     Ok((Part::Group(group), rest))
 }
 
-/// Reads the component between `<` and `>` at the front of the text, at offset `at`. Returns the
-/// component and the remaining text.
+/// Reads the component between `<` and `>` at the front of the text. The component is at offset
+/// `at` of the template. Returns the component and the remaining text.
 fn read_single(alloc: Global, at: usize, text: &str) -> Result<(Part, &str), PatternFault>
     ensures read { let single = read.single_part_in at text.now in
         MatchResult result (λ found. single ≡ Ok (part_of found.0, found.1.now))
@@ -58,8 +58,8 @@ fn read_single(alloc: Global, at: usize, text: &str) -> Result<(Part, &str), Pat
     Ok((Part::Single(single), rest))
 }
 
-/// Reads the part at the front of the text, at offset `at`. Returns the part and the remaining
-/// text.
+/// Reads the part at the front of the text. The part is at offset `at` of the template. Returns the
+/// part and the remaining text.
 fn read_part(alloc: Global, at: usize, text: &str, groups: u8) -> Result<(Part, &str), PatternFault>
     ensures read { let part = read.part_in groups at text.now in
         MatchResult result (λ found. part ≡ Ok (part_of found.0, found.1.now)) (IsFaultOf part) }

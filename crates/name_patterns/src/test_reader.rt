@@ -79,7 +79,7 @@ fn read_list(alloc: Global, at: usize, text: &str) -> Result<FrontPart<'_, Test>
     })
 }
 
-/// Reads the test of a text between `<` and `>`. This text may be empty.
+/// Reads the test of a text between `<` and `>`. The text between `<` and `>` may be empty.
 fn read_quoted(alloc: Global, at: usize, text: &str) -> Result<FrontPart<'_, Test>, PatternFault>
     ensures read { let quoted = read.quoted_test_in text.now in
         MatchResult result (λ found. quoted ≡ Some (record {

@@ -65,8 +65,8 @@ pub fn first_quoted(text: &str) -> Option<(&str, &str)>
     text.strip_prefix('<')?.split_once('>')
 }
 
-/// Reads a component from its text. `at` is the offset of the item or part with this text in the
-/// pattern or template.
+/// Reads a component from its text. `at` is the offset, in the pattern or template, of the item or
+/// part that contains this text.
 pub fn read_text(alloc: Global, at: usize, text: &str) -> Result<Text, PatternFault>
     ensures { let component = read.text_in text.now in
         MatchResult result (λ text. component ≡ Some (field_of text))

@@ -18,7 +18,7 @@ use Rattle.name_trie.proofs.Closed.{lookup_turned}
 use Rattle.name_trie.proofs.Walks.{walk_none, lookup_none}
 
 module _ {V : Type 0} (own below : V → Option V) where
-  -- how the value of the name `q` changes in a walk along `front` that stops before the node of
+  -- how a walk along `front` changes the value of the name `q` before the walk visits the node of
   -- `front`
   abbrev pub before : List Field → List Field → V → Option V
   before q front = changed_along Some below q front
@@ -53,8 +53,8 @@ module _ {V : Type 0} (own below : V → Option V) where
   before_itself [] = refl
   before_itself (c ∷ name) = ap (λ f. cond (eq_by_cmp component_cmp c c) f Some) (before_itself name) ∙ sym (same_either (eq_by_cmp component_cmp c c))
 
-  -- Let the name `front` lead to no node. Then a walk along `front ++ rest` changes each value in
-  -- the same way as a walk along `front` that stops before the node of `front`.
+  -- if the name `front` leads to no node, a walk along `front ++ rest` changes only the values of
+  -- the proper prefixes of `front`, each by `below`
   pub cut_short : (h : Heap V) (o : Option ℕ) (front rest : List Field) → walk h o front ≡ None → (q : List Field)
       → option_and_then (changed_along own below q (front ++ rest)) (lookup h o q) ≡ option_and_then (before q front) (lookup h o q)
   cut_short h o [] rest none q =
@@ -99,9 +99,9 @@ module _ {S V : Type 0} (own below : S → V → S) where
       ap (λ (o : Option V). taken_along own below (taken below s o) f (front ++ c ∷ []) rest) (ap f (sym (append-nil front)) ∙ none [])
       ∙ nothing_taken s f (front ++ c ∷ []) rest (λ p. ap f (append_assoc front (c ∷ []) p) ∙ none (c ∷ p))
 
-  -- Let the names of at most `bound` components have the same values in `f` and `g`, and let the
-  -- name of the walk be one of these names. Then a walk over `f` and a walk over `g` leave the
-  -- visitor in the same state.
+  -- if `f` and `g` agree on all names of at most `bound` components, and `front ++ rest` has at
+  -- most `bound` components, walks from `front` along `rest` over `f` and over `g` leave the
+  -- visitor in the same state
   pub taken_same : (s : S) (f g : List Field → Option V) (front rest : List Field) (bound : ℕ)
       → ((q : List Field) → length q ≤ bound → f q ≡ g q) → length front + length rest ≤ bound → taken_along own below s f front rest ≡ taken_along own below s g front rest
   taken_same s f g front [] bound same le = ap (taken own s) (same front (omega arith))

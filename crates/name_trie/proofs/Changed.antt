@@ -235,7 +235,7 @@ module _ {V : Type 0} (k at : ℕ) (c : Field) (h h' : Heap V) (joins : Joins k 
     rootless : root ≢ Some k
     rootless e = (let high = sound.top k e in let none = up_none in cc)
 
-    -- each link after the child is added is the link from `at` to k for the component `c`, or
+    -- after the child is added, each link is the link from `at` to k for the component `c`, or
     -- existed before
     child_now : (a : ℕ) (d : Field) (j : ℕ) → child h' a d ≡ Some j → ((a ≡ at) × (d ≡ c) × (j ≡ k)) ⊎ (child h a d ≡ Some j)
     child_now a d j e =

@@ -17,7 +17,7 @@ use Rattle.name_trie.proofs.Counts.{len_fewer, len_set, not_empty as not_zero}
 use Rattle.name_trie.proofs.Changed.{same_or, one_walk, set_turns, there_by_up}
 use Rattle.name_trie.proofs.Walks.{get-table, get-table_long, same_table, put_table, remove_table, by_length}
 
--- if the optional node `o` has a value, `o` is a node
+-- if the node in `o` has a value (its field `value` is not None), then `o` is not None
 pub up_of : {V : Type 0} (o : Option (Node V)) (x : V) → option_and_then (λ n. n.value) o ≡ Some x → (u : Option ℕ) × (option_map (λ n. n.parent) o ≡ Some u)
 up_of None x e = absurd cc
 up_of (Some n) x e = (n.parent, refl)
@@ -126,17 +126,17 @@ module _ {V : Type 0} (k : ℕ) (v : Option V) (h h' : Heap V) (sets : Sets k v 
     pub lookup_set : (name : List Field) → walk h root name ≡ Some k → (q : List Field) → lookup h' root q ≡ cond (eq_by_cmp name_cmp q name) v (lookup h root q)
     lookup_set = lookup_turned k v h h' (set_turns k v h h' sets) root sound
 
--- Let `name` have at most 64 components, let a lookup of `name` in `h'` give `v`, and let all other
--- lookups give the same in `h'` as in `h`. Then the table of `h'` is the table of `h` with the
--- value `v` for `name`, or without a value for `name` if `v` is None.
+-- Let `name` have at most 64 components, and let its lookup in `h'` return the optional value `v`.
+-- If the lookup of each other name returns the same in `h'` as in `h`, the table of `h'` is the
+-- table of `h` with `v` for `name`.
 pub with_value_table : {V : Type 0} (h h' : Heap V) (root root' : Option ℕ) (name : List Field) (v : Option V) → length name ≤ 64
     → ((q : List Field) → lookup h' root' q ≡ cond (eq_by_cmp name_cmp q name) v (lookup h root q))
     → table_of h' root' ≡ with_value (table_of h root) name v
 with_value_table h h' root root' name None le is = remove_table h h' root root' name le is
 with_value_table h h' root root' name (Some x) le is = put_table h h' root root' name x le is
 
--- if each lookup in `h'` gives what `change` makes of the value in `h`, the table of `h'` is the
--- table of `h` with `change` applied to each value
+-- if the lookup of each name in `h'` returns `change` applied to the value of the name in `h`, the
+-- table of `h'` is the table of `h` with `change` applied to each value
 module _ {V : Type 0} (change : V → Option V) (h h' : Heap V) (root root' : Option ℕ) where
   pub revise_table : ((q : List Field) → lookup h' root' q ≡ option_and_then change (lookup h root q)) → table_of h' root' ≡ revise change (table_of h root)
   revise_table is = same_map name_cmp-total name_cmp-antisymmetric _ _ (λ q.

@@ -1,4 +1,5 @@
--- Flattening a map from names to rows into a map from keys: its lookups, and its number of keys.
+-- Lookups in a flattened map, and its number of keys. Flattening turns a map from names to rows
+-- into a map from keys.
 use Rattle.std.proofs.Common.{◌≡◌, ℕ, suc, ◌+◌, Bool, true, false, cond, List, [], ◌∷◌, ◌++◌, map, length, refl, sym, ap, subst, ◌∙◌, arith, length-append}
 use lib.Dec.{T}
 use Rattle.std.specs.Prelude.{Option, None, Some, ◌&&◌}

@@ -15,7 +15,7 @@ use Rattle.name_trie.proofs.Changed.{unless_is_self, unless_is_other}
 use Rattle.name_trie.proofs.Halves.{lower_before, row_at}
 use Rattle.name_trie.proofs.Revised.{equal, find_below}
 
--- if no row has the index of the child, no row is removed
+-- if no row has the index `child`, removing the rows with this index changes nothing
 pub others_stay : {K : Type 0} (child : ℕ) (rows : List (K × ℕ)) → All (λ row. row.1 ≢ child) rows → revised (unless_is child) rows ≡ rows
 others_stay child [] all = refl
 others_stay child (x ∷ rows) all =

@@ -52,9 +52,9 @@ row_at (e ∷ rows) zero lt = (e, refl)
 row_at (e ∷ rows) (suc at) lt = row_at rows at (omega arith)
 
 module _ {K X : Type 0} {R : K → K → Ordering} (total : IsTotalOrder R) where
-  -- Let the rows be sorted, let the rows before index `at` be less than the key, and let the row at
-  -- `at`, if there is one, be greater than the key. Then no row has the key, and `put` inserts a
-  -- new row at index `at`.
+  -- in sorted rows, if all rows before index `at` are less than the key, and the row at index `at`
+  -- is greater than the key or missing, no row has the key, and `put` inserts a new row at index
+  -- `at`
   pub gap_is : (k : K) (rows : List (K × X)) (at : ℕ) → at ≤ length rows → AllLower R k (take at rows)
       → ((row : K × X) → at < length rows → row ≡ get_or rows at row → R k row.0 ≡ Less) → T (is_sorted R rows)
       → (at ≤ length rows) × ((v : X) → put R k v rows ≡ insert rows at (k, v)) × (find R k rows ≡ None)

@@ -1,4 +1,4 @@
--- Comparing the first octets as a number, before the octets themselves.
+-- Comparing lists of octets by their heads: the first octets as a big-endian number.
 use Rattle.std.proofs.Common.{◌≡◌, ℕ, zero, suc, ◌+◌, ◌*◌, ◌^◌, ◌<◌, ◌≤◌, List, [], ◌∷◌, length, refl, sym, ap, subst, ◌∙◌, add-one, arith}
 use Rattle.std.proofs.Math.Nat.{pow-succ', pow-le-pow_right}
 use Rattle.std.proofs.lemmas.List.{get_or_past}
@@ -35,8 +35,8 @@ pub next : (n : ℕ) (octets : List ℕ) → head (n + 1) octets ≡ head n octe
 unfolding head
 next n octets = rw add-one refl
 
--- Positions after the last octet count as zeros. If there are at most n octets, the head of n + 1
--- octets is therefore the head of n octets times 256.
+-- if a list has at most n octets, the head of its first n + 1 octets is the head of its first n
+-- octets times 256, since missing octets count as zero
 pub past : (n : ℕ) (octets : List ℕ) → length octets ≤ n → head (n + 1) octets ≡ head n octets * 256
 past n octets le =
     let none : slice_index octets n ≡ 0 = get_or_past octets n 0 le in
@@ -93,8 +93,8 @@ less (suc n) a b are bare lt =
     ] in
     by (nat_cmp (head n a) (head n b)) refl
 
--- comparing two lists of octets first by their heads, and then octet by octet, gives the same
--- result as comparing them only octet by octet
+-- the order of two lists of octets stays the same if their heads, the first n octets as numbers,
+-- are compared first
 pub by_head : (n : ℕ) (a b : List ℕ) → AreOctets a → AreOctets b → ordering_then (nat_cmp (head n a) (head n b)) (slice_cmp nat_cmp a b) ≡ slice_cmp nat_cmp a b
 by_head n a b are bare =
     let by : (o : Ordering) → o ≡ nat_cmp (head n a) (head n b) → ordering_then o (slice_cmp nat_cmp a b) ≡ slice_cmp nat_cmp a b = λ o.
@@ -105,7 +105,7 @@ by_head n a b are bare =
     ] in
     by (nat_cmp (head n a) (head n b)) refl
 
--- two lists of octets of the same length, at most 8, compare as their heads do
+-- two lists of octets of equal length, at most 8, have the same order as their heads
 pub by_head_alone : (a b : List ℕ) → AreOctets a → AreOctets b → length a ≡ length b → length a ≤ 8 → nat_cmp (head 8 a) (head 8 b) ≡ slice_cmp nat_cmp a b
 by_head_alone a b are bare len short =
     let by : (o : Ordering) → o ≡ nat_cmp (head 8 a) (head 8 b) → o ≡ slice_cmp nat_cmp a b = λ o.

@@ -1,5 +1,5 @@
--- Changing each value of a map, where a map without values is removed. Also the least deadline of
--- the values.
+-- Changing each value of a map, and the least deadline of the values. A map without values is
+-- replaced by None.
 use Rattle.std.proofs.Common.{◌≡◌, ℕ, suc, ◌<◌, true, false, cond, eqb, List, [], ◌∷◌, length, refl, sym, ap, subst, ◌∙◌, arith}
 use Rattle.std.specs.Prelude.{Option, None, Some, min}
 use Rattle.std.specs.Option.{option_and_then}

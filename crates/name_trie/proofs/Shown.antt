@@ -47,9 +47,9 @@ module _ {K X : Type 0} {R : K → K → Ordering} (total : IsTotalOrder R) wher
 -- ---- the state of a walk below a node
 
 module _ {S V : Type 0} (own below : S → V → S) where
-  -- Let the extensions of the name `front` have the same values in `f` as the extensions of the
-  -- name `front'` have in `g`. Then a walk below `front` in `f` leaves the visitor in the same
-  -- state as a walk below `front'` in `g`.
+  -- if, for each name `p`, the value of `front ++ p` in `f` is the value of `front' ++ p` in `g`,
+  -- walks along `rest`, from `front` in `f` and from `front'` in `g`, leave the visitor in the same
+  -- state
   taken_moved : (s : S) (f g : List Field → Option V) (front front' rest : List Field) → ((p : List Field) → f (front ++ p) ≡ g (front' ++ p))
       → taken_along own below s f front rest ≡ taken_along own below s g front' rest
   taken_moved s f g front front' [] same = ap (taken own s) (ap f (sym (append-nil front)) ∙ same [] ∙ ap g (append-nil front'))
@@ -110,8 +110,8 @@ module _ {S W V : Type 0} (show : S → List ℕ → W → S) where
       ap (λ t. shown_after show front known t (named (c ∷ []) es)) (λ i. show s (sym (append_assoc front (element c) (octets_of e.0)) i) (same e.0 i))
       ∙ shown_under (show s ((front ++ element c) ++ octets_of e.0) (known' e.0)) front known known' c es same
 
-  -- Let a visitor be shown the names below the first i children, and then the names below the child
-  -- at index i. Then it was shown the names below the first i + 1 children.
+  -- a visitor that is shown the names below the first i children, and then the names below the
+  -- child at index i, is shown the names below the first i + 1 children
   pub shown_more : (s s1 s2 : S) (front : List ℕ) (known known' : List Field → W) (f : Option ℕ → List (List Field × V)) (items : List (Field × ℕ)) (i : ℕ) (row : Field × ℕ)
       → i < length items → row ≡ get_or items i row → ((q : List Field) → known (row.0 ∷ q) ≡ known' q)
       → s1 ≡ shown_after show front known s (below f (take i items)) → s2 ≡ shown_after show (front ++ element row.0) known' s1 (f (Some row.1))

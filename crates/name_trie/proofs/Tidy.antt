@@ -66,8 +66,6 @@ pub none_linked : (m : Links) → ((c : Field) → get m c ≡ None) → len m �
 none_linked m none =
     ap len (same_map component_cmp-total component_cmp-antisymmetric m empty (λ c. none c ∙ sym (get-empty component_cmp c))) ∙ len-empty component_cmp ℕ
 
--- Let `j ≡ k` or `X` be true for each node k that the call may return, and let `X` be true if the
--- call fails. Then the call has returned `j`, or `X` is true.
 pub made_or : {E : Type 0} {P : ℕ → Type 0} {Q X : Type 0} (r : Result ℕ E) (j : ℕ) → IfOk r P → OnErr r Q → ((k : ℕ) → P k → (j ≡ k) ⊎ X) → (Q → X) → (r ≡ Ok j) ⊎ X
 made_or {E} {X = X} (Ok k) j ok err good bad =
     let answer : ℕ → Result ℕ E = λ i. Ok i in

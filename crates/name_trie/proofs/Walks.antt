@@ -153,9 +153,8 @@ module _ {V : Type 0} (h h' : Heap V) (root root' : Option ℕ) where
         | false ↦ λ t. long (omega (arith, ltb-false (length q) 65 t))
       ] refl
 
-  -- Let `f` turn the value that the name `q` leads to in `h` into the value that it leads to in
-  -- `h'`. Then `f` also turns the value of `q` in the table of `h` into its value in the table of
-  -- `h'`.
+  -- if `f` turns the value that `q` leads to in `h` into the value that `q` leads to in `h'`, then
+  -- `f` turns the value of `q` in the table of `h` into the value of `q` in the table of `h'`
   pub get_changed : (f : V → Option V) (q : List Field) → lookup h' root' q ≡ option_and_then f (lookup h root q) → get (table_of h' root') q ≡ option_and_then f (get (table_of h root) q)
   get_changed f q is = by_length _ _ q
       (λ le. get-table h' root' q le ∙ is ∙ sym (ap (option_and_then f) (get-table h root q le)))

@@ -43,7 +43,7 @@ IsLongest table name n =
     (n ≤ length name) × IsSome (get table (take n name))
     × ((m : ℕ) → n < m → m ≤ length name → get table (take m name) ≡ None)
 
--- the map after the value of a name is set to `x`, or removed if the new value is None
+-- the map after the value of a name is set to a new value, or removed if the new value is None
 abbrev pub with_value : {X : Type 0} → ByName X → List Field → Option X → ByName X
 with_value table name None = remove table name
 with_value table name (Some x) = insert table name x

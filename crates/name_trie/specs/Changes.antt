@@ -52,8 +52,8 @@ module _ {V : Type 0} where
     pub here : h' k ≡ Some (record node { value = v })
     pub others : (j : ℕ) → j ≢ k → h' j ≡ h j
 
-  -- The node k had no value and no children. It is removed with all links to it, and is no longer
-  -- the root. Nothing else changes.
+  -- The node k, which has no value and no children, is removed together with all links to k. If k
+  -- was the root, there is no root afterwards. Nothing else changes.
   pub record Lacks (k : ℕ) (h : Heap V) (root : Option ℕ) (h' : Heap V) (root' : Option ℕ)
       : Type 0 where
     pub roots : root' ≡ unless k root
@@ -64,8 +64,8 @@ module _ {V : Type 0} where
     pub values : (a : ℕ) → value h' a ≡ value h a
     pub ups : (a : ℕ) → a ≢ k → up h' a ≡ up h a
 
-  -- each name that leads to a value from `root` in `h` leads to the same value from `root'` in
-  -- `h'`, and every other name leads to none
+  -- each name leads from `root'` in `h'` to the same value as from `root` in `h`, or to no value in
+  -- both
   abbrev pub SameLookups : Heap V → Option ℕ → Heap V → Option ℕ → Type 0
   SameLookups h root h' root' = (q : List Field) → lookup h' root' q ≡ lookup h root q
 

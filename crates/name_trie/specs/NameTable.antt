@@ -1,4 +1,4 @@
--- A table by name, and the name of the prepared call.
+-- A map from names to values, and the name of the prepared call.
 use Rattle.std.specs.Prelude.{List, Option, refl}
 use Rattle.std.specs.Coded.{Coded, code_by, coded×, coded_option}
 use Rattle.std.specs.FinMap as map

@@ -27,7 +27,7 @@ abbrev pub shown_after : {S W V : Type 0} → (S → List ℕ → W → S) → L
 shown_after {S} {W} {V} show front known s es =
     fold {A = List Field × V} {B = S} (λ s e. show s (front ++ octets_of e.0) (known e.0)) s es
 
--- the visitor s after it is shown a name with its state, or unchanged if the state is None
+-- the visitor s after it is shown a name with its state, or s itself if the state is None
 abbrev pub shown_if : {S W : Type 0} → (S → List ℕ → W → S) → S → List ℕ → Option W → S
 shown_if show s name None = s
 shown_if show s name (Some w) = show s name w

@@ -9,18 +9,18 @@ abbrev pub taken : {S V : Type 0} → (S → V → S) → S → Option V → S
 taken take s None = s
 taken take s (Some v) = take s v
 
--- The visitor s after it has visited the values along a name, the shortest prefix first. `below` is
--- the visit at a proper prefix, and `own` is the visit at the whole name. The whole name is `front`
--- followed by the last argument. Prefixes shorter than `front` are not visited.
+-- `taken_along own below s value front rest` is the visitor s after it has visited the values along
+-- the name `front ++ rest`, the shortest prefix first. Prefixes shorter than `front` are not
+-- visited. `below` is the visit at a proper prefix, and `own` is the visit at the whole name.
 abbrev pub taken_along : {S V : Type 0} → (own below : S → V → S) → S → (List Field → Option V)
     → List Field → List Field → S
 taken_along own below s value front [] = taken own s (value front)
 taken_along own below s value front (c ∷ rest) =
     taken_along own below (taken below s (value front)) value (front ++ c ∷ []) rest
 
--- How a visit along the second name changes the value of the first name. It changes the value by
--- `below` if the first name is a proper prefix of the second, and by `own` if both names are equal.
--- Otherwise the value stays.
+-- `changed_along own below q name` is the change of the value of the name `q` by a walk along
+-- `name`: `below` if `q` is a proper prefix of `name`, `own` if `q` equals `name`, and no change
+-- otherwise
 abbrev pub changed_along : {V : Type 0} → (own below : V → Option V) → List Field → List Field
     → V → Option V
 changed_along own below [] [] = own

@@ -14,8 +14,8 @@ abbrev pub links_of : {V : Type 0} → Option (Node V) → List (Field × ℕ)
 links_of None = []
 links_of (Some n) = entries n.children
 
--- the rows of all given children, where f returns the rows of a child; the child's component is put
--- in front of each of its names
+-- The rows of all given children. `f` returns the rows of one child, and the component of the child
+-- is put in front of each name in these rows.
 abbrev pub below : {V : Type 0} → (Option ℕ → List (List Field × V)) → List (Field × ℕ)
     → List (List Field × V)
 below f [] = []
@@ -61,8 +61,8 @@ module _ {V : Type 0} (h : Heap V) where
   unfoldable pub table_of : Option ℕ → ByName V
   table_of root = from_entries (rows 65 root)
 
--- the last value on a walk along a name from a node, whose own value counts too; `best` if there is
--- no value on the walk
+-- the last value on a walk along a name, including the value of the node where the walk begins;
+-- `best` if there is no value on the walk
 abbrev pub last_on : {V : Type 0} → Heap V → Option ℕ → List Field → Option V → Option V
 last_on h None q best = best
 last_on h (Some k) [] best = option_or (value h k) best

@@ -101,7 +101,7 @@ impl Children {
         Ok(())
     }
 
-    /// Removes a child, if it is stored here. It must be stored under at most one component. The
+    /// Removes the row of `child`, if there is one. At most one component may have this child. The
     /// search begins at the position that `hint` gives.
     pub fn forget(&mut self, child: usize, hint: &Hint)
         requires { (c d : Field) → map.get self.old c ≡ Some child → map.get self.old d ≡ Some child

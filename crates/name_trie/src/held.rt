@@ -85,7 +85,7 @@ pub fn node_held(made: &Result<(NameBuf, usize), Memory>) -> Option<usize>
     }
 }
 
-/// Returns the reserved node if it is reserved for this name.
+/// Returns the reserved node if `name` is the reserved name.
 fn held_for(held: &Option<(NameBuf, usize)>, name: Name<'_>) -> Option<usize>
     ensures yes { IfSome result (λ k. held.now ≡ Some (components name.entry, k)) }
     ensures no { result ≡ None → (k : ℕ) → held.now ≡ Some (components name.entry, k) → ⊥ }
@@ -139,8 +139,8 @@ pub fn release_other<V: Drop>(
     None
 }
 
-/// Returns the node of a name, as `make_path` does. A reserved node, if there is one, must be the
-/// node of this name. It is returned without a walk.
+/// Returns the node of a name. Missing nodes are created, as by `make_path`. If a node is reserved,
+/// it must be the node of this name, and is returned without a walk.
 fn path_to<V: Drop>(
     alloc: Global,
     nodes: &mut Slab<Node<V>>,
@@ -183,7 +183,7 @@ fn reserve_for<V>(nodes: &Slab<Node<V>>, timers: &mut Timers, k: usize) -> Resul
 }
 
 /// Returns the node of a name. A missing node is created. If the node has no value, memory for one
-/// more timer is reserved. No other name may be reserved.
+/// more timer is reserved. No name other than `name` may be reserved.
 pub fn place_for<V: Drop>(
     alloc: Global,
     nodes: &mut Slab<Node<V>>,

@@ -8,14 +8,15 @@ use crate::node::{Node, child_of, value_of};
 use ndn_names::Name;
 use slab::Slab;
 
-/// A visitor of the values of a name and of its prefixes. It may store references to the values.
+/// A visitor of the values of a name and of its prefixes. The visitor may store references to the
+/// values.
 pub trait Look<'a, V> {
     /// The visitor after it has looked at a value. The Boolean is `true` for the value of the name
     /// itself.
     ghost seen: { Bool → Self → V → Self };
 
-    /// Looks at a value. If `is_own` is true, it is the value of the name itself. If `is_own` is
-    /// false, it is the value of a proper prefix.
+    /// Looks at a value. `is_own` is true for the value of the name itself, and false for the value
+    /// of a proper prefix.
     fn look(&mut self, value: &'a V, is_own: bool)
         ensures { self.new ≡ seen is_own self.old value.now };
 }

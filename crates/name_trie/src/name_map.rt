@@ -62,9 +62,9 @@ impl<V: Drop> NameMap<V> {
         self.trie.get(name)
     }
 
-    /// Sets the value of a name. Each call ends the preparation, even if the call fails. Returns
-    /// `Memory` only for a name that has no value and is not prepared. On `Memory`, the values are
-    /// unchanged.
+    /// Sets the value of a name. Each call of `put`, even one that fails, ends the preparation by
+    /// `prepare`. Returns `Memory` only for a name that has no value and is not prepared. On
+    /// `Memory`, the values are unchanged.
     pub fn put(&mut self, name: Name<'_>, value: V) -> Result<(), Memory>
         requires { IsSome (map.get self.old.table (components name))
             ⊎ (map.len self.old.table + 1 < 2 ^ 64) }

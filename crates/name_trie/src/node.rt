@@ -15,7 +15,7 @@ use ndn_tlv::Memory;
 use slab::Slab;
 use std::alloc::Global;
 
-/// A node of a trie. It represents the prefix that leads to it.
+/// A node of a trie. Each node represents the prefix that leads from the root to this node.
 #[derive(Drop)]
 pub struct Node<V> {
     /// The index of the parent node.

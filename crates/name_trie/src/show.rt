@@ -12,7 +12,8 @@ use ndn_tlv::{Memory, put_header};
 use slab::Slab;
 use std::alloc::Global;
 
-/// The state of a walk at a name. The walk updates it with each value from the root to that name.
+/// The state of a walk at a name. The walk updates the state with each value on the way from the
+/// root to the name.
 pub trait Carry<V> {
     /// The state after an update with a value.
     ghost past: { Self → V → Self };
@@ -42,7 +43,7 @@ fn past_value<V, W: Carry<V> + Drop>(before: &W, value: &Option<V>) -> Option<W>
     }
 }
 
-/// Shows a name with the state `past`, if that is not `None`. Returns the state at the name:
+/// Shows a name with the state `past`, unless `past` is `None`. Returns the state at the name:
 /// `past`, or `before` if `past` is `None`.
 fn show_name<'a, W, S: Show<W>>(
     past: &'a Option<W>,

@@ -26,9 +26,8 @@ pub trait Take<V> {
     /// the name itself.
     ghost left: { Bool → V → Option V };
 
-    /// Visits a value. If `is_own` is true, it is the value of the name itself. If `is_own` is
-    /// false, it is the value of a proper prefix. Returns the value after the visit, or `None` to
-    /// remove the value.
+    /// Visits a value. `is_own` is true for the value of the name itself, and false for the value
+    /// of a proper prefix. Returns the value after the visit, or `None` to remove the value.
     fn take(&mut self, value: V, is_own: bool) -> Option<V>
         ensures taken { self.new ≡ taken is_own self.old value }
         ensures left { result ≡ left is_own value };

@@ -27,10 +27,10 @@ pub struct TimedMap<V: Timed> {
     alloc: Global,
     nodes: Slab<Node<V>>,
     root: Option<usize>,
-    // The reserved name, which is the name of the last prepared call, and its node. The node is not
-    // removed, and calls for this name find it without a walk.
+    // The reserved name, which is the name of the last prepared call, and its node. The reserved
+    // node is not removed, and calls for the reserved name find this node without a walk.
     held: Option<(NameBuf, usize)>,
-    // Whether a call is prepared that has not been made yet.
+    // Whether a call is prepared and has not been made yet.
     is_ready: bool,
     // The timers, one for each value. While a call is prepared, memory is reserved for one more
     // timer.
@@ -254,8 +254,8 @@ impl<V: Timed + Drop> TimedMap<V> {
         below
     }
 
-    /// Lets the visitor `how` change or remove the value of `name` extended by `component`. For the
-    /// visitor, this is the value of the name itself.
+    /// Lets the visitor `how` change or remove the value of `name` extended by `component`. The
+    /// visitor is called with `is_own` set to true.
     pub fn take_below<T: Take<V>>(&mut self, name: Name<'_>, component: Component<'_>, how: &mut T)
         ensures table { self.new.table ≡ with_value self.old.table
             (components name.entry ++ field_of component.entry ∷ [])

@@ -31,8 +31,8 @@ pub struct NameTrie<V> {
     alloc: Global,
     nodes: Slab<Node<V>>,
     root: Option<usize>,
-    // The reserved name, which is the name of the prepared call, and its node. The node is not
-    // removed.
+    // The reserved name, which is the name of the prepared call, and its node. The reserved node is
+    // not removed.
     held: Option<(NameBuf, usize)>,
 }
 
@@ -143,9 +143,9 @@ impl<V: Drop> NameTrie<V> {
         longest(&self.nodes, self.root, name)
     }
 
-    /// Sets the value of a name. Returns whether the name had no value. Each call ends the
-    /// preparation, even if the call fails. Returns `Memory` only for a name that has no value and
-    /// is not prepared. On `Memory`, the values are unchanged.
+    /// Sets the value of a name. Returns whether the name had no value. Each call of `put`, even
+    /// one that fails, ends the preparation by `prepare`. Returns `Memory` only for a name that has
+    /// no value and is not prepared. On `Memory`, the values are unchanged.
     pub fn put(&mut self, name: Name<'_>, value: V) -> Result<bool, Memory>
         ensures added { IfOk result (λ is_new. is_new
             ≡ is_none (map.get self.old.table (components name.entry))) }

@@ -1,4 +1,5 @@
--- If writing the packet that a job asks for has a fault, then this fault is correct for the job.
+-- If the packet of a job cannot be written, the returned fault is one that the job may have
+-- (`IsInterestRefusal`, `IsDataRefusal`, `IsCommandRefusal`).
 use Rattle.std.proofs.Common.{List, refl, inl, inr}
 use Rattle.hmac_keys.specs.KeyFile.{NamedKey}
 use Rattle.ndn_packets.specs.declared.fault.WriteFault.{WriteFault}

@@ -32,7 +32,7 @@ use Rattle.ndn_requests.specs.Parameters.{command_name, IsTooLong}
 
 -- ---- the key
 
--- the signature is an HMAC under a key of the book that has this name
+-- the signature is an HMAC with this key name, and its key is the book's key of this name
 abbrev pub IsHmac : List Field → List NamedKey → Sign → Type 0
 IsHmac name book Digest = ⊥
 IsHmac name book (Hmac key_name key) = (components key_name ≡ name) × IsAmong (name, key.now) book
@@ -85,8 +85,8 @@ abbrev pub SignsCommand : Option (List Field) → List NamedKey → Option Sign 
 SignsCommand key book None = ⊥
 SignsCommand key book (Some sign) = SignsData key book sign
 
--- The Interest of a command. Its name contains the parameters of the command. Its
--- ApplicationParameters are empty, as in any signed Interest without parameters.
+-- The Interest of a command. The Interest's name contains the parameters of the command. The
+-- ApplicationParameters are empty, since the parameters are in the name.
 pub record AsksCommand (job : CommandJob) (book : List NamedKey) (w : InterestWriter)
     : Type 0 where
   pub name : components w.name ≡ command_name job.name job.parameters
@@ -132,12 +132,12 @@ abbrev pub IsCommandAnswer : CommandJob → List NamedKey → List ℕ → Type 
 IsCommandAnswer job book text =
     (packet : List ℕ) × IsCommandPacket job book packet × (text ≡ hex_line packet)
 
--- the line with the HMAC of the octets of the job under the key that the job names
+-- the line with the HMAC of the job's octets, under the key that the job names
 abbrev pub IsTagAnswer : TagJob → List NamedKey → List ℕ → Type 0
 IsTagAnswer job book text =
     (key : List ℕ) × IsAmong (job.key, key) book × (text ≡ hex_line (Mac key job.octets.items))
 
--- the lines of the frame in the octets
+-- the octets are a packet, and the text is the lines of the packet's fields
 abbrev pub IsShown : List ℕ → List ℕ → Type 0
 IsShown octets text = (frame : PlainFrame) × IsFrame octets frame × (text ≡ frame_lines frame)
 

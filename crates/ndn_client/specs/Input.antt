@@ -18,7 +18,7 @@ without_lf text =
 abbrev pub IsTextOf : {Z : Type 0} → List ℕ → String Z → Type 0
 IsTextOf octets text = string_bytes text ≡ octets
 
--- the text consists of these octets, and they are no more than the limit
+-- the text consists of these octets, and the number of octets is at most the limit
 abbrev pub IsInput : {Z : Type 0} → ℕ → List ℕ → String Z → Type 0
 IsInput limit octets text = (length octets ≤ limit) × IsTextOf octets text
 

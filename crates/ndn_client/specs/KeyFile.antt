@@ -12,7 +12,7 @@ abbrev pub IsFileFault : List ℕ → Fault → Type 0
 IsFileFault octets (Keys why) = IsFaultOfOctets octets why
 IsFileFault octets why = ⊥
 
--- `keys` are the keys in the octets, and the octets are no more than a key file may have
+-- `keys` are the keys in the octets, and the number of octets is at most `MAX_KEY_FILE`
 abbrev pub AreKeysOfFile : List ℕ → List NamedKey → Type 0
 AreKeysOfFile octets keys = (length octets ≤ MAX_KEY_FILE) × AreKeys octets keys
 
@@ -27,7 +27,7 @@ abbrev pub HasCause : ErrorKind → Fault → Type 0
 HasCause kind (Unread path cause) = cause ≡ kind
 HasCause kind why = ⊤
 
--- the octets are more than a key file may have, or are refused as a key file, or the file cannot
+-- there are more than `MAX_KEY_FILE` octets, the octets are refused as a key file, the file cannot
 -- be read, or memory ran out
 abbrev pub IsKeyFileFault : List ℕ → List ℕ → Fault → Type 0
 IsKeyFileFault path octets why =

@@ -52,8 +52,8 @@ abbrev pub IsExplained : Bool → ExplainJob → List NamedKey → List ℕ → 
 IsExplained true asked book input text = IsExplainedInput (keys_given asked book) input text
 IsExplained false asked book input text = IsAnswer (job.Explain asked) book text
 
--- the text that is printed: for a job that explains standard input, its explained lines, and for
--- any other job, the answer
+-- the text that is printed: the explained lines if the job explains standard input, and otherwise
+-- the answer to the job
 abbrev pub IsPrinted : Job → List NamedKey → List ℕ → List ℕ → Type 0
 IsPrinted (job.Explain asked) book input text =
     IsExplained (is_none asked.packet) asked book input text
@@ -61,8 +61,8 @@ IsPrinted asked book input text = IsAnswer asked book text
 
 -- ---- what is sent
 
--- the octets of the packet that is given or, if none is given, the octets that standard input
--- spells in hexadecimal; an LF at its end is ignored
+-- the octets of the packet that is given; if no packet is given, the octets that standard input
+-- spells in hexadecimal; an LF at the end of standard input is ignored
 abbrev pub IsSentBy : {Z : Type 0} → Option (List ℕ) → List ℕ → Vec ℕ Z → Type 0
 IsSentBy (Some octets) input packet = packet.items ≡ octets
 IsSentBy None input packet = AreOctets (without_lf input) packet
@@ -78,7 +78,7 @@ IsRequest asked book input packet = packet.items ≡ []
 
 -- ---- plans
 
--- `x` is the exchange of a job with the port that the job's packet is sent to.
+-- `x` is the exchange of the job `asked`, whose packet is sent to a port.
 pub record IsExchange (asked : Job) (book : List NamedKey) (input : List ℕ) (x : Exchange) : Type 0
   where
     pub request : IsRequest asked book input x.request

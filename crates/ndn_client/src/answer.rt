@@ -15,8 +15,8 @@ use ndn_packets::{DataWriter, Frame, Framed, InterestWriter, Sign, put_lp, read_
 use ndn_requests::command_name;
 use std::alloc::Global;
 
-/// Returns the text to print for a job that is not sent, given the keys of its key file. The text
-/// is empty for a packet to send unchanged, and for packets on standard input.
+/// Returns the text to print for a job if no packet is sent, given the keys of the job's key file.
+/// For `send`, and for `explain` without a packet, the text is empty.
 ///
 /// Each error except `Memory` has its cause in the job or its keys. `Usage` is never returned.
 pub fn text_of(alloc: Global, job: &Job, book: &KeyBook) -> Result<Vec<u8>, ToolFault>
@@ -151,7 +151,7 @@ fn named_command<'a>(
         nonce: job.stamp.nonce,
         lifetime: None,
         hop_limit: None,
-        // A signed Interest without parameters gets empty ApplicationParameters.
+        // `write` adds empty ApplicationParameters, because the Interest is signed.
         parameters: None,
         sign: Some(sign),
         time: Some(job.stamp.time),
@@ -203,7 +203,7 @@ pub fn keys_given<'a>(job: &ExplainJob, book: &'a KeyBook) -> Option<&'a KeyBook
     }
 }
 
-/// Returns the explanation of a packet. Its signature is checked if there are keys.
+/// Returns the explanation of a packet. The packet's signature is checked if there are keys.
 fn explained_text(
     alloc: Global,
     octets: &[u8],
@@ -267,7 +267,7 @@ fn data_sign<'a>(key: &'a Option<NameBuf>, book: &'a KeyBook) -> Result<Sign<'a>
     }
 }
 
-/// Returns a signature with the key of this name.
+/// Returns an HMAC signature with the key of this name.
 fn hmac_of<'a>(name: &'a NameBuf, book: &'a KeyBook) -> Result<Sign<'a>, ToolFault>
     ensures { MatchResult result (IsHmac name.now book.now) (IsNoKey (Some name.now) book.now) }
 {

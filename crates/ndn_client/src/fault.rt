@@ -14,7 +14,7 @@ use std::io::ErrorKind;
 pub enum Fault {
     /// The job was not carried out.
     Tool(ToolFault),
-    /// A key is named, but no key file is.
+    /// A key is named, but no key file is named.
     NoKeyFile,
     /// An argument is not UTF-8.
     NotText,
@@ -35,15 +35,15 @@ pub enum Fault {
     Write,
     /// Standard input cannot be read, or is not UTF-8.
     Input,
-    /// The packet cannot be sent, no free port can be bound to send it from, or the socket cannot
-    /// be connected to the port.
+    /// The packet cannot be sent, no free source port can be bound, or the socket cannot be
+    /// connected to the destination port.
     Send,
     /// The local port to send from cannot be bound.
     Unbound {
         /// The port on 127.0.0.1.
         port: u16,
     },
-    /// A packet that was sent unchanged got no answer.
+    /// The packet of `send`, which is sent as it was given, got no answer.
     Silent(Silence),
     /// A request was sent, but it was not carried out.
     NotDone(Failure),
@@ -53,9 +53,11 @@ impl Fault {
     ghost use Rattle.std.specs.Prelude.{◌≡◌};
     ghost use Rattle.ndn_client.specs.Fault.{status_of};
 
-    /// Returns the exit status. For `Tool`, it is the exit status of the job's fault. For other
-    /// faults, it is 1 for a missing or bad key file or a request that was not done, 2 for an
-    /// argument that is not UTF-8, and 3 if reading, writing, sending, receiving or memory failed.
+    /// Returns the exit status. For `Tool`, the exit status is that of the job's fault. For any
+    /// other fault, the exit status is 1 if no key file is named, the content of the key file has a
+    /// fault, or a request was not done. The exit status is 2 if an argument is not UTF-8. The exit
+    /// status is 3 if reading, writing or sending failed, memory ran out, or no answer came to the
+    /// packet of `send`.
     pub fn exit_status(&self) -> u8
         ensures { result ≡ status_of self.now }
     {

@@ -17,12 +17,12 @@ use std::io::{BufRead, Read};
 /// datagram in hexadecimal, and an LF.
 const MAX_PACKET_INPUT: u32 = 131_015;
 
-/// The greatest length of a line of standard input, in octets, including its LF. In a script's
-/// answers, a line with a packet of the greatest length has at most 131,038 octets.
+/// The greatest length of a line of standard input, in octets, including its LF. In the answers of
+/// `ndn_node` to a script, a line with a packet of the greatest length has at most 131,038 octets.
 const MAX_INPUT_LINE: u32 = 131_072;
 
 /// Reads the text of standard input, which must be one packet. An input of more than 131,015 octets
-/// is refused. The hexadecimal digits of 65,507 octets and an LF have this length.
+/// is refused. The limit is the length of 65,507 octets in hexadecimal and an LF.
 pub fn read_packet_input<R: Read + Drop>(alloc: Global, reader: R) -> Result<String, Fault>
     // This clause states the result if the octets of the reader are known.
     ensures { IfSome (R.remaining reader)

@@ -44,8 +44,8 @@ pub fn input_form(job: &Job) -> InputForm
     }
 }
 
-/// Returns what the program must do for a job, given the keys of its key file, and the packet or
-/// lines of standard input if the job reads them.
+/// Returns what the program must do for a job, given the keys of the job's key file. `input` is the
+/// text of standard input if the job reads standard input.
 ///
 /// Each error except `Memory` has its cause in the job or in the input. `Usage` is returned only
 /// for an input that is not one packet.
@@ -97,7 +97,7 @@ fn view_of(job: &Job) -> View
     }
 }
 
-/// Returns what is printed for a job that is not sent.
+/// Returns what is printed for a job that sends no packet.
 fn printed(alloc: Global, job: &Job, book: &KeyBook, input: &str) -> Result<Vec<u8>, ToolFault>
     ensures { MatchResult result (λ text. IsPrinted job.now book.now input.now text.items)
         (IsRefusal job.now book.now) }
@@ -112,7 +112,7 @@ fn printed(alloc: Global, job: &Job, book: &KeyBook, input: &str) -> Result<Vec<
     }
 }
 
-/// Returns the request of a job that is sent.
+/// Returns the request of a job that sends a packet.
 fn request_of(alloc: Global, job: &Job, book: &KeyBook, input: &str) -> Result<Vec<u8>, ToolFault>
     ensures { MatchResult result (IsRequest job.now book.now input.now)
         (IsNoPlan job.now book.now input.now) }
@@ -125,7 +125,8 @@ fn request_of(alloc: Global, job: &Job, book: &KeyBook, input: &str) -> Result<V
     }
 }
 
-/// Returns the packet of `send`, unchanged.
+/// Returns the packet of `send`: the packet that is given or, if none is given, the packet in
+/// `input`.
 fn sent_packet(alloc: Global, job: &SendJob, input: &str) -> Result<Vec<u8>, ToolFault>
     ensures { MatchResult result (IsSent job.now input.now)
         (IsNotSent job.now input.now) }
@@ -137,7 +138,7 @@ fn sent_packet(alloc: Global, job: &SendJob, input: &str) -> Result<Vec<u8>, Too
 }
 
 /// Returns the fault of a request without an answer. If `is_closed` is set, no program listens on
-/// the port. For a packet that is sent unchanged, the exit status is that of a failure to receive.
+/// the port. The exit status is 3 for the packet of `send`, and 1 for any other request.
 pub fn fault_of_silence(exchange: &Exchange, is_closed: bool) -> Fault
     ensures { result ≡ fault_of_silence exchange.now is_closed }
 {

@@ -38,7 +38,7 @@ enum Missed {
 ///
 /// # Errors
 ///
-/// The fault has the message and the exit status for the person who gave the command line.
+/// The fault determines the message on standard error and the exit status.
 pub fn run<R>(rt: &R) -> Result<(), Fault>
 where
     R: Clock + Env + AllocGlobal + Eprint + Files + Input + Net + Print,
@@ -108,7 +108,8 @@ fn run_exchange<R: Clock + AllocGlobal + Eprint + Net + Print>(
 ///
 /// # Errors
 ///
-/// `NotDone` if a request was not carried out, or the reason why the exchange has no outcome.
+/// `NotDone` if a request was not carried out. Any other fault is the reason why the exchange has
+/// no outcome.
 pub fn exchange_on<R: Clock + AllocGlobal + Eprint + Print>(
     rt: &R,
     socket: &UdpSocket,
@@ -177,8 +178,8 @@ fn next_answer<R: Clock + AllocGlobal + Eprint + Print>(
 ///
 /// # Errors
 ///
-/// `Unbound` if the given port `from` cannot be bound, for example because another program has it.
-/// `Send` if no port can be bound without `from`, or the socket cannot be connected to `to`.
+/// `Unbound` if the given port `from` cannot be bound, for example because another program uses the
+/// port. `Send` if no port can be bound without `from`, or the socket cannot be connected to `to`.
 pub fn socket_of<R: Net>(rt: &R, from: Option<u16>, to: u16) -> Result<UdpSocket, Fault> {
     let Ok(socket) = UdpSocket::bind(rt, (Ipv4Addr::LOCALHOST, from.unwrap_or(0))) else {
         return Err(match from {
@@ -199,7 +200,7 @@ fn send(socket: &UdpSocket, packet: &[u8]) -> Result<(), Fault> {
     }
 }
 
-/// Receives one datagram and returns its length in octets. Fails if none arrives within
+/// Receives one datagram and returns its length in octets. Fails if no datagram arrives within
 /// `ANSWER_SECONDS` of `start`.
 fn receive<R: Clock>(
     rt: &R,
@@ -211,7 +212,7 @@ fn receive<R: Clock>(
 {
     let waited = start.elapsed(rt).map_err(|_| Missed::Clock)?;
     let left = Duration::from_secs(ANSWER_SECONDS).saturating_sub(waited);
-    // The system refuses a timeout of zero. If no time remains, the answer is late.
+    // If no time remains, the answer is late: the system refuses a timeout of zero.
     socket
         .set_read_timeout(Some(left))
         .map_err(|_| Missed::Late)?;
@@ -231,8 +232,8 @@ fn arguments_of<R: Env + AllocGlobal>(rt: &R) -> Result<Vec<String>, Fault> {
     }
 }
 
-/// Returns the time of the clock in milliseconds since 1970. The fault is `Clock` if the clock
-/// cannot be read or shows an earlier time.
+/// Returns the time of the clock in milliseconds since 1970. Returns `Clock` if the clock cannot be
+/// read or shows a time before 1970.
 fn milliseconds<R: Clock>(rt: &R) -> Result<u64, Fault> {
     let Ok(time) = SystemTime::now(rt) else {
         return Err(Fault::Clock);

@@ -101,7 +101,7 @@ command_app = a_subcommand (codes "command") (
     ∷ an_option (codes "key")
     ∷ [])
 
--- the command with the options of a stamp: its time, Nonce, sequence number, key and ports
+-- the command with the options of a stamp: time, Nonce, sequence number, key and ports
 abbrev pub stamped : App → App
 stamped app = with_rules app (
     an_option (codes "time")

@@ -1,4 +1,4 @@
--- A text spells at most one endpoint, and some texts spell none.
+-- A text spells at most one endpoint. Texts that spell no endpoint.
 use Rattle.std.proofs.Common.{◌≡◌, ℕ, ◌<◌, List, ◌∷◌, ◌++◌, length, get_or, length-append, codes, true, false, refl, ap, ◌∙◌, arith, rules, inl, inr}
 use Rattle.std.specs.Str.Parse.{IsNumeral}
 use Rattle.std.specs.Fmt.{digits}

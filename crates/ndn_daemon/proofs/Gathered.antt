@@ -1,4 +1,5 @@
--- How `Writes` changes when text is buffered or written, and what was written when a turn stops.
+-- How buffering or writing a text changes what was written and what is still buffered. What was
+-- written when a turn stops with a fault.
 use Rattle.std.proofs.Common.{◌≡◌, ℕ, ◌<◌, List, [], ◌++◌, refl, sym, ap, subst, ◌∙◌, arith, append_assoc, append-nil}
 use Rattle.std.specs.Prelude.{Option, Result, Ok, Err, IfErr, OnErr, OnOk}
 use Rattle.std.specs.Io.KnownBytes.{Appends}
@@ -41,8 +42,9 @@ Writes-cut a b c text gathered h k = subst (AppendsFront a c) (sym h.1) (Appends
 pub AppendsFront-longer : (a b : Option (List ℕ)) (text more : List ℕ) → AppendsFront a b text → AppendsFront a b (text ++ more)
 AppendsFront-longer a b text more h = (h.0, h.1 ++ more, ap (λ (l : List ℕ). l ++ more) h.2 ∙ append_assoc h.0 h.1 more, h.3)
 
--- Let `number` turns be taken, and let all of their text but `gathered` be written. If the next
--- turn stops with the fault `why`, then the turns stop with this fault.
+-- Let `number` turns be taken, and let `gathered` be the part of their text that is not yet
+-- written. If the turn after the first `number` turns stops with the fault `why` (`StopsTurn`),
+-- then the sequence of turns stops with `why` (`StopsTurns`).
 pub stops_turns : (old mid new : NodeState) (before between after : Shown) (turns number : ℕ) (a b c : Option (List ℕ)) (text gathered : List ℕ) (why : Fault)
     → Tells old mid before between number text → Writes a b text gathered → number < turns → StopsTurn mid new between after b c gathered why → StopsTurns old new before after turns a c why
 stops_turns old mid new before between after turns number a b c text gathered Unreceived told writes less h = (

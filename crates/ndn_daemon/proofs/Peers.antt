@@ -1,4 +1,5 @@
--- The texts of peers are read one after another. They spell at most one list of endpoints.
+-- The texts of peers are read one after another. The texts of peers spell at most one list of
+-- endpoints.
 use Rattle.std.proofs.Common.{◌≡◌, ◌≢◌, ℕ, ◌+◌, ◌<◌, ◌≤◌, List, [], ◌∷◌, ◌++◌, length, true, false, refl, sym, ap, subst, ◌∙◌, arith, below_more, length-append}
 use Rattle.std.specs.Prelude.{AllPairs, Option, None, Some, slice_index_or}
 use Rattle.std.specs.declared.net.socket_addr.SocketAddr.{SocketAddr}

@@ -60,8 +60,7 @@ is_word word other same h found = (slice_eq-Decides Decides-eqb word other same 
 differ_udp : (name : List ℕ) → name ≡ codes "udp" → name ≡ codes "journal" → ⊥
 differ_udp name udp journal = cc (udp, journal)
 
--- The next two lemmas are about the subcommands `udp` and `journal`: if `rows` spell a request of
--- the subcommand, then they spell options of this subcommand.
+-- if `rows` spell a request of the subcommand `udp`, then `rows` spell options of a node on a port
 
 pub udp_part : (name : List ℕ) (rows : List Row) → name ≡ codes "udp"
     → (r : Request) → IsRequest name rows r → (options : UdpOptions) × IsUdpOptions rows options

@@ -5,9 +5,9 @@ use Rattle.ndn_daemon.specs.declared.fault.Fault.TheVariants as fault
 use Rattle.ndn_daemon.specs.Options.{IsWrong, IsRefused}
 use Rattle.ndn_daemon.specs.UdpOptions.{IsBadValue}
 
--- Let each value that satisfies `Whole` give a value that satisfies `Part`. If no value satisfies
--- `Part`, then no value satisfies `Whole`, so a fault that is correct for `Part` is correct for
--- `Whole`.
+-- Assume that some value satisfies `Part` whenever some value satisfies `Whole`. If no value
+-- satisfies `Part`, then no value satisfies `Whole`, so a fault that is correct for `Part` is
+-- correct for `Whole`.
 
 module _ {A B : Type 0} (Part : A → Type 0) (Whole : B → Type 0) (part : (y : B) → Whole y → (x : A) × Part x) where
   none_whole : ((x : A) → Part x → ⊥) → (y : B) → Whole y → ⊥

@@ -51,8 +51,8 @@ Tells-more old mid new before between after number more text done_as h k =
           ∙ sym (ap (λ (es : List PlainEvent). script_text rules es s.0.outcomes) s.1 ∙ ap (script_text rules (h.serves.arrivals ++ (k.event ∷ []))) s.2);
     }
 
--- Let `text` be the text of the first `number` events, and let one more turn bring an event. Then
--- `text` followed by the text of this turn is the text of the first `number + 1` events.
+-- if `text` is the text of the first `number` events, and one more turn brings an event, then
+-- `text` followed by the text of this turn is the text of the first `number + 1` events
 pub Tells-turn : (old mid new : NodeState) (before between after : Shown) (number : ℕ) (text : List ℕ) (sends : List Send) (rules : List PlainRule) (turn : Turn) → (turn ≡ End → ⊥) → (turn ≡ Unwritten → ⊥)
     → Tells old mid before between number text → IsTurn mid new between after sends turn → rules ≡ new.policy.rules
     → Tells old new before after (number + 1) (text ++ turn_text (number + 1) rules turn sends)
@@ -79,18 +79,18 @@ Tells-ended old mid new before between after number text sends turn is h k =
       Gives-none_left between.coming after.coming FRAME_ROOM e.0.coming,
     )
 
--- if `r` is a success, then every statement about its fault holds
+-- if `r` is a success, it has no fault, so `IfErr r P` is true for every `P`
 pub no_fault : (r : Result (Unit {0}) Fault) (P : Fault → Type 0) → IsOk r → IfErr r P
 no_fault (Ok done) P h = tt
 no_fault (Err why) P h = let no : ⊥ = cc in absurd no
 
--- if turns were taken and their text was written, then these turns were served
+-- if turns were taken and their text was written (`TakesTurns`), then these turns were served
+-- (`ServesTurns`)
 pub turns_served : (old new : NodeState) (before after : Shown) (turns : ℕ) (held holds : Option (List ℕ)) → TakesTurns old new before after turns held holds → ServesTurns old new before after turns
 turns_served old new before after turns held holds t = (t.0, t.3.refused, t.3.failed, t.1, t.3.serves, t.4)
 
--- The next two lemmas are about what the success of a call means. If it means that turns were
--- taken, or served, up to the state `after` of the ports, it means that this happened up to some
--- state of the ports.
+-- if a success of `r` implies that turns were taken up to the port state `after`, then a success of
+-- `r` implies that turns were taken up to some port state
 pub taken_until : (old new : NodeState) (before after : Shown) (turns : ℕ) (held holds : Option (List ℕ)) (r : Result (Unit {0}) Fault)
     → OnOk r (TakesTurns old new before after turns held holds) → OnOk r ((last : Shown) × TakesTurns old new before last turns held holds)
 taken_until old new before after turns held holds (Ok done) h = (after, h)
@@ -101,9 +101,9 @@ pub served_until : (old new : NodeState) (before after : Shown) (turns : ℕ) (r
 served_until old new before after turns (Ok done) h = (after, h)
 served_until old new before after turns (Err why) h = tt
 
--- Let the replay of a journal lead to the node `begun` and keep the octets `kept`. If a success
--- means that turns were then served at ports whose journal has the octets `kept`, then a success
--- means that `TakesLaterTurns` is true.
+-- Let a journal be replayed on the node `old`: the replay gives the node `begun` and keeps the
+-- octets `kept`. If a success of `r` implies that `begun` served its turns at ports whose journal
+-- has the octets `kept`, then a success of `r` implies `TakesLaterTurns`.
 pub later_turns : (unread kept : Option (List ℕ)) (turns : ℕ) (old begun new : NodeState) (before : Shown) (r : Result (Unit {0}) Fault) → (done : Replayed) × ReplaysJournal unread kept old begun done
     → before.journal ≡ kept → OnOk r ((after : Shown) × ServesTurns begun new before after turns) → OnOk r (TakesLaterTurns unread turns old new)
 later_turns unread kept turns old begun new before (Ok done) replayed same h = record {

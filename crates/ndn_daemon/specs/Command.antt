@@ -22,7 +22,7 @@ reading_of OutOfMemory error = Err (Script Memory)
 reading_of kind error = Err (CommandLine error)
 
 -- The request of the subcommand `name` with these options: `Udp` for `udp`, `Shorten` for
--- `journal`, and `RunScript` for any other name. A request for help is none of these.
+-- `journal`, and `RunScript` for any other name. `Help` is not the request of any subcommand.
 abbrev pub IsRequest : List ℕ → List Row → Request → Type 0
 IsRequest name rows (Help error) = ⊥
 IsRequest name rows (RunScript node) =
@@ -50,7 +50,7 @@ IsFaultOfWords (BadValue place wanted) = ⊤
 IsFaultOfWords (Script Memory) = ⊤
 IsFaultOfWords why = ⊥
 
--- a request for a node on a port has at most 64 peers
+-- if the request is for a node on a port, it has at most 64 peers
 abbrev pub HasFewPeers : Request → Type 0
 HasFewPeers (Help error) = ⊤
 HasFewPeers (RunScript node) = ⊤

@@ -16,8 +16,8 @@ abbrev pub IsLocalhost : SocketAddr → Type 0
 IsLocalhost endpoint =
     MatchIp (socket_ip endpoint) (λ ip. ipv4_octets ip ≡ 127 ∷ 0 ∷ 0 ∷ 1 ∷ []) (λ ip. ⊥)
 
--- the text spells a port, which means that port of 127.0.0.1, or an address with a port; port 0 is
--- not allowed
+-- The text spells an endpoint: an address with a port, or a port alone. A port alone means that
+-- port of 127.0.0.1. Port 0 is not allowed.
 abbrev pub IsEndpoint : List ℕ → SocketAddr → Type 0
 IsEndpoint text endpoint =
     (IsPort text (socket_port endpoint) × IsLocalhost endpoint)
@@ -28,8 +28,8 @@ IsEndpoint text endpoint =
 abbrev pub IsLoopback : SocketAddr → Type 0
 IsLoopback endpoint = MatchIp (socket_ip endpoint) IsLoopbackV4 IsLoopbackV6
 
--- The address is the unspecified address, 0.0.0.0 or ::. A node that listens on it listens on all
--- addresses of its machine.
+-- The address is the unspecified address, 0.0.0.0 or ::. A node that listens on the unspecified
+-- address listens on all addresses of its machine.
 abbrev pub IsUnspecified : SocketAddr → Type 0
 IsUnspecified endpoint = MatchIp (socket_ip endpoint) IsUnspecifiedV4 IsUnspecifiedV6
 
@@ -41,7 +41,7 @@ IsItself listen peer =
     (socket_port peer ≡ socket_port listen)
     × ((socket_ip peer ≡ socket_ip listen) ⊎ (IsUnspecified listen × IsLoopback peer))
 
--- the texts spell these endpoints in order; they are at most 64 and all different
+-- the texts spell these endpoints in order; there are at most 64 endpoints, and all are different
 pub record AreEndpoints (texts : List (List ℕ)) (endpoints : List SocketAddr) : Type 0 where
   pub many : length endpoints ≡ length texts
   pub spelled : (place : ℕ) (text : List ℕ) (endpoint : SocketAddr)

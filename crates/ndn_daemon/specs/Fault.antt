@@ -51,7 +51,7 @@ status_of (Journal journal.ManyLines) = 1
 status_of (Journal journal.Unshortened) = 3
 
 -- the message for a fault of a rule file: the line and the kind of the fault, and then the text
--- that explains it; if memory ran out, the message only says so
+-- that explains the fault; if memory ran out, the message is `error: out of memory`
 abbrev pub rules_fault_text : ℕ → RulesFaultKind → List ℕ
 rules_fault_text line kind =
     if is_memory kind then codes "error: out of memory\n"
@@ -89,8 +89,8 @@ journal_fault_text journal.ManyLines =
 journal_fault_text journal.Unshortened =
     codes "error: the shorter journal cannot be written; the journal restores the same as before\n"
 
--- The message for standard error, which ends with an LF. It is `None` if the parser refuses the
--- command line, since the parser makes that message.
+-- The message for standard error, which ends with an LF. If the parser refuses the command line,
+-- the parser makes the message, and `text_of` is None.
 abbrev pub text_of : Fault → Option (List ℕ)
 text_of (CommandLine error) = None
 text_of (BadValue place wanted) = Some (

@@ -41,7 +41,7 @@ IsRuleFileFault path octets why =
     ⊎ ((length octets ≤ 65536) × IsRuleFault octets why)
     ⊎ IsUnread (codes "rule file") path why
 
--- the keys of a key file that does not have too many octets
+-- the keys of a key file of at most 8,388,608 octets
 abbrev pub AreKeysOfFile : List ℕ → List NamedKey → Type 0
 AreKeysOfFile octets keys = (length octets ≤ MAX_KEY_FILE) × AreKeys octets keys
 

@@ -23,9 +23,10 @@ RestoresFrom None kept old new done = ⊤
 RestoresFrom (Some text) kept old new done =
     RestoresRuns old new text done × (kept ≡ Some (take done.whole text))
 
--- A journal was replayed. `unread` are its octets before the replay, if they are known, and `kept`
--- are its octets after the replay. The reader of the journal still had the octets `read` to read
--- before the replay, and the octets `left` after the replay.
+-- A journal was replayed. `unread` is the journal's text before the replay, and `kept` is the
+-- journal's text after the replay. `read` is the text that the journal's reader still had to read
+-- before the replay. `left` is the text that the journal's reader still had to read after the
+-- replay. Each of `unread`, `kept`, `read` and `left` is None if that text is not known.
 pub record ReplaysJournal (unread kept : Option (List ℕ)) (old new : NodeState) (done : Replayed)
     : Type 0 where
   pub read : Option (List ℕ)
@@ -38,8 +39,9 @@ pub record ReplaysJournal (unread kept : Option (List ℕ)) (old new : NodeState
 abbrev pub TakesItsTurns : ℕ → NodeState → NodeState → Type 0
 TakesItsTurns turns old new = (before after : Shown) × ServesTurns old new before after turns
 
--- A journal with the octets `unread` was replayed on the node. Then the node took its turns at a
--- port, whose journal began with the octets that the replay kept.
+-- A journal with the octets `unread` was replayed on the node. After the replay, the node took its
+-- turns at a port. Before the first turn, the journal of the port had exactly the octets that the
+-- replay kept.
 pub record TakesLaterTurns (unread : Option (List ℕ)) (turns : ℕ) (old new : NodeState)
     : Type 0 where
   pub begun : NodeState

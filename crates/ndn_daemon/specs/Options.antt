@@ -19,7 +19,7 @@ rows_in options = rows_of (found_of options)
 abbrev pub value_at : List Row → List ℕ → Option (List ℕ)
 value_at rows id = first_of id rows
 
--- the given text, or the default if none is given
+-- the text in `given`, or the default `text` if `given` is None
 abbrev pub given_or : List ℕ → Option (List ℕ) → List ℕ
 given_or text None = text
 given_or text (Some given) = given
@@ -28,7 +28,7 @@ given_or text (Some given) = given
 abbrev pub IsCapacity : List ℕ → ℕ → Type 0
 IsCapacity text n = IsNumeral 10 text × (digits_value 10 text ≡ n) × (n < 2 ^ 32)
 
--- there is a path exactly if one is given, and then the path is the given one
+-- the path `path` has the octets `given`, or both are None
 abbrev pub MayBePath : {Z : Type 0} → Option (List ℕ) → Option (String Z) → Type 0
 MayBePath None None = ⊤
 MayBePath (Some given) (Some path) = string_bytes path ≡ given

@@ -20,8 +20,8 @@ use Rattle.ndn_daemon.specs.declared.fault.Fault.{Fault}
 use Rattle.ndn_daemon.specs.declared.fault.Fault.TheVariants.{Script, Unbound, Unreceived, Journal}
 use Rattle.ndn_daemon.specs.declared.fault.JournalFault.TheVariants as journal
 
--- The text of a turn in the format of scripts. It is a line with the verdict, or with the word
--- `memory` if memory ran out, and then one line for each packet that is sent. It is empty if no
+-- The text of a turn in the format of scripts. The text is a line with the verdict, or with the
+-- word `memory` if memory ran out, followed by one line for each send. The text is empty if no
 -- event came or the event could not be journalled.
 abbrev pub turn_text : ℕ → List PlainRule → Turn → List Send → List ℕ
 turn_text number rules (Done verdict failed) sends =
@@ -39,8 +39,8 @@ pub record Tells (old new : NodeState) (before after : Shown) (events : ℕ) (te
   pub serves : Serves old new before after events refused failed
   pub text_is : text ≡ script_text old.policy.rules serves.arrivals serves.outcomes
 
--- Each turn had an event, or the port ended and there were fewer events than turns. The text of all
--- events was written, if the octets of the writer are known.
+-- Each turn had an event, or the port ended and there were fewer events than turns. If the octets
+-- of the writer are known, the text of all events was appended to these octets.
 abbrev pub TakesTurns : NodeState → NodeState → Shown → Shown → ℕ → Option (List ℕ)
     → Option (List ℕ) → Type 0
 TakesTurns old new before after turns held holds =
@@ -50,8 +50,8 @@ TakesTurns old new before after turns held holds =
 -- What happened before the fault `why`. `Unreceived`: the text of the earlier events was written,
 -- and then the call for the next arrival failed. `Write` and `Memory`: a prefix of the text of the
 -- events was written. `Journal`: the last event could not be journalled, and a prefix of the text
--- of the earlier events was written. What was written is stated only if the octets of the writer
--- are known.
+-- of the earlier events was written. The octets of the writer are `held` before and `holds`
+-- afterwards. If they are not known (None), nothing is stated about what was written.
 abbrev pub StopsTurns : NodeState → NodeState → Shown → Shown → ℕ → Option (List ℕ)
     → Option (List ℕ) → Fault → Type 0
 StopsTurns old new before after turns held holds Unreceived =
@@ -69,8 +69,9 @@ StopsTurns old new before after turns held holds (Journal journal.Unwritten) =
     × AppendsFront held holds text
 StopsTurns old new before after turns held holds why = ⊥
 
--- a prefix of the buffered text was written, if the octets of the writer are known, and `left` is
--- the remaining text
+-- A prefix of the buffered text `gathered` was written, and `left` is the remaining text. The
+-- octets of the writer are `held` before and `holds` afterwards. If they are not known (None),
+-- nothing is stated about what was written.
 abbrev pub Writes : Option (List ℕ) → Option (List ℕ) → List ℕ → List ℕ → Type 0
 Writes held holds gathered left =
     (front : List ℕ) × (gathered ≡ front ++ left) × Appends held holds front
@@ -78,7 +79,8 @@ Writes held holds gathered left =
 -- What happened before the fault `why`. `Unreceived`: the buffered text was written, and then the
 -- call for the next arrival failed. `Write`: a prefix of the buffered text was written, and no turn
 -- was taken. `Journal`: the event of the turn could not be journalled, and a prefix of the buffered
--- text was written. What was written is stated only if the octets of the writer are known.
+-- text was written. The octets of the writer are `held` before and `holds` afterwards. If they are
+-- not known (None), nothing is stated about what was written.
 abbrev pub StopsTurn : NodeState → NodeState → Shown → Shown → Option (List ℕ) → Option (List ℕ)
     → List ℕ → Fault → Type 0
 StopsTurn old new before after held holds gathered Unreceived =
@@ -95,7 +97,7 @@ ServesTurns old new before after turns =
     (events refused failed : ℕ) × (ended : Bool) × Serves old new before after events refused failed
     × EndsAfter turns ended events after.coming
 
--- the program's fault for this fault of serving
+-- the fault of the program for this `ServeFault`
 abbrev pub fault_of : ServeFault → Fault
 fault_of (serve.Next events) = Unreceived
 fault_of (serve.Journal events) = Journal journal.Unwritten

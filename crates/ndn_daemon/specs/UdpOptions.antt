@@ -46,8 +46,8 @@ abbrev pub Has : {A : Type 0} → Option (List ℕ) → (List ℕ → A → Type
 Has None Spells x = ⊥
 Has (Some value) Spells x = Spells value x
 
--- the text spells the number of Local peers; it is at most the number of peers, and the Local
--- peers, which are the first ones, have loopback addresses
+-- The text spells the number `local` of Local peers, which is at most the number of peers. The
+-- Local peers are the first `local` peers, and they have loopback addresses.
 abbrev pub IsLocal : List ℕ → List SocketAddr → ℕ → Type 0
 IsLocal text peers local =
     IsNumber text local × (local ≤ length peers) × All IsLoopback (take local peers)
@@ -74,9 +74,10 @@ pub record IsUdpOptions (rows : List Row) (options : UdpOptions) : Type 0 where
   pub journal : MayBePath (value_at rows (codes "journal")) options.journal
   pub quiet : IsFlag (flag_at rows (codes "quiet")) options.quiet
 
--- The ports for these options, if the last time of their clock is `told`. No peer's face is opened
--- yet, and the faces of other endpoints close after the idle time. Endpoints that are not peers are
--- accepted exactly if `--open` is given or the address to listen on is a loopback address.
+-- The ports for these options, where `told` is the time that their clock returned most recently. No
+-- peer's face is opened yet, and the faces of other endpoints close after the idle time. Endpoints
+-- that are not peers are accepted exactly if `--open` is given or the address to listen on is a
+-- loopback address.
 pub record ArePortsOf (options : UdpOptions) (told : ℕ) (ports : UdpState) : Type 0 where
   pub is_open : IsTrue ports.accepts_strangers ↔ (IsTrue options.«open» ⊎ IsLoopback options.listen)
   pub is : ports ≡ record (closes_after (options.idle * 1000)
@@ -84,7 +85,7 @@ pub record ArePortsOf (options : UdpOptions) (told : ℕ) (ports : UdpState) : T
         accepts_strangers = ports.accepts_strangers;
       }
 
--- the fault says that a value is not allowed
+-- the fault is `BadValue`: the value of an option is not allowed
 abbrev pub IsBadValue : Fault → Type 0
 IsBadValue (BadValue place wanted) = ⊤
 IsBadValue why = ⊥

@@ -69,7 +69,7 @@ impl<'a> DiskJournal<'a> {
         match put_in_place(rt, &beside, self.path, octets) {
             Ok(()) => Ok(()),
             Err(_) => {
-                // The unfinished file is useless and may contain keys, so it is removed.
+                // The file beside the journal is removed, since it may contain keys.
                 let _removed = fs::remove_file(rt, &beside);
                 Err(Fault::Journal(JournalFault::Unshortened))
             }
@@ -144,8 +144,8 @@ impl<'a> StoredJournal for DiskJournal<'a> {
     }
 }
 
-/// Opens a file for reading and appending. Creates the file if it does not exist. Then the
-/// directory is synchronized to disk, so that a new file survives a crash.
+/// Opens a file for reading and appending. Creates the file if it does not exist. Synchronizes the
+/// file's directory to disk, so that a new file survives a crash.
 fn open_to_append<R: Files<File = File>>(rt: &R, path: &str) -> io::Result<File> {
     let mut options = OpenOptions::new();
     options

@@ -16,7 +16,7 @@ use std::net::SocketAddr;
 /// Buffered text is written if it has at least this many octets.
 const MOST_GATHERED: usize = 65_536;
 
-/// The greatest time that a line stays buffered while events arrive, in milliseconds.
+/// The longest time that a line stays buffered while events arrive, in milliseconds.
 const WAIT_MILLISECONDS: u64 = 1_000;
 
 /// The least time between two reports of counts, in milliseconds. Only the report at the end of the
@@ -65,8 +65,8 @@ pub struct EventLog<S: LogSink> {
     sink: S,
     shows_all: bool,
     text: Vec<u8>,
-    // Lines about failed sends. They are appended after the line of the event that caused the
-    // sends.
+    // Lines about failed sends. A line about a failed send is appended after the line of the event
+    // that caused the send.
     later: Vec<u8>,
     // The time of the first line that is not yet written.
     since: u64,
@@ -171,8 +171,8 @@ impl<S: LogSink> EventLog<S> {
     }
 
     /// Appends lines with the counts of closed faces and of datagrams from strangers, if the last
-    /// report is at least a minute old. `strangers` is the total number of datagrams from
-    /// strangers.
+    /// report is at least a minute old. `strangers` is the total number of dropped datagrams from
+    /// endpoints that are not peers.
     pub fn put_counts(&mut self, moment: u64, strangers: u64)
         ensures others { self.new ≡ record self.old {
           text = self.new.text;
@@ -187,7 +187,8 @@ impl<S: LogSink> EventLog<S> {
     }
 
     /// Appends lines with the counts of closed faces and of datagrams from strangers, however long
-    /// ago the last report was. `strangers` is the total number of datagrams from strangers.
+    /// ago the last report was. `strangers` is the total number of dropped datagrams from endpoints
+    /// that are not peers.
     pub fn put_counts_now(&mut self, moment: u64, strangers: u64)
         ensures others { self.new ≡ record self.old {
           text = self.new.text;
@@ -265,7 +266,7 @@ impl<S: LogSink> EventLog<S> {
         self.text.clear();
     }
 
-    /// Prepares for the next line at the time `moment`. If no lines are waiting to be written,
+    /// Prepares for appending a line with the time `moment`. If no lines are waiting to be written,
     /// stores `moment` as the time of the first line.
     pub fn begin(&mut self, moment: u64)
         ensures first { self.old.text.items ≡ [] → self.new.since ≡ moment }

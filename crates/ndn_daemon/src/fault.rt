@@ -62,8 +62,8 @@ pub enum JournalFault {
     Unwritten,
     /// The rule file and the key file together are too long for one line of the journal.
     LongRules,
-    /// No node whose repository has the given prefix writes the line with this number, counted from
-    /// 1.
+    /// A node whose repository has the given prefix does not write the line with this number,
+    /// counted from 1.
     NotJournalled(u64),
     /// The journal has too many lines to be shortened.
     ManyLines,

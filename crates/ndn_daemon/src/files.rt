@@ -31,8 +31,8 @@ pub fn read_keys(alloc: Global, octets: &[u8]) -> Result<KeyBook, Fault>
     KeyBook::read_octets(alloc, octets).map_err(Fault::Keys)
 }
 
-/// Reads an open rule file, and returns its rules and its octets. `path` is its path. A file of
-/// more than 65,536 octets has a TooLarge fault at line 0, even if it is not UTF-8.
+/// Reads an open rule file, and returns its rules and its octets. `path` is the path of the file. A
+/// file of more than 65,536 octets has a TooLarge fault at line 0, even if it is not UTF-8.
 pub fn read_rule_file<R: Read + Drop>(
     alloc: Global,
     path: &str,
@@ -56,8 +56,8 @@ pub fn read_rule_file<R: Read + Drop>(
     }
 }
 
-/// Reads an open key file, and returns its keys and its octets. `path` is its path. A file of more
-/// than `MAX_KEY_FILE` octets is too large, whatever its content.
+/// Reads an open key file, and returns its keys and its octets. `path` is the path of the file. A
+/// file of more than `MAX_KEY_FILE` octets is too large, whatever its content.
 pub fn read_key_file<R: Read + Drop>(
     alloc: Global,
     path: &str,

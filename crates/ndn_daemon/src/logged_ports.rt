@@ -18,7 +18,7 @@ pub trait HasEndpoints {
     /// Returns the endpoint of a face, if the face has one.
     fn endpoint_of(&self, face: u64) -> Option<SocketAddr>;
 
-    /// Returns the number of dropped datagrams from strangers.
+    /// Returns the number of dropped datagrams from endpoints that are not peers.
     fn strangers(&self) -> u64;
 }
 
@@ -52,18 +52,20 @@ enum Seen {
     NewRules,
 }
 
-/// Ports with a log. They return the same arrivals and send the same packets as the underlying
-/// ports. Log lines are buffered. If nothing arrives soon, they are written before the ports wait.
-/// While events arrive, the lines are written when the first of them is a second old, or when they
-/// have at least 65,536 octets.
+/// Ports with a log, which return the same arrivals and send the same packets as the underlying
+/// ports. Log lines are buffered. If nothing arrives soon, the buffered lines are written before
+/// the ports wait. While events arrive, the buffered lines are written when the first line is a
+/// second old, or when all lines together have at least 65,536 octets.
 #[derive(Drop)]
 pub struct LoggedPorts<P: Ports + HasEndpoints + Drop, S: LogSink> {
     ports: P,
     log: EventLog<S>,
-    // The last arrival, until its outcome is logged, and the time of the last arrival.
+    // `seen` is the last arrival until its outcome is logged. `moment` is the time of the last
+    // arrival.
     seen: Option<Seen>,
     moment: u64,
-    // The face of the last `FaceUp` arrival, and the endpoint of that face.
+    // `opened` is the face of the last `FaceUp` arrival, and `endpoint` is the endpoint of that
+    // face.
     opened: u64,
     endpoint: Option<SocketAddr>,
 }

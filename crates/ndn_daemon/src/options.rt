@@ -75,7 +75,7 @@ pub fn path_of(alloc: Global, path: Option<&str>) -> Result<Option<String>, Faul
     }
 }
 
-/// Returns the given text, or the default `text` if none is given.
+/// Returns the text in `given`, or the default `text` if `given` is `None`.
 pub fn given_or<'a>(text: &'a str, given: Option<&'a str>) -> &'a str
     ensures { result.now ≡ given_or text.entry.now (option_map (λ given. given.now) given.entry) }
 {

@@ -46,7 +46,7 @@ pub struct MachineClock<'a, R> {
 }
 
 impl<'a, R: Clock> MachineClock<'a, R> {
-    /// Returns the clock. It has not been read yet.
+    /// Returns the clock, which has not been read yet.
     pub fn new(rt: &'a R) -> MachineClock<'a, R>
         ensures { result.last ≡ 0 }
     {
@@ -67,7 +67,7 @@ impl<'a, R: Clock> Moments for MachineClock<'a, R> {
 }
 
 /// Returns the time of the clock in milliseconds since 1970, or `None` if the clock cannot be read
-/// or shows an earlier time.
+/// or shows a time before 1970.
 fn milliseconds<R: Clock>(rt: &R) -> Option<u64> {
     let now = SystemTime::now(rt).ok()?;
     let duration = now.duration_since(SystemTime::UNIX_EPOCH).ok()?;
@@ -76,10 +76,10 @@ fn milliseconds<R: Clock>(rt: &R) -> Option<u64> {
 
 /// Runs a node on its port for the requested number of turns. The answers are written to standard
 /// output unless the node is quiet. The log, if there is one, is written to standard error. The
-/// node's rules and keys are replaced whenever their source has new ones. Invalid parts are
+/// node's rules and keys are replaced whenever their source has new ones. Invalid `parts` are
 /// reported before the port is bound. With a journal, the node starts with the state that the
-/// journal restores, and with the source's rules and keys. These rules and keys are journalled if
-/// they differ from the last rules and keys in the journal.
+/// journal restores, and with the source's rules and keys. The source's rules and keys are
+/// journalled if they differ from the last rules and keys in the journal.
 pub fn run_on_port<
     R: AllocGlobal + Eprint + Files<File = File> + Net + Print,
     M: Moments,
@@ -206,18 +206,20 @@ fn restart_of<R: AllocGlobal + Eprint, J: StoredJournal, S: RuleSource>(
     })
 }
 
-/// Reports on standard error that a line of this length was cut short by a crash and is removed.
+/// Reports on standard error that a crash cut the last line short to `cut` octets, and that the
+/// line is removed. Reports nothing if `cut` is 0.
 fn report_cut<R: Eprint>(rt: &R, cut: u64) {
     if cut > 0 {
-        // The line was already removed, even if standard error cannot be written.
+        // The line is already removed, so a failure to write to standard error is ignored.
         let _printed = eprintln!(rt;
             "journal: the last line was cut short and is taken off: {cut} octets"
         );
     }
 }
 
-/// Returns the open faces that do not belong to peers. Such a face was opened for an endpoint that
-/// the node no longer knows, or for a peer that had another scope before the restart.
+/// Returns the open faces that do not belong to peers. A face that does not belong to a peer was
+/// opened for an endpoint that the node no longer knows, or for a peer that had another scope
+/// before the restart.
 fn unknown_faces(alloc: Global, node: &Node, options: &UdpOptions) -> Result<Vec<u64>, AllocError> {
     let mut unknown = Vec::new(alloc);
     for i in 0..MAX_FACES {
@@ -342,8 +344,8 @@ fn take_quiet_turns<P: Ports>(
 }
 
 /// Lets a node take this number of turns, or fewer if the port ends, and writes the text of the
-/// turns. The text is buffered. It is written when it has at least `MOST_GATHERED` octets, before
-/// the node waits for an arrival, and at the end.
+/// turns. The text is buffered. The buffered text is written when it has at least `MOST_GATHERED`
+/// octets, before the node waits for an arrival, and at the end.
 fn take_turns<P: Ports, W: Write>(
     alloc: Global,
     node: &mut Node,
@@ -417,7 +419,8 @@ fn take_turn<P: Ports, W: Write>(
     Ok(turn)
 }
 
-/// Does the same as `take_turn`, but also returns a turn whose event could not be journalled.
+/// Lets a node take its next turn. If nothing arrives soon, the buffered text is written before the
+/// node waits. If an event could not be journalled, returns the turn `Unwritten`.
 fn next_turn<P: Ports, W: Write>(
     node: &mut Node,
     ports: &mut P,
@@ -516,15 +519,15 @@ fn is_unwritten(turn: &Turn) -> bool
     matches!(turn, Turn::Unwritten)
 }
 
-/// Returns whether the port has ended.
+/// Returns whether the turn is `End`: the port has no more arrivals.
 fn is_end(turn: &Turn) -> bool
     ensures { IsTrue result ↔ (turn.now ≡ Turn.End) }
 {
     matches!(turn, Turn::End)
 }
 
-/// Appends the text of a turn, in the format of a script's answers. A turn at the port's end has no
-/// text. If memory runs out, nothing is appended.
+/// Appends the text of a turn, in the format of a script's answers. The turns `End` and `Unwritten`
+/// have no text. If memory runs out, nothing is appended.
 fn put_turn(
     text: &mut Vec<u8>,
     number: u64,

@@ -152,7 +152,7 @@ fn stamp_of<R: Files>(rt: &R, path: &Option<String>) -> Option<Stamp> {
     })
 }
 
-/// Reads the rule file at this path. Returns its rules and its octets.
+/// Reads the rule file at this path, and returns its rules and its octets.
 fn rules_at<R: AllocGlobal + Files>(rt: &R, path: &str) -> Result<(Rules, Vec<u8>), Fault>
     ensures { IfOk result (λ read. AreRules read.1.items read.0) }
 {
@@ -162,7 +162,7 @@ fn rules_at<R: AllocGlobal + Files>(rt: &R, path: &str) -> Result<(Rules, Vec<u8
     }
 }
 
-/// Reads the key file at this path. Returns its keys and its octets.
+/// Reads the key file at this path, and returns its keys and its octets.
 fn keys_at<R: AllocGlobal + Files>(rt: &R, path: &str) -> Result<(KeyBook, Vec<u8>), Fault>
     ensures { IfOk result (λ read. AreKeys read.1.items read.0) }
 {

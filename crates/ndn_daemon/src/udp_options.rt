@@ -38,7 +38,8 @@ pub struct UdpOptions {
     /// The idle time in seconds, at least 1, after which a face that does not belong to a peer
     /// closes.
     pub idle: u32,
-    /// Whether datagrams from strangers are accepted even if `listen` is not a loopback address.
+    /// Whether datagrams from endpoints that are not peers are accepted even if `listen` is not a
+    /// loopback address.
     pub open: bool,
     /// The events that are logged.
     pub log: LogLevel,
@@ -181,8 +182,8 @@ fn is_itself(listen: &SocketAddr, peer: &SocketAddr) -> bool
         && (peer.ip() == listen.ip() || (is_unspecified(listen) && is_loopback(peer)))
 }
 
-/// Reads the number of Local peers. These are the first peers, and they must be on this machine,
-/// since a Local peer may send commands.
+/// Reads the number of Local peers. The Local peers come first in `peers`, and they must be on this
+/// machine, since a Local peer may send commands.
 fn local_of(digits: &str, peers: &[SocketAddr]) -> Result<u64, Fault>
     ensures { Reads (IsLocal digits.now peers.now) result }
 {

@@ -1,4 +1,4 @@
-//! Ports that also give new rules and keys.
+//! Ports whose arrivals include new rules and keys.
 ghost use Rattle.std.specs.Prelude.{◌≡◌, ◌∷◌, [], None, length, IfOk, IfSome, OnErr, OnOk};
 ghost use Rattle.node_ports.specs.Ports.{Gives, LiesWithin, Takes, arrived, one_more};
 
@@ -29,13 +29,14 @@ pub struct Restart {
     /// The rules and keys that were read from the files, if they differ from the last rules and
     /// keys in the journal.
     pub renewal: Option<Renewal>,
-    /// The open faces that are to be closed, since no peer has a face with this number and scope.
+    /// The open faces that are to be closed. A face is closed if no peer has a face with its number
+    /// and scope.
     pub closing: Vec<u64>,
 }
 
-/// Ports with a source of rules. When something has arrived, the source is checked, at most once a
-/// second. New rules are given before the arrival, and the arrival is given unchanged in the next
-/// turn.
+/// Ports with a source of rules. When something has arrived at the underlying ports, the source is
+/// checked, at most once a second. If the source has new rules and keys, they are returned as an
+/// arrival of their own, and what has arrived is returned in the next turn.
 #[derive(Drop)]
 pub struct WatchedPorts<P: Ports + Drop, S: RuleSource> {
     ports: P,
@@ -77,7 +78,7 @@ impl<P: Ports + Drop, S: RuleSource> WatchedPorts<P, S> {
         }
     }
 
-    /// Returns the next of the first events after a restart, or `None` if none is left.
+    /// Returns the next event of the restart, or `None` if no event of the restart is left.
     fn first(&mut self) -> Option<Arrival>
         ensures ports { self.new.ports ≡ self.old.ports }
         ensures fits { IfSome result (LiesWithin 0) }
@@ -131,8 +132,8 @@ impl<P: Ports + Drop, S: RuleSource> WatchedPorts<P, S> {
         Arrival::NewRules { renewal, now }
     }
 
-    /// Gives the stored arrival. Copies the octets of a packet to the start of the buffer. Octets
-    /// that do not fit are dropped.
+    /// Returns the stored arrival `arrival`. Copies the octets of a packet to the start of the
+    /// buffer. Octets that do not fit are dropped.
     fn give_held(&self, arrival: Arrival, buffer: &mut [u8]) -> Arrival
         ensures { LiesWithin (length buffer.new) result }
     {

@@ -16,9 +16,10 @@ use Rattle.ndn_explain.specs.Show.{line}
 
 -- ---- layouts
 
--- The text before each value of an entry: before the name, the face and the cost of a route, and
--- before the name and the strategy of a strategy choice. In the layout `Lines` this text is a word
--- or a space. In the layout `Table` it is a tab, or nothing before the name.
+-- The texts before the values of a line. The line of a route has a name, a face and a cost. The
+-- line of a strategy choice has a name and a strategy. In the layout `Lines`, the text before a
+-- value is a word or a space. In the layout `Table`, the text before a value is a tab, or empty
+-- before the name.
 pub record Labels : Type 0 where
   pub route : List ℕ
   pub face : List ℕ
@@ -42,7 +43,7 @@ labels_of Table = record {
   strategy = codes "\t";
 }
 
--- `texts` are the labels `l` of a layout.
+-- The labels `texts` of the code are equal to the labels `l`.
 pub record AreLabels (l : Labels) (texts : Texts) : Type 0 where
   pub route : texts.route.now ≡ l.route
   pub face : texts.face.now ≡ l.face
@@ -74,15 +75,15 @@ hop_words layout es =
     number_word (labels_of layout).face (first_of FACE_ID es)
     ++ number_word (labels_of layout).cost (first_of COST es)
 
--- the line of the route for this name that an element describes; nothing if the element is no next
--- hop
+-- the line of a route: this name, and the face and the cost in the element; nothing if the element
+-- is not a next hop
 abbrev pub hop_line : Layout → List ℕ → Result Field TlvFault → List ℕ
 hop_line layout name (Err fault) = []
 hop_line layout name (Ok e) =
     if e.0 == NEXT_HOP
     then (labels_of layout).route ++ line (name ++ hop_words layout (elements_of e.1)) else []
 
--- the name of an entry, or a dash if it is missing
+-- the name of an entry, or a dash if the name is missing
 abbrev pub entry_name : Option (List ℕ) → List ℕ
 entry_name None = codes "-"
 entry_name (Some value) = name_text value

@@ -52,7 +52,7 @@ content_lines None = []
 content_lines (Some content) =
     reply_lines content ++ (dataset_lines Lines content ++ text_lines content)
 
--- the lines for the segment number and the Content of a Data with the octets `whole`
+-- the lines for the segment number and the Content of a Data, given its octets
 abbrev pub data_meaning : List ℕ → PlainData → List ℕ
 data_meaning whole d = segment_lines d.name whole ++ content_lines d.content
 

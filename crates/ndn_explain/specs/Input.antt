@@ -16,7 +16,8 @@ use Rattle.ndn_explain.specs.Show.{line, named_line}
 use Rattle.ndn_explain.specs.TagCheck.{MayBeChecked}
 use Rattle.ndn_explain.specs.Explain.{framed_explanation}
 
--- whether the line begins with `>`, like the line of a sent packet in a script's answers
+-- whether the line begins with `>`, like the line of a sent packet in the answers of `ndn_node` to
+-- a script
 abbrev pub is_send : List ℕ → Bool
 is_send [] = false
 is_send (o ∷ line) = o == 62
@@ -42,9 +43,9 @@ IsExplainedPacket keys octets said =
     ⊎ ((why : PacketFault) × FaultOf octets why
     × (said ≡ named_line (codes "malformed") (packet_name why)))
 
--- The text printed for the line `text`. If the digits of the line encode a packet of at least one
--- octet, this is `head`, the text before the digits, and then the explanation. Otherwise it is the
--- line itself, or nothing for an empty line.
+-- The text `said` that is printed for the line `text`. `head` is the text before the hexadecimal
+-- digits of the line. If the digits encode at least one octet, `said` is `head` as a line, and then
+-- the explanation of the octets. Otherwise `said` is the line itself, or nothing for an empty line.
 abbrev pub IsExplainedPart : Option (List NamedKey) → List ℕ → List ℕ
     → Result (List ℕ) FromHexError → List ℕ → Type 0
 IsExplainedPart keys text head (Err why) said = said ≡ repeated text

@@ -29,8 +29,8 @@ number_text value = on_result decimal (λ _. bad_text value) (nni_at value)
 abbrev pub name_text : List ℕ → List ℕ
 name_text value = on_result uri_of (λ _. bad_text value) (name_at value)
 
--- the URI of the Name in the Strategy with this value, or the text for a malformed value if there
--- is no Name or the Name is malformed
+-- the URI of the Name in a Strategy field, or the text for a malformed value if the field has no
+-- Name or the Name is malformed
 abbrev pub held_name : List ℕ → Option (List ℕ) → List ℕ
 held_name value None = bad_text value
 held_name value (Some name) = name_text name
@@ -68,7 +68,7 @@ form_text Strategy value = strategy_text value
 form_text Flags value = flags_text value
 form_text Period value = period_text value
 
--- the line of a field, in its form, if the field is present
+-- the line of a field whose value has this form, if the field is present
 abbrev pub field_line : List ℕ → Form → ℕ → Elements → List ℕ
 field_line label form kind es = optional_line label (option_map (form_text form) (first_of kind es))
 
@@ -119,8 +119,8 @@ abbrev pub generic_parameters : Option Field → Option (List ℕ)
 generic_parameters None = None
 generic_parameters (Some c) = if c.0 == GENERIC then parameters_of c.1 else None
 
--- the fields in the parameters of a command, which are the name component before the parameters
--- digest; None if the name does not end in these two components
+-- the fields in a command's parameters; the parameters are the name component before the parameters
+-- digest; None if the name does not end with parameters and a digest
 abbrev pub parameters_in : List Field → Option (List ℕ)
 parameters_in name =
     if has_kind PARAMETERS_SHA256_DIGEST (slice_get name (length name - 1))
@@ -167,8 +167,8 @@ node_reply_lines es = status_line STATUS_CODE es ++ body_lines (first_of CONTROL
 abbrev pub repository_reply_lines : Elements → List ℕ
 repository_reply_lines es = status_line REPO_STATUS_CODE es ++ field_lines es
 
--- the lines of a reply, given the fields of the response of the node or the fields of the response
--- of a repository; no lines if there is neither
+-- the lines of the node's response if there is one, otherwise the lines of the repository's
+-- response if there is one, otherwise no lines; each response is given by its fields
 abbrev pub or_repository : Option (List ℕ) → Option (List ℕ) → List ℕ
 or_repository (Some fields) other = node_reply_lines (elements_of fields)
 or_repository None (Some fields) = repository_reply_lines (elements_of fields)

@@ -1,5 +1,5 @@
 -- Whether a packet's signature value is right for the covered octets (NDN Packet Format 0.3,
--- "Signature"), and the line that says so.
+-- "Signature"), and the line that shows the result.
 use Rattle.std.specs.Prelude.{◌≡◌, ◌≢◌, ◌⊎◌, ℕ, List, [], ◌++◌, codes, Option, None, Some}
 use Rattle.sha2.specs.Sha256.{sha256}
 use Rattle.ndn_tlv.specs.Element.{Field}
@@ -24,8 +24,8 @@ IsValueCheck value right Wrong = value ≢ right
 IsValueCheck value right UnknownKey = ⊥
 IsValueCheck value right Unchecked = ⊥
 
--- the result of checking an HMAC under the key with this name; it is UnknownKey if the book has
--- no such key
+-- the result of checking an HMAC under the key with this name; the result is UnknownKey if the book
+-- has no key of this name
 abbrev pub IsNamedCheck : List Field → List NamedKey → List ℕ → List ℕ → TagCheck → Type 0
 IsNamedCheck name book value octets UnknownKey = (key : List ℕ) → IsAmong (name, key) book → ⊥
 IsNamedCheck name book value octets check =
@@ -67,9 +67,9 @@ IsSignedCheck packet (Some s) book None = ⊥
 IsSignedCheck packet (Some s) book (Some check) =
     (octets : Option (List ℕ)) × AreCovered packet octets × IsPartsCheck s book octets check
 
--- The result of checking the signature of a packet with the keys of a book. For a Nack, its
--- Interest is checked. The result is None for an unsigned Interest and for a link packet without a
--- packet (`Idle`).
+-- The result of checking the signature of a packet with the keys of a book. For a Nack, the
+-- signature of the Interest in the Nack is checked. The result is None for an unsigned Interest and
+-- for a link packet without a packet (`Idle`).
 abbrev pub IsTagCheck : PlainFrame → List NamedKey → Option TagCheck → Type 0
 IsTagCheck (AnInterest whole i) book check =
     IsSignedCheck (AnInterest whole i) i.signature book check

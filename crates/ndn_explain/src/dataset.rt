@@ -31,8 +31,9 @@ struct Labels {
     strategy: &'static str,
 }
 
-/// Appends the lines of all entries in a Content, or nothing if it has no entries. Octets from the
-/// first malformed element on are ignored. On `Memory`, some of the lines may have been appended.
+/// Appends the lines of all entries in a Content, or nothing if the Content has no entries. Octets
+/// from the first malformed element on are ignored. On `Memory`, some of the lines may have been
+/// appended.
 pub fn put_entries(
     alloc: Global,
     text: &mut Vec<u8>,

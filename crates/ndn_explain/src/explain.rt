@@ -48,10 +48,10 @@ pub fn put_framed_explanation(
     put_explanation(alloc, text, &framed.frame, check)
 }
 
-/// Appends the lines of the fields, as `ndn_tool show` prints them but with the name of a Nack's
-/// reason. Then appends the lines of the SignatureInfo and of the signature check, and the lines of
-/// a segment, a command, a reply, a dataset or a printable Content. On `Memory`, some of the lines
-/// may have been appended.
+/// Appends the lines that `ndn_tool show` prints, with the name of a Nack's reason after the number
+/// of the reason. Then appends the lines of the SignatureInfo and of the signature check, and the
+/// lines of a segment, a command, a reply, a dataset or a printable Content. On `Memory`, some of
+/// the lines may have been appended.
 pub fn put_explanation(
     alloc: Global,
     text: &mut Vec<u8>,

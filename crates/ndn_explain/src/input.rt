@@ -16,10 +16,10 @@ use ndn_tlv::Memory;
 use std::alloc::Global;
 
 /// Explains a text line by line and appends the result. A packet is replaced by its explanation,
-/// and the text before it on its line becomes a line of its own. A line without a packet stays as
-/// it is, and empty lines are omitted. A packet is one or more octets in hexadecimal, alone on its
-/// line, or after the last space of a line that begins with `>`. Its signature is checked if there
-/// are keys. On `Memory`, some of the lines may have been appended.
+/// and the text before the packet becomes a separate line. A line without a packet stays as it is,
+/// and empty lines are omitted. A packet is one or more octets in hexadecimal, either alone on a
+/// line or after the last space of a line that begins with `>`. The packet's signature is checked
+/// if there are keys. On `Memory`, some of the lines may have been appended.
 pub fn put_input(
     alloc: Global,
     text: &mut Vec<u8>,
@@ -74,7 +74,7 @@ fn put_digits(
     }
 }
 
-/// Explains the line with these octets, or repeats the line if there are none.
+/// Explains a line with these octets, or repeats the line if there are no octets.
 fn put_octets(
     alloc: Global,
     text: &mut Vec<u8>,
@@ -108,7 +108,8 @@ fn parts_of(line: &str) -> (&str, &str)
     }
 }
 
-/// Returns whether the line begins with `>`, like the line of a sent packet in a script's answers.
+/// Returns whether the line begins with `>`, like the line of a sent packet in the answers of
+/// `ndn_node` to a script.
 fn is_send(line: &str) -> bool
     ensures { result ≡ is_send line.now }
 {

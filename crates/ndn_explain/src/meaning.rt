@@ -69,7 +69,7 @@ pub fn parameters_in<'a>(name: Name<'a>) -> Option<&'a [u8]>
     parameters_of(component.value)
 }
 
-/// Returns the fields in a component's value, if it is a single ControlParameters or
+/// Returns the fields in a component's value, if this value is a single ControlParameters or
 /// RepoCommandParameter element.
 fn parameters_of(value: &[u8]) -> Option<&[u8]>
     ensures { option_map (λ v. v.now) result ≡ parameters_of value.now }
@@ -112,7 +112,8 @@ fn put_repository_reply(alloc: Global, text: &mut Vec<u8>, fields: &[u8]) -> Res
     put_fields(alloc, text, fields)
 }
 
-/// Appends the line of the status, if there is a status code, which is the field of type `kind`.
+/// Appends the line of the status, if the status code is present. The status code is the field of
+/// type `kind`.
 fn put_status(alloc: Global, text: &mut Vec<u8>, fields: &[u8], kind: u32) -> Result<(), Memory>
     ensures { OnOk result (text.new.items
         ≡ text.old.items ++ status_line kind (elements_of fields.now)) }
@@ -208,7 +209,7 @@ fn put_wanted(alloc: Global, text: &mut Vec<u8>, fields: &[u8]) -> Result<(), Me
     )
 }
 
-/// Appends the line of a field, if it is present.
+/// Appends the line of a field, if the field is present.
 fn put_field(
     alloc: Global,
     text: &mut Vec<u8>,

@@ -15,8 +15,9 @@ use ndn_packets::{DIGEST_SHA256, Locator, Signature, put_reply};
 use ndn_tlv::{Memory, first_field, single_element};
 use std::alloc::Global;
 
-/// Returns the Content of a reply to the command with this name, if the octets are that reply as a
-/// node writes it: a Data of any length without MetaInfo, signed with DigestSha256.
+/// Returns the Content in the octets, if the octets are exactly the reply that a node writes to the
+/// command with this name. The reply is a Data of any length without MetaInfo, signed with
+/// DigestSha256. Returns `None` for any other octets.
 pub fn written_content<'a>(
     alloc: Global,
     name: Name<'_>,
@@ -62,7 +63,7 @@ pub fn put_written(
     put_content(alloc, text, content)
 }
 
-/// Returns the value of a field, if the octets are a Data.
+/// Returns the value of the first field of type `kind`, if the octets are a Data with such a field.
 fn data_field(octets: &[u8], kind: u32) -> Option<&[u8]>
     ensures { option_map (λ v. v.now) result ≡ data_field kind octets.now }
 {

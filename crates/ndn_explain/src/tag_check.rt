@@ -25,7 +25,7 @@ pub enum TagCheck {
 }
 
 /// Checks the signature of a packet with the keys of a book. Returns `None` if the packet is not
-/// signed. For a Nack, its Interest is checked.
+/// signed. For a Nack, the signature of the Interest in the Nack is checked.
 pub fn check_tag(frame: &Frame<'_>, book: &KeyBook) -> Option<TagCheck>
     ensures { IsTagCheck (plain_frame frame.now) book.now result }
 {
@@ -47,7 +47,8 @@ fn check_interest(interest: &Interest<'_>, book: &KeyBook) -> Option<TagCheck>
     }
 }
 
-/// Checks a signature over the octets that it covers, if any.
+/// Checks a signature over the covered octets `parts`. Returns `Unchecked` if the signature covers
+/// no octets.
 fn check_parts(signature: Signature<'_>, parts: Option<Parts<'_>>, book: &KeyBook) -> TagCheck
     ensures { IsPartsCheck (plain_signature signature.entry) book.now
         (option_map parts_of parts.entry) result }

@@ -1,4 +1,4 @@
--- What the results of the command line's parser mean for the job.
+-- How the job or the fault of a command line follows from the result of the command-line parser.
 use Rattle.std.proofs.Common.{◌≡◌, ◌≢◌, ℕ, List, [], drop, Option, None, Some, Result, Ok, Err, MatchResult, true, refl, sym, ap, subst, inl, inr, ◌∙◌}
 use Rattle.clap.specs.declared.error.Error.{Error}
 use Rattle.clap.specs.declared.error.kind.ErrorKind.{ErrorKind}

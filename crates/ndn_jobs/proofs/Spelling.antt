@@ -6,9 +6,9 @@ use Rattle.ndn_jobs.specs.declared.fault.ToolFault.TheVariants as fault
 use Rattle.ndn_jobs.specs.Value.{IsUsage, IsWrong, IsRefused, ReadsInMemory}
 use Rattle.ndn_jobs.specs.Options.{Has, MayHave}
 
--- Let each value that satisfies `Whole` give a value that satisfies `Part`. If no value satisfies
--- `Part`, then no value satisfies `Whole`, so a fault that is correct for `Part` is correct for
--- `Whole`.
+-- In this module, some value satisfies `Part` if some value satisfies `Whole`. So if no value
+-- satisfies `Part`, no value satisfies `Whole`. A fault that `IsWrong` or `IsRefused` allows for
+-- `Part` is then also allowed for `Whole`.
 
 module _ {A B : Type 0} (Part : A → Type 0) (Whole : B → Type 0) (part : (y : B) → Whole y → (x : A) × Part x) where
   none_whole : ((x : A) → Part x → ⊥) → (y : B) → Whole y → ⊥
@@ -38,7 +38,8 @@ module _ {A B : Type 0} (Part : A → Type 0) (Whole : B → Type 0) (part : (y 
   wrong_in_memory (fault.Packet why) h = h
   wrong_in_memory fault.Memory h = absurd h
 
--- By the next two lemmas, a fault `BadValue` is correct if the text spells no value.
+-- If no value satisfies `Spell`, then the fault `BadValue` satisfies `IsWrong Spell` and
+-- `IsRefused Spell`.
 
 module _ {A : Type 0} (Spell : A → Type 0) (none : (x : A) → Spell x → ⊥) where
   pub usage_wrong : (why : ToolFault) → IsUsage why → IsWrong Spell why
@@ -61,8 +62,7 @@ module _ {A : Type 0} (Spell : A → Type 0) (none : (x : A) → Spell x → ⊥
 pub lacks : {A : Type 0} (Spells : List ℕ → A → Type 0) (said : Option (List ℕ)) → said ≡ None → (x : A) → Has said Spells x → ⊥
 lacks Spells said e x h = let both : None ≡ Some h.0 = sym e ∙ h.1 in absurd cc
 
--- The next lemmas are about an option whose value is `value`. What `value` spells is what the
--- option spells.
+-- If an option is given with the text `value`, then the option spells exactly what `value` spells.
 
 module _ {A : Type 0} (Spells : List ℕ → A → Type 0) (said : Option (List ℕ)) (value : List ℕ) (there : Some value ≡ said) where
   same : (w : List ℕ) → said ≡ Some w → w ≡ value

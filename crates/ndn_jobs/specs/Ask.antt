@@ -1,5 +1,5 @@
--- Unsigned Interests, and what is printed of their answers: `route list`, `strategy list`, `peek`.
--- Without a port to send to, the Interest itself is printed.
+-- The jobs of `route list`, `strategy list` and `peek`: an unsigned Interest, and what is printed
+-- of the answer. Without a port to send to, the Interest itself is printed.
 use Rattle.std.specs.Prelude.{◌≡◌, ℕ, List, Option, None, Some, Bool, true, false, is_none, ◌&&◌, codes, bytes_eq, if◌then◌else◌}
 use Rattle.clap.specs.Walk.{Row}
 use Rattle.ndn_names.specs.ReadsAs.{ReadsAs}

@@ -23,8 +23,8 @@ use Rattle.ndn_jobs.specs.Ask.{is_list, IsListJob, IsPeekJob}
 use Rattle.ndn_jobs.specs.Nonce.{words_of}
 use Rattle.ndn_command_line.specs.CommandLine.{subcommand_named, tool}
 
--- what a parser error means: a request for help or for the version, no memory, or a wrong command
--- line
+-- what a parser error means: the command line asks for help or for the version, memory ran out, or
+-- the command line is wrong
 abbrev pub reading_of : ErrorKind → Error → Result Job ToolFault
 reading_of DisplayHelp error = Ok (Help error)
 reading_of DisplayVersion error = Ok (Help error)
@@ -44,7 +44,7 @@ IsListedJob now words name rows job = ⊥
 
 -- The job that the options `rows` of a subcommand ask for. `name` is the subcommand's name, `now`
 -- is the time, and `words` are the words of the command line. The subcommands `route`, `strategy`,
--- `cache` and `repo` are short forms of `command`.
+-- `cache` and `repo` are short forms of `command`, except with the verb `list`.
 abbrev pub IsJobFor : Subcommand → ℕ → List ℕ → List ℕ → List Row → Job → Type 0
 IsJobFor sub.Interest now words name rows (Interest job) = IsLinkJob rows job
 IsJobFor sub.Data now words name rows (Data job) = IsDataJob rows job
@@ -84,7 +84,7 @@ abbrev pub IsJobOf : ℕ → List (List ℕ) → Job → Type 0
 IsJobOf now arguments job =
     IsJob now (words_of (drop 1 arguments)) (subcommand_of tool arguments) job
 
--- the parser found a request for a text: for the help or for the version
+-- the parser's error is a request for the help or for the version
 abbrev pub IsText : ErrorKind → Type 0
 IsText kind = (kind ≡ DisplayHelp) ⊎ (kind ≡ DisplayVersion)
 
@@ -94,8 +94,8 @@ Asks now arguments (Help error) =
     IsText (kind_of error) × IsAmong (kind_of error) (faults arguments)
 Asks now arguments job = (faults arguments ≡ []) × IsJobOf now arguments job
 
--- `CommandLine`: the parser finds this fault in the arguments, and it is not a request for help or
--- the version. `BadValue`: the parser finds no fault, but the arguments spell no job.
+-- `CommandLine`: the parser finds this fault in the arguments, and the fault is not a request for
+-- help or the version. `BadValue`: the parser finds no fault, but the arguments spell no job.
 abbrev pub IsWrongLine : ℕ → List (List ℕ) → WrongUsage → Type 0
 IsWrongLine now arguments (CommandLine error) =
     IsAmong (kind_of error) (faults arguments) × (IsText (kind_of error) → ⊥)

@@ -102,7 +102,7 @@ pub record IsDataJob (rows : List Row) (job : DataJob) : Type 0 where
   pub freshness : MayHave (value_at rows (codes "freshness")) IsNumber job.freshness
   pub key : IsKeyChoice rows job.key
 
--- the parameters that the options of `command` spell
+-- the command parameters that the options of the subcommand `command` give
 pub record AreParameters (rows : List Row) (p : Parameters) : Type 0 where
   pub name : Has (value_at rows (codes "name")) ReadsAs p.name
   pub face : MayHave (value_at rows (codes "face")) IsNumber p.face
@@ -141,6 +141,6 @@ pub record IsSendJob (rows : List Row) (job : SendJob) : Type 0 where
   pub to : Has (value_at rows (codes "to")) IsPort job.to
   pub from : MayHave (value_at rows (codes "from")) IsPort job.from
 
--- the octets that `show` is given
+-- the octets that the argument of `show` spells
 abbrev pub IsShowJob : {Z : Type 0} → List Row → Vec ℕ Z → Type 0
 IsShowJob rows octets = Has (value_at rows (codes "HEX")) AreOctets octets

@@ -15,7 +15,7 @@ is_repository_verb word =
     bytes_eq word (codes "insert") || bytes_eq word (codes "delete")
     || bytes_eq word (codes "check")
 
--- `verb` is the word, and the word is `insert`, `delete` or `check`
+-- `verb` is equal to `word`, and is `insert`, `delete` or `check`
 abbrev pub IsRepositoryVerb : List ℕ → List ℕ → Type 0
 IsRepositoryVerb word verb = (verb ≡ word) × (is_repository_verb word ≡ true)
 

@@ -44,22 +44,22 @@ abbrev pub IsUsage : ToolFault → Type 0
 IsUsage (fault.Usage (BadValue place wanted)) = ⊤
 IsUsage why = ⊥
 
--- the fault is BadValue, and the text spells no value
+-- the fault is BadValue, and no value satisfies `Spell`
 abbrev pub IsWrong : {A : Type 0} → (A → Type 0) → ToolFault → Type 0
 IsWrong {A} Spell (fault.Usage (BadValue place wanted)) = (x : A) → Spell x → ⊥
 IsWrong Spell why = ⊥
 
--- the fault is Memory, or it is BadValue and the text spells no value
+-- the fault is Memory, or it is BadValue and no value satisfies `Spell`
 abbrev pub IsRefused : {A : Type 0} → (A → Type 0) → ToolFault → Type 0
 IsRefused Spell fault.Memory = ⊤
 IsRefused Spell why = IsWrong Spell why
 
--- the result is the value that the text spells, or BadValue if the text spells none
+-- the result is a value that satisfies `Spell`, or BadValue if there is no such value
 abbrev pub Reads : {A : Type 0} → (A → Type 0) → Result A ToolFault → Type 0
 Reads Spell (Ok value) = Spell value
 Reads Spell (Err fault) = IsWrong Spell fault
 
--- the result is the value that the text spells, or BadValue if the text spells none, or Memory
+-- the result is a value that satisfies `Spell`, or BadValue if there is no such value, or Memory
 abbrev pub ReadsInMemory : {A : Type 0} → (A → Type 0) → Result A ToolFault → Type 0
 ReadsInMemory Spell (Ok value) = Spell value
 ReadsInMemory Spell (Err fault) = IsRefused Spell fault

@@ -118,8 +118,8 @@ fn job_for(
     }
 }
 
-/// Returns the job that the options of a subcommand ask for: a list if the verb is `list`, and
-/// otherwise the command of a short form.
+/// Returns the job of the subcommand `route` or `strategy`. The job requests a list if the verb is
+/// `list`. With any other verb, the job is a command.
 fn listed_job(
     alloc: Global,
     name: &str,

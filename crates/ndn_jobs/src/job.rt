@@ -30,7 +30,7 @@ pub enum Job {
     Data(DataJob),
     /// Write a command, and send it if there is a port to send it to.
     Command(CommandJob),
-    /// Compute the tag of some octets.
+    /// Compute the HMAC of some octets.
     Tag(TagJob),
     /// Show what a packet contains.
     Show(Vec<u8>),
@@ -46,9 +46,9 @@ pub enum Job {
 /// The ports of 127.0.0.1 that a packet is sent to and from.
 #[derive(Clone, Copy, Debug)]
 pub struct Ports {
-    /// The port that the packet is sent to. If there is none, the packet is printed.
+    /// The port that the packet is sent to. `None` means that the packet is printed.
     pub to: Option<u16>,
-    /// The port that the packet is sent from. If there is none, a new port is used.
+    /// The port that the packet is sent from. `None` means that a new port is used.
     pub from: Option<u16>,
 }
 
@@ -87,7 +87,7 @@ pub struct InterestJob {
 #[derive(Drop)]
 pub struct LinkJob {
     pub interest: InterestJob,
-    /// The PIT token. If there is none, the Interest is not put into a link packet.
+    /// The PIT token. Without a token, the Interest is not put into a link packet.
     pub token: Option<Token>,
 }
 
@@ -103,7 +103,7 @@ pub struct DataJob {
     pub key: KeyChoice,
 }
 
-/// A command to write: an Interest whose name ends with the parameters of the command.
+/// A command to write: an Interest whose name contains the parameters of the command.
 #[derive(Drop)]
 pub struct CommandJob {
     /// The name of the command, which ends with the command's verb.
@@ -126,7 +126,7 @@ pub struct Stamp {
     pub ports: Ports,
 }
 
-/// Some octets, and the key with which to compute their tag.
+/// Some octets, and the key with which to compute the HMAC of the octets.
 #[derive(Drop)]
 pub struct TagJob {
     pub octets: Vec<u8>,
@@ -139,9 +139,9 @@ pub struct TagJob {
 /// Packets to explain.
 #[derive(Drop)]
 pub struct ExplainJob {
-    /// The packet. If there is none, the packets are read from standard input.
+    /// The packet. `None` means that the packets are read from standard input.
     pub packet: Option<Vec<u8>>,
-    /// The path of the key file for checking signatures. If there is none, signatures are not
+    /// The path of the key file for checking signatures. Without a key file, signatures are not
     /// checked.
     pub keys: Option<String>,
 }
@@ -149,11 +149,11 @@ pub struct ExplainJob {
 /// A packet to send.
 #[derive(Drop)]
 pub struct SendJob {
-    /// The packet. If there is none, the packet is read from standard input.
+    /// The packet. `None` means that the packet is read from standard input.
     pub packet: Option<Vec<u8>>,
     /// The port of 127.0.0.1 that the packet is sent to.
     pub to: u16,
-    /// The port that the packet is sent from. If there is none, a new port is used.
+    /// The port that the packet is sent from. `None` means that a new port is used.
     pub from: Option<u16>,
 }
 
@@ -432,8 +432,8 @@ impl AskJob {
     ghost use Rattle.ndn_jobs.specs.Options.{rows_in};
     ghost use Rattle.ndn_jobs.specs.Ask.{IsListJob, IsPeekJob};
 
-    /// Returns the Interest for the list that the verb `list` of the subcommand with this name asks
-    /// for. If the Nonce is not given, it is computed from the time and the words.
+    /// Returns the job of the verb `list`: an Interest for the list of the subcommand with this
+    /// name. If the Nonce is not given, the Nonce is computed from the time and the words.
     pub fn read_list(
         alloc: Global,
         subcommand: &str,

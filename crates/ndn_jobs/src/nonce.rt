@@ -20,7 +20,8 @@ pub fn words_of<S: AsStr>(alloc: Global, words: &[S]) -> Result<Vec<u8>, AllocEr
     Ok(text)
 }
 
-/// Appends a space and a word. If memory runs out, some of their octets may have been appended.
+/// Appends a space and a word. If memory runs out, the space and a part of the word may have been
+/// appended.
 fn put_spaced(text: &mut Vec<u8>, word: &str) -> Result<(), AllocError>
     ensures { OnOk result (text.new.items ≡ text.old.items ++ spaced word.now) }
 {
@@ -28,8 +29,8 @@ fn put_spaced(text: &mut Vec<u8>, word: &str) -> Result<(), AllocError>
     text.extend_from_slice(word.as_bytes())
 }
 
-/// Returns the given Nonce or, if there is none, one that is computed from this time and these
-/// words.
+/// Returns the given Nonce. If no Nonce is given, returns a Nonce that is computed from the time
+/// and the words.
 pub fn nonce_or(
     alloc: Global,
     given: Option<[u8; 4]>,

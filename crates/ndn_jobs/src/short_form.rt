@@ -96,7 +96,7 @@ pub fn check_fit(action: Action, options: &ArgMatches<'_>) -> Result<(), ToolFau
     }
 }
 
-/// Does the same check as `check_fit`, for a command on routes.
+/// Checks that a face is given, and that the command on routes allows all options that are given.
 fn check_route(action: Action, options: &ArgMatches<'_>) -> Result<(), ToolFault>
     ensures { MatchResult result (λ _. fits_route action (rows_in options.now) ≡ true)
         (λ why. IsUsage why × (fits_route action (rows_in options.now) ≡ false)) }

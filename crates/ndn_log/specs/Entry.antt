@@ -23,8 +23,8 @@ is_plain_outcome (Ok (NoRule kind)) = false
 is_plain_outcome (Ok (Dropped why)) = false
 is_plain_outcome (Err _) = false
 
--- Whether the event is plain: it does not bring new rules, and it was passed or is an allowed
--- Data. A log that does not show all events leaves out plain events.
+-- Whether the event is plain: it does not bring new rules, and its verdict is `Passed` or
+-- `DataAllowed`. A log that does not show all events leaves out plain events.
 abbrev pub is_plain : Came → Result Verdict Memory → Bool
 is_plain (Packet face octets) outcome = is_plain_outcome outcome
 is_plain (Opened face scope) outcome = is_plain_outcome outcome

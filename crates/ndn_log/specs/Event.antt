@@ -19,8 +19,9 @@ abbrev pub scope_word : code_scope.Scope → List ℕ
 scope_word Local = codes "local"
 scope_word Far = codes "far"
 
--- what happened: for an event on a face, the face with its endpoint, and the packet in `frame`,
--- or that the face opens or closes; for other events, a tick or new rules
+-- The words for what happened on a face: the face, its endpoint if known, and then the packet in
+-- `frame`, the opening or the closing. The words for an event without a face: `tick` or
+-- `rules replaced`.
 abbrev pub came_words : Option SocketAddr → Option PlainFrame → Came → List ℕ
 came_words endpoint frame (Packet face octets) =
     face_words face endpoint ++ (codes " " ++ packet_words frame)
@@ -39,8 +40,8 @@ end_words (Closed face) outcome = []
 end_words Tick outcome = []
 end_words NewRules outcome = []
 
--- what happened, the verdict, which shows rules by their ids in `rules`, and the octets of a
--- dropped packet
+-- The words for an event: what happened, the verdict, and the octets of a dropped packet. The
+-- verdict shows a rule by its id in `rules`.
 abbrev pub event_words : List PlainRule → Entry → Result code.Verdict Memory → List ℕ
 event_words rules entry outcome =
     let frame = frame_in (octets_in entry.came) in

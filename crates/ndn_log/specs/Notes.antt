@@ -1,4 +1,5 @@
--- The texts of lines about things that are not events.
+-- The texts of log lines about failed sends, closed faces, and datagrams from endpoints that are
+-- not peers.
 use Rattle.std.specs.Prelude.{ℕ, List, ◌++◌, codes, Option}
 use Rattle.std.specs.declared.net.socket_addr.SocketAddr.{SocketAddr}
 use Rattle.ndn_log.specs.Words.{counted, face_words, octets_words}

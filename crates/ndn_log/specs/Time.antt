@@ -12,8 +12,8 @@ IsDateText nanosecond text =
     (shown : DateTime) × (civil_nanos shown ≡ nanosecond)
     × (text ≡ datetime_text false 84 (Some 3) shown ++ codes "Z")
 
--- the text of a time in milliseconds since 1970: its date and time in UTC or, if it is after
--- 9999-12-30T22:00:00.999Z, the number
+-- The text of a time in milliseconds since 1970 is its date and time in UTC. A time after
+-- 9999-12-30T22:00:00.999Z is shown as the number of milliseconds in decimal digits.
 pub record IsTimeText (moment : ℕ) (text : List ℕ) : Type 0 where
   pub dated : moment ≤ LAST_DATED → IsDateText (pos moment *ℤ pos 1_000_000) text
   pub undated : LAST_DATED < moment → text ≡ decimal moment

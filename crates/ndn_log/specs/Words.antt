@@ -15,7 +15,7 @@ face_words face (Some endpoint) =
 abbrev pub plural_of : ℕ → List ℕ
 plural_of count = if count == 1 then [] else codes "s"
 
--- a count and its noun, with an `s` at its end unless the count is 1
+-- a count and its noun; an `s` follows the noun unless the count is 1
 abbrev pub counted : ℕ → List ℕ → List ℕ
 counted count noun = decimal count ++ (codes " " ++ (noun ++ plural_of count))
 

@@ -17,8 +17,8 @@ use ndn_tlv::Memory;
 use std::alloc::Global;
 
 /// Appends the line of an event: its time, the face with its endpoint, what happened, the packet's
-/// name, the verdict with the rules in force, and the octets of a dropped packet. If memory runs
-/// out, nothing is appended.
+/// name, the verdict, and the octets of a dropped packet. The verdict shows a rule by its id in
+/// `rules`, the rules in force. If memory runs out, nothing is appended.
 pub fn put_event(
     alloc: Global,
     text: &mut Vec<u8>,

@@ -1,4 +1,4 @@
-//! Lines about things that are not events.
+//! Log lines about failed sends, closed faces, and datagrams from endpoints that are not peers.
 
 ghost use Rattle.std.specs.Prelude.{◌≡◌, ◌++◌, drop, vec_len, IfOk, OnErr, OnOk};
 ghost use Rattle.ndn_log.specs.Line.{IsLogged, IsOneLine};
@@ -57,7 +57,7 @@ pub fn put_strangers(
     put_counted(alloc, text, moment, count, "datagram", " of strangers")
 }
 
-/// Appends a line with a count, its noun and one more text. If memory runs out, nothing is
+/// Appends a line with a count, its noun and the text `word`. If memory runs out, nothing is
 /// appended.
 fn put_counted(
     alloc: Global,

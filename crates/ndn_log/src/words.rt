@@ -9,7 +9,7 @@ use std::alloc::Global;
 use std::io::Write;
 use std::net::SocketAddr;
 
-/// The number of a packet's octets that a line shows.
+/// The greatest number of octets of a packet that a log line shows.
 const SHOWN_OCTETS: usize = 32;
 
 /// The length in octets to which a longer packet is truncated: one octet more than a frame may

@@ -20,7 +20,7 @@ never_empty [] c e = cc
 never_empty (d ∷ cs) c e = cc
 
 -- `first` is the first component of type `kind` among the components `front`, which have been read.
--- `is_only` tells whether no other component in `front` has this type. `is_last` tells whether
+-- `is_only` tells whether no other component in `front` has type `kind`. `is_last` tells whether
 -- `first` is the last component in `front` and no octets `rest` are still to be read.
 pub record FirstSoFar (kind : ℕ) (front : List Field) (rest : List ℕ) (first : FirstOfType) : Type 0 where
   pub before : List Field
@@ -57,8 +57,8 @@ found_past kind front rest after c (Some first) some other h = record {
   last = (λ t. absurd (some (h.last.0 t).1), λ e. absurd (never_empty h.after c e.0));
 }
 
--- if a search result is correct, and then a component of type `kind` is read, the new result that
--- `Further` describes is correct
+-- if a search result is correct, then after one more component of type `kind` is read, the new
+-- search result that satisfies `Further` is correct too
 found_more : (kind : ℕ) (front : List Field) (rest after : List ℕ) (c : Field) (found : Option FirstOfType) (is_last : Bool) (first : FirstOfType) → rest ≢ [] → c.0 ≡ kind → (IsTrue is_last ↔ (after ≡ [])) → Further found c.1 is_last first
     → FoundSoFar kind front rest found → FoundSoFar kind (front ++ c ∷ []) after (Some first)
 found_more kind front rest after c None is_last first some is last f h = record {

@@ -92,7 +92,7 @@ slash_first text rest e other = ap name_in_path e ∙ rw (false_from_ne_true (by
 
 -- ---- what reading the whole text returns
 
--- the result `r` is the result of `read`, or it is the fault `Memory` and `read` succeeds
+-- either `r` is the result of `read`, or `r` is the fault `Memory` and `read` succeeds
 abbrev IsFirst : {A : Type 0} → Result A NameFault → Result A NameFault → Type 0
 IsFirst {A} read r = MatchResult r (λ x. read ≡ Ok x) (IsFaultBeforeMemory read)
 

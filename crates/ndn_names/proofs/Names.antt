@@ -76,9 +76,8 @@ element_found n x c e =
     at_found (Err f) c e = absurd cc
     at_found (Ok d) c e = let p = component_found d c e in (ap read_element p.0, p.1)
 
--- Let a list of results be read as components that come after n others. Then the list has no fault,
--- all its elements are valid components, and there are at most 64 components together with the n
--- others.
+-- if `components_after n` reads a list of results as components, the list has no fault, all its
+-- elements are valid components, and n plus the number of elements is at most 64
 pub components_found : (n : ℕ) (es : List (Result Field TlvFault)) (cs : List Field) → n ≤ 64 → components_after n es ≡ Ok cs → (es ≡ map read_element cs) × (n + length cs ≤ 64) × AllByRecursion IsComponent cs
 components_found n [] cs le e = subst (λ (ds : List Field). ([] ≡ map read_element ds) × (n + length ds ≤ 64) × AllByRecursion IsComponent ds) (done_is [] cs e) (refl, omega arith, tt)
 components_found n (x ∷ es) cs le e =
@@ -134,13 +133,13 @@ components_of-found value cs fits e =
 
 -- ---- reading a name in a loop
 
--- n components of `value` have been read: `value` reads as some components, followed by the
--- components that `rest` reads as after n others
+-- reading `value` as a name returns some components followed by the components that
+-- `components_after n` returns for `rest`, or the fault in `rest`
 abbrev pub IsOn : ℕ → List ℕ → List ℕ → Type 0
 IsOn n rest value = (front : List Field) × (name_at value ≡ (components_after n (elements_of rest) >>= λ cs. Ok (front ++ cs)))
 
--- n components of `value` have been read: `value` reads as the components `front`, followed by the
--- components that `rest` reads as after n others
+-- reading `value` as a name returns the components `front` followed by the components that
+-- `components_after n` returns for `rest`, or the fault in `rest`
 abbrev pub Reads : ℕ → List ℕ → List ℕ → List Field → Type 0
 Reads n rest value front = name_at value ≡ (components_after n (elements_of rest) >>= λ cs. Ok (front ++ cs))
 
@@ -257,9 +256,9 @@ push_shown value after c h room is short e =
     let text : after ≡ octets_of (cs ++ c ∷ []) = e ∙ ap (λ (t : List ℕ). t ++ element c) h.0.1 ∙ ap (λ (t : List ℕ). octets_of cs ++ t) (sym (append-nil (element c))) ∙ sym (flat_map-append element cs (c ∷ [])) in
     is_shown after (cs ++ c ∷ []) ((AllByRecursion-push IsField cs c h.0.0 field, text), (omega (arith, length-append cs (c ∷ [])), AllByRecursion-push IsComponent cs c h.1.1 is))
 
--- Let the TLV-VALUE `rest` of a name be the component `c` followed by the octets `after`. Then
--- `after` is also the TLV-VALUE of a name, and `rest` has the component `c` followed by the
--- components of `after`.
+-- if the TLV-VALUE `rest` of a name is the component `c` followed by the octets `after`, then
+-- `after` is the TLV-VALUE of a name, and `rest` has the component `c` followed by the components
+-- of `after`
 pub front_shown : (rest after : List ℕ) (c : Field) → IsNameValue rest (components_of rest) → rest ≡ element c ++ after → elements_of rest ≡ read_element c ∷ elements_of after
     → (components_of rest ≡ c ∷ components_of after) × IsNameValue after (components_of after)
 unfolding components_of
@@ -305,8 +304,8 @@ is_empty-shown value b (c ∷ cs) h e =
       λ n. absurd cc,
     )
 
--- A name has three parts: the components before index i, the component at index i, and the
--- components after index i. The octets of the name are the octets of these parts in this order.
+-- the octets of a name are the octets of the components before index i, then those of the component
+-- at index i, and then those of the components after index i
 pub place_of : (cs : List Field) (i : ℕ) (c : Field) → slice_get cs i ≡ Some c → octets_of cs ≡ octets_of (take i cs) ++ (element c ++ octets_of (drop (suc i) cs))
 place_of [] i c e = absurd cc
 place_of (d ∷ cs) zero c e = let same : d ≡ c = cc in ap (λ (f : Field). element f ++ octets_of cs) same

@@ -118,9 +118,8 @@ piece_found piece c slash e =
           typed_found piece parts.0 parts.1 c lacking.1.1 cut.0 e
     ] (cut_found 61 piece) e
 
--- Let a piece consist of `type_name`, an equals sign and `text`, where `type_name` contains no
--- equals sign. Then `component_in` returns for this piece what `typed_in` returns for `type_name`
--- and `text`.
+-- if a piece is `type_name`, an equals sign and `text`, and `type_name` contains no equals sign,
+-- `component_in` returns for this piece what `typed_in` returns for `type_name` and `text`
 piece_cut : (piece type_name text : List ℕ) → piece ≡ type_name ++ 61 ∷ text → Lacks 61 type_name → component_in piece ≡ typed_in type_name text (kind_of type_name)
 unfolding component_in
 piece_cut piece type_name text is lacking = ap (component_by_cut piece) (ap (cut_at 61) is ∙ cut_again 61 type_name text lacking)

@@ -34,8 +34,8 @@ front_is octets front rest e =
     let place : length octets - length rest ≡ length front = omega arith in
     (omega arith, ap (λ (k : ℕ). take k octets) place ∙ ap (take (length front)) e ∙ take-append_seam front rest)
 
--- Let the components that an iterator has not returned yet be those from index i on. After one more
--- step, they are those from index i + 1 on.
+-- if an iterator still has to return the components from index i on, then after one more step it
+-- still has to return the components from index i + 1 on
 pub left_after : {X : Type 0} (view : X → Field) (r : Option X) (cs left after : List Field) (i : ℕ) → left ≡ drop i cs → i < length cs
     → MatchOption r ((left ≡ []) × (after ≡ [])) (λ x. left ≡ view x ∷ after) → after ≡ drop (i + 1) cs
 left_after view None cs left after i e lt h =

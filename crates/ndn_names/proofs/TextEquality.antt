@@ -18,16 +18,16 @@ use Rattle.ndn_names.proofs.NameReading.{named, HasNamed, named_full}
 
 -- ---- comparing the octets that two texts read as
 
--- Let `said` be the octet `first` followed by the octets `rest`. If `said` also begins with `octet`
--- followed by `octets`, then `first` equals `octet`, and `rest` begins with `octets`.
+-- if `first ∷ rest` begins with `octet ∷ octets`, then `first` equals `octet`, and `rest` begins
+-- with `octets`
 pub said_first : (said rest octets : List ℕ) (first octet : ℕ) → said ≡ first ∷ rest → take (suc (length octets)) said ≡ octet ∷ octets → (first ≡ octet) × (take (length octets) rest ≡ octets)
 said_first said rest octets first octet e h =
     let both : first ∷ take (length octets) rest ≡ octet ∷ octets = sym (ap (take (suc (length octets))) e) ∙ h in
     (cc, cc)
 
--- Let `text` read as `first` followed by what `rest` reads as. If `text` reads as octets that
--- begin with `octet` followed by `octets`, then `first` equals `octet`, and what `rest` reads as
--- begins with `octets`.
+-- if `text` reads as `first` followed by the octets that `rest` reads as, and `text` reads as
+-- octets that begin with `octet ∷ octets`, then `first` equals `octet`, and `rest` reads as octets
+-- that begin with `octets`
 pub read_first : (reading : List ℕ → Result (List ℕ) NameFault) (text rest octets : List ℕ) (first octet : ℕ) → reading text ≡ before first (reading rest) → (said : List ℕ) → reading text ≡ Ok said
     → take (suc (length octets)) said ≡ octet ∷ octets → (first ≡ octet) × ((others : List ℕ) × (reading rest ≡ Ok others) × (take (length octets) others ≡ octets))
 read_first reading text rest octets first octet e said read h =
@@ -35,8 +35,9 @@ read_first reading text rest octets first octet e said read h =
     let here = said_first said found.0 octets first octet found.2 h in
     (here.0, (found.0, found.1, here.1))
 
--- The octets that `a` encodes begin with `x_left`, and those that `b` encodes begin with `y_left`.
--- These two lists have `left` octets each, and are equal exactly if the values `x` and `y` are.
+-- The octets that `a` encodes begin with `x_left`, and the octets that `b` encodes begin with
+-- `y_left`. The lists `x_left` and `y_left` have `left` octets each, and are equal exactly if the
+-- values `x` and `y` are equal.
 pub record AreLeft (left : ℕ) (a b : ValueText) (x y : List ℕ) : Type 0 where
   pub x_left : List ℕ
   pub y_left : List ℕ
@@ -166,8 +167,8 @@ pieces_apart count cs a b a_rest b_rest a_piece b_piece a_after b_after ha hb sa
 some_long : (c : Field) (ds all : List Field) → done (c ∷ ds) ≡ Ok all → 0 < length all
 some_long c ds all e = let whole : length (c ∷ ds) ≡ length all = ap length (done_is (c ∷ ds) all e) in omega arith
 
--- Let two texts begin with the same components `cs`. If text remains after these components in the
--- second text only, the two texts do not read as the same name.
+-- if two texts begin with the same components `cs`, and only the second text continues after these
+-- components, the texts do not read as the same name
 pub longer : (count : ℕ) (cs : List Field) (a b a_rest b_rest : List ℕ) → HasNamed count cs a a_rest → HasNamed count cs b b_rest → a_rest ≡ [] → b_rest ≢ [] → (all : List Field)
     → components_in 0 (pieces_of a) ≡ Ok all → components_in 0 (pieces_of b) ≡ Ok all → ⊥
 longer count cs a b a_rest b_rest ha hb none some all ea eb = further (pieces_of b_rest) refl

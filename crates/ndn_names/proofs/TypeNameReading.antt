@@ -57,14 +57,12 @@ type_again kind some narrow =
 
 -- ---- type names for types
 
--- Let `x` have the property `P` if `b` is true, and let the value in `others` have this property.
--- If `cond b (Some x) others` is `Some y`, then `y` has this property.
 tested : {A : Type 0} (b : Bool) (x : A) (others : Option A) (y : A) (P : A → Type 0) → (b ≡ true → P x) → (others ≡ Some y → P y) → cond b (Some x) others ≡ Some y → P y
 tested true x others y P here after e = let same : x ≡ y = cc in subst P same (here refl)
 tested false x others y P here after e = after e
 
--- a property holds for every component type that has a type name if it holds for the seven types in
--- this lemma
+-- a property holds for every component type that has a type name if it holds for the types 1, 2,
+-- 50, 52, 54, 56 and 58 with their type names
 type_name_by_cases : (kind : ℕ) (type_name : List ℕ) (P : ℕ → List ℕ → Type 0)
     → P 1 (codes "sha256digest") → P 2 (codes "params-sha256") → P 50 (codes "seg") → P 52 (codes "off") → P 54 (codes "v") → P 56 (codes "t") → P 58 (codes "seq")
     → type_name_of kind ≡ Some type_name → P kind type_name

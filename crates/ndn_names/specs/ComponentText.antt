@@ -27,7 +27,8 @@ IsTextOf c text =
     (text.kind ≡ c.0) × (text.len ≡ length c.1) × (value_in text.len text.value ≡ Ok c.1)
 
 -- The octets that a text encodes one after the other, or the fault of a text that cannot be
--- decoded. A number does not encode single octets, and has the fault `BadUri`.
+-- decoded. The result for a number is the fault `BadUri`, since a number does not encode single
+-- octets.
 abbrev pub octets_said : ValueText → Result (List ℕ) NameFault
 octets_said (Plain octets) = Ok octets.now
 octets_said (Escaped text) = octets_in text.now

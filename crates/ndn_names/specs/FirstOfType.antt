@@ -8,8 +8,9 @@ use Rattle.ndn_names.specs.declared.first_of_type.FirstOfType.{FirstOfType}
 abbrev pub NoneOfType : ℕ → List Field → Type 0
 NoneOfType kind cs = AllByRecursion (λ c. c.0 ≢ kind) cs
 
--- `first` is the first component of type `kind` in `cs`. Its flags tell whether it is the only one
--- of this type in `cs`, and whether it is the last component of `cs`.
+-- `first` is the first component of type `kind` in `cs`. The flag `is_only` tells whether `cs` has
+-- no other component of type `kind`. The flag `is_last` tells whether `first` is the last component
+-- of `cs`.
 pub record IsFirstOfType (kind : ℕ) (cs : List Field) (first : FirstOfType) : Type 0 where
   pub front : List Field
   pub back : List Field
@@ -24,9 +25,9 @@ abbrev pub FindsFirst : ℕ → List Field → Option FirstOfType → Type 0
 FindsFirst kind cs None = NoneOfType kind cs
 FindsFirst kind cs (Some first) = IsFirstOfType kind cs first
 
--- `first` is the search result after one more component of the type is read. If a component was
--- found before, the result is that component, marked as not the only one. Without an earlier one,
--- the result is the new component, marked as the only one.
+-- The search result after one more component of the searched type is read. If a component was found
+-- before, the result is that component, marked as not the only one. If no component was found
+-- before, the result is the new component, marked as the only one.
 abbrev pub Further : Option FirstOfType → List ℕ → Bool → FirstOfType → Type 0
 Further None value is_last first =
     (first.value.now ≡ value) × (first.is_only ≡ true) × (first.is_last ≡ is_last)

@@ -22,7 +22,7 @@ component_cmp-total =
 pub name_cmp-total : IsTotalOrder name_cmp
 name_cmp-total = lists_total component_cmp-total
 
--- a coding of names, from which types that have a name as their model make their own coding
+-- the coding of names; the codings of types that contain names are made with it
 abbrev pub name_code : Coded (List Field)
 name_code = coded_list (coded× coded_ℕ (coded_list coded_ℕ))
 

@@ -7,7 +7,7 @@ use Rattle.ndn_tlv.specs.Element.{Field, IsField, element, IsElements}
 use Rattle.ndn_tlv.specs.Reading.{elements_of}
 use Rattle.ndn_names.specs.declared.component_type.TheConstants.{PARAMETERS_SHA256_DIGEST}
 
--- A valid component has a type from 1 to 65535. If its type is at most 2, it is a digest, and its
+-- A valid component has a type from 1 to 65535. A component of type 1 or 2 is a digest, and its
 -- value has 32 octets.
 abbrev pub IsComponent : Field → Type 0
 IsComponent c = (1 ≤ c.0) × (c.0 < 65536) × (c.0 ≤ PARAMETERS_SHA256_DIGEST → length c.1 ≡ 32)
@@ -36,8 +36,7 @@ components_of value = filter_map result_ok (elements_of value)
 abbrev pub IsNameOctets : List ℕ → Type 0
 IsNameOctets value = IsNameValue value (components_of value)
 
--- any two proofs of `IsField f` are equal; the next two lemmas say the same of `IsComponent` and of
--- `IsNameOctets`
+-- any two proofs of `IsField f` are equal
 IsField-prop : (f : Field) → IsProp (IsField f)
 IsField-prop f p q = λ i. (le_prop p.0 q.0 i, le_prop p.1 q.1 i, le_prop p.2 q.2 i)
 

@@ -15,8 +15,8 @@ DiffersBelow {X} Below a b =
 abbrev pub IsProperPrefix : {X : Type 0} → List X → List X → Type 0
 IsProperPrefix {X} a b = (y : X) × (after : List X) × (b ≡ a ++ y ∷ after)
 
--- after a common prefix of `a` and `b`, the next octet of `a` is less than that of `b`; for values
--- of equal length this is their order
+-- after a common prefix of `a` and `b`, the next octet of `a` is less than that of `b`; the octets
+-- of values of equal length are ordered in this way
 abbrev pub OctetsLess : List ℕ → List ℕ → Type 0
 OctetsLess a b = DiffersBelow ◌<◌ a b
 
@@ -31,7 +31,7 @@ ComponentLess x y =
 abbrev pub Less : List Field → List Field → Type 0
 Less a b = IsProperPrefix a b ⊎ DiffersBelow ComponentLess a b
 
--- the next two definitions are the orders of components and of names as comparison functions
+-- the order of components as a comparison function
 abbrev pub component_cmp : Field → Field → Ordering
 component_cmp =
     then_cmp (on (λ c. c.0) nat_cmp)

@@ -7,8 +7,9 @@ use Rattle.ndn_names.specs.declared.component_type.TheConstants.{PARAMETERS_SHA2
 use Rattle.ndn_names.specs.declared.fault.NameFault.{NameFault}
 use Rattle.ndn_names.specs.declared.fault.NameFault.TheVariants.{BadComponent, BadDigestLength, TooManyComponents, Memory}
 
--- The field `c` if it is a valid component. The fault is `BadComponent` if its type is not from 1
--- to 65535, and `BadDigestLength` if a digest does not have 32 octets.
+-- The element `c` if it is a valid component, otherwise a fault. The fault is `BadComponent` if the
+-- type of `c` is not from 1 to 65535, and `BadDigestLength` if `c` is a digest whose value does not
+-- have 32 octets.
 abbrev pub component_of : Field → Result Field NameFault
 component_of c =
     if (c.0 == 0) || nat_lt 65535 c.0 then Err BadComponent else (
@@ -21,7 +22,7 @@ abbrev pub component_at : Result Field TlvFault → Result Field NameFault
 component_at (Err fault) = Err BadComponent
 component_at (Ok c) = component_of c
 
--- the octets begin with the component `c`, and `rest` follows it
+-- the octets begin with the component `c`, and the elements after it are those of `rest`
 abbrev pub IsFirst : List ℕ → Field → List ℕ → Type 0
 IsFirst octets c rest =
     (elements_of octets ≡ Ok c ∷ elements_of rest) × (component_of c ≡ Ok c)

@@ -35,8 +35,8 @@ StandsFor text [] = text ≡ []
 StandsFor text (o ∷ octets) =
     (front rest : List ℕ) × (text ≡ front ++ rest) × IsOctetText front o × StandsFor rest octets
 
--- the text encodes the value; if the value is empty or consists of periods only, the text encodes
--- the value followed by three periods
+-- the text encodes the value, or, if the value is empty or consists of periods only, the value
+-- followed by three periods
 abbrev pub IsValueText : List ℕ → List ℕ → Type 0
 IsValueText text value = StandsFor text (padded value)
 
@@ -45,8 +45,8 @@ IsValueText text value = StandsFor text (padded value)
 abbrev pub IsGeneric : List ℕ → Field → Type 0
 IsGeneric piece c = AllByRecursion (λ o. o ≢ 61) piece × (c.0 ≡ GENERIC) × IsValueText piece c.1
 
--- the piece is the type number of `c` without leading zeros, from 1 to 65535, an equals sign, and
--- the text of the value of `c`
+-- the piece is the type number of `c`, an equals sign, and the text of the value of `c`; the type
+-- number is from 1 to 65535 and has no leading zeros
 abbrev pub IsTyped : List ℕ → Field → Type 0
 IsTyped piece c =
     (text : List ℕ) × (piece ≡ decimal c.0 ++ 61 ∷ text) × (1 ≤ c.0) × (c.0 < 65536)
@@ -81,8 +81,8 @@ ReadsEach (piece ∷ pieces) (c ∷ cs) = ReadsComponent piece c × ReadsEach pi
 
 -- The text is a path with a slash before the piece of each component, or a single slash if there is
 -- no component. The components form a valid name. The scheme `ndn:` may come before the path, and
--- one slash after it. A piece that reads as a component is never empty and never contains a slash,
--- so the text can be split in only one way.
+-- one more slash may come after the path. A piece that reads as a component is never empty and
+-- never contains a slash, so the text can be split in only one way.
 abbrev pub ReadsAs : List ℕ → List Field → Type 0
 ReadsAs text cs =
     (start end : List ℕ) × (pieces : List (List ℕ)) × (text ≡ start ++ (path_of pieces ++ end))

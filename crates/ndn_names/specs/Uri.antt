@@ -41,8 +41,8 @@ abbrev pub number_text : List ℕ → Field → Option ℕ → List ℕ
 number_text type_name c (Some n) = type_name ++ (codes "=" ++ decimal n)
 number_text type_name c None = plain_text c
 
--- The text of a component, given the type name of its type. Without a type name it is `plain_text`.
--- The value of a digest, which has type 1 or 2, is written in hexadecimal digits.
+-- The text of a component, given the type name of its type. The text is `plain_text` if the type
+-- has no type name. The value of a digest, which has type 1 or 2, is written in hexadecimal digits.
 abbrev pub text_by_type_name : Field → Option (List ℕ) → List ℕ
 text_by_type_name c None = plain_text c
 text_by_type_name c (Some type_name) =

@@ -36,8 +36,8 @@ hex_in (high ∷ low ∷ text) = do
   o ← pair_in high low
   before o (hex_in text)
 
--- the octets that a text with percent escapes encodes, or the fault `BadUri` if two hexadecimal
--- digits do not follow a percent sign
+-- the octets that a text with percent escapes encodes, or the fault `BadUri` if a percent sign is
+-- not followed by two hexadecimal digits
 abbrev pub octets_in : List ℕ → Result (List ℕ) NameFault
 octets_in [] = Ok []
 octets_in (a ∷ []) = if a == 37 then Err BadUri else Ok (a ∷ [])
@@ -48,15 +48,16 @@ octets_in (a ∷ b ∷ c ∷ text) =
       before o (octets_in text))
     else before a (octets_in (b ∷ c ∷ text))
 
--- the value whose text encodes these octets: if all octets are periods, three of them are removed,
--- and fewer than three have the fault `BadUri`
+-- The value whose text encodes these octets. If all octets are periods, the value is the octets
+-- without three periods, or the fault `BadUri` if there are fewer than three octets. If not all
+-- octets are periods, the value is the octets themselves.
 abbrev pub unpadded : List ℕ → Result (List ℕ) NameFault
 unpadded octets =
     if not (is_periods octets) then Ok octets else (
     if nat_lt (length octets) 3 then Err BadUri else Ok (take (length octets - 3) octets))
 
--- the component of type `kind` with the value that the text encodes, or a fault if the text is not
--- valid or the component is not
+-- the component of type `kind` with the value that the text encodes, or a fault if the text or the
+-- component is not valid
 abbrev pub plain_in : ℕ → List ℕ → Result Field NameFault
 plain_in kind text = do
   octets ← octets_in text
@@ -88,8 +89,9 @@ numbered_in kind text = do
   n ← number_in text
   Ok (kind, shortest_nni n)
 
--- the component whose text is `type_name`, an equals sign and `text`, or a fault; the last argument
--- is the component type that has this type name, if there is one
+-- The component whose text is `type_name`, an equals sign and `text`, or a fault. `Some kind` means
+-- that `type_name` is the name of the component type `kind`. `None` means that no type has this
+-- name.
 abbrev pub typed_in : List ℕ → List ℕ → Option ℕ → Result Field NameFault
 typed_in type_name text (Some kind) =
     if nat_le kind PARAMETERS_SHA256_DIGEST then digest_in kind text else numbered_in kind text

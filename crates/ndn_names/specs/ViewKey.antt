@@ -1,5 +1,5 @@
--- Borrowed names and components as keys of maps. Their comparison and hash only depend on the types
--- and values of the components.
+-- Borrowed names and components as keys of maps. The comparison and the hash of names and
+-- components depend only on the types and values of the components.
 use Rattle.std.specs.Prelude.{◌≡◌, true, ◌++◌}
 use mathlib.Core.Path.{ap}
 use Rattle.std.specs.declared.cmp.Ordering.{Ordering}

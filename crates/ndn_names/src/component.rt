@@ -20,8 +20,8 @@ pub struct Component<'a> {
     pub value: &'a [u8],
 }
 
-/// Returns `kind` as a `u16`, if a component may have this type and value. Returns the faults of
-/// `kind_by_len`.
+/// Returns `kind` as a `u16`, if a component may have this type and value. Returns the same faults
+/// as `kind_by_len`.
 #[inline(always)]
 pub(crate) fn component_kind(kind: u32, value: &[u8]) -> Result<u16, NameFault>
     ensures { on_result (λ k. Ok (k, value.now)) Err result ≡ component_of (kind, value.now) }

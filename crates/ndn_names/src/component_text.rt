@@ -22,7 +22,7 @@ pub enum ValueText<'a> {
     Escaped(&'a [u8]),
     /// Two hexadecimal digits for each octet of the value.
     Hexadecimal(&'a [u8]),
-    /// A number. The octets of the value are its shortest NonNegativeInteger encoding.
+    /// A number whose shortest NonNegativeInteger encoding is the value.
     Number(u64),
 }
 
@@ -84,8 +84,8 @@ fn count_octets(text: &[u8]) -> Result<(usize, bool), NameFault>
 }
 
 /// Returns the number of octets in a value whose text encodes `count` octets. Three octets are
-/// subtracted if all of the encoded octets are periods. If these are fewer than three, the result
-/// is `BadUri`.
+/// subtracted if all encoded octets are periods. Returns `BadUri` if the text encodes fewer than
+/// three octets and all of them are periods.
 fn unpadded_len(count: usize, has_periods_only: bool) -> Result<usize, NameFault>
     ensures shorter { IfOk result (λ len. len ≤ count) }
     ensures read { (octets : List ℕ) → count ≡ length octets

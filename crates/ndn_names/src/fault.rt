@@ -7,9 +7,9 @@ use thiserror::Error;
 
 /// Why octets or a text are not a name, or why a component cannot be appended to a name (NDN Packet
 /// Format 0.3, "Name"). Components are read from left to right. The fault of the 65th component is
-/// always `TooManyComponents`. For any other faulty component of a TLV-VALUE, the first fault that
-/// applies is reported, in the order of this enum. `NameBuf::from_uri` documents the faults of a
-/// text.
+/// always `TooManyComponents`. If several faults apply to one of the first 64 components of a
+/// TLV-VALUE, the first of these faults in the order of this enum is reported. `NameBuf::from_uri`
+/// documents the faults of a text.
 #[derive(Clone, Copy, Debug, PartialEq, Eq, Error)]
 pub enum NameFault {
     /// The type of a component is 0 or above 65535, or an element cannot be read.

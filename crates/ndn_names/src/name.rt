@@ -183,8 +183,8 @@ impl<'a> IntoIterator for &Name<'a> {
     }
 }
 
-/// Law: octets are the TLV-VALUE of at most one name. If there is such a name, `name_at` and
-/// `components_of` return it.
+/// Law: octets are the TLV-VALUE of at most one name. For the TLV-VALUE of a name, `name_at` and
+/// `components_of` return this name.
 pub fn names_have_one_reading()
     ensures one { (value : List ℕ) (a b : List Field) → IsNameValue value a → IsNameValue value b
         → a ≡ b }

@@ -54,7 +54,7 @@ fn spelled_out<'a>(component: ComponentText<'a>, number: &'a [u8; 8]) -> ValueTe
 }
 
 /// Returns the first octet of a value, and the text of the octets after it. Returns `None` if the
-/// text does not begin with an octet or its encoding. In particular, this is so for a number.
+/// text is empty, is a number, or begins with an invalid encoding of an octet.
 fn first_said(value: ValueText<'_>) -> Option<(u8, ValueText<'_>)>
     ensures { (octet : ℕ) (octets : List ℕ) → SaysFirst value.entry (octet ∷ octets)
         → MatchOption result ⊥ (λ x. (x.0 ≡ octet) × SaysFirst x.1 octets) }

@@ -13,12 +13,13 @@ use crate::name_buf::NameBuf;
 use ndn_tlv::put_number;
 use std::alloc::Global;
 
-/// Spare capacity for a name, in octets. In addition to its value, a component usually takes two
-/// octets, for type and length, but its text takes only one, the slash.
+/// Spare capacity for a name, in octets. A component in a TLV-VALUE usually has two octets in
+/// addition to its value, for type and length. A component in URI text has only one additional
+/// octet, the slash.
 const SPARE: usize = 16;
 
-/// Reads the URI text of one component, for example `A` or `seg=5`. Returns its type and its
-/// octets.
+/// Reads the URI text of one component, for example `A` or `seg=5`. Returns the type and the value
+/// of the component.
 ///
 /// Returns the same faults as `NameBuf::from_uri` for the component: `BadDigestLength` for `1=` or
 /// `2=` with other than 32 octets, and `BadUri` for everything else, including a slash. Returns
@@ -127,8 +128,8 @@ fn put_component(out: &mut Vec<u8>, piece: &str) -> Result<(), NameFault>
     put_value(out, component)
 }
 
-/// Returns the text after the optional scheme and the slash that follows it. Returns an empty text
-/// if only one more slash follows, and `BadUri` if the first slash is missing.
+/// Returns the path without its first slash, where the path is the text after the optional scheme.
+/// Returns an empty text if the path is `//`, and `BadUri` if the path does not begin with a slash.
 pub(crate) fn pieces_text(text: &str) -> Result<&str, NameFault>
     ensures { MatchResult result
         (λ rest. read.name_in text.now ≡ read.components_in 0 (read.pieces_of rest.now))
@@ -153,8 +154,9 @@ fn put_name(alloc: Global, text: &str) -> Result<NameBuf, NameFault>
     Ok(NameBuf::from_octets(octets))
 }
 
-/// Reads a name as `put_name` does. If memory runs out, the text is read once more without
-/// allocation, so that a fault of the text is reported instead of `Memory`.
+/// Returns the name that the text reads as, or the first fault of the text. If memory runs out, the
+/// text is read once more without allocation, so that a fault of the text is reported instead of
+/// `Memory`.
 fn read_name(alloc: Global, text: &str) -> Result<NameBuf, NameFault>
     ensures { MatchResult result (λ name. read.name_in text.now ≡ Ok name)
         (read.IsFaultBeforeMemory (read.name_in text.now)) }
@@ -210,8 +212,8 @@ impl NameBuf {
     }
 }
 
-/// Law: a text reads as at most one name. If there is such a name, `name_in` returns it. A text
-/// also reads as at most one component. If there is such a component, `piece_in` returns it.
+/// Law: a text reads as at most one name, and `name_in` returns this name. A text reads as at most
+/// one component, and `piece_in` returns this component.
 pub fn texts_have_one_reading()
     ensures component { (text : List ℕ) (c : Field) → (read.piece_in text ≡ Ok c)
         ↔ (ReadsComponent text c × IsComponent c) }

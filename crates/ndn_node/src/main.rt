@@ -70,8 +70,8 @@ fn udp<R: AllocGlobal + Clock + Eprint + Files<File = File> + Net + Print>(
     run_on_port(rt, parts, MachineClock::new(rt), files, options)
 }
 
-/// Reads the rule file and the key file that the options name. Returns the parts of a node with the
-/// rules and keys of these files, and the files.
+/// Reads the rule file and the key file that the options name. Returns the parts of a node that has
+/// the rules and keys of these files. Also returns the files.
 fn parts_of<R: AllocGlobal + Files>(
     rt: &R,
     options: Options,

@@ -1,4 +1,4 @@
--- Which names a Data answers.
+-- Which Interests a Data answers.
 use Rattle.std.proofs.Common.{◌≡◌, ℕ, ◌+◌, List, [], ◌∷◌, ◌++◌, length, Some, refl, sym, ap, subst, ◌∙◌, ◌⊎◌, inl, inr, arith, append_assoc}
 use Rattle.std.specs.Prelude.{◌↔◌, slice_get, Bool, ◌&&◌, ◌||◌, IsTrue}
 use Rattle.std.specs.Bool.{Decides}
@@ -45,8 +45,7 @@ full_name_is name asked digest value kind len p longer place last =
     first_is : (x y : Field) → x ∷ [] ≡ y ∷ [] → x ≡ y
     first_is x y e = cc
 
--- Let `x` be appended to the name `name`. Then each prefix of the longer name is this whole longer
--- name or a prefix of `name`.
+-- each prefix of `name ++ x ∷ []` is this whole name or a prefix of `name`
 prefix_of_full : (asked name : List Field) (x : Field) → IsPrefix asked (name ++ x ∷ []) → IsPrefix asked name ⊎ (asked ≡ name ++ x ∷ [])
 prefix_of_full [] name x p = inl (name, refl)
 prefix_of_full (c ∷ asked) [] x p = inr (alone p.0 p.1)
@@ -95,8 +94,8 @@ answers_by_digest name asked digest value flag r is same = (
     value_is : asked ≡ full_name name digest → value ≡ digest
     value_is e = ap (λ (f : Field). f.1) (first_is (1, value) (1, digest) (append_cancel_left name ((1, value) ∷ []) ((1, digest) ∷ []) (sym is ∙ e)))
 
--- If the Interest's name is not the Data's name followed by an implicit digest, then a Data that
--- answers it (`Answers`) answers it by its name (`AnswersByName`).
+-- if the Interest's name is not the Data's name followed by an implicit digest, `Answers` implies
+-- `AnswersByName`
 by_name : (name asked : List Field) (digest : List ℕ) (flag : Bool) → ((d : List ℕ) → asked ≡ full_name name d → ⊥) → Answers name digest asked flag → AnswersByName name asked flag
 by_name name asked digest flag other (inl e) = inl e
 by_name name asked digest flag other (inr (inl e)) = absurd (other digest e)
@@ -114,7 +113,7 @@ with_digest name asked digest flag (inr (f, q)) = inr (inr (f, inl q))
 pub answers_by_name : (name asked : List Field) (digest : List ℕ) (flag r : Bool) → ((d : List ℕ) → asked ≡ full_name name d → ⊥) → IsTrue r ↔ AnswersByName name asked flag → IsTrue r ↔ Answers name digest asked flag
 answers_by_name name asked digest flag r other = Decides-like r (with_digest name asked digest flag) (by_name name asked digest flag other)
 
--- ---- `Answers` decided by the test `answers`
+-- ---- the test `answers` decides `Answers`
 
 name_is : (a b : List Field) → Decides (eq_by_cmp name_cmp a b) (a ≡ b)
 name_is a b =
@@ -166,7 +165,7 @@ answers_is name asked digest flag =
     (Decides-or (eq_by_cmp name_cmp asked (full_name name digest)) (flag && begins_with asked (full_name name digest)) (name_is asked (full_name name digest))
     (Decides-and flag (begins_with asked (full_name name digest)) (λ e. e, λ e. e) (prefix_is asked (full_name name digest)))))
 
--- if a boolean is true exactly if `Answers` holds, it equals the result of the test `answers`
+-- if `r` is true exactly when `Answers` holds, then `r` equals the result of the test `answers`
 pub is_answers : (name asked : List Field) (digest : List ℕ) (flag r : Bool) → IsTrue r ↔ Answers name digest asked flag → r ≡ answers name digest asked flag
 is_answers name asked digest flag r is = same_from_decides r (answers name digest asked flag) is (answers_is name asked digest flag)
 

@@ -24,7 +24,7 @@ use Rattle.ndn_tlv.proofs.Numbers.{IsBytes, IsBytes-back}
 use Rattle.ndn_packets.proofs.Cuts.{cut_found, cut_within, cut_read, cut_is, never_cut, never_in, all_front, cut_among}
 use Rattle.ndn_packets.proofs.Places.{Others, Met, meet_parameters, meet_info, meet_signature, meet_value, Has, has_following, has_back, others_lack, earlier_others, front_fields, back_fields, fields_are, earlier_front, other_optional, hop_apart, all_both}
 
--- ---- the octets from a field on that a reader finds, and the covered octets
+-- ---- the octets that `from_first` finds, and the covered octets
 
 outer_one : (text : List ℕ) (kind : ℕ) (value other : List ℕ) → IsElement text kind value → IsElement text kind other → value ≡ other
 outer_one text kind value other a b = ap (λ (f : Field). f.1) (ok_is (kind, value) (kind, other) (sym (only_again text value kind a) ∙ only_again text other kind b))
@@ -46,8 +46,8 @@ signature_read name text value first second from from_info outer there info h =
     let same : from_info ≡ h.from_info = some_is from_info h.from_info (sym info ∙ info_read name text value first second from outer there h) in
     ap (from_first 46) same ∙ cut_read 46 h.from_info h.to_signature h.from_signature h.signature
 
--- Let the octets `from` consist of `to_info`, `to_signature` and `from_signature`, in this order.
--- Then `from` without its last `length from_signature` octets is `to_info ++ to_signature`.
+-- if `from` is `to_info ++ to_signature ++ from_signature`, then `from` without its last `length
+-- from_signature` octets is `to_info ++ to_signature`
 pub between : (from to_info from_info to_signature from_signature : List ℕ) → from ≡ to_info ++ from_info → from_info ≡ to_signature ++ from_signature
     → take (length from - length from_signature) from ≡ to_info ++ to_signature
 between from to_info from_info to_signature from_signature info signature =
@@ -78,8 +78,7 @@ data_covered text d h =
           absurd (others_lack 23 _ (earlier_others [] [] 23 _ m.1) signed)
     ]
 
--- Let `from` be the octets of a Data's TLV-VALUE from its SignatureValue on. Then the octets of the
--- TLV-VALUE before `from` are those that the Data's signature covers.
+-- the signature of a Data covers the octets of the Data's TLV-VALUE before the first SignatureValue
 pub data_covers : (text value covered from : List ℕ) (d : PlainData) → IsData text d → IsElement text 6 value → from_first 23 value ≡ Some from → covered ≡ take (length value - length from) value → CoversData text covered
 data_covers text value covered from d h outer mark is =
     let there = data_covered text d h in
@@ -89,11 +88,12 @@ data_covers text value covered from d h outer mark is =
     let front : take (length value - length from) value ≡ there.0 = ap (take (length value - length from)) all ∙ take_at there.0 from (length value - length from) len in
     subst (CoversData text) (sym (is ∙ front)) there.1
 
--- ---- the cuts in an Interest before the fields of its signature
+-- ---- the positions of the parameters and of the signature in the TLV-VALUE of an Interest
 
--- The positions of a signature in the TLV-VALUE of an Interest. `from_parameters` begins at the
--- first ApplicationParameters, `from_info` at the first InterestSignatureInfo after them, and
--- `from_signature` at the first InterestSignatureValue after that InterestSignatureInfo.
+-- `value` is the TLV-VALUE of an Interest. Its suffix `from_parameters` begins at the first
+-- ApplicationParameters. Its suffix `from_info` begins at the first InterestSignatureInfo after the
+-- ApplicationParameters. Its suffix `from_signature` begins at the first InterestSignatureValue
+-- after this InterestSignatureInfo.
 record IsCutAt (value from_parameters from_info from_signature : List ℕ) : Type 0 where
   early : List ℕ
   to_info : List ℕ
@@ -108,16 +108,13 @@ Cuts value = (from_parameters from_info from_signature : List ℕ) × IsCutAt va
 abbrev HasBoth : List Field → Type 0
 HasBoth fields = Has 44 fields × Has 46 fields
 
--- either the octets `value` can be cut for a signature, and `fields` has both an
--- InterestSignatureInfo and an InterestSignatureValue, or neither of these two statements holds
+-- either both `Cuts value` and `HasBoth fields` hold, or neither of them holds
 abbrev Decided : List ℕ → List Field → Type 0
 Decided value fields = (Cuts value × HasBoth fields) ⊎ ((Cuts value → ⊥) × (HasBoth fields → ⊥))
 
 has_met : (ignores : ℕ → Bool) (kind : ℕ) (later : List ℕ) (elements fields : List Field) (m : Met ignores kind later elements fields) → Has kind fields
 has_met ignores kind later elements fields m = subst (Has kind) (sym m.fields_are) (has_following kind m.early ((kind, m.value) ∷ m.late) (inl refl))
 
--- if a field of type `k` comes after the field of type `kind` in `fields`, then `fields` has a
--- field of type `k`
 later_met : (ignores : ℕ → Bool) (kind k : ℕ) (later : List ℕ) (elements fields : List Field) (m : Met ignores kind later elements fields) → Has k m.late → Has k fields
 later_met ignores kind k later elements fields m h = subst (Has k) (sym m.fields_are) (has_following k m.early ((kind, m.value) ∷ m.late) (inr h))
 
@@ -218,8 +215,8 @@ has_signed parameters (Some v) None signature h some = let none : IsSome {T = Pl
 has_signed parameters (Some v) (Some w) signature h some = (has_following 44 (optional 36 parameters) _ (inl refl), has_following 46 (optional 36 parameters) _ (inr (inl refl)))
 
 -- In this module, `all_fields` are the fields of an Interest, and `back` are its fields after the
--- HopLimit. If the InterestSignatureInfo and the InterestSignatureValue are among all fields, they
--- are in `back`.
+-- HopLimit. If `all_fields` has an InterestSignatureInfo and an InterestSignatureValue, both are in
+-- `back`.
 module _ (prefix fresh : Bool) (hint : Option (List ℕ)) (nonce : List ℕ) (lifetime hop : Option (List ℕ)) (back : List Field) where
   abbrev all_fields : List Field
   all_fields = flag 33 prefix ++ (flag 18 fresh ++ (optional 30 hint ++ ((10, nonce) ∷ (optional 12 lifetime ++ (optional 34 hop ++ back)))))
@@ -318,8 +315,8 @@ record Begins (kind : ℕ) (from : List ℕ) (fields : List Field) : Type 0 wher
   fields_are : fields ≡ early ++ (kind, value) ∷ late
   others : Others kind early
 
--- if elements are cut before the first element of type `kind`, the octets from the cut on are the
--- elements from the field of this type on
+-- if `octets` are cut before the first element of type `kind`, the octets after the cut are this
+-- element and all elements after it
 begins : (ignores : ℕ → Bool) (kind : ℕ) (later : List ℕ) (octets before from : List ℕ) (first : Field) (elements fields : List Field) (m : Met ignores kind later elements fields) → first.0 ≢ kind
     → octets ≡ flat_map element (first ∷ elements) → AllByRecursion IsField (first ∷ elements) → IsCut kind octets before from → from ≡ flat_map element ((kind, m.value) ∷ m.back)
 begins ignores kind later octets before from first elements fields m other is sizes cut =
@@ -328,8 +325,8 @@ begins ignores kind later octets before from first elements fields m other is si
     (cut_among kind m.value (first ∷ elements) (first ∷ m.front) m.back sizes (ap (λ (es : List Field). first ∷ es) m.elements_are) (other, m.none)) in
     sym (cut_is kind octets (flat_map element ((kind, m.value) ∷ m.back)) before from (cut_read kind octets _ _ own) cut)
 
--- if fields of other types are put before `late`, `from` still begins with the element of the first
--- field of type `kind`
+-- if `Begins` holds for `late`, it also holds for `fields`, because no field before `late` has type
+-- `kind`
 begins_following : (kind k : ℕ) (from : List ℕ) (v : List ℕ) (early late fields : List Field) → fields ≡ early ++ (k, v) ∷ late → Others kind early → k ≢ kind → Begins kind from late → Begins kind from fields
 begins_following kind k from v early late fields is others other b = record {
   value = b.value;
@@ -503,7 +500,8 @@ interest_ends text i s first second h signed c =
 
 -- ---- the digest at the end of an Interest's name, and the two parts that a signature covers
 
--- if a name ends in a digest of parameters, no component follows its last digest of parameters
+-- if a name ends in a digest of parameters, and none of its components in `back` is a digest of
+-- parameters, `back` is empty
 last_one : (front back components : List Field) (v d : List ℕ) → NoneOfType 2 back → front ++ (2, v) ∷ back ≡ components ++ (2, d) ∷ [] → back ≡ []
 last_one [] back [] v d none e = cc
 last_one [] back (c ∷ components) v d none e =
@@ -551,7 +549,7 @@ second_noted text value i digest p v h outer found at =
               not_both d.is_last others last
         ] refl
 
--- either the last component of a name is a digest of parameters, or it is not
+-- it is decidable whether the last component of a name is a digest of parameters
 ends_in_digest : (name : List Field) → EndsInDigest name ⊎ (EndsInDigest name → ⊥)
 ends_in_digest [] = inr (λ e. never_empty e.0 (2, e.1) (sym e.2))
 ends_in_digest (c ∷ []) =
@@ -569,7 +567,7 @@ ends_in_digest (c ∷ d ∷ name) =
     following [] digest n e = cc
     following (f ∷ front) digest n e = let rest : d ∷ name ≡ front ++ (2, digest) ∷ [] = cc in n (front, digest, rest)
 
--- the signature of an Interest either covers two parts, or covers no parts at all
+-- it is decidable whether the signature of an Interest covers two parts
 pub covers_any : (text : List ℕ) (i : PlainInterest) → IsInterest text i → ((first second : List ℕ) × CoversInterest i.name text first second) ⊎ ((first second : List ℕ) → CoversInterest i.name text first second → ⊥)
 covers_any text i h =
     elim (ends_in_digest i.name) [
@@ -595,9 +593,8 @@ first_is_front octets text first second name h c =
     let front : length first ≡ length octets - 34 = omega arith in
     (omega arith, sym (ap (take (length octets - 34)) all ∙ take_at first (element (2, c.digest)) (length octets - 34) front))
 
--- Let `p` be the octets from the ApplicationParameters on, and `v` those from the
--- InterestSignatureValue on, both found in the octets after the Name. Then `p` and `v` are also
--- found in the whole TLV-VALUE of the Interest.
+-- if `IsSignedAt` holds for the octets `rest` after the Name of an Interest, it also holds for the
+-- whole TLV-VALUE `value`
 pub noted_after : (value rest p v : List ℕ) → ((kind : ℕ) → kind ≢ 7 → from_first kind value ≡ from_first kind rest) → IsSignedAt rest p v → IsSignedAt value p v
 noted_after value rest p v place at = (at.0, place 36 (eqb-false 36 7 refl) ∙ at.1, at.2, at.3)
 
@@ -613,8 +610,7 @@ second_within octets p v fits at =
 
 -- ---- a packet determines its covered octets
 
--- if octets are cut twice before the first element of type `kind`, both cuts are at the same
--- position
+-- octets have at most one cut before the first element of type `kind`
 one_cut : (kind : ℕ) (octets other before from front back : List ℕ) → octets ≡ other → IsCut kind octets before from → IsCut kind other front back → (before ≡ front) × (from ≡ back)
 one_cut kind octets other before from front back same cut again =
     let following : from ≡ back = cut_is kind other from front back (ap (from_first kind) (sym same) ∙ cut_read kind octets before from cut) again in

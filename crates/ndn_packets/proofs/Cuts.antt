@@ -1,5 +1,4 @@
--- Cuts of octets before the first element of a type: there is at most one, and `from_first` finds
--- it.
+-- Octets have at most one cut before the first element of a type, and `from_first` finds this cut.
 use Rattle.std.proofs.Common.{◌≡◌, ◌≢◌, ℕ, zero, suc, ◌<◌, ◌≤◌, true, false, cond, eqb, List, [], ◌∷◌, ◌++◌, length, Option, None, Some, Result, Ok, Err, refl, sym, ap, subst, ◌∙◌, append_assoc, arith, eq-eqb}
 use Rattle.std.specs.List.{flat_map, AllByRecursion}
 use Rattle.std.proofs.lemmas.List.{length-append}
@@ -73,7 +72,7 @@ pub cut_read : (kind : ℕ) (octets before from : List ℕ) → IsCut kind octet
 cut_read kind octets before from h =
     ap (from_first kind) (h.octets_are ∙ (λ k. h.before_is k ++ h.from_is k)) ∙ cut_there kind h.others h.value h.after h.sizes.0 h.sizes.1 h.first_one ∙ ap (λ (t : List ℕ). Some t) (sym h.from_is)
 
--- if `from_first` finds a cut, this is the only cut before the first element of the type
+-- the cut that `from_first` finds is the only cut before the first element of type `kind`
 pub cut_is : (kind : ℕ) (octets from before other : List ℕ) → from_first kind octets ≡ Some from → IsCut kind octets before other → from ≡ other
 cut_is kind octets from before other read h = some_is from other (sym read ∙ cut_read kind octets before other h)
 
@@ -137,8 +136,8 @@ pub all_front : {A : Type 0} (P : A → Type 0) (front back : List A) → AllByR
 all_front P [] back h = (tt, h)
 all_front P (x ∷ front) back h = let r = all_front P front back h.1 in ((h.0, r.0), r.1)
 
--- if no field in `front` has type `kind`, and the next field has type `kind`, the cut is directly
--- after `front`
+-- if no field in `front` has type `kind`, the cut of `front ++ (kind, value) ∷ back` before the
+-- first field of type `kind` is directly after `front`
 pub cut_among : (kind : ℕ) (value : List ℕ) (fields front back : List Field) → AllByRecursion IsField fields → fields ≡ front ++ (kind, value) ∷ back → AllByRecursion (λ e. e.0 ≢ kind) front
     → IsCut kind (flat_map element fields) (flat_map element front) (flat_map element ((kind, value) ∷ back))
 cut_among kind value fields front back all is others =

@@ -1,4 +1,4 @@
--- A Data that is read is in the grammar, and a Data in the grammar is read.
+-- The reader accepts exactly the Data of the grammar.
 use Rattle.std.proofs.Common.{◌≡◌, ℕ, List, [], ◌∷◌, ◌++◌, map, Option, Some, None, Result, Ok, refl, sym, ap, subst, ◌∙◌}
 use Rattle.ndn_tlv.specs.declared.fault.TlvFault.{TlvFault}
 use Rattle.ndn_tlv.specs.Element.{Field}
@@ -168,7 +168,7 @@ data_found text value d one e =
     (λ t. found_or BadField t.info >>= λ info. found_or BadField t.value >>= λ signature. good (data_of a.0.0 t.freshness t.content info signature)) d a.2 in
     after_fields text value a.0 b.0 d one a.1 b.1 b.2
 
--- ---- a Data in the grammar is read
+-- ---- the reader accepts each Data of the grammar
 
 data_computes : (value name_value : List ℕ) (elements : List Field) (meta content : Option (List ℕ)) (info_value : List ℕ) (name : List Field) (freshness : ℕ) (info : PlainSignatureInfo) (signature : List ℕ)
     → elements_of value ≡ map read ((7, name_value) ∷ elements) → name_at name_value ≡ Ok name → fields_from is_even_high data_schema (map read elements) ≡ map good (fields_with meta content info_value signature)

@@ -40,8 +40,8 @@ meta_present (f ∷ fields) some = append-nil (element (20, octets (f ∷ fields
 pub last_is_long : (r n : ℕ) → IsLength r (element (26, element (50, shortest_nni n))) → r ≡ length (octets (optional 26 (Some (element (50, shortest_nni n)))))
 last_is_long r n is = omega (arith, is, last_is_short n, length-append (element (26, element (50, shortest_nni n))) [])
 
--- Let the TLV-VALUE of a MetaInfo have length `len`, and let it not be empty. Then appending the
--- parts of the MetaInfo to the octets `old` appends the whole MetaInfo.
+-- if a MetaInfo is not empty, appending its type, its length and its fields to `old` appends the
+-- whole MetaInfo
 pub meta_put : (old : List ℕ) (freshness last : Option ℕ) (len : ℕ) → len ≡ length (octets (meta_fields freshness last)) → (len ≡ 0 → ⊥)
     → ((old ++ (spelling 20 ++ spelling len)) ++ octets (number 25 freshness)) ++ octets (optional 26 (option_map (λ n. element (50, shortest_nni n)) last))
     ≡ old ++ octets (optional 20 (meta_of (meta_fields freshness last)))

@@ -31,8 +31,8 @@ digests_kind (c ∷ name) =
       | false ↦ λ _. digests_kind name
     ] refl
 
--- Without ApplicationParameters, a name must have no digest of parameters. With them, it must have
--- exactly one digest of parameters, which is `right`.
+-- Without ApplicationParameters, a name must have no digest of parameters. With
+-- ApplicationParameters, a name must have exactly one digest of parameters, which is `right`.
 abbrev AreRight : Option (List ℕ) → List Field → List ℕ → Type 0
 AreRight None digests right = digests ≡ []
 AreRight (Some parameters) digests right = digests ≡ (2, right) ∷ []
@@ -110,9 +110,8 @@ fault_is name (Some p) (Some d) right h =
     more [] some = absurd (some refl)
     more (e ∷ ds) some = refl
 
--- Let `digest` be the first digest of parameters in a name. If there are ApplicationParameters, let
--- `from` be the octets that this digest must cover. Then the reader's check `fault_by` returns the
--- result of `digest_fault`.
+-- `fault_by` takes only the first digest of parameters in a name, and `digest_fault` takes all
+-- digests of parameters. `fault_by` returns the same fault as `digest_fault`.
 pub fault_read : {A : Type 0} (view : A → List ℕ) (name : List Field) (parameters : Option A) (digest : Option FirstOfType) (from octets : List ℕ) → FindsFirst 2 name digest → OnSome parameters (from ≡ octets)
     → digest_fault (option_map view parameters) (digests_in name) (sha256 octets) ≡ fault_by (option_map view parameters) digest (sha256 from)
 fault_read view name None None from octets h e = fault_is name None None (sha256 octets) h

@@ -1,4 +1,4 @@
--- The fields of a schema among elements, read in order.
+-- Reading the fields of a schema, in order, from a list of elements.
 use Rattle.std.proofs.Common.{◌≡◌, ◌≢◌, ℕ, Bool, true, false, cond, eqb, List, [], ◌∷◌, ◌++◌, map, Option, Some, None, Result, Ok, Err, refl, sym, ap, subst, ◌∙◌, inl, inr}
 use Rattle.std.specs.List.{AllByRecursion}
 use Rattle.std.proofs.lemmas.Bool.{eqb-true, eqb-false}
@@ -33,8 +33,8 @@ in_nothing kind later h = at_front h.0 h.1
     at_front [] e = cc
     at_front (k ∷ front) e = cc
 
--- if a type may come next in a schema but is not the first type of the schema, this type may come
--- next in the rest of the schema, and does not need the previous field
+-- if the type `kind` is not `first`, but may come next in `first ∷ schema`, then `kind` may also
+-- come next in `schema`, and `kind` does not need the previous field
 past_first : (kind first : ℕ) (later schema : List ℕ) → first ≢ kind → Counts kind later (first ∷ schema) → Counts kind later schema × (needs_previous_field kind ≡ false)
 past_first kind first later schema other h = at_front h.0 h.1 h.2 h.3
   where
@@ -170,14 +170,14 @@ took_first take s t kind None fields others is e = (s, refl, subst (λ (fs : Lis
 took_first take s t kind (Some v) fields others is e =
     bind_ok (take s (kind, v)) (λ u. read_fields take u (map good others)) t (subst (λ (fs : List Field). read_fields take s (map good fs) ≡ Ok t) is e)
 
--- Let reading an optional field in state `s` end in state `mid`. Then reading this field and the
--- fields `others` in `s` has the same result as reading only `others` in `mid`.
+-- if reading an optional field in state `s` ends in state `mid`, then reading this field and
+-- `others` in `s` has the same result as reading only `others` in `mid`
 pub took_again : {S : Type 0} (take : S → Field → Result S PacketFault) (s mid : S) (kind : ℕ) (value : Option (List ℕ)) (others : List Field) → Took take s kind value mid
     → read_fields take s (map good (optional kind value ++ others)) ≡ read_fields take mid (map good others)
 took_again take s mid kind None others took = ap (λ u. read_fields take u (map good others)) (sym took)
 took_again take s mid kind (Some v) others took = ap (λ (r : Result _ PacketFault). r >>= λ u. read_fields take u (map good others)) took
 
--- ---- what holds of all elements holds of the fields among them
+-- ---- a property of all elements holds for all fields among the elements
 
 pub fields_keep : (P : Field → Type 0) (ignores : ℕ → Bool) (schema : List ℕ) (plain fields : List Field) → Fields ignores schema plain fields → AllByRecursion P plain → AllByRecursion P fields
 fields_keep P ignores schema [] fields h all = subst (AllByRecursion P) (sym h) tt

@@ -20,9 +20,8 @@ bad A d = Err d
 pub err_is : (A : Type 0) (d f : PacketFault) → bad A d ≡ bad A f → f ≡ d
 err_is A d f e = cc
 
--- Let the first element be a field, and let reading all elements return a fault. If a fault of the
--- later elements would be their first fault, then the returned fault is the first fault of all
--- elements.
+-- if the reader reports the first fault of `elements`, it also reports the first fault of the field
+-- `x` followed by `elements`
 first_or_later : {S : Type 0} (take : S → Field → Result S PacketFault) (ignores : ℕ → Bool) (schema later : List ℕ) (s : S) (x : Field) (elements : List (Result Field TlvFault)) (fault : PacketFault)
     → IsSchemaAfter x.0 schema (Some later) → (r : Result S PacketFault) → take s x ≡ r → (r >>= λ t. read_fields take t (fields_from ignores later elements)) ≡ Err fault
     → ((t : S) → read_fields take t (fields_from ignores later elements) ≡ Err fault → FirstFault take ignores later t elements fault)

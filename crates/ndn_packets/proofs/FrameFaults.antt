@@ -51,8 +51,8 @@ alone_again text e is = rw is refl
 
 -- ---- the fault of reading one packet
 
--- If reading a packet returns a fault, then the packet is too long, or it is not too long and the
--- fault is in its TLV-VALUE.
+-- if reading a packet returns a fault, then either the packet is too long, or the fault is in its
+-- TLV-VALUE
 long_found : {A : Type 0} (text : List ℕ) (r : Result A PacketFault) (fault : PacketFault) (P : Type 0) → (r ≡ Err fault → P) → cond (ltb 8800 (length text)) (bad A TooLong) r ≡ Err fault → LongOr text fault P
 long_found {A} text r fault P found e =
     elim (ltb 8800 (length text)) as (λ b. ltb 8800 (length text) ≡ b → cond b (bad A TooLong) r ≡ Err fault → LongOr text fault P) [
@@ -104,8 +104,8 @@ packet_fault_again text e fault (inr (inr h)) = rw (ne_eqb e.0 5 h.0, ne_eqb e.0
 
 -- ---- the fault of reading the packet in a Fragment
 
--- The result of reading the packet in a Fragment, whose octets are exactly one element. If there is
--- a Nack reason, this packet must be an Interest.
+-- The result of reading a Fragment that is exactly one element. With a Nack reason, this element
+-- must be an Interest.
 abbrev inside : Option ℕ → List ℕ → Field → Result PlainFrame PacketFault
 inside None text = packet_of text
 inside (Some reason) text = nacked_of reason text
@@ -170,7 +170,7 @@ has_one_more kind (h ∷ headers) e =
       | false ↦ has_one_more kind headers e
     ]
 
--- the flags of state `s` tell which known header fields are in `headers`
+-- in state `s`, the flag of each known header field is set exactly if `headers` has this field
 record Met (s : LinkSoFar) (headers : List Field) : Type 0 where
   sequence : s.sequence ≡ has 81 headers
   frag_index : s.frag_index ≡ has 82 headers
@@ -448,8 +448,8 @@ no_fragment_again : (token : Option (List ℕ)) (nack : Option ℕ) (fault : Pac
 no_fragment_again token None fault some e = absurd cc
 no_fragment_again token (Some reason) fault some e = told PlainFramed BadField fault e
 
--- if at most one header field is a PitToken, the PitTokens among the header fields are one optional
--- token
+-- if `headers` has at most one PitToken, the PitTokens of `headers` are `optional 98 token` for
+-- some optional `token`
 token_among : (headers : List Field) → length (headers_of 98 headers) ≤ 1 → (token : Option (List ℕ)) × (headers_of 98 headers ≡ optional 98 token)
 token_among [] few = (None, refl)
 token_among (h ∷ headers) few =
@@ -463,8 +463,8 @@ token_among (h ∷ headers) few =
     none_more [] few = refl
     none_more (f ∷ hs) few = absurd (omega arith)
 
--- Let the state `s` be reached by reading header fields, and let `elements` after these header
--- fields have the fault `fault`. Then reading `elements` in state `s` stops at the first of them.
+-- if `elements` have the fault `fault` after the header fields that led to state `s`, then reading
+-- `elements` in state `s` stops at the start of `elements`
 stops_here : (s : LinkSoFar) (elements : List (Result Field TlvFault)) (fault : PacketFault) → ((before : List Field) → Met s before → AfterHeaders before s.nack elements fault) → Stops s elements fault
 stops_here s elements fault h =
     record { headers = []; rest = elements; last = s; all = refl; allowed = λ fits. (tt, no_more s); met = λ before m. subst (Met s) (sym (append-nil before)) m; here = h }

@@ -1,4 +1,4 @@
--- Full names, given by their octets.
+-- Full names and their octets.
 use Rattle.std.proofs.Common.{◌≡◌, ℕ, ◌+◌, ◌-◌, ◌<◌, ◌^◌, Bool, false, refl, List, [], ◌∷◌, ◌++◌, length, take, drop, sym, ap, subst, ◌∙◌, arith, append_assoc}
 use Rattle.std.specs.Prelude.{◌↔◌, IsTrue, nat_eq}
 use Rattle.std.specs.List.{AllByRecursion, starts_with}
@@ -33,8 +33,8 @@ digest_octets : (digest : List ℕ) → length digest ≡ 32 → element (1, dig
 unfolding spelling
 digest_octets digest len = ap (λ (n : ℕ). spelling 1 ++ (spelling n ++ digest)) len
 
--- Let a full name be made of a name and a digest of 32 octets. Then its octets are those of the
--- name followed by the digest component, and all its components are valid.
+-- the octets of a full name are the octets of its name followed by the digest component, and all
+-- components of the full name are valid
 pub full_octets : (value digest : List ℕ) (name : List Field) → IsNameValue value name → length digest ≡ 32
     → (octets_of (full_name name digest) ≡ value ++ 1 ∷ 32 ∷ digest) × AllByRecursion IsField (full_name name digest)
 full_octets value digest name h len =
@@ -43,8 +43,8 @@ full_octets value digest name h len =
       fields_more name (1, digest) h.0.0 (omega arith, omega arith, digest_len),
     )
 
--- Let octets consist of the TLV-VALUE of a name and a digest component. Then they encode the full
--- name with this name and this digest.
+-- if `full` is the TLV-VALUE of a name followed by a digest component, `full` encodes the full name
+-- with this name and this digest
 pub made : (value digest full : List ℕ) (name : List Field) → IsNameValue value name → components_of value ≡ name → length digest ≡ 32
     → full ≡ value ++ element (1, digest) → (name_in full ≡ name) × (digest_in full ≡ digest) × IsFullName full
 made value digest full name h shown len is =
@@ -70,7 +70,7 @@ made value digest full name h shown len is =
       },
     )
 
--- two full names compare as their octets do
+-- the canonical order of two full names is the lexicographic order of their octets
 pub full_cmp : (u v : List ℕ) → IsFullName u → IsFullName v → slice_cmp nat_cmp u v ≡ name_cmp (full_name_in u) (full_name_in v)
 full_cmp u v h g =
     (λ k. slice_cmp nat_cmp (h.whole k) (g.whole k)) ∙ octets_cmp (full_name_in u) (full_name_in v) h.fields g.fields
@@ -118,7 +118,7 @@ other_digests u v h g other = by (name_cmp (full_name_in u) (full_name_in v)) re
     by Equal e = absurd (other (ap digest_in (h.whole ∙ ap octets_of (name_cmp-antisymmetric (full_name_in u) (full_name_in v) e) ∙ sym g.whole)))
     by Greater e = refl
 
--- a full name and a name compare as their octets do
+-- the canonical order of a full name and a name is the lexicographic order of their octets
 pub name_after : (u v : List ℕ) (name : List Field) → IsFullName u → IsElements v name → slice_cmp nat_cmp u v ≡ name_cmp (full_name_in u) name
 name_after u v name h g = (λ k. slice_cmp nat_cmp (h.whole k) (g.1 k)) ∙ octets_cmp (full_name_in u) name h.fields g.0
 

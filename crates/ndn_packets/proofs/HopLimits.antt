@@ -1,4 +1,4 @@
--- The position of the HopLimit in an Interest, and the effect of another octet there.
+-- The position of the HopLimit in an Interest, and the effect of changing the HopLimit.
 use Rattle.std.proofs.Common.{◌≡◌, ℕ, zero, suc, ◌+◌, ◌-◌, ◌<◌, ◌≤◌, Bool, true, false, cond, eqb, List, [], ◌∷◌, ◌++◌, length, get_or, Option, None, Some, Result, Ok, Err, refl, sym, ap, subst, ◌∙◌, append_assoc, arith, inl, inr, eq-eqb}
 use Rattle.std.specs.Prelude.{is_some, slice_set, slice_index, ◌&&◌}
 use Rattle.std.specs.List.{flat_map, AllByRecursion}
@@ -71,7 +71,7 @@ bytes_with limit after small fits (suc (suc zero)) = small
 bytes_with limit after small fits (suc (suc (suc i))) = fits i
 
 -- `octet_is`: the octet after the type and the length of the HopLimit is its value. `octet_set`:
--- setting this octet changes only the value.
+-- setting the octet after the type and the length of the HopLimit changes only its value.
 octet_is : (front after : List ℕ) (limit : ℕ) → slice_index (front ++ 34 ∷ 1 ∷ limit ∷ after) (length front + 2) ≡ limit
 octet_is front after limit =
     let len : length (front ++ 34 ∷ 1 ∷ []) ≡ length front + 2 = length-append front (34 ∷ 1 ∷ []) in
@@ -88,8 +88,8 @@ limit_is : (value : Option (List ℕ)) (limit : Option ℕ) (n : ℕ) → IsOcte
 limit_is None limit n is there = absurd (none_is_not_some n (sym is ∙ there))
 limit_is (Some v) limit n is there = ap (λ (t : List ℕ). Some t) (is.1 ∙ ap (λ k. k ∷ []) (some_is is.0 n (sym is.2 ∙ there)))
 
--- if no element in `front` is ApplicationParameters, neither `front` nor the HopLimit after it
--- affects the elements from the ApplicationParameters on
+-- if no element in `front` is ApplicationParameters, removing `front` and the HopLimit after it
+-- does not change the elements from the ApplicationParameters on
 parameters_following : (front back : List Field) (value : List ℕ) → Others 36 front → from_parameters (front ++ (34, value) ∷ back) ≡ from_parameters back
 parameters_following [] back value others = refl
 parameters_following (e ∷ front) back value others = rw (ne_eqb e.0 36 others.0) (parameters_following front back value others.1)
@@ -98,8 +98,9 @@ digested_same : (name elements others : List Field) (parameters : Option (List �
 digested_same name elements others None same h = h
 digested_same name elements others (Some p) same h = h ∙ ap (λ (es : List Field). (2, sha256 (flat_map element es)) ∷ []) same
 
--- Let the octets `text` be the Interest `i`. The octet of the HopLimit is at index `hop_place
--- text`. With any other octet there, `text` is the Interest `i` with that octet as its HopLimit.
+-- The octets `text` are the Interest `i`, whose HopLimit is `limit`. The octet of the HopLimit is
+-- at index `hop_place text`. If this octet is replaced by another octet, `text` becomes the
+-- Interest `i` with the other octet as its HopLimit.
 record HopStands (text : List ℕ) (i : PlainInterest) (limit : ℕ) : Type 0 where
   front : List ℕ
   after : List ℕ
@@ -112,7 +113,7 @@ place_is text i limit from h there read =
     ap (place_in text) (frame_again text (AnInterest text i) (None, (h, inl (refl, refl))))
     ∙ rw (eq-eqb (length text) (length text) refl, there, element_alone text h.fields.value 5 h.fields.outer, read) refl
 
--- all fields of the Interest, where the HopLimit has the value `value`
+-- the fields of the Interest after its Name, where the HopLimit has the value `value`
 abbrev fields_with : (text : List ℕ) (i : PlainInterest) → IsInterest text i → List ℕ → List Field
 fields_with text i h value =
     flag 33 i.can_be_prefix ++ (flag 18 i.must_be_fresh ++ (optional 30 h.hint ++ ((10, i.nonce) ∷ (optional 12 h.lifetime_value ++ ((34, value) ∷ back_fields i.parameters h.info_value h.signature_value)))))
@@ -201,7 +202,7 @@ hop_stands text i limit h there =
           (subst (Fields is_even_high interest_schema (elements_with h.name_value s.front s.back other)) (sym (fields_are i.can_be_prefix i.must_be_fresh h.hint i.nonce h.lifetime_value ((34, other ∷ []) ∷ late))) (s.again (other ∷ [])));
     }
 
--- ---- the octet of the HopLimit, and the effect of another octet there
+-- ---- the octet of the HopLimit, and the effect of changing it
 
 pub hop_only : (text : List ℕ) (limit : ℕ) → HasHopLimit text limit → hop_place text < length text
 hop_only text limit has =

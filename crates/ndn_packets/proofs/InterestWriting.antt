@@ -74,9 +74,10 @@ zeroed_holds_digest name later some =
 pub zeroed_is_long : (n : ℕ) (name later : List Field) → IsLength n (octets (with_digest name later)) → length (octets (with_digest name later)) ≤ 8800 → n ≡ length (octets (name_with zeros name later))
 zeroed_is_long n name later is short = omega (arith, is, zeroed_length name later)
 
--- `zeroed_begin` and `zeroed_put` are about a Name that is first written with zeros for its digest.
--- The type, the length and the components before the digest are together no longer than the whole
--- element. Appending them and then the digest component appends the whole element.
+-- A Name is first written with zeros in place of its digest of parameters. `zeroed_begin`: the
+-- type, the length and the components before the digest are together no longer than the whole Name
+-- element. `zeroed_put`: appending the type, the length, the components and the digest component
+-- appends the whole Name element.
 pub zeroed_begin : (name later : List Field) (n : ℕ) → n ≡ length (octets (name_with zeros name later)) → length (spelling 7 ++ spelling n) + length (octets name) ≤ length (element (7, octets (name_with zeros name later)))
 zeroed_begin name later n long =
     rw long (omega (

@@ -1,4 +1,4 @@
--- An Interest that is read is in the grammar, and an Interest in the grammar is read.
+-- The reader accepts exactly the Interests of the grammar.
 use Rattle.std.proofs.Common.{◌≡◌, ◌≢◌, ℕ, Bool, true, false, cond, eqb, List, [], ◌∷◌, ◌++◌, length, map, Option, Some, None, Result, Ok, Err, refl, sym, ap, subst, ◌∙◌, eq-eqb}
 use Rattle.std.specs.Prelude.{unwrap_or}
 use Rattle.std.proofs.lemmas.Bool.{eqb-true}
@@ -37,7 +37,8 @@ abbrev so_far : Bool → Bool → Option (List ℕ) → ℕ → Option ℕ → I
 so_far prefix fresh nonce lifetime hop =
     record { can_be_prefix = prefix; must_be_fresh = fresh; nonce = nonce; lifetime = lifetime; hop_limit = hop; parameters = None; info = None; value = None }
 
--- the state `s` with these values of the three fields from the ApplicationParameters on
+-- the state `s` with the given values of ApplicationParameters, InterestSignatureInfo and
+-- InterestSignatureValue
 abbrev signed_so_far : InterestSoFar → Option (List ℕ) → Option PlainSignatureInfo → Option (List ℕ) → InterestSoFar
 signed_so_far s parameters info value = record {
   can_be_prefix = s.can_be_prefix;
@@ -54,7 +55,6 @@ is_nil_is : (xs : List ℕ) → is_nil xs ≡ true → xs ≡ []
 is_nil_is [] e = refl
 is_nil_is (x ∷ xs) e = absurd cc
 
--- if `cond b (good x) (Err BadField)` is `Ok y`, the test `b` holds, and `x` equals `y`
 tested : {A : Type 0} (b : Bool) (x y : A) → cond b (good x) (Err BadField) ≡ Ok y → (b ≡ true) × (x ≡ y)
 tested true x y e = (refl, ok_is x y e)
 tested false x y e = absurd (err_is_not_ok _ y e)
@@ -221,7 +221,7 @@ interest_fields plain fields t fit recognised taken =
       made = sym last ∙ v;
     }
 
--- ---- an Interest that is read is in the grammar
+-- ---- the reader accepts only Interests of the grammar
 
 nonce_there : (value : Option (List ℕ)) (nonce : List ℕ) → value ≡ Some nonce → IsFour value → length nonce ≡ 4
 nonce_there value nonce is four = subst IsFour is four
@@ -230,7 +230,7 @@ nonce_there value nonce is four = subst IsFour is four
 abbrev right_digest : List (Result Field TlvFault) → List ℕ
 right_digest later = sha256 (octets_of_read (parameters_on later))
 
--- the result of reading after the last check, which is the check of the digest
+-- the result of the last step of reading an Interest, which checks the digest of parameters
 abbrev unless_digest : List Field → List (Result Field TlvFault) → InterestSoFar → List ℕ → Result PlainInterest PacketFault
 unless_digest name later t nonce = on_option (λ fault. Err fault) (good (interest_made name t nonce)) (digest_fault t.parameters (digests_in name) (right_digest later))
 
@@ -298,7 +298,7 @@ interest_found text value i one e =
     (λ t. found_or NoNonce t.nonce >>= λ nonce. unless_digest a.0.0 a.0.1 t nonce) i g.1 in
     after_name text value a.0 b.0 i one a.1 (not_nil a.0.0 g.0) b.1 b.2
 
--- ---- an Interest in the grammar is read
+-- ---- the reader accepts each Interest of the grammar
 
 abbrev flag_value : Bool → Option (List ℕ)
 flag_value true = Some []
@@ -349,7 +349,7 @@ value_again : (value parameters : Option (List ℕ)) (said : Option PlainSignatu
 value_again None parameters said front = refl
 value_again (Some v) parameters said front = refl
 
--- the signature in the grammar is what `signature_of` returns for the InterestSignatureInfo and the
+-- `signature_of` returns the signature that the grammar assigns to an InterestSignatureInfo and an
 -- InterestSignatureValue
 signature_again : (info value : Option (List ℕ)) (signature : Option PlainSignature) → IsSigned info value signature → (said : Option PlainSignatureInfo) × SaysInfo info said × (signature_of said value ≡ signature)
 signature_again None value signature h = (None, refl, sym h)

@@ -32,8 +32,8 @@ sum_is_long m n front back p q = omega (arith, length-append front back)
 pub name_is_long : (n : ℕ) (value : List ℕ) (name : List Field) → IsNameValue value name → IsLength n value → IsLength n (octets name)
 name_is_long n value name is long = subst (λ (x : List ℕ). IsLength n x) is.0.1 long
 
--- if there are fewer than 2^63 octets, a number `n` that satisfies `IsLength` is exactly their
--- number
+-- if `octets` has fewer than 2^63 octets and `IsLength n octets` holds, `n` is the length of
+-- `octets`
 pub in_memory_is_exact : (n : ℕ) (octets : List ℕ) → IsLength n octets → length octets < 2 ^ 63 → n ≡ length octets
 in_memory_is_exact n octets is small = omega arith
 
@@ -78,8 +78,8 @@ info_after_octets old kind len signed time seq =
     regrouped : (a b c d e : List ℕ) → (((a ++ b) ++ c) ++ d) ++ e ≡ a ++ (((b ++ c) ++ d) ++ e)
     regrouped a b c d e = simp append_assoc
 
--- if there are fewer than 2^63 octets, appending the parts of a SignatureInfo appends the whole
--- SignatureInfo
+-- if the result has fewer than 2^63 octets, appending the parts of a SignatureInfo appends the
+-- whole SignatureInfo
 pub info_put : (old : List ℕ) (kind len : ℕ) (signed : Sign) (time seq : Option ℕ) (new : List ℕ) → IsLength len (octets (info_fields signed time seq)) → new ≡ info_after old kind len signed time seq → length new < 2 ^ 63
     → new ≡ old ++ element (kind, octets (info_fields signed time seq))
 info_put old kind len signed time seq new long is small =

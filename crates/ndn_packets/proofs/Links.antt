@@ -1,4 +1,4 @@
--- A link packet that is read is in the grammar, and a link packet in the grammar is read.
+-- The reader accepts exactly the link packets of the grammar.
 use Rattle.std.proofs.Common.{◌≡◌, ℕ, suc, ◌<◌, ◌≤◌, Bool, true, false, cond, not, eqb, ltb, List, [], ◌∷◌, ◌++◌, length, map, Option, Some, None, Result, Ok, Err, refl, sym, ap, subst, ◌∙◌, arith, inl, inr}
 use Rattle.std.specs.Prelude.{◌||◌, is_some}
 use Rattle.std.specs.List.{AllByRecursion}
@@ -23,20 +23,23 @@ use Rattle.ndn_packets.proofs.Nacks.{nack_found, nack_again}
 
 -- ---- the header fields that may still come in a state
 
--- how many header fields of a type may still come: none if one has been read, else one
+-- the number of header fields of one type that may still come: 0 if such a field has been read,
+-- otherwise 1
 abbrev pub room : Bool → ℕ
 room true = 0
 room false = 1
 
--- `nacks` are the Nacks that may still come: none if the Nack of the link packet has been read,
--- otherwise just this Nack, if there is one
+-- `nacks` are the Nacks of a link packet that have not been read yet. If a Nack has been read,
+-- `nacks` is empty. If no Nack has been read, `nacks` has the Nack of the link packet, or is empty
+-- if the link packet has no Nack.
 abbrev pub NackAmong : Option ℕ → List Field → Option ℕ → Type 0
 NackAmong None nacks None = nacks ≡ []
 NackAmong None nacks (Some reason) = (value : List ℕ) × (nacks ≡ (800, value) ∷ []) × IsNack value reason
 NackAmong (Some met) nacks nack = (nacks ≡ []) × (nack ≡ Some met)
 
--- `tokens` are the PitTokens that may still come: none if the PitToken of the link packet has been
--- read, otherwise just this PitToken, if there is one
+-- `tokens` are the PitTokens of a link packet that have not been read yet. If a PitToken has been
+-- read, `tokens` is empty. If no PitToken has been read, `tokens` has the PitToken of the link
+-- packet, or is empty if the link packet has no PitToken.
 abbrev pub TokenAmong : Option (List ℕ) → List Field → Option (List ℕ) → Type 0
 TokenAmong None tokens token = tokens ≡ optional 98 token
 TokenAmong (Some met) tokens token = (tokens ≡ []) × (token ≡ Some met)
@@ -117,7 +120,7 @@ nack_header_found s t v fits free e =
       leaves = λ headers token nack r. record { sequence = r.sequence; frag_index = r.frag_index; frag_count = r.frag_count; tokens = r.tokens; nacks = first_nack s.nack nack v n.0 (headers_of 800 headers) free is r.nacks };
     })
 
--- an ignored header field has a greater type than all known header fields
+-- the type of an ignored header field is greater than 800, the type of a Nack
 above : (kind : ℕ) → is_ignored_header kind ≡ true → 800 < kind
 above kind is = ltb-true 800 kind (and_parts _ _ is).0
 

@@ -1,4 +1,4 @@
--- The key that a KeyLocator names is read from the KeyLocator's TLV-VALUE alone.
+-- Reading the TLV-VALUE of a KeyLocator returns exactly the plain data that the grammar states.
 use Rattle.std.proofs.Common.{◌≡◌, ◌≢◌, ℕ, true, false, cond, eqb, List, [], ◌∷◌, Some, Result, Ok, Err, refl, sym, ap, subst, ◌∙◌, arith}
 use Rattle.std.proofs.lemmas.Bool.{eqb-true, eqb-false}
 use Rattle.std.proofs.lemmas.List.{append-nil}
@@ -24,7 +24,7 @@ element_alone text value kind outer = ap element_at (outer.1 ∙ sym (append-nil
 only_element : (text : List ℕ) (k : ℕ) (v r : List ℕ) → element_at text ≡ seen k v r → (kind : ℕ) (value : List ℕ) → IsElement text kind value → (k ≡ kind) × (v ≡ value) × (r ≡ [])
 only_element text k v r e kind value outer = only_read text k v r (sym e) kind value [] outer.0 (outer.1 ∙ sym (append-nil (element (kind, value))))
 
--- ---- a KeyLocator that is read is in the grammar
+-- ---- the plain data that is read from a KeyLocator satisfies the grammar
 
 -- the TLV-VALUE of a KeyLocator is neither exactly one Name nor exactly one KeyDigest
 abbrev IsKeyless : List ℕ → Type 0
@@ -44,7 +44,7 @@ keyless_other value kind v outer no_name no_digest =
     let alone = element_alone value v kind outer in
     (λ name key. no_name (only_element value kind v [] alone 7 key.0 key.1).0, λ key. no_digest (only_element value kind v [] alone 29 key.0 key.1).0)
 
--- if octets cannot be read as a name, the same octets are not the TLV-VALUE of a name
+-- octets that cannot be read as a name are not the TLV-VALUE of a name
 no_names : (v w : List ℕ) (name : List Field) (f : NameFault) → v ≡ w → name_at v ≡ Err f → IsNameValue w name → ⊥
 no_names v w name f same e is = let read = ap name_at same ∙ name_again w name is in cc
 
@@ -78,7 +78,7 @@ locator_found value fits = says (element_at value) refl
     says (Ok x) e = element_says value x.0 x.1 fits e
     says (Err f) e = keyless_refused value f e
 
--- ---- a KeyLocator in the grammar is read
+-- ---- the plain data of a KeyLocator in the grammar is what the reader returns
 
 pub locator_again : (value : List ℕ) (locator : PlainLocator) → IsBytes value → IsLocator (Some value) locator → locator_at value ≡ locator
 unfolding locator_at

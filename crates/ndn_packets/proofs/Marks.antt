@@ -1,4 +1,4 @@
--- Where a reader of packets finds that a field begins: at the first element of the field's type.
+-- A reader of packets finds the start of a field at the first element of the field's type.
 use Rattle.std.proofs.Common.{◌≡◌, ◌≢◌, ℕ, true, false, cond, eqb, List, [], ◌∷◌, ◌++◌, Option, None, Some, Ok, refl, sym, ap, subst, ◌∙◌, eq-eqb}
 use Rattle.std.specs.Prelude.{IsSome, OnSome, option_map}
 use Rattle.std.specs.List.{AllByRecursion}
@@ -23,19 +23,19 @@ skipped kind k schema whole value octets after none same comes read =
 
 -- ---- the types that may come before and after a type in a schema
 
--- a type that does not need the previous field cannot come next in `later`
+-- each type in `later` needs the previous field
 abbrev pub IsTail : List ℕ → Type 0
 IsTail later = (k : ℕ) → needs_previous_field k ≡ false → schema_after k later ≡ None
 
--- Conditions under which the reader finds where the field of type `kind` begins. A type that does
--- not need the previous field cannot come next in `later`. A type that satisfies `P` is not `kind`.
--- If `kind` needs the previous field, no type satisfies `P`.
+-- Conditions under which the reader finds where the field of type `kind` begins. Each type in
+-- `later` needs the previous field. The type `kind` does not satisfy `P`. If `kind` needs the
+-- previous field, no type satisfies `P`.
 pub record IsMark (P : ℕ → Type 0) (kind : ℕ) (later : List ℕ) : Type 0 where
   pub tail : IsTail later
   pub apart : (k : ℕ) → P k → k ≢ kind
   pub near : needs_previous_field kind ≡ true → (k : ℕ) → P k → ⊥
 
--- the types in `schema` are types that satisfy `P`, then `kind`, and then the types in `later`
+-- `schema` lists types that satisfy `P`, then `kind`, and then the types in `later`
 pub record Ahead (P : ℕ → Type 0) (kind : ℕ) (later schema : List ℕ) : Type 0 where
   pub front : List ℕ
   pub schema_is : schema ≡ front ++ kind ∷ later
@@ -104,7 +104,7 @@ awaits_met P kind later text before after e m here is h = (
   placed P kind later text before after e m here h ∙ next_is kind after.here.now (e.kind, e.value.now) after.rest.now here.here is,
 )
 
--- the property `P` for a `kind` that needs the previous field: no type satisfies `P`
+-- the property that no type has, which serves as `P` if `kind` needs the previous field
 abbrev pub Never : ℕ → Type 0
 Never k = ⊥
 
@@ -126,8 +126,8 @@ IsEarly k = (k ≢ 23) × (k ≢ 20 → k ≢ 21 → k ≢ 22 → ⊥)
 value_mark : IsMark IsEarly 23 []
 value_mark = record { tail = λ k loose. refl; apart = λ k early. early.0; near = λ near k early. absurd cc }
 
--- Before the SignatureValue, the reader of a Data awaits it. After the SignatureValue, no more
--- fields may come, and `from` is the input from the SignatureValue on.
+-- Until the SignatureValue is read, the reader of a Data awaits it. After the SignatureValue, no
+-- more fields may come, and `from` is the input from the SignatureValue on.
 abbrev pub DataMark : List ℕ → FieldReader → Option (List ℕ) → List ℕ → Type 0
 DataMark text fields None from = Awaits IsEarly 23 [] text fields
 DataMark text fields (Some value) from = (fields.schema.now ≡ []) × (from_first 23 text ≡ Some from)
@@ -177,9 +177,9 @@ info_mark = record { tail = λ k loose. none_after k 46 [] refl loose refl; apar
 signature_mark : IsMark Never 46 []
 signature_mark = record { tail = λ k loose. refl; apart = λ k never. absurd never; near = λ near k never. never }
 
--- The reader of an Interest awaits the next of the last three fields. Once it has read the
--- ApplicationParameters, `p` is the input from them on. Once it has read the
--- InterestSignatureValue, `v` is the input from that field on.
+-- The reader of an Interest awaits the ApplicationParameters, then the InterestSignatureInfo, and
+-- then the InterestSignatureValue. `p` is the input from the ApplicationParameters on, once they
+-- have been read. `v` is the input from the InterestSignatureValue on, once it has been read.
 abbrev pub InterestMark : List ℕ → FieldReader → Option (List ℕ) → Option PlainSignatureInfo → Option (List ℕ) → List ℕ → List ℕ → Type 0
 InterestMark text fields None None None p v = Awaits IsFront 36 (44 ∷ 46 ∷ []) text fields
 InterestMark text fields None None (Some value) p v = ⊥
@@ -256,9 +256,9 @@ interest_value text before after e (Some q) (Some i) None p v here is h =
     (met.0, (h.0, h.1, h.2, met.1))
 interest_value text before after e (Some q) (Some i) (Some w) p v here is h = absurd (nothing_comes before after e here h.0)
 
--- After the last field, what follows from the position `p` of the ApplicationParameters holds if
--- they are present. If the InterestSignatureValue is present, `p` and `v` are the positions of a
--- signature.
+-- If the ApplicationParameters were read, `p` is the input from the ApplicationParameters on, and
+-- each consequence `X` of this fact holds. If the InterestSignatureValue was read, `p` and `v`
+-- satisfy `IsSignedAt`.
 pub interest_last : {A B C : Type 0} (f : A → List ℕ) (g : B → PlainSignatureInfo) (k : C → List ℕ) (text : List ℕ) (fields : FieldReader) (a : Option A) (b : Option B) (c : Option C) (p v : List ℕ)
     → InterestMark text fields (option_map f a) (option_map g b) (option_map k c) p v → (X : Type 0) → (from_first 36 text ≡ Some p → X) → OnSome a X × OnSome c (IsSignedAt text p v)
 interest_last f g k text fields None None None p v h X there = (tt, tt)

@@ -1,4 +1,4 @@
--- A MetaInfo that is read is in the grammar, and a MetaInfo in the grammar is read.
+-- The reader accepts exactly the MetaInfos of the grammar.
 use Rattle.std.proofs.Common.{◌≡◌, ℕ, List, ◌++◌, map, Option, Some, None, Ok, refl, sym, ap, subst, ◌∙◌}
 use Rattle.std.specs.Prelude.{unwrap_or}
 use Rattle.std.proofs.lemmas.List.{append-nil}
@@ -14,7 +14,7 @@ use Rattle.ndn_packets.proofs.Steps.{bind_ok, good, ok_is, IsBytes-fields}
 use Rattle.ndn_packets.proofs.FieldLists.{FieldsRead, fields_found, fields_again, fields_in, fields_keep, Took, took_first, MayBeBytes, bytes_first}
 use Rattle.ndn_packets.proofs.Numbers.{number_found, number_again}
 
--- ---- a MetaInfo that is read is in the grammar
+-- ---- the reader accepts only MetaInfos of the grammar
 
 content_type_taken : (value : Option (List ℕ)) (s t : ℕ) → MayBeBytes value → Took take_meta_field s 24 value t → (t ≡ s) × ((n : Option ℕ) × IsNumber value n)
 content_type_taken None s t fits took = (took, (None, refl))
@@ -60,7 +60,7 @@ pub meta_found : (value : List ℕ) (freshness : ℕ) → IsBytes value → meta
 unfolding meta_at
 meta_found value freshness fits e = joined value freshness fits (fields_found take_meta_field is_ignored_in_meta_info meta_schema (elements_of value) 0 freshness e)
 
--- ---- a MetaInfo in the grammar is read
+-- ---- the reader accepts each MetaInfo of the grammar
 
 final_block_again : (value : Option (List ℕ)) (s : ℕ) → read_fields take_meta_field s (map good (optional 26 value)) ≡ Ok s
 final_block_again None s = refl

@@ -1,4 +1,4 @@
--- A Nack's value that is read is in the grammar, and a Nack's value in the grammar is read.
+-- The reader accepts exactly the TLV-VALUEs of Nacks of the grammar.
 use Rattle.std.proofs.Common.{◌≡◌, ℕ, List, ◌++◌, map, Option, Some, None, Ok, refl, sym, ap, subst, ◌∙◌}
 use Rattle.std.specs.Prelude.{unwrap_or}
 use Rattle.std.proofs.lemmas.List.{append-nil}

@@ -22,7 +22,8 @@ both_true : (a b : Bool) → (a && b) ≡ true → (a ≡ true) × (b ≡ true)
 both_true true b e = (refl, e)
 both_true false b e = absurd cc
 
--- if component `c` is not greater than component `d`, the type of `c` is not greater either
+-- if component `c` is at most component `d` in canonical order, the type of `c` is at most the type
+-- of `d`
 kind_of_lesser : (c d : Field) → component_cmp c d ≢ Greater → c.0 ≤ d.0
 kind_of_lesser c d h =
     elim (cases_lt d.0 c.0) [
@@ -64,7 +65,7 @@ between (n ∷ name) (c ∷ u) (d ∷ v) flag e low high =
         let here : is_eq (component_cmp n c) ≡ true = ap is_eq o in
         (λ k. (here k && s.0 k) && s.1 k)
 
--- ---- the octets of a full name after the octets of a name that is its prefix
+-- ---- the octets of a full name after those of a name that is a prefix of it
 
 pub after_front : (name rest : List Field) → drop (length name) (name ++ rest) ≡ rest
 after_front [] rest = refl

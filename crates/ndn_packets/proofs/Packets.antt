@@ -1,4 +1,4 @@
--- Every frame that is read is in the grammar, and every frame in the grammar is read.
+-- The reader accepts exactly the frames of the grammar.
 use Rattle.std.proofs.Common.{◌≡◌, ℕ, ◌≤◌, ◌⊎◌, true, cond, ltb, List, [], ◌∷◌, length, Option, Some, None, Result, Ok, Err, refl, sym, ap, subst, ◌∙◌, arith, inl, inr}
 use Rattle.std.specs.Prelude.{IfOk}
 use Rattle.std.proofs.lemmas.Bool.{ltb-false, le-ltb, ne_eqb, cases_eq}
@@ -41,7 +41,7 @@ only_found text outer fits e =
 pub only_again : (text value : List ℕ) (kind : ℕ) → IsElement text kind value → only_element text ≡ Ok (kind, value)
 only_again text value kind outer = rw (element_alone text value kind outer) refl
 
--- ---- Interest, Data and Nack as one element
+-- ---- an Interest, a Data or a Nack in octets that are one element
 
 pub interest_of_found : (text value : List ℕ) (i : PlainInterest) → IsBytes text → IsElement text 5 value → interest_of text value ≡ Ok i → IsInterest text i
 interest_of_found text value i fits outer e =
@@ -86,7 +86,7 @@ interest_of_again text i h = rw (le-ltb 8800 (length text) h.fields.short) (inte
 data_of_again : (text : List ℕ) (d : PlainData) (h : IsData text d) → data_of text h.fields.value ≡ Ok d
 data_of_again text d h = rw (le-ltb 8800 (length text) h.fields.short) (data_again text d h)
 
--- ---- a frame that is read, and a frame in the grammar
+-- ---- the frames that the reader accepts, and the frames of the grammar
 
 is_link : (text value : List ℕ) (f : PlainFramed) (h : LinkValue value f) → IsElement text 100 value → length text ≤ 9000 → IsBytes text → IsLinkPacket text h.token h.nack h.fragment
 is_link text value f h outer short fits = record { value = value; headers = h.headers; outer = outer; inner = h.inner; allowed = h.allowed; once = h.once; tokened = h.tokened; nacked = h.nacked; short = short; octets = fits }
@@ -156,8 +156,8 @@ again_with text token Idle h = link_again_in text token None None (framed_with t
 pub framed_again : (text : List ℕ) (f : PlainFramed) → IsFramed text f → framed_at text ≡ Ok f
 framed_again text f h = again_with text f.token f.frame h
 
--- The lemmas about `frame_at` and `token_at`: these return the two parts of what `framed_at`
--- returns.
+-- `frame_at` returns the frame that `framed_at` returns, without its PIT token. `token_at` returns
+-- only this PIT token.
 
 pub frame_of_framed : (text : List ℕ) (f : PlainFramed) → framed_at text ≡ Ok f → frame_at text ≡ Ok f.frame
 unfolding frame_at

@@ -34,8 +34,8 @@ octets_read (f ∷ fields) = flat_map-cons element f (filter_map result_ok (map 
 pub parameters_octets : (fields : List Field) → octets_of_read (parameters_on (map read fields)) ≡ flat_map element (from_parameters fields)
 parameters_octets fields = ap octets_of_read (parameters_read fields) ∙ octets_read (from_parameters fields)
 
--- the octets from the first ApplicationParameters on are the elements that `from_parameters`
--- returns
+-- the octets from the first ApplicationParameters on are those of the elements that
+-- `from_parameters` returns
 noted : (fields : List Field) (from : List ℕ) → AllByRecursion IsField fields → from_first 36 (flat_map element fields) ≡ Some from → from ≡ flat_map element (from_parameters fields)
 noted [] from sizes e = absurd (none_is_not_some from (sym (never_in 36 [] tt tt) ∙ e))
 noted (f ∷ fields) from sizes e =

@@ -16,8 +16,8 @@ Others kind fields = AllByRecursion (λ f. f.0 ≢ kind) fields
 abbrev pub Earlier : List ℕ → List Field → Type 0
 Earlier schema fields = AllByRecursion (λ f. Lacks f.0 schema) fields
 
--- No type in `before` occurs again as `kind` or in `later`. If `kind` needs the previous field,
--- `before` is empty.
+-- No type in `before` is `kind` or occurs in `later`. If `kind` needs the previous field, `before`
+-- is empty.
 pub record IsAround (before : List ℕ) (kind : ℕ) (later : List ℕ) : Type 0 where
   pub apart : AllByRecursion (λ k. Lacks k (kind ∷ later)) before
   pub near : needs_previous_field kind ≡ true → before ≡ []
@@ -41,7 +41,7 @@ around_counts : (before later : List ℕ) (kind : ℕ) → IsAround before kind 
 around_counts before later kind h = (before, refl, lacks_kind kind later before h.apart, h.near)
 
 -- `StandsBefore`: the type `k` comes before the type `kind` in a schema. `StandsAfter`: the type
--- `k` comes after the type `kind`.
+-- `k` comes after the type `kind` in a schema.
 abbrev StandsBefore : List ℕ → ℕ → List ℕ → List ℕ → ℕ → List ℕ → Type 0
 StandsBefore before kind later front k after = (between : List ℕ) × (before ≡ front ++ k ∷ between) × (after ≡ between ++ kind ∷ later)
 
@@ -169,8 +169,8 @@ meet ignores before later kind (e ∷ elements) fields around all_need_previous 
 cons_is : (x y : Field) (xs ys : List Field) → x ∷ xs ≡ y ∷ ys → (x ≡ y) × (xs ≡ ys)
 cons_is x y xs ys e = (cc, cc)
 
--- the first element of type `kind` is the field of this type, and another value in this element
--- changes only this field
+-- the first element of type `kind` is the field of this type, and changing the value of this
+-- element changes only this field
 pub record StandsAt (ignores : ℕ → Bool) (schema : List ℕ) (kind : ℕ) (value : List ℕ) (elements early late : List Field) : Type 0 where
   pub front : List Field
   pub back : List Field
@@ -281,7 +281,8 @@ pub has_following : (kind : ℕ) (front back : List Field) → Has kind back →
 has_following kind [] back h = h
 has_following kind (f ∷ front) back h = inr (has_following kind front back h)
 
--- if `front` has only fields of other types, a field of type `kind` is in `back`
+-- if `front ++ back` has a field of type `kind`, but `front` has none, then `back` has a field of
+-- type `kind`
 pub has_back : (kind : ℕ) (front back : List Field) → Others kind front → Has kind (front ++ back) → Has kind back
 has_back kind [] back others h = h
 has_back kind (f ∷ front) back others (inl h) = absurd (others.0 h)
@@ -332,8 +333,7 @@ earlier_front schema prefix fresh hint nonce lifetime h =
     (all_both P (flag 18 fresh) _ (earlier_flag schema 18 fresh h.1.0)
     (all_both P (optional 30 hint) _ (earlier_optional schema 30 hint h.1.1.0) (h.1.1.1.0, earlier_optional schema 12 lifetime h.1.1.1.1.0)))
 
--- no type that the schema lists before the HopLimit is the type of the HopLimit or of a later
--- field
+-- in the schema of an Interest, no type before the HopLimit occurs again from the HopLimit on
 pub hop_apart : AllByRecursion (λ k. Lacks k (34 ∷ 36 ∷ 44 ∷ 46 ∷ [])) (33 ∷ 18 ∷ 30 ∷ 10 ∷ 12 ∷ [])
 unfolding lacks all_lack
 hop_apart = all_lack-true (33 ∷ 18 ∷ 30 ∷ 10 ∷ 12 ∷ []) (34 ∷ 36 ∷ 44 ∷ 46 ∷ []) refl

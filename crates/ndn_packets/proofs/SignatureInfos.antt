@@ -1,4 +1,4 @@
--- A SignatureInfo that is read is in the grammar, and a SignatureInfo in the grammar is read.
+-- The reader accepts exactly the SignatureInfos of the grammar.
 use Rattle.std.proofs.Common.{◌≡◌, ℕ, List, [], ◌++◌, map, Option, Some, None, Ok, refl, sym, ap, subst, ◌∙◌}
 use Rattle.std.proofs.lemmas.List.{append-nil}
 use Rattle.ndn_tlv.specs.Number.{IsNni}
@@ -23,7 +23,7 @@ so_far kind locator time seq = record { kind = kind; locator = locator; time = t
 abbrev info_of : InfoSoFar → ℕ → PlainSignatureInfo
 info_of t kind = record { kind = kind; locator = t.locator; time = t.time; seq = t.seq }
 
--- ---- what one optional field says
+-- ---- reading one optional field
 
 number_taken : (v : List ℕ) (made : ℕ → InfoSoFar) (t : InfoSoFar) → IsBytes v → (nni_value_at v >>= λ n. good (made n)) ≡ Ok t → (n : ℕ) × IsNni v n × (t ≡ made n)
 number_taken v made t fits took =
@@ -67,7 +67,7 @@ seq_says kind locator time (Some v) s t fits took h =
     let n = number_taken v (λ n. so_far s.kind s.locator s.time (Some n)) t fits took in
     subst (Says kind locator time (Some v)) (sym n.2) (record { kind = h.kind; locator = h.locator; time = h.time; seq = (n.0, n.1, refl) })
 
--- ---- a SignatureInfo that is read is in the grammar
+-- ---- the reader accepts only SignatureInfos of the grammar
 
 abbrev info_fields : Option (List ℕ) → Option (List ℕ) → Option (List ℕ) → Option (List ℕ) → Option (List ℕ) → List Field
 info_fields kind locator nonce time seq = optional 27 kind ++ (optional 28 locator ++ (optional 38 nonce ++ (optional 40 time ++ optional 42 seq)))
@@ -149,7 +149,7 @@ info_found value s fits e =
     let parts = info_parts r.fields a.0 fit (fields_in is_ignored_in_signature_info info_schema r.plain r.fields r.recognised) r.taken in
     subst (IsSignatureInfo value) (ok_is _ s b.2) (joined value r.plain r.fields a.0 b.0 inner r.recognised parts (found_some BadField a.0.kind b.0 b.1))
 
--- ---- a SignatureInfo in the grammar is read
+-- ---- the reader accepts each SignatureInfo of the grammar
 
 takes_kind : (v : List ℕ) (kind : ℕ) → IsNni v kind → Took take_info_field no_info_yet 27 (Some v) (so_far (Some kind) Missing None None)
 takes_kind v kind h = rw (number_again v kind h) refl

@@ -57,7 +57,7 @@ not_nil xs e is = both_tests (is_nil xs) e (is_nil-true xs is)
 abbrev pub read : Field → Result Field TlvFault
 read f = Ok f
 
--- ---- parts of octets are octets
+-- ---- each part of a list of octets consists of octets
 
 pub IsBytes-front : (xs ys : List ℕ) → IsBytes (xs ++ ys) → IsBytes xs
 IsBytes-front xs ys h = subst IsBytes (take_at xs ys (length xs) refl) (IsBytes-take (length xs) (xs ++ ys) h)
@@ -68,7 +68,7 @@ IsBytes-value f rest h = IsBytes-back (spelling (length f.1)) f.1 (IsBytes-back 
 pub IsBytes-inside : (text value : List ℕ) (kind : ℕ) → IsBytes text → IsElement text kind value → IsBytes value
 IsBytes-inside text value kind fits outer = IsBytes-back (spelling (length value)) value (IsBytes-back (spelling kind) (spelling (length value) ++ value) (subst IsBytes outer.1 fits))
 
--- octets that are one element, no longer than a packet may be
+-- `text` is exactly one element, and has at most 8,800 octets
 pub record IsOne (text : List ℕ) (kind : ℕ) (value : List ℕ) : Type 0 where
   pub outer : IsElement text kind value
   pub short : length text ≤ 8800
@@ -81,7 +81,7 @@ pub IsBytes-fields : (fields : List Field) → IsBytes (flat_map element fields)
 IsBytes-fields [] h = tt
 IsBytes-fields (f ∷ fields) h = (IsBytes-value f (flat_map element fields) h, IsBytes-fields fields (IsBytes-back (element f) (flat_map element fields) h))
 
--- ---- the name at the beginning
+-- ---- the Name at the beginning of a packet
 
 pub value_ok : {A F : Type 0} (r : Result A F) (y : A) → on_result (λ x. good x) (λ _. Err BadField) r ≡ Ok y → r ≡ Ok y
 value_ok (Ok x) y e = ap (λ z. Ok z) (ok_is x y e)

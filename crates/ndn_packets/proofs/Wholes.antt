@@ -51,7 +51,7 @@ packet_alone text f e =
     let h = packet_holds text b.0 f b.2 in
     (h.0, h.1, rw (le-ltb 9000 (length text) (omega (arith, h.1)), b.1, h.2, b.2) refl)
 
--- reading exactly the octets `own` gives the packet `f`
+-- the octets `own` are one element, and reading this element as a packet returns `f`
 abbrev IsAlone : List ℕ → PlainFrame → Type 0
 IsAlone own f = (only_element own >>= packet_of own) ≡ Ok f
 

@@ -1,4 +1,5 @@
--- What is written is in the grammar: the common parts of all packets, and Data.
+-- A written Data is in the grammar, and the parts that written Interests and written Data share are
+-- in the grammar.
 use Rattle.std.proofs.Common.{rules, ◌≡◌, ◌≢◌, ℕ, zero, suc, ◌+◌, ◌^◌, ◌<◌, ◌≤◌, Bool, true, false, cond, ltb, List, [], ◌∷◌, ◌++◌, length, Option, Some, None, refl, sym, ap, subst, ◌∙◌, append_assoc, arith, inl, inr, Bor}
 use Rattle.std.specs.Prelude.{slice_index, unwrap_or, IfSome}
 use Rattle.std.specs.Option.{option_map}
@@ -125,7 +126,7 @@ length-value f = omega (arith, length-append (spelling f.0) (spelling (length f.
 abbrev pub IsType : ℕ → Type 0
 IsType kind = (1 ≤ kind) × (kind < 2 ^ 32)
 
--- if elements have valid types and together fewer than 2^64 octets, they are valid
+-- if elements have valid types and together fewer than 2^64 octets, all of these elements are valid
 pub sized : (fields : List Field) → AllByRecursion (λ f. IsType f.0) fields → length (octets fields) < 2 ^ 64 → AllByRecursion IsField fields
 sized [] types short = tt
 sized (f ∷ fields) types short =
@@ -266,7 +267,7 @@ info_written signed time seq time_fits seq_fits short =
       seq = is_number seq seq_fits;
     }
 
--- ---- what an Interest and a Data that are written have in common
+-- ---- what written Interests and written Data have in common
 
 -- if the elements of a written packet are in the order of the schema and the packet has at most
 -- 8,800 octets, the packet is in the grammar
@@ -287,7 +288,7 @@ packet_written kind schema name_value elements fields is types order same fits s
 
 -- ---- a Data that is written
 
--- a written MetaInfo, which may be absent, is in the grammar
+-- a written MetaInfo is in the grammar, even if it has no fields
 meta_written : (freshness final_block : Option ℕ) → IfSome freshness (λ k. k < 2 ^ 64) → IsMetaInfo (octets (meta_fields freshness final_block)) (unwrap_or freshness 0)
 meta_written freshness final_block fits =
     let final_value = option_map (λ n. element (50, shortest_nni n)) final_block in
@@ -340,8 +341,8 @@ cut_written kind value before following fit first =
       octets_are = flat_map-append element before ((kind, value) ∷ following);
     }
 
--- `data_elements` are the elements of a Data after its Name, and `data_grouped` are the same
--- elements as fields of the schema
+-- `data_elements` and `data_grouped` are the same list: the elements of a Data after its Name. In
+-- `data_grouped`, the lists are appended in the order that `IsData` uses.
 abbrev data_elements : Sign → List Field → Option (List ℕ) → Option (List ℕ) → List Field
 data_elements signed name meta content = (optional 20 meta ++ (optional 21 content ++ (22, octets (info_fields signed None None)) ∷ [])) ++ (23, data_value signed name meta content) ∷ []
 
@@ -410,7 +411,6 @@ data_covered signed name freshness meta content sign_fits name_fits meta_fits co
       refl,
     )
 
--- if `cond b (Some fault) others` is `None`, the test `b` is false, and `others` is `None`
 pub not_refused : (b : Bool) (fault : WriteFault) (others : Option WriteFault) → cond b (Some fault) others ≡ None → (b ≡ false) × (others ≡ None)
 not_refused true fault others e = absurd cc
 not_refused false fault others e = (refl, e)

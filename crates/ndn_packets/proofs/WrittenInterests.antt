@@ -1,5 +1,5 @@
--- An Interest that is written is in the grammar, and its signature was computed over exactly the
--- octets that it covers.
+-- An Interest that is written is in the grammar, and its signature is computed over exactly the
+-- octets that the signature covers.
 use Rattle.std.proofs.Common.{rules, ◌≡◌, ◌≢◌, ℕ, ◌^◌, ◌<◌, ◌≤◌, Bool, true, false, cond, eqb, ltb, List, [], ◌∷◌, ◌++◌, length, Option, Some, None, refl, sym, ap, subst, ◌∙◌, append_assoc, ne_eqb, arith}
 use Rattle.std.specs.Prelude.{◌||◌, not, unwrap_or, IfSome, OnSome}
 use Rattle.std.specs.Option.{option_map}
@@ -179,7 +179,8 @@ interest_written i lifetime later ends fits short =
     }
 
 -- If an Interest has ApplicationParameters, InterestSignatureInfo and InterestSignatureValue, its
--- signature covers the components before the digest and the first two of these fields.
+-- signature covers the components before the digest of parameters, the ApplicationParameters and
+-- the InterestSignatureInfo.
 interest_covered : (i : PlainInterest) (lifetime : Option ℕ) (name : List Field) (digest p info value : List ℕ) → i.name ≡ name ++ (2, digest) ∷ []
     → (ends : Ends i ((36, p) ∷ (44, info) ∷ (46, value) ∷ [])) → Fits i lifetime → length (text_of i lifetime ((36, p) ∷ (44, info) ∷ (46, value) ∷ [])) ≤ 8800
     → CoversInterest i.name (text_of i lifetime ((36, p) ∷ (44, info) ∷ (46, value) ∷ [])) (octets name) (octets ((36, p) ∷ (44, info) ∷ []))
@@ -207,7 +208,7 @@ interest_covered i lifetime name digest p info value named ends fits short =
       second_is = flat_map-append element ((36, p) ∷ []) ((44, info) ∷ []);
     }
 
--- ---- what a writer is asked for
+-- ---- the Interest that is requested of a writer
 
 abbrev asked_parameters : InterestWriter → Option (List ℕ)
 asked_parameters w = option_map (λ p. p.now) w.parameters
@@ -292,7 +293,7 @@ ends_of w (Some signed) is key times good = record {
         let inside = info_inside ((7, octets i.name) ∷ early i w.lifetime) (unwrap_or (asked_parameters w) []) (octets (info_fields signed w.time w.seq)) ((46, interest_value w signed) ∷ []) in
         omega (arith, good.short, inside)
 
--- ---- what a writer does not refuse
+-- ---- what follows if a writer does not refuse an Interest
 
 neither : (a b : Bool) → (a || b) ≡ false → (a ≡ false) × (b ≡ false)
 neither true b e = absurd cc

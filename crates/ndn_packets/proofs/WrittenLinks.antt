@@ -23,7 +23,7 @@ use Rattle.ndn_packets.proofs.FieldLists.{AreBytes}
 use Rattle.ndn_packets.proofs.Packets.{framed_again}
 use Rattle.ndn_packets.proofs.Written.{length-element, IsBytes-element, IsBytes-octets, all_append, in_order, last, number_fits, bytes_of_number}
 
--- ---- without a token: the packet or the Nack alone
+-- ---- without a PIT token, `lp_text` is the packet or the Nack alone
 
 pub bare_text : (packet : List ℕ) → lp_text None None packet ≡ packet
 bare_text packet = refl

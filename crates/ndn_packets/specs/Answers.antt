@@ -7,26 +7,26 @@ use Rattle.ndn_names.specs.Name.{IsPrefix}
 use Rattle.ndn_names.specs.Order.{component_cmp, name_cmp}
 use Rattle.ndn_names.specs.declared.component_type.TheConstants.{IMPLICIT_SHA256_DIGEST}
 
--- a name followed by the implicit digest of its Data
+-- the full name of a Data: its name followed by its implicit digest
 abbrev pub full_name : List Field → List ℕ → List Field
 full_name name digest = name ++ (IMPLICIT_SHA256_DIGEST, digest) ∷ []
 
 -- The Interest's name is the Data's name or the Data's full name. If the Interest has CanBePrefix,
--- its name may also be a prefix of one of these two names.
+-- its name may also be a prefix of the Data's name or full name.
 abbrev pub Answers : List Field → List ℕ → List Field → Bool → Type 0
 Answers name digest asked can_be_prefix =
     (asked ≡ name) ⊎ ((asked ≡ full_name name digest)
     ⊎ ((can_be_prefix ≡ true) × (IsPrefix asked name ⊎ IsPrefix asked (full_name name digest))))
 
--- a Data of this name answers the Interest whatever its digest: the Interest's name is the Data's
--- name, or, with CanBePrefix, a prefix of it
+-- The Interest's name is the Data's name or, with CanBePrefix, a prefix of the Data's name. Then
+-- the Data answers the Interest, whatever the digest of the Data is.
 abbrev pub AnswersByName : List Field → List Field → Bool → Type 0
 AnswersByName name asked can_be_prefix =
     (asked ≡ name) ⊎ ((can_be_prefix ≡ true) × IsPrefix asked name)
 
--- The implicit digest that the Interest's name requires: the last component of this name, if the
--- components before it are the Data's name. It is `None` if the Interest's name is not a full name
--- of the Data.
+-- The implicit digest at the end of the Interest's name, if the components before it are the Data's
+-- name. `None` means that the Interest's name is not the Data's name followed by an implicit
+-- digest.
 abbrev pub AsksFor : List Field → List Field → Option (List ℕ) → Type 0
 AsksFor name asked None = (digest : List ℕ) → asked ≡ full_name name digest → ⊥
 AsksFor name asked (Some digest) = asked ≡ full_name name digest

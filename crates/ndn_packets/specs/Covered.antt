@@ -22,9 +22,9 @@ pub record IsCut (kind : ℕ) (octets before from : List ℕ) : Type 0 where
   pub from_is : from ≡ element (kind, value) ++ after
   pub octets_are : octets ≡ before ++ from
 
--- The octets from the first element of type `kind` on, if it is among the first `n` elements, where
--- `n` is the first argument. The result is `None` if there is no such element, or if an element
--- before it cannot be read.
+-- `from_within n kind octets` is the suffix of `octets` that begins at the first element of type
+-- `kind`. Only the first `n` elements are searched. The result is `None` if none of the first `n`
+-- elements has type `kind`, or if an element before the first one of type `kind` cannot be read.
 unfoldable pub from_within : ℕ → ℕ → List ℕ → Option (List ℕ)
 from_within zero kind octets = None
 from_within (suc n) kind octets =
@@ -42,11 +42,11 @@ pub record CoversData (text covered : List ℕ) : Type 0 where
   pub outer : IsElement text DATA value
   pub cut : IsCut SIGNATURE_VALUE value covered from_signature
 
--- The signature of an Interest covers two parts. The first part is the components of its name
+-- The signature of an Interest covers two parts. The first part is the components of the name
 -- before the digest of parameters, which is the last component. The second part is the octets from
 -- the ApplicationParameters up to, but not including, the InterestSignatureValue. If there are
--- several elements of these types, the first ApplicationParameters count, the first
--- InterestSignatureInfo after them, and the first InterestSignatureValue after that
+-- several ApplicationParameters elements, the first one counts. The InterestSignatureInfo is the
+-- first one after the ApplicationParameters. The InterestSignatureValue is the first one after the
 -- InterestSignatureInfo.
 pub record CoversInterest (name : List Field) (text first second : List ℕ) : Type 0 where
   pub components : List Field
@@ -86,15 +86,16 @@ EndsInDigest name =
     (front : List Field) × (digest : List ℕ)
     × (name ≡ front ++ (PARAMETERS_SHA256_DIGEST, digest) ∷ [])
 
--- `text` is one element of type Data. `covered` are the octets of its TLV-VALUE before a
+-- `text` is one element of type Data. `covered` are the octets of the Data's TLV-VALUE before a
 -- SignatureValue whose value is `value`.
 abbrev pub EndsBeforeValue : List ℕ → List ℕ → List ℕ → Type 0
 EndsBeforeValue value text covered =
     (after : List ℕ) × IsElement text DATA (covered ++ (element (SIGNATURE_VALUE, value) ++ after))
 
 -- `text` is one element of type Interest. `first` is all components of `name` before the digest of
--- parameters, which is the last component. `second` begins where the octets that this digest covers
--- begin, and ends before an InterestSignatureValue whose value is `value`.
+-- parameters, which is the last component. `second` begins with the first octet that the digest of
+-- parameters covers. `second` ends directly before an InterestSignatureValue whose value is
+-- `value`.
 pub record EndsAtSignature (name : List Field) (value text first second : List ℕ) : Type 0 where
   pub components : List Field
   pub early : List ℕ
@@ -109,7 +110,7 @@ pub record EndsAtSignature (name : List Field) (value text first second : List �
   pub outer : IsElement text INTEREST
       (early ++ (second ++ (element (INTEREST_SIGNATURE_VALUE, value) ++ after)))
 
--- ---- covered octets as a reader notes them
+-- ---- the covered octets that a reader finds
 
 -- `second` is the second part that the signature of an Interest with this name covers; if `second`
 -- is absent, the signature covers nothing
@@ -117,9 +118,9 @@ abbrev pub HoldsSecond : List Field → List ℕ → Option (List ℕ) → Type 
 HoldsSecond name text None = (first second : List ℕ) → CoversInterest name text first second → ⊥
 HoldsSecond name text (Some second) = (first : List ℕ) × CoversInterest name text first second
 
--- `from_parameters` begins at the first ApplicationParameters in the octets. `from_value` begins at
+-- `from_parameters` begins at the first ApplicationParameters in `octets`. `from_value` begins at
 -- the first InterestSignatureValue that follows the first InterestSignatureInfo after these
--- parameters.
+-- ApplicationParameters.
 abbrev pub IsSignedAt : List ℕ → List ℕ → List ℕ → Type 0
 IsSignedAt octets from_parameters from_value =
     (from_info : List ℕ)

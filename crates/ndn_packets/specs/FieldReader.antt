@@ -20,24 +20,26 @@ ignored_by rules.SignatureInfo = is_ignored_in_signature_info
 abbrev pub fields_left : FieldReader → List (Result Field PacketFault)
 fields_left f = fields_from (ignored_by f.rules) f.schema.now (elements_of f.rest.now)
 
--- a step from `before` to `after` returns the first of the remaining fields, `None` if no field
--- remains, or the fault that is the only remaining item
+-- A step of the reader from `before` to `after` returns the next field. The step returns `None` if
+-- no field is left. The step returns a fault if this fault is the only item that is left.
 abbrev pub IsNextField : FieldReader → FieldReader → Result (Option Element) PacketFault → Type 0
 IsNextField before after (Ok None) = fields_left before ≡ []
 IsNextField before after (Ok (Some e)) =
     fields_left before ≡ Ok (e.kind, e.value.now) ∷ fields_left after
 IsNextField before after (Err fault) = fields_left before ≡ Err fault ∷ []
 
--- The reader just returned the field `e`. `after.here` is the octets from `e` on. `schema` is the
--- schema after `e`. For each type that could come next before this step, the octets from the first
--- element of this type on are equal in `before.rest` and in `after.here`.
+-- The reader just returned the field `e`. `after.here` is the octets from `e` on. `after.schema`
+-- lists the types after the type of `e`. If a field of type `kind` could come next before this
+-- step, `before.rest` and `after.here` have the same octets from the first element of type `kind`
+-- on.
 pub record StandsHere (before after : FieldReader) (e : Element) : Type 0 where
   pub here : Ok ((e.kind, e.value.now), after.rest.now) ≡ element_at after.here.now
   pub schema : schema_after e.kind before.schema.now ≡ Some after.schema.now
   pub place : (kind : ℕ) → IsSome (schema_after kind before.schema.now)
       → from_first kind before.rest.now ≡ from_first kind after.here.now
 
--- for every type other than that of a Name, the octets from the first element of this type on are
--- equal in `octets` and in `rest`, which is what follows a Name at the front of `octets`
+-- For every type other than Name, `octets` and `rest` have the same octets from the first element
+-- of this type on. Readers use this for the octets `rest` that follow a Name at the start of
+-- `octets`.
 abbrev pub OthersAfter : List ℕ → List ℕ → Type 0
 OthersAfter octets rest = (kind : ℕ) → kind ≢ NAME → from_first kind octets ≡ from_first kind rest

@@ -18,8 +18,8 @@ is_ignored_in_meta_info kind = is_even_high kind || (nat_le 128 kind && nat_le k
 abbrev pub is_ignored_in_signature_info : ℕ → Bool
 is_ignored_in_signature_info kind = is_even_high kind || kind == VALIDITY_PERIOD
 
--- The schemas list the types of fields in order: for an Interest and a Data the fields after the
--- Name, for a MetaInfo and a SignatureInfo all fields.
+-- Each schema lists the types of fields in order. The schemas of an Interest and of a Data list the
+-- fields after the Name. The schemas of a MetaInfo and of a SignatureInfo list all fields.
 abbrev pub interest_schema : List ℕ
 interest_schema =
     CAN_BE_PREFIX ∷ MUST_BE_FRESH ∷ FORWARDING_HINT ∷ NONCE ∷ INTEREST_LIFETIME ∷ HOP_LIMIT
@@ -35,22 +35,23 @@ abbrev pub info_schema : List ℕ
 info_schema =
     SIGNATURE_TYPE ∷ KEY_LOCATOR ∷ SIGNATURE_NONCE ∷ SIGNATURE_TIME ∷ SIGNATURE_SEQ_NUM ∷ []
 
--- A field of type InterestSignatureInfo or InterestSignatureValue may come only after the field of
--- the preceding type in the schema. Ignored elements between the two fields do not matter.
+-- An InterestSignatureInfo or an InterestSignatureValue may come only after the field that precedes
+-- it in the schema. Ignored elements may come between a field and the field that precedes it.
 abbrev pub needs_previous_field : ℕ → Bool
 needs_previous_field kind = kind == INTEREST_SIGNATURE_INFO || kind == INTEREST_SIGNATURE_VALUE
 
 -- A field of type `kind` may come next, where `schema` lists the types that may still come. `later`
--- are the types after `kind` in `schema`. A type that needs the previous field must be the first in
--- `schema`.
+-- are the types after `kind` in `schema`. If `kind` needs the previous field, `kind` must be the
+-- first type in `schema`.
 abbrev pub Counts : ℕ → List ℕ → List ℕ → Type 0
 Counts kind later schema =
     (front : List ℕ) × (schema ≡ front ++ kind ∷ later) × AllByRecursion (λ k. k ≢ kind) front
     × (needs_previous_field kind ≡ true → front ≡ [])
 
--- The fields of a schema among elements. An element is a field if the schema lists its type after
--- the types of all earlier fields. If the type needs the previous field, the schema must list it
--- directly after the type of the last field. Every other element must be one that is ignored.
+-- `fields` are the fields of a schema among `elements`. An element is a field if the schema lists
+-- its type after the types of all earlier fields. A type that needs the previous field must also
+-- come directly after the type of the last earlier field in the schema. Every element that is not a
+-- field must have a type that is ignored.
 abbrev pub Fields : (ℕ → Bool) → List ℕ → List Field → List Field → Type 0
 Fields ignores schema [] fields = fields ≡ []
 Fields ignores schema (e ∷ elements) fields =

@@ -8,7 +8,7 @@ use Rattle.ndn_packets.specs.declared.fault.PacketFault.TheVariants.{Tlv, Critic
 use Rattle.ndn_packets.specs.Fields.{Counts}
 use Rattle.ndn_packets.specs.Reading.{fields_from, read_fields}
 
--- Each element is either ignored, or a field of the schema whose value is accepted. After the
+-- Each element is either ignored, or a field of the schema whose value `take` accepts. After the
 -- elements, the types in `later` may still come, and `t` is the state.
 abbrev pub Passes : {S : Type 0} → (S → Field → Result S PacketFault) → (ℕ → Bool) → List ℕ → S
     → List Field → List ℕ → S → Type 0
@@ -19,7 +19,7 @@ Passes {S} take ignores schema s (e ∷ elements) later t =
     ⊎ (((next : List ℕ) → Counts e.0 next schema → ⊥) × (ignores e.0 ≡ true)
     × Passes take ignores schema s elements later t)
 
--- All of the elements can be read and pass, and `t` is the state after them.
+-- All elements can be read and satisfy `Passes`, and `t` is the state after them.
 abbrev pub AllPass : {S : Type 0} → (S → Field → Result S PacketFault) → (ℕ → Bool) → List ℕ → S
     → List (Result Field TlvFault) → List Field → S → Type 0
 AllPass {S} take ignores schema s elements plain t =

@@ -28,8 +28,8 @@ OuterFault text fault =
 abbrev pub IsAlone : List ℕ → Field → Type 0
 IsAlone text e = element_at text ≡ Ok (e, [])
 
--- The fault of a packet: `TooLong` if it has more than 8,800 octets, otherwise the fault that
--- `Otherwise` states.
+-- The fault of a packet. If the packet has more than 8,800 octets, the fault is `TooLong`. If the
+-- packet has at most 8,800 octets, the statement `Otherwise` holds, which describes the fault.
 abbrev pub LongOr : List ℕ → PacketFault → Type 0 → Type 0
 LongOr text fault Otherwise =
     ((8800 < length text) × (fault ≡ TooLong)) ⊎ ((length text ≤ 8800) × Otherwise)
@@ -40,8 +40,8 @@ NoInterest text e fault = LongOr text fault (InterestFault (elements_of e.1) fau
 abbrev pub NoData : List ℕ → Field → PacketFault → Type 0
 NoData text e fault = LongOr text fault (DataFault (elements_of e.1) fault)
 
--- The octets `text`, which are the element `e`, are no valid packet because of this fault. If `e`
--- is neither an Interest nor a Data, the fault is `BadField`.
+-- The octets `text` are exactly the element `e`, and `fault` is the reason why they are not a valid
+-- packet. If `e` is neither an Interest nor a Data, the fault is `BadField`.
 abbrev pub NoPacket : List ℕ → Field → PacketFault → Type 0
 NoPacket text e fault =
     ((e.0 ≡ INTEREST) × NoInterest text e fault)
@@ -50,8 +50,8 @@ NoPacket text e fault =
 
 -- ---- link packets
 
--- The octets `text` of a Fragment, which are the element `e`, have this fault. With a Nack, an
--- element that is not an Interest has the fault `BadField`.
+-- The Fragment `text` is exactly the element `e`, and `fault` is the reason why it is not valid. In
+-- a link packet with a Nack, an element other than an Interest has the fault `BadField`.
 abbrev pub NoneInside : Option ℕ → List ℕ → Field → PacketFault → Type 0
 NoneInside None text e fault = NoPacket text e fault
 NoneInside (Some reason) text e fault =
@@ -66,8 +66,9 @@ IsKnown kind =
     (kind ≡ SEQUENCE)
     ⊎ ((kind ≡ FRAG_INDEX) ⊎ ((kind ≡ FRAG_COUNT) ⊎ ((kind ≡ PIT_TOKEN) ⊎ (kind ≡ NACK))))
 
--- The header field `h` may not follow the fields in `before`: `h` is a known field that is already
--- there, a PitToken not of 1 to 32 octets, or an unknown field that is not ignored.
+-- The header field `h` may not come after the header fields `before`. One reason is that `h` is a
+-- known field and `before` has a field of its type. Other reasons are that `h` is a PitToken that
+-- does not have 1 to 32 octets, or an unknown field that is not ignored.
 abbrev pub IsRefused : List Field → Field → Type 0
 IsRefused before h =
     (IsKnown h.0 × (headers_of h.0 before ≢ []))
@@ -95,16 +96,17 @@ HeaderFault before h fault =
     (IsRefused before h × (fault ≡ LpField))
     ⊎ ((IsRefused before h → ⊥) × HeaderValueFault h fault)
 
--- the fault of the first element after a Fragment, where no element may follow: `Tlv` if it cannot
--- be read, or `LpField`; without such an element there is no fault
+-- The fault of an element after a Fragment, where no element may come. The fault is `Tlv` if the
+-- first element after the Fragment cannot be read, otherwise `LpField`. If no element comes after
+-- the Fragment, there is no fault.
 abbrev pub FollowerFault : List (Result Field TlvFault) → PacketFault → Type 0
 FollowerFault [] fault = ⊥
 FollowerFault (Err unreadable ∷ after) fault = fault ≡ Tlv unreadable
 FollowerFault (Ok e ∷ after) fault = fault ≡ LpField
 
 -- The fault of the elements after valid header fields. `nack` is the reason of the Nack among the
--- header fields, if there is a Nack. A Nack needs a Fragment. A fault inside a Fragment is reported
--- before a fault after it.
+-- header fields, if there is a Nack. A Nack without a Fragment has the fault `BadField`. A fault
+-- inside a Fragment is reported before a fault after the Fragment.
 abbrev pub AfterHeaders : List Field → Option ℕ → List (Result Field TlvFault) → PacketFault
     → Type 0
 AfterHeaders headers nack [] fault = IsSome nack × (fault ≡ BadField)

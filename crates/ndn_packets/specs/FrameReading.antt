@@ -21,24 +21,24 @@ only_element text =
     on_result (λ x. if is_nil x.1 then Ok x.0 else Err BadField) (λ f. Err (Tlv f))
     (element_at text)
 
--- The next two definitions: the Interest, or the Data, of the octets `text`, which are one element
--- with this value, or its fault. More than 8,800 octets have the fault `TooLong`.
+-- `interest_of` reads an Interest, and `data_of` reads a Data. The octets `text` are one element
+-- with the TLV-VALUE `value`. If `text` has more than 8,800 octets, the fault is `TooLong`.
 abbrev pub interest_of : List ℕ → List ℕ → Result PlainInterest PacketFault
 interest_of text value = if nat_lt 8800 (length text) then Err TooLong else interest_at value
 
 abbrev pub data_of : List ℕ → List ℕ → Result PlainData PacketFault
 data_of text value = if nat_lt 8800 (length text) then Err TooLong else data_at value
 
--- the packet in the octets `text`, which are the element `outer`, or its fault; an element that is
--- neither an Interest nor a Data has the fault `BadField`
+-- The packet in the octets `text`, or its fault. The octets `text` are exactly the element `outer`.
+-- An element that is neither an Interest nor a Data has the fault `BadField`.
 abbrev pub packet_of : List ℕ → Field → Result PlainFrame PacketFault
 packet_of text outer =
     if outer.0 == INTEREST then (interest_of text outer.1 >>= λ i. Ok (AnInterest text i)) else (
     if outer.0 == DATA then (data_of text outer.1 >>= λ d. Ok (AData text d)) else
     Err BadField)
 
--- the Nack with this reason for the Interest in the octets `text`, which are the element `outer`,
--- or a fault; any other element has the fault `BadField`
+-- The Nack with this reason for the Interest in the octets `text`, or a fault. The octets `text`
+-- are exactly the element `outer`. An element other than an Interest has the fault `BadField`.
 abbrev pub nacked_of : ℕ → List ℕ → Field → Result PlainFrame PacketFault
 nacked_of reason text outer =
     if outer.0 == INTEREST then (interest_of text outer.1 >>= λ i. Ok (ANack reason text i))
@@ -46,8 +46,8 @@ nacked_of reason text outer =
 
 -- ---- link packets
 
--- the reason in a field NackReason, or the fault `BadField` if its value is not a number; the
--- earlier reason is replaced
+-- the reason in a NackReason field, which replaces the earlier reason; the fault is `BadField` if
+-- the value of the field is not a number
 abbrev pub take_nack_field : ℕ → Field → Result ℕ PacketFault
 take_nack_field reason f = nni_value_at f.1
 
@@ -55,7 +55,8 @@ unfoldable pub nack_at : List ℕ → Result ℕ PacketFault
 nack_at value =
     read_fields take_nack_field 0 (fields_from is_even_high nack_schema (elements_of value))
 
--- the state of a reader of header fields: which have been read, the token, and the reason of a Nack
+-- the state of a reader of header fields: which header fields have been read, the PIT token, and
+-- the reason of a Nack
 pub record LinkSoFar : Type 0 where
   pub sequence : Bool
   pub frag_index : Bool
@@ -86,12 +87,13 @@ is_refused_header s h =
     if h.0 == NACK then is_some s.nack else
     not (is_ignored_header h.0)))))
 
--- the state `s` if the value is a number that is at most `limit`; the fault is `BadField` if it is
--- not a number, and `Fragmented` if it is greater
+-- the state `s` if the value is a number that is at most `limit`; the fault is `BadField` if the
+-- value is not a number, and `Fragmented` if the number is greater than `limit`
 abbrev pub at_most : ℕ → List ℕ → LinkSoFar → Result LinkSoFar PacketFault
 at_most limit value s = nni_value_at value >>= λ n. if nat_lt limit n then Err Fragmented else Ok s
 
--- the state after one more header field, which is not refused, or the fault of its value
+-- the state after one more header field that is not refused, or the fault in the value of this
+-- field
 abbrev pub with_header : LinkSoFar → Field → Result LinkSoFar PacketFault
 with_header s h =
     if h.0 == SEQUENCE then Ok (record s { sequence = true }) else (
@@ -104,13 +106,14 @@ with_header s h =
 abbrev pub take_header : LinkSoFar → Field → Result LinkSoFar PacketFault
 take_header s h = if is_refused_header s h then Err LpField else with_header s h
 
--- the packet in a Fragment, or its fault; with the reason of a Nack, the packet must be an Interest
+-- the packet in a Fragment, or its fault; if the link packet has a Nack, this packet must be an
+-- Interest
 abbrev pub fragment_at : Option ℕ → List ℕ → Result PlainFrame PacketFault
 fragment_at None text = only_element text >>= packet_of text
 fragment_at (Some reason) text = only_element text >>= nacked_of reason text
 
 -- the content `framed` of a link packet, or a fault if an element follows the Fragment: `Tlv` if
--- this element cannot be read, or `LpField`
+-- this element cannot be read, otherwise `LpField`
 abbrev pub last_of : PlainFramed → List (Result Field TlvFault) → Result PlainFramed PacketFault
 last_of framed [] = Ok framed
 last_of framed (Err f ∷ elements) = Err (Tlv f)
@@ -121,8 +124,8 @@ abbrev pub no_fragment : Option (List ℕ) → Option ℕ → Result PlainFramed
 no_fragment token None = Ok (framed_with token Idle)
 no_fragment token (Some reason) = Err BadField
 
--- the content of a link packet, or its first fault, where the header fields read so far gave the
--- state `s`, and the elements are the remaining ones
+-- The content of a link packet, or its first fault. `s` is the state after the header fields that
+-- have been read. The elements of the list are those that have not been read yet.
 abbrev pub link_from : LinkSoFar → List (Result Field TlvFault) → Result PlainFramed PacketFault
 link_from s [] = no_fragment s.token s.nack
 link_from s (Err f ∷ elements) = Err (Tlv f)
@@ -136,7 +139,7 @@ link_at value = link_from no_headers_yet (elements_of value)
 
 -- ---- frames
 
--- the content of the octets `text`, which are the element `outer`, or the first fault
+-- the frame in the octets `text`, or its first fault; `text` is exactly the element `outer`
 abbrev pub outer_of : List ℕ → Field → Result PlainFramed PacketFault
 outer_of text outer =
     if outer.0 == LINK_PACKET then link_at outer.1

@@ -1,6 +1,6 @@
 -- Full names and their octets. A full name is a name and the implicit digest of its Data. The last
--- 34 of its octets are the digest component (NDN Packet Format 0.3, "Name", "Implicit Digest
--- Component").
+-- 34 octets of a full name are the digest component (NDN Packet Format 0.3, "Name", "Implicit
+-- Digest Component").
 use Rattle.std.specs.Prelude.{◌≡◌, ℕ, ◌-◌, ◌≤◌, List, [], ◌∷◌, length, take, drop, Bool, true, nat_lt, ◌&&◌, ◌||◌, refl}
 use Rattle.std.specs.Coded.{Coded, code_by, coded×, coded_list, coded_ℕ}
 use Rattle.std.specs.List.{AllByRecursion}
@@ -23,16 +23,16 @@ full_name_code =
     code_by (List Field × List ℕ) (coded× name_code (coded_list coded_ℕ))
     (λ f. (f.name, f.digest)) (λ p. record { name = p.0; digest = p.1 }) (λ _. refl)
 
--- ---- names that full names follow in canonical order
+-- ---- full names that are near a name in canonical order
 
 -- the list is empty, or the type of its first component is at most that of an implicit digest
 abbrev pub starts_small : List Field → Bool
 starts_small [] = true
 starts_small (c ∷ cs) = nat_lt c.0 PARAMETERS_SHA256_DIGEST
 
--- `full` is near `name`: it begins with `name`, and without CanBePrefix the next component, if
--- there is one, has at most the type of an implicit digest. Every full name that answers an
--- Interest with this name is near it.
+-- `full` begins with `name`. Without CanBePrefix, if `full` has a component after `name`, the type
+-- of this component is at most that of an implicit digest. If a Data answers an Interest with this
+-- name and this CanBePrefix, the full name of the Data is near the name.
 abbrev pub is_near : List Field → Bool → List Field → Bool
 is_near name can_be_prefix full =
     begins_with name full && (can_be_prefix || starts_small (drop (length name) full))

@@ -144,8 +144,8 @@ pub record IsInterest (text : List ℕ) (i : PlainInterest) : Type 0 where
   pub digested : IsDigested i.name fields.elements i.parameters
   pub signature : IsSigned info_value signature_value i.signature
 
--- the freshness that an optional MetaInfo gives, which is 0 if there is no MetaInfo; a MetaInfo
--- must be valid
+-- The optional MetaInfo is absent or valid. `freshness` is its FreshnessPeriod, or 0 if the
+-- MetaInfo is absent.
 abbrev pub IsFreshness : Option (List ℕ) → ℕ → Type 0
 IsFreshness None freshness = freshness ≡ 0
 IsFreshness (Some value) freshness = IsMetaInfo value freshness

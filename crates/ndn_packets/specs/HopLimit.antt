@@ -14,9 +14,9 @@ use Rattle.ndn_packets.specs.declared.types.TheConstants.{HOP_LIMIT}
 abbrev pub HasHopLimit : List ℕ → ℕ → Type 0
 HasHopLimit text limit = (i : PlainInterest) × IsInterest text i × (i.hop_limit ≡ Some limit)
 
--- The index in the Interest `text` of the octet of its HopLimit, where `from` is the octets from
--- the HopLimit element on. It is the third octet of this element, after the type and the length.
--- Without a HopLimit, the result is the length of `text`.
+-- The index of the HopLimit's octet in the Interest `text`, where `from` is the octets from the
+-- HopLimit element on. The HopLimit's octet is the third octet of this element, after the type and
+-- the length. Without a HopLimit, the result is the length of `text`.
 abbrev pub place_from : List ℕ → Option (List ℕ) → ℕ
 place_from text None = length text
 place_from text (Some from) = (length text - length from) + 2
@@ -40,7 +40,7 @@ abbrev pub with_octet : List ℕ → ℕ → List ℕ
 with_octet text octet = slice_set text (hop_place text) octet
 
 -- `limit` is a mutable borrow of the HopLimit's octet, if there is a HopLimit. After the borrow,
--- this octet has the value that the borrower left, and all other octets are unchanged.
+-- the HopLimit's octet has the value that the borrower left, and all other octets are unchanged.
 abbrev pub LendsHopLimit : MutBor (List ℕ) → Option (MutBor ℕ) → Fml
 LendsHopLimit octets limit = LendsIf (Array u8 0) u8 octets limit (with_octet octets.now) octets.now
 

@@ -72,7 +72,7 @@ key_cmp-antisymmetric x y e =
     let fresh : x.must_be_fresh ≡ y.must_be_fresh = bool_tie _ _ b.1 in
     λ i. record { name = names i; can_be_prefix = prefixes i; must_be_fresh = fresh i }
 
--- borrowed keys compare as the same keys in plain data do
+-- the order of borrowed keys is the order of their plain data
 abbrev pub key_view_cmp : Key → Key → Ordering
 key_view_cmp = on plain_key key_cmp
 

@@ -35,8 +35,8 @@ abbrev pub IsToken : List ℕ → Type 0
 IsToken token = (1 ≤ length token) × (length token ≤ 32)
 
 -- A valid header field. FragIndex must be 0, and FragCount at most 1. A PitToken has 1 to 32
--- octets, and a Nack is valid. Any Sequence is valid. Every other field must be one that is
--- ignored.
+-- octets, and a Nack is valid. Any Sequence is valid. A header field of any other type must be one
+-- that is ignored.
 abbrev pub IsHeader : Field → Type 0
 IsHeader h =
     (h.0 ≡ SEQUENCE)
@@ -60,8 +60,8 @@ IsNackOf headers (Some reason) =
 abbrev pub IsTokenOf : List Field → Option (List ℕ) → Type 0
 IsTokenOf headers token = headers_of PIT_TOKEN headers ≡ optional PIT_TOKEN token
 
--- LpPacket: header fields in any order, each known one at most once, then at most one Fragment. An
--- LpPacket has at most 9,000 octets.
+-- An LpPacket has header fields in any order, each known header field at most once, and then at
+-- most one Fragment. An LpPacket has at most 9,000 octets.
 pub record IsLinkPacket (text : List ℕ) (token : Option (List ℕ)) (nack : Option ℕ)
     (fragment : Option (List ℕ)) : Type 0 where
   pub value : List ℕ
@@ -76,8 +76,8 @@ pub record IsLinkPacket (text : List ℕ) (token : Option (List ℕ)) (nack : Op
   pub octets : (i : ℕ) → slice_index text i < 256
 
 -- A frame with an optional PIT token. An Interest or a Data alone is a frame without a token. Every
--- other frame is a link packet around a Data, around an Interest, or around an Interest with a
--- Nack, or a link packet with neither a Fragment nor a Nack.
+-- other frame is a link packet. A link packet contains a Data, an Interest, an Interest and a Nack,
+-- or neither a Fragment nor a Nack.
 abbrev pub IsFrameWith : List ℕ → Option (List ℕ) → PlainFrame → Type 0
 IsFrameWith text token (AnInterest whole i) =
     IsInterest whole i

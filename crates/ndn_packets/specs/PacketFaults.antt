@@ -13,7 +13,8 @@ use Rattle.ndn_packets.specs.Reading.{take_info_field, no_info_yet, InfoSoFar, t
 use Rattle.ndn_packets.specs.FirstFault.{FirstFault, AllPass}
 use Rattle.ndn_packets.specs.declared.types.TheConstants.{NAME}
 
--- All elements of a SignatureInfo pass, but none is a SignatureType. The fault is `BadField`.
+-- The fault is `BadField`: all elements of a SignatureInfo are valid fields or ignored, but none is
+-- a SignatureType.
 pub record InfoEndsWrong (elements : List (Result Field TlvFault))
     (fault : PacketFault) : Type 0 where
   pub plain : List Field
@@ -28,15 +29,16 @@ InfoFault elements fault =
     FirstFault take_info_field is_ignored_in_signature_info info_schema no_info_yet elements fault
     ⊎ InfoEndsWrong elements fault
 
--- The elements begin with a Name of these components, and `later` are the elements after it.
+-- The elements begin with a Name of these components, and `later` are the elements after the Name.
 pub record Leads (elements : List (Result Field TlvFault)) (name : List Field)
     (later : List (Result Field TlvFault)) : Type 0 where
   pub value : List ℕ
   pub front : elements ≡ Ok (NAME, value) ∷ later
   pub name_is : name_at value ≡ Ok name
 
--- The elements do not begin with a valid Name. The fault is `NoName` if there is no element or the
--- first one is not a Name, `Tlv` if it cannot be read, and `BadField` if its value is not a name.
+-- The elements do not begin with a valid Name. `NoName`: there is no element, or the first element
+-- is not a Name. `Tlv`: the first element cannot be read. `BadField`: the first element is a Name,
+-- but its value is not a name.
 abbrev pub NameFault : List (Result Field TlvFault) → PacketFault → Type 0
 NameFault [] fault = fault ≡ NoName
 NameFault (Err unreadable ∷ later) fault = fault ≡ Tlv unreadable
@@ -44,9 +46,11 @@ NameFault (Ok e ∷ later) fault =
     ((e.0 ≢ NAME) × (fault ≡ NoName))
     ⊎ ((e.0 ≡ NAME) × IsErr (name_at e.1) × (fault ≡ BadField))
 
--- The fault of the digests of parameters in a name, where `elements` follow the name. Without
--- parameters, a digest is `DigestWithout`. With parameters, no digest is `DigestMissing`. A wrong
--- digest or a second one is `DigestWrong`.
+-- The fault of the digests of parameters in a name, where `elements` follow the name.
+-- `DigestWithout`: there are no ApplicationParameters, but the name has a digest of parameters.
+-- `DigestMissing`: there are ApplicationParameters, but the name has no digest of parameters.
+-- `DigestWrong`: there are ApplicationParameters, but the name has a wrong digest of parameters, or
+-- more than one.
 abbrev pub DigestFault : List Field → List Field → Option (List ℕ) → PacketFault → Type 0
 DigestFault name elements None fault = (digests_in name ≢ []) × (fault ≡ DigestWithout)
 DigestFault name elements (Some parameters) fault =
@@ -54,8 +58,9 @@ DigestFault name elements (Some parameters) fault =
     ⊎ ((digests_in name ≢ []) × (IsDigested name elements (Some parameters) → ⊥)
     × (fault ≡ DigestWrong))
 
--- All elements after the Name pass, but the Nonce is missing, or the digests of parameters have a
--- fault. A missing Nonce is reported before a fault of the digests, as `NoNonce`.
+-- All elements after the Name are valid fields or ignored. Either the Nonce is missing, or the
+-- digests of parameters have a fault. A missing Nonce has the fault `NoNonce`, which is reported
+-- before a fault of the digests.
 pub record InterestEndsWrong (name : List Field) (later : List (Result Field TlvFault))
     (fault : PacketFault) : Type 0 where
   pub plain : List Field
@@ -65,8 +70,9 @@ pub record InterestEndsWrong (name : List Field) (later : List (Result Field Tlv
   pub faulty : ((taken.nonce ≡ None) × (fault ≡ NoNonce))
       ⊎ ((taken.nonce ≢ None) × DigestFault name plain taken.parameters fault)
 
--- The fault of an Interest that begins with a Name. It is `NoName` if the name is empty. The
--- elements after a nonempty name have the fault.
+-- The fault of an Interest that begins with a Name. If the name is empty, the fault is `NoName`.
+-- Otherwise, the fault is the first fault among the elements after the Name, or the fault in
+-- `InterestEndsWrong`.
 abbrev pub AfterInterestName : List Field → List (Result Field TlvFault) → PacketFault → Type 0
 AfterInterestName name later fault =
     ((name ≡ []) × (fault ≡ NoName))
@@ -80,8 +86,8 @@ InterestFault elements fault =
     ⊎ ((name : List Field) × (later : List (Result Field TlvFault)) × Leads elements name later
     × AfterInterestName name later fault)
 
--- All elements after the Name pass, but there is no SignatureInfo or no SignatureValue. The fault
--- is `BadField`.
+-- The fault is `BadField`: all elements after the Name are valid fields or ignored, but the
+-- SignatureInfo or the SignatureValue is missing.
 pub record DataEndsWrong (later : List (Result Field TlvFault)) (fault : PacketFault) : Type 0 where
   pub plain : List Field
   pub taken : DataSoFar

@@ -24,9 +24,8 @@ schema_after kind (first ∷ schema) =
     if first == kind then Some schema
     else (if needs_previous_field kind then None else schema_after kind schema)
 
--- The fields of a schema among the elements, in the schema's order. The list ends with the
--- elements, or with the fault of the first element that cannot be read or is neither a field nor
--- ignored.
+-- The fields of a schema among the elements, in the schema's order. If an element cannot be read,
+-- or is neither a field nor ignored, the list ends with the fault of this element.
 abbrev pub fields_from : (ℕ → Bool) → List ℕ → List (Result Field TlvFault)
     → List (Result Field PacketFault)
 fields_from ignores schema [] = []
@@ -43,8 +42,9 @@ read_fields take s [] = Ok s
 read_fields take s (Err f ∷ fields) = Err f
 read_fields take s (Ok f ∷ fields) = take s f >>= λ t. read_fields take t fields
 
--- the value of the first element, which must be a Name, and the elements after it; the fault is
--- `Tlv` if this element cannot be read, and `NoName` if it is absent or another one
+-- the value of the Name at the start of the elements, and the elements after the Name; the fault is
+-- `Tlv` if the first element cannot be read, and `NoName` if there is no element or the first
+-- element is not a Name
 abbrev pub name_first : List (Result Field TlvFault)
     → Result (List ℕ × List (Result Field TlvFault)) PacketFault
 name_first [] = Err NoName
@@ -56,8 +56,8 @@ name_first (Ok e ∷ elements) = if e.0 == NAME then Ok (e.1, elements) else Err
 abbrev pub name_value_at : List ℕ → Result (List Field) PacketFault
 name_value_at value = on_result (λ name. Ok name) (λ _. Err BadField) (name_at value)
 
--- the name in the first element, which must be a Name, and the elements after it, or the fault of
--- this element
+-- The name in the first element, which must be a Name, and the elements after this element. The
+-- fault is that of `name_first`, or `BadField` if the value of the Name is not a name.
 abbrev pub leading_name_at : List (Result Field TlvFault)
     → Result (List Field × List (Result Field TlvFault)) PacketFault
 leading_name_at elements = do
@@ -78,8 +78,8 @@ found_or fault None = Err fault
 found_or fault (Some x) = Ok x
 
 -- The freshness after a field of a MetaInfo is read, or the fault `BadField`. Only a
--- FreshnessPeriod changes the freshness. A ContentType must be a number. The only other type that
--- is possible here is 26 (FinalBlockId).
+-- FreshnessPeriod changes the freshness. A ContentType must be a number. The only other field of a
+-- MetaInfo, the FinalBlockId (type 26), is not checked.
 abbrev pub take_meta_field : ℕ → Field → Result ℕ PacketFault
 take_meta_field freshness f =
     if f.0 == CONTENT_TYPE then (nni_value_at f.1 >>= λ _. Ok freshness) else (
@@ -91,7 +91,7 @@ meta_at value =
     (fields_from is_ignored_in_meta_info meta_schema (elements_of value))
 
 -- The plain data of a KeyLocator, given the first element `e` of its value and the octets after it.
--- If octets follow, or `e` is neither a valid Name nor a KeyDigest, the result is `Other`.
+-- If octets follow `e`, or if `e` is neither a valid Name nor a KeyDigest, the result is `Other`.
 abbrev pub locator_of : Field → List ℕ → PlainLocator
 locator_of e rest =
     if not (is_nil rest) then Other else (
@@ -175,21 +175,21 @@ take_interest_field s f =
     if f.0 == INTEREST_SIGNATURE_VALUE then Ok (record s { value = Some f.1 }) else
     Ok s)))))))
 
--- the elements from the first ApplicationParameters on, or no elements if one before them cannot be
--- read
+-- the elements from the first ApplicationParameters on; the empty list if there are none, or if an
+-- element before them cannot be read
 abbrev pub parameters_on : List (Result Field TlvFault) → List (Result Field TlvFault)
 parameters_on [] = []
 parameters_on (Err f ∷ elements) = []
 parameters_on (Ok e ∷ elements) =
     if e.0 == APPLICATION_PARAMETERS then Ok e ∷ elements else parameters_on elements
 
--- the octets of the elements that can be read; these are the received octets, because only the
--- shortest encoding of a number can be read
+-- The octets of the elements that can be read. These are the received octets, because types and
+-- lengths can be read only in their shortest encoding.
 abbrev pub octets_of_read : List (Result Field TlvFault) → List ℕ
 octets_of_read elements = flat_map element (filter_map result_ok elements)
 
--- the fault of the digests of parameters in a name, where `right` is the correct digest, or `None`
--- if they have no fault
+-- The fault of the digests of parameters in a name, or `None` if they have no fault. `right` is the
+-- correct digest.
 abbrev pub digest_fault : Option (List ℕ) → List Field → List ℕ → Option PacketFault
 digest_fault None [] right = None
 digest_fault None (d ∷ digests) right = Some DigestWithout
@@ -198,8 +198,9 @@ digest_fault (Some parameters) (d ∷ []) right =
     if bytes_eq d.1 right then None else Some DigestWrong
 digest_fault (Some parameters) (d ∷ e ∷ digests) right = Some DigestWrong
 
--- the fault of the digests of parameters in a name, given only the first of these digests, where
--- `right` is the correct digest, or `None` if they have no fault
+-- The fault of the digests of parameters in a name, or `None` if they have no fault. The result is
+-- computed from the first of these digests and from whether it is the only one. `right` is the
+-- correct digest.
 abbrev pub fault_by : Option (List ℕ) → Option FirstOfType → List ℕ → Option PacketFault
 fault_by None None right = None
 fault_by None (Some first) right = Some DigestWithout

@@ -38,8 +38,8 @@ plain_frame frames.Idle = Idle
 abbrev pub plain_framed : Framed → PlainFramed
 plain_framed f = record { token = option_map (λ t. t.now) f.token; frame = plain_frame f.frame }
 
--- The next two definitions: the received octets are this Interest, or this Data. This is true of
--- every packet in memory, because only reading creates packets.
+-- `IsReadInterest` and `IsReadData` state that the received octets of a packet are that packet.
+-- Every packet in memory satisfies this, because only reading creates packets.
 abbrev pub IsReadInterest : Interest → Type 0
 IsReadInterest i = IsInterest i.whole.now (plain_interest i)
 

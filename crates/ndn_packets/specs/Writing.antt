@@ -64,7 +64,8 @@ value_of (sign.Hmac name key) covered = Mac key.now covered
 
 -- ---- Interests
 
--- the ApplicationParameters: a signed Interest always has them, even if empty
+-- the value of the ApplicationParameters; a signed Interest always has ApplicationParameters, which
+-- may be empty
 abbrev pub parameters_of : Option Sign → Option (List ℕ) → Option (List ℕ)
 parameters_of None parameters = parameters
 parameters_of (Some signed) parameters = Some (unwrap_or parameters [])
@@ -79,8 +80,8 @@ abbrev pub interest_value : InterestWriter → Sign → List ℕ
 interest_value w signed =
     value_of signed (octets (components w.name) ++ octets (covered_fields w signed))
 
--- the fields of an Interest from the ApplicationParameters on; there are none without a signature
--- and without parameters
+-- the fields of an Interest from the ApplicationParameters on; an Interest with neither a signature
+-- nor parameters has no such fields
 abbrev pub later_fields : InterestWriter → Option Sign → List Field
 later_fields w None = optional APPLICATION_PARAMETERS (option_map (λ p. p.now) w.parameters)
 later_fields w (Some signed) =
@@ -95,7 +96,8 @@ early_fields w =
     ∷ (number INTEREST_LIFETIME w.lifetime
     ++ optional HOP_LIMIT (option_map (λ limit. limit ∷ []) w.hop_limit))))
 
--- the name, followed by a digest if there are fields from the ApplicationParameters on
+-- the name `name`, followed by the digest of parameters `digest` if there are fields from the
+-- ApplicationParameters on
 abbrev pub name_with : List ℕ → List Field → List Field → List Field
 name_with digest name [] = name
 name_with digest name (f ∷ fields) = name ++ (PARAMETERS_SHA256_DIGEST, digest) ∷ []
@@ -138,8 +140,8 @@ abbrev pub is_bad_name : List Field → Bool
 is_bad_name name = is_nil name || not (is_nil (digests_in name))
 
 -- Why an Interest is refused, or `None`. `BadName`: the name is empty or has a digest of
--- parameters. `TooLong`: more than 64 components or 8,800 octets. A lack of memory is not
--- considered.
+-- parameters. `TooLong`: the written name has more than 64 components, or the Interest has more
+-- than 8,800 octets. A lack of memory is not considered.
 abbrev pub interest_refusal : InterestWriter → Option WriteFault
 interest_refusal w =
     if is_bad_name (components w.name) then Some BadName else (
@@ -154,8 +156,8 @@ abbrev pub meta_of : List Field → Option (List ℕ)
 meta_of [] = None
 meta_of (f ∷ fields) = Some (octets (f ∷ fields))
 
--- the FinalBlockId, if there is a last segment: its value is one component, the number of the last
--- segment
+-- the FinalBlockId, if there is a last segment; the value of the FinalBlockId is one component,
+-- which holds the number of the last segment
 abbrev pub last_fields : Option ℕ → List Field
 last_fields last =
     optional FINAL_BLOCK_ID (option_map (λ n. element (SEGMENT, shortest_nni n)) last)
@@ -191,8 +193,8 @@ meta_asked w = meta_of (meta_fields w.freshness w.last)
 abbrev pub content_asked : DataWriter → Option (List ℕ)
 content_asked w = option_map (λ c. c.now) w.content
 
--- the next two definitions: the fields of the requested Data that its signature covers, and all of
--- its fields
+-- `fields_covered` are the fields of the requested Data that its signature covers. `fields_asked`
+-- are all fields of the requested Data.
 abbrev pub fields_covered : DataWriter → List Field
 fields_covered w = data_fields w.sign (components w.name) (meta_asked w) (content_asked w)
 
@@ -282,8 +284,9 @@ in_link (h ∷ headers) packet =
 abbrev pub lp_text : Option (List ℕ) → Option ℕ → List ℕ → List ℕ
 lp_text token nack packet = in_link (lp_headers token nack) packet
 
--- The next two definitions: the value of a link packet with an optional token and an optional Nack,
--- and the whole link packet. Without a token and a Nack, the packet is still inside a link packet.
+-- `link_value` is the value of a link packet around `packet`, with an optional PIT token and an
+-- optional Nack. `link_text` is the whole link packet. Even with neither a PIT token nor a Nack,
+-- the packet is inside a link packet.
 abbrev pub link_value : Option (List ℕ) → Option ℕ → List ℕ → List ℕ
 link_value token nack packet =
     (octets (optional PIT_TOKEN token) ++ octets (nack_headers nack)) ++ element (FRAGMENT, packet)
@@ -291,7 +294,8 @@ link_value token nack packet =
 abbrev pub link_text : Option (List ℕ) → Option ℕ → List ℕ → List ℕ
 link_text token nack packet = element (LINK_PACKET, link_value token nack packet)
 
--- the octets of a link packet with this PIT token before a packet of length `packet_len`
+-- the octets before the packet in a link packet with this PIT token, for a packet of length
+-- `packet_len`
 abbrev pub link_start : List ℕ → ℕ → List ℕ
 link_start token packet_len =
     let token_field = element (PIT_TOKEN, token) in

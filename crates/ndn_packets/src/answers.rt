@@ -25,9 +25,9 @@ impl Data<'_> {
     }
 
     /// Returns whether the Data answers an Interest with the name `asked`. The Data answers if
-    /// `asked` is its name or its full name, which is the name followed by the implicit digest.
-    /// With CanBePrefix, the Data also answers if `asked` is a prefix of the name or of the full
-    /// name. The digest is computed only if the answer depends on it.
+    /// `asked` is the Data's name or full name. The full name is the name followed by the implicit
+    /// digest. With CanBePrefix, the Data also answers if `asked` is a prefix of the name or of the
+    /// full name. The digest is computed only if the answer depends on it.
     pub fn answers(&self, asked: Name<'_>, can_be_prefix: bool) -> bool
         ensures exact { IsTrue result
             ↔ Answers (components self.now.name) (sha256 self.now.whole.now)
@@ -35,7 +35,8 @@ impl Data<'_> {
         ensures test { result
             ≡ answers (components self.now.name) (sha256 self.now.whole.now)
             (components asked.entry) can_be_prefix }
-        // The octets of `self.whole` are the Data, so its name and its digest belong together.
+        // The octets of `self.whole` are the Data, so their SHA-256 is the implicit digest of this
+        // Data.
         ensures packet { IsReadData self.now }
     {
         match self.asked_digest(asked) {
@@ -44,9 +45,9 @@ impl Data<'_> {
         }
     }
 
-    /// Returns what `answers` returns, if `digest` is the implicit digest. A caller with many
-    /// Interests can thus compute the digest only once. If `asked_digest` returns `None` for an
-    /// Interest, `digest` may be any 32 octets.
+    /// Returns what `answers` returns, if `digest` is the implicit digest of the Data. A caller
+    /// with many Interests can thus compute the digest only once. If `asked_digest` returns `None`
+    /// for an Interest, `digest` may be any 32 octets.
     pub fn answers_with(&self, digest: &[u8; 32], asked: Name<'_>, can_be_prefix: bool) -> bool
         ensures exact { IsTrue result
             ↔ Answers (components self.now.name) digest.now (components asked.entry)
@@ -63,8 +64,8 @@ impl Data<'_> {
 
     /// Returns the value of the last component of `asked`, if this component is an implicit digest
     /// and the components before it are the Data's name. Whether the returned digest is correct is
-    /// not checked. If the result is `None`, whether the Data answers does not depend on its
-    /// digest.
+    /// not checked. If the result is `None`, the result of `answers` does not depend on the digest
+    /// of the Data.
     pub fn asked_digest<'n>(&self, asked: Name<'n>) -> Option<&'n [u8]>
         ensures { AsksFor (components self.now.name) (components asked.entry)
             (option_map (λ digest. digest.now) result) }
@@ -93,7 +94,8 @@ impl Data<'_> {
 }
 
 /// Law: the test `answers` decides `Answers`, and the test `begins_with` decides `IsPrefix`. If
-/// `asked` is not the Data's name followed by a digest, the answer is the same for every digest.
+/// `asked` is not the Data's name followed by a digest, the result of `answers` is the same for
+/// every digest.
 pub fn answers_can_be_tested()
     ensures answers { (name asked : List Field) (digest : List ℕ) (can_be_prefix : Bool)
         → IsTrue (answers name digest asked can_be_prefix)

@@ -1,5 +1,5 @@
-//! TLV-TYPEs that the standards assign to commands, to their replies and to datasets. The types of
-//! the Name and of other fields that packets also have are in `types`.
+//! TLV-TYPEs that the standards assign to commands, to their replies and to datasets. TLV-TYPEs
+//! that commands share with packets, such as that of the Name, are in `types`.
 
 ghost use Rattle.std.specs.Prelude.{◌≡◌};
 

@@ -24,8 +24,8 @@ impl<'a> Data<'a> {
     ghost use Rattle.ndn_packets.specs.Covered.{Covered};
 
     /// Returns the octets that the signature covers, as received: the octets from the Name up to,
-    /// but not including, the SignatureValue. All of these octets are in the first part. The result
-    /// is never `None`.
+    /// but not including, the SignatureValue. The first part has all covered octets of a Data, and
+    /// the second part is empty. The result is never `None`.
     pub fn signed_parts(&self) -> Option<Parts<'a>>
         ensures { IsSomeAnd result (λ parts. Covered
             (AData self.now.whole.now (plain_data self.now)) parts.first.now parts.second.now) }
@@ -88,11 +88,11 @@ pub(crate) fn octets_before<'a>(octets: &'a [u8], end: &[u8]) -> &'a [u8]
     &octets[..octets.len() - end.len()]
 }
 
-/// Law: a Data has covered octets. An Interest has covered octets exactly if it is signed and the
-/// digest of its parameters is the last component of its name. The covered octets end where the
-/// element of the signature's value begins. The covered octets of an Interest are all components of
-/// its name before the digest, followed by a second part. The second part begins with the first
-/// octet that the digest of parameters covers.
+/// Law: every Data has covered octets. An Interest has covered octets exactly if it is signed and
+/// the digest of its parameters is the last component of its name. The covered octets end where the
+/// SignatureValue or the InterestSignatureValue begins. The covered octets of an Interest are all
+/// components of its name before the digest of parameters, followed by a second part. The second
+/// part begins with the first octet that the digest of parameters covers.
 pub fn signed_packets_have_covered_octets()
     ensures data { (text : List ℕ) (d : PlainData) → IsData text d
         → (covered : List ℕ) × Covered (AData text d) covered [] }

@@ -56,7 +56,8 @@ impl DataWriter<'_> {
     pub fn write(&self, out: &mut Vec<u8>) -> Result<(), WriteFault>
         ensures ok { OnOk result (out.new.items ≡ out.old.items ++ data_text self.now) }
         ensures err { OnErr result (out.new.items ≡ out.old.items) }
-        // The fault is the reason for a refusal, or `Memory` if the Data is not refused.
+        // If `data_refusal` is a fault, this fault is returned. If `data_refusal` is `None`, the
+        // only possible fault is `Memory`.
         ensures fault { MatchOption (data_refusal self.now)
             (IfErr result (λ fault. fault ≡ WriteFault.Memory))
             (λ fault. result ≡ Err fault) }
@@ -107,8 +108,8 @@ impl DataWriter<'_> {
     /// Returns the length in octets of what the signature covers, at most `usize::MAX`.
     fn covered_len(&self) -> usize
         ensures len { IsLength result (octets (fields_covered self.now)) }
-        // The octets and numbers of the writer are within the ranges of their types. Proofs about
-        // the written Data use this fact.
+        // Proofs about the written Data use the fact that the octets and numbers of the writer are
+        // within the ranges of their types.
         ensures sound { SoundData self.now }
     {
         name_element_len(self.name)
@@ -120,8 +121,8 @@ impl DataWriter<'_> {
     /// Returns the length of the packet's value in octets, at most `usize::MAX`.
     fn value_len(&self) -> usize
         ensures len { IsLength result (octets (fields_asked self.now)) }
-        // The octets and numbers of the writer are within the ranges of their types. Proofs about
-        // the written Data use this fact.
+        // Proofs about the written Data use the fact that the octets and numbers of the writer are
+        // within the ranges of their types.
         ensures sound { SoundData self.now }
     {
         self.covered_len()

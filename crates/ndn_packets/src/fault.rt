@@ -4,15 +4,18 @@ use thiserror::Error;
 /// Why octets are not a frame of this profile: the first fault from the left (NDN Packet Format
 /// 0.3, "Interest Packet" and "Data Packet"; NDNLPv2, "Packet Format").
 ///
-/// Faults are ranked as follows: `TooLong` above 9,000 octets, the outer element, octets after it,
-/// its type, `TooLong` above 8,800 octets, the Name, the elements after the Name in order, then a
-/// missing field, and last the digest of an Interest's parameters. Among the faults of one element,
-/// `Tlv` comes first, then `CriticalUnknown`, then a fault in its value. `Tlv` never contains
-/// `BadInteger`. A MetaInfo, a SignatureInfo and an InterestSignatureInfo report the faults of
-/// their own elements in this order. A missing SignatureType comes last. Among the faults of one
-/// header field of a link packet, `Tlv` comes first, then `LpField`, then a fault in its value. A
-/// Nack reports the faults of its own elements. A Fragment reports the faults of the packet in it,
-/// from the outer element on.
+/// If several faults apply, the first in the following order is reported: `TooLong` for more than
+/// 9,000 octets, a fault of the outer element, octets after the outer element, the type of the
+/// outer element, `TooLong` for more than 8,800 octets, a fault of the Name, the faults of the
+/// later elements in order, a missing field, and last a fault of the digest of an Interest's
+/// parameters. If several faults of one element apply, `Tlv` is reported before `CriticalUnknown`,
+/// and `CriticalUnknown` before a fault in the element's value. `Tlv` never contains `BadInteger`.
+/// In the value of a MetaInfo, a SignatureInfo or an InterestSignatureInfo, the first fault of its
+/// elements is reported. A missing SignatureType is reported after all other faults of a
+/// SignatureInfo. If several faults of one header field of a link packet apply, `Tlv` is reported
+/// before `LpField`, and `LpField` before a fault in the field's value. In the value of a Nack, the
+/// first fault of its elements is reported. In the value of a Fragment, the first fault of the
+/// packet is reported, beginning with its outer element.
 #[derive(Clone, Copy, Debug, PartialEq, Eq, Error)]
 pub enum PacketFault {
     /// An element cannot be read, whether or not this profile knows its type.
@@ -21,15 +24,17 @@ pub enum PacketFault {
     /// A packet does not begin with a Name, or the Name of an Interest is empty.
     #[error("the packet does not begin with a name, or an Interest's name is empty")]
     NoName,
-    /// An element whose type is odd or below 32 is not a field, or comes too late to be one. Types
-    /// 128 to 252 in a MetaInfo, and 253 in a SignatureInfo or InterestSignatureInfo, are ignored
-    /// instead.
+    /// An element with an odd type, or a type below 32, is unknown or out of order. Elements of the
+    /// types 128 to 252 in a MetaInfo, and of type 253 in a SignatureInfo or an
+    /// InterestSignatureInfo, are ignored and are no fault.
     #[error("an element is unknown or out of order, and may not be ignored")]
     CriticalUnknown,
     /// A field other than the Name and the Nonce is missing, or the value of a field is malformed.
-    /// This is also the fault of an outer type other than 5, 6 and 100, and of octets after the
-    /// outer element. It is the fault of a Fragment that is not exactly one packet, or with a Nack
-    /// not exactly one Interest, and of a Nack without a Fragment.
+    /// `BadField` is also the fault of an outer element with a type other than 5, 6 or 100, and of
+    /// octets after the outer element. A Nack without a Fragment has the fault `BadField`. A
+    /// Fragment has the fault `BadField` if octets follow its first element, or if this element is
+    /// neither an Interest nor a Data. With a Nack, a Fragment that contains a Data also has the
+    /// fault `BadField`.
     #[error("a field is missing, or its value is malformed")]
     BadField,
     /// An Interest has no Nonce.
@@ -63,8 +68,8 @@ impl PacketFault {
     ghost use Rattle.std.specs.Prelude.{◌≡◌};
     ghost use Rattle.ndn_packets.specs.FaultName.{packet_name};
 
-    /// Returns the name of the fault, as scripts and the client print it. The name of a `Tlv` is
-    /// followed by the name of the fault that it contains.
+    /// Returns the name of the fault, as scripts and the client print it. After the name `Tlv`, the
+    /// name of the contained fault follows.
     pub fn name(self) -> &'static str
         ensures { result.now ≡ packet_name self }
     {

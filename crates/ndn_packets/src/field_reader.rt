@@ -18,11 +18,12 @@ use ndn_names::component_type::PARAMETERS_SHA256_DIGEST;
 use ndn_names::{FirstOfType, Name};
 use ndn_tlv::{Element, first_element, nni_of};
 
-/// An iterator over the fields of a schema, in the schema's order, among the elements of a value.
+/// Iterates over the elements of a value and returns the fields of a schema, in the schema's order.
 #[derive(Drop)]
 pub struct FieldReader<'a> {
     rules: Rules,
-    /// If `next` has just returned a field, the octets that begin with this field.
+    /// If `next` has just returned a field, the octets from the start of this field to the end of
+    /// the value.
     pub here: &'a [u8],
     rest: &'a [u8],
     schema: &'a [u32],
@@ -103,8 +104,8 @@ fn leading_value(value: &[u8]) -> Result<(&[u8], &[u8]), PacketFault>
 }
 
 /// Returns the name in the first element, which must be a Name, and the octets after this element.
-/// Returns `NoName` if the first element is missing or has another type, and `BadField` if its
-/// value is not a name.
+/// Returns `NoName` if the first element is missing or has another type, `Tlv` if it cannot be
+/// read, and `BadField` if its value is not a name.
 #[inline(always)]
 pub fn leading_name(value: &[u8]) -> Result<(Name<'_>, &[u8]), PacketFault>
     ensures exact { on_result (λ x. Ok (components x.0, elements_of x.1.now)) Err result
@@ -119,7 +120,7 @@ pub fn leading_name(value: &[u8]) -> Result<(Name<'_>, &[u8]), PacketFault>
 }
 
 /// Returns the name in the first element, which must be a Name. Also returns the first digest of
-/// parameters in this name, and the octets after the element. Returns the same faults as
+/// parameters in the name, and the octets after the Name. Returns the same faults as
 /// `leading_name`.
 #[inline(always)]
 pub fn digested_name(
@@ -147,8 +148,8 @@ pub fn number(value: &[u8]) -> Result<u64, PacketFault>
     nni_of(value).map_err(|_| PacketFault::BadField)
 }
 
-/// Law: the readers of packets, and of values that contain fields, report the first fault among the
-/// fields. All elements before the faulty element are valid fields or are ignored.
+/// Law: the readers of an Interest, a Data, a MetaInfo, a SignatureInfo and a Nack report the first
+/// fault among the fields. All elements before the faulty element are valid fields or are ignored.
 pub fn fields_tell_the_first_fault()
     ensures interest { TellsFirstFault take_interest_field is_even_high interest_schema
         no_fields_yet }

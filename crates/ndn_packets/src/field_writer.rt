@@ -28,7 +28,7 @@ pub const DIGEST_COMPONENT_LEN: usize = 34;
 #[inline(always)]
 pub fn octets_len(octets: &[u8]) -> usize
     ensures len { IsLength result octets.now }
-    // Octets are below 256. Proofs about the grammar of written packets use this fact.
+    // Proofs about the grammar of written packets use the fact that octets are below 256.
     ensures sound { AreOctets octets.now }
 {
     octets.len()

@@ -36,7 +36,8 @@ pub enum Frame<'a> {
     Idle,
 }
 
-/// A frame with its PIT token. Both borrow the received octets, and nothing is allocated.
+/// A frame with its PIT token. The frame and the token borrow the received octets, and nothing is
+/// allocated.
 #[derive(Clone, Copy, Debug, PartialEq, Eq)]
 pub struct Framed<'a> {
     /// The PIT token of the link packet, 1 to 32 octets (NDNLPv2, "PIT Token").
@@ -53,13 +54,13 @@ pub const MAX_PACKET: usize = 8800;
 
 /// Reads a frame (NDN Packet Format 0.3, "Interest Packet" and "Data Packet"; NDNLPv2, "Packet
 /// Format"): one Interest or one Data of this profile, or a link packet. Fields must be in the
-/// order of the standard. Other elements among them are ignored if their types allow it. The digest
-/// of an Interest's ApplicationParameters must be right. A frame has at most 9,000 octets, and a
-/// packet at most 8,800. The received octets of a packet are its own element, without the link
-/// packet around it.
+/// order of the standard. Elements that are not fields are ignored if their types allow it. The
+/// digest of an Interest's ApplicationParameters must be correct. A frame has at most 9,000 octets,
+/// and a packet at most 8,800. The received octets of a packet are its own element, without the
+/// link packet around it.
 ///
-/// Returns the first fault from the left for anything else: see `PacketFault`. Signatures are not
-/// verified. A PIT token is checked but not returned: `read_lp` returns it.
+/// If the octets are not a frame, returns the first fault from the left: see `PacketFault`.
+/// Signatures are not verified. A PIT token is checked but not returned: `read_lp` returns it.
 pub fn read_frame(octets: &[u8]) -> Result<Frame<'_>, PacketFault>
     // If a frame is returned, the octets are this frame in the grammar.
     ensures found { IfOk result (λ frame. IsFrame octets.now (plain_frame frame)) }
@@ -74,7 +75,7 @@ pub fn read_frame(octets: &[u8]) -> Result<Frame<'_>, PacketFault>
 }
 
 // A packet outside a link packet is constructed directly in the result, here and in `framed_of`: a
-// call of `packet_of` would copy it.
+// call of `packet_of` would copy the packet.
 #[tactic(auto, unfolding(crate::specs::FrameReading::frame_at, crate::specs::FrameReading::framed_at))]
 #[inline(always)]
 fn frame_of(octets: &[u8]) -> Result<Frame<'_>, PacketFault>
@@ -92,13 +93,13 @@ fn frame_of(octets: &[u8]) -> Result<Frame<'_>, PacketFault>
     }
 }
 
-/// Reads a frame as `read_frame` does, and returns it with its PIT token (NDNLPv2, "PIT Token").
-/// The token has 1 to 32 octets. A link packet has at most one token, at any position among its
-/// header fields. A packet outside a link packet has no token. The token borrows the octets, and
-/// nothing is allocated.
+/// Reads a frame by the rules of `read_frame`, and returns the frame with its PIT token (NDNLPv2,
+/// "PIT Token"). The token has 1 to 32 octets. A link packet has at most one token, at any position
+/// among its header fields. A packet outside a link packet has no token. The token borrows the
+/// octets, and nothing is allocated.
 ///
-/// Returns the first fault from the left for anything else: see `PacketFault`. A token of another
-/// length, or a second token, is an `LpField`.
+/// If the octets are not a frame, returns the first fault from the left: see `PacketFault`. A token
+/// that does not have 1 to 32 octets, or a second token, has the fault `LpField`.
 pub fn read_lp(octets: &[u8]) -> Result<Framed<'_>, PacketFault>
     // If a frame is returned, the octets are this frame, with this token, in the grammar.
     ensures found { IfOk result (λ framed. IsFramed octets.now (plain_framed framed)) }
@@ -156,14 +157,14 @@ pub(crate) fn only_element(octets: &[u8]) -> Result<Element<'_>, PacketFault>
 #[inline(always)]
 pub(crate) fn is_too_long(whole: &[u8]) -> bool
     ensures exact { result ≡ nat_lt 8800 (length whole.now) }
-    // Octets are below 256. The proof that every packet in memory was read uses this fact.
+    // The proof that every packet in memory was read uses the fact that octets are below 256.
     ensures octets { (i : ℕ) → slice_index whole.now i < 256 }
 {
     whole.len() > MAX_PACKET
 }
 
-/// Reads the Interest or the Data in this element. Returns `BadField` if the element has another
-/// type.
+/// Reads the Interest or the Data in this element. Returns `BadField` if the element is neither an
+/// Interest nor a Data.
 #[inline(never)]
 pub(crate) fn packet_of(outer: Element<'_>) -> Result<Frame<'_>, PacketFault>
     ensures { on_result (λ f. Ok (plain_frame f)) Err result
@@ -177,7 +178,7 @@ pub(crate) fn packet_of(outer: Element<'_>) -> Result<Frame<'_>, PacketFault>
 }
 
 /// Reads the Interest in this element, and returns it with `reason` as a Nack. Returns `BadField`
-/// if the element has another type.
+/// if the element is not an Interest.
 pub(crate) fn nacked_of(reason: u64, outer: Element<'_>) -> Result<Frame<'_>, PacketFault>
     ensures { on_result (λ f. Ok (plain_frame f)) Err result
         ≡ nacked_of reason outer.entry.whole.now (outer.entry.kind, outer.entry.value.now) }
@@ -202,15 +203,17 @@ pub fn frames_have_one_reading()
         → ((framed_at text ≡ Ok framed) ↔ IsFramed text framed) }
 {}
 
-/// Law: for octets that are not a frame, the first fault is reported: octets that are too long,
-/// then a fault of the outer element, then the first fault of the packet or of the link packet.
+/// Law: if octets are not a frame, the first fault is reported. `TooLong` for more than 9,000
+/// octets comes first, then a fault of the outer element, and then the first fault of the packet or
+/// of the link packet.
 pub fn frames_tell_the_first_fault()
     ensures { (text : List ℕ) (fault : PacketFault) → ((i : ℕ) → slice_index text i < 256)
         → ((frame_at text ≡ Err fault) ↔ FaultOf text fault) }
 {}
 
 /// Law: the received octets of every Interest and every Data in memory are that packet, even if the
-/// packet came in a link packet. The reason: only `read_frame` and `read_lp` create these values.
+/// packet came in a link packet. The reason is that only `read_frame` and `read_lp` create an
+/// Interest or a Data in memory.
 pub fn packets_in_hand_are_read()
     ensures interest { (i : Interest) → IsReadInterest i }
     ensures data { (d : Data) → IsReadData d }

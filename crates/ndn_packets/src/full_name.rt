@@ -39,7 +39,7 @@ impl Model for FullName {
 }
 
 impl FullName {
-    /// Returns the full name of a Data. The digest is computed only here.
+    /// Returns the full name of a Data. Only this function computes the digest.
     pub fn new(alloc: Global, packet: &Data<'_>) -> Result<FullName, Memory>
         ensures { IfOk result (λ f. f ≡ record {
           name = components packet.now.name;
@@ -106,9 +106,9 @@ impl FullName {
     }
 
     /// Returns whether the full name is near `name`. A full name near `name` begins with `name`.
-    /// Without CanBePrefix, the type of its next component, if there is one, is at most 1, the type
-    /// of an implicit digest. Every full name that answers an Interest with the name `name` and
-    /// this CanBePrefix is near `name`.
+    /// Without CanBePrefix, if the full name has a component after `name`, the type of this
+    /// component is at most 1, the type of an implicit digest. If a Data answers an Interest with
+    /// this name and this CanBePrefix, the full name of the Data is near the name.
     pub fn is_near(&self, name: Name<'_>, can_be_prefix: bool) -> bool
         ensures { result ≡ is_near (components name.entry) can_be_prefix
             (all_components self.now) }

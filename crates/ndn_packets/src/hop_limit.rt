@@ -14,7 +14,7 @@ use ndn_tlv::first_element;
 
 /// Mutably borrows the HopLimit's octet, if the octets are one Interest that has a HopLimit.
 pub fn hop_limit_mut(octets: &mut [u8]) -> Option<&mut u8>
-    // All other octets stay unchanged.
+    // The borrow can change only the HopLimit's octet.
     ensures* lends { sem 𝓛 (LendsHopLimit octets.entry result) }
     // The result is `Some` exactly if the octets are an Interest with a HopLimit. The borrowed
     // octet is the value of this HopLimit.
@@ -39,7 +39,7 @@ pub fn hop_limit_mut(octets: &mut [u8]) -> Option<&mut u8>
 /// no HopLimit.
 fn hop_place(octets: &[u8]) -> usize
     ensures exact { result ≡ hop_place octets.now }
-    // Octets are below 256. The proof of `hop_limit_mut` uses this fact.
+    // The proof of `hop_limit_mut` uses the fact that octets are below 256.
     ensures octets { (i : ℕ) → slice_index octets.now i < 256 }
 {
     let end = octets.len();
@@ -54,7 +54,8 @@ fn hop_place(octets: &[u8]) -> usize
     };
     match from_first(outer.value, HOP_LIMIT) {
         None => end,
-        // The HopLimit follows its type and length, which are one octet each.
+        // The HopLimit's octet follows the type and the length of the HopLimit, which are one octet
+        // each.
         Some(from) => end - from.len() + 2,
     }
 }

@@ -42,13 +42,15 @@ pub struct Interest<'a> {
     pub lifetime: u64,
     /// The HopLimit, in hops.
     pub hop_limit: Option<u8>,
-    /// The value of the ApplicationParameters. The name has their digest.
+    /// The value of the ApplicationParameters. If there are ApplicationParameters, the name has a
+    /// digest of them.
     pub parameters: Option<&'a [u8]>,
-    /// The signature, if the Interest is signed. It is not verified.
+    /// The signature, if the Interest is signed. The signature is not verified.
     pub signature: Option<Signature<'a>>,
     /// The received octets of the whole packet, including its type and length, at most 8,800.
     pub whole: &'a [u8],
-    /// The covered octets from the ApplicationParameters on, if the signature covers any.
+    /// The octets from the ApplicationParameters on that the signature covers, or `None` if the
+    /// signature covers nothing.
     pub(crate) covered: Option<&'a [u8]>,
     ghost covers: { ∥ HoldsSecond (components name) whole.now
         (option_map (λ c. c.now) covered) ∥₁ },
@@ -155,7 +157,8 @@ impl<'a> Interest<'a> {
 }
 
 /// Returns the fault of the digests of parameters in a name, if they have a fault. `digest` is the
-/// first of these digests. `from_parameters` are the octets from the ApplicationParameters on.
+/// first digest of parameters in the name. `from_parameters` are the octets from the
+/// ApplicationParameters on.
 #[inline(always)]
 fn digest_fault(
     digest: Option<FirstOfType<'_>>,

@@ -42,9 +42,10 @@ pub struct InterestWriter<'a> {
     pub parameters: Option<&'a [u8]>,
     /// How the Interest is signed, if at all.
     pub sign: Option<Sign<'a>>,
-    /// The SignatureTime, in milliseconds since 1970. It is written only with a signature.
+    /// The SignatureTime, in milliseconds since 1970. The SignatureTime is written only if the
+    /// Interest is signed.
     pub time: Option<u64>,
-    /// The SignatureSeqNum. It is written only with a signature.
+    /// The SignatureSeqNum. The SignatureSeqNum is written only if the Interest is signed.
     pub seq: Option<u64>,
 }
 
@@ -74,7 +75,8 @@ impl InterestWriter<'_> {
     pub fn write(&self, out: &mut Vec<u8>) -> Result<(), WriteFault>
         ensures ok { OnOk result (out.new.items ≡ out.old.items ++ interest_text self.now) }
         ensures err { OnErr result (out.new.items ≡ out.old.items) }
-        // The fault is the reason for a refusal, or `Memory` if the Interest is not refused.
+        // If `interest_refusal` is a fault, this fault is returned. If `interest_refusal` is
+        // `None`, the only possible fault is `Memory`.
         ensures fault { MatchOption (interest_refusal self.now)
             (IfErr result (λ fault. fault ≡ WriteFault.Memory))
             (λ fault. result ≡ Err fault) }
@@ -211,8 +213,8 @@ impl InterestWriter<'_> {
     fn lengths(&self) -> Lengths
         ensures name { IsLength result.name (octets (interest_name self.now)) }
         ensures value { IsLength result.value (octets (interest_fields self.now)) }
-        // The octets and numbers of the writer are within the ranges of their types. Proofs about
-        // the written Interest use this fact.
+        // Proofs about the written Interest use the fact that the octets and numbers of the writer
+        // are within the ranges of their types.
         ensures sound { SoundInterest self.now }
     {
         let name = self.name_len();
@@ -239,8 +241,8 @@ impl InterestWriter<'_> {
         }
     }
 
-    /// Appends what the signature covers after the name's components. If memory runs out, some
-    /// octets may have been appended.
+    /// Appends the ApplicationParameters and the InterestSignatureInfo, which the signature covers.
+    /// If memory runs out, some octets may have been appended.
     fn put_covered(&self, out: &mut Vec<u8>, sign: Sign<'_>) -> Result<(), Memory>
         ensures ok { OnOk result
             (out.new.items ≡ out.old.items ++ octets (covered_fields self.now sign.entry)) }
@@ -327,7 +329,8 @@ impl InterestWriter<'_> {
     }
 }
 
-/// Overwrites the 32 octets that end at `digest_end` with the digest of the octets from `start` on.
+/// Overwrites the 32 octets before index `digest_end` with the digest of the octets from `start`
+/// on.
 fn put_digest(octets: &mut [u8], digest_end: usize, start: usize)
     requires after { 32 ≤ digest_end }
     requires before { digest_end ≤ start }

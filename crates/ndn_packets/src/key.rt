@@ -88,8 +88,8 @@ impl Hash for Key<'_> {
     }
 }
 
-/// Law: maps can use the keys of Interests, in the order of `key_cmp`. Keys that compare as equal
-/// are equal.
+/// Law: the keys of Interests can be the keys of ordered maps, because `key_cmp` is a total order.
+/// Keys that compare as equal are equal.
 pub fn interest_keys_can_be_keys()
     ensures total { IsTotalOrder key_cmp }
     ensures antisymmetric { IsAntisymmetric key_cmp }

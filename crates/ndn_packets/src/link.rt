@@ -25,14 +25,14 @@ use ndn_tlv::{
     put_element, put_header, put_nni_element,
 };
 
-/// The upper limit of the TLV-TYPEs of unknown header fields that are ignored.
+/// The upper limit for the TLV-TYPE of an unknown header field that is ignored.
 const MAX_IGNORED: u32 = 959;
 
 /// The greatest length of a PitToken, in octets.
 const MAX_TOKEN: usize = 32;
 
-/// The header fields that have been read so far: whether there was a Sequence, a FragIndex and a
-/// FragCount, the PIT token, and the reason of a Nack.
+/// The header fields that have been read so far. Of a Sequence, a FragIndex and a FragCount, only
+/// the presence is stored.
 #[derive(Clone, Copy)]
 struct Headers<'a> {
     sequence: bool,
@@ -184,9 +184,9 @@ fn check_last(after: &[u8]) -> Result<(), PacketFault>
 }
 
 /// Appends a link packet around a packet, with the PIT token and the Nack that are given (NDNLPv2,
-/// "PIT Token", "Network Nack"). If neither is given, appends the packet alone. The token must have
-/// 1 to 32 octets, and is written before the Nack. The NackReason of a Nack is written even if it
-/// is 0. If memory runs out, nothing is appended.
+/// "PIT Token", "Network Nack"). With neither a PIT token nor a Nack, appends the packet alone. The
+/// token must have 1 to 32 octets, and is written before the Nack. The NackReason of a Nack is
+/// written even if it is 0. If memory runs out, nothing is appended.
 pub fn put_lp(
     out: &mut Vec<u8>,
     token: Option<&[u8]>,
@@ -202,11 +202,13 @@ pub fn put_lp(
         + length (lp_text (option_map (λ t. t.now) token.entry) nack packet.now)
         ≤ vec_capacity out.old → IsOk result }
     ensures capacity { vec_capacity out.old ≤ vec_capacity out.new }
-    // If `packet` is one Interest, the result reads as that Interest with the token and the Nack.
+    // If `packet` is one Interest, the appended octets are a frame with this Interest, the token
+    // and the Nack.
     ensures reads_back { (i : PlainInterest) → IsInterest packet.now i
         → IsFramed (lp_text (option_map (λ t. t.now) token.entry) nack packet.now)
         (framed_with (option_map (λ t. t.now) token.entry) (interest_frame nack packet.now i)) }
-    // If `packet` is one Data and there is no Nack, the result reads as that Data with the token.
+    // If `packet` is one Data and there is no Nack, the appended octets are a frame with this Data
+    // and the token.
     ensures reads_back_data { (d : PlainData) → IsData packet.now d → nack ≡ None
         → IsFramed (lp_text (option_map (λ t. t.now) token.entry) nack packet.now)
         (framed_with (option_map (λ t. t.now) token.entry) (AData packet.now d)) }
@@ -221,7 +223,7 @@ pub fn put_lp(
 
 /// Puts a link packet with a PIT token of 1 to 32 octets around the packet at the end of `out`
 /// (NDNLPv2, "PIT Token"). The packet begins at index `start`. Without a token, `out` stays
-/// unchanged. If memory runs out, the octets stay unchanged.
+/// unchanged. If memory runs out, the octets in `out` stay unchanged.
 pub fn wrap(out: &mut Vec<u8>, start: usize, token: Option<&[u8]>) -> Result<(), Memory>
     requires start { start ≤ vec_len out.old }
     requires is_token { IfSome token (λ t. IsToken t.now) }
@@ -240,8 +242,8 @@ pub fn wrap(out: &mut Vec<u8>, start: usize, token: Option<&[u8]>) -> Result<(),
 }
 
 #[tactic(auto, using(crate::proofs::Wrapping::wrapped, crate::proofs::Wrapping::wrapped_len))]
-/// Puts a link packet with a PIT token around the packet at the end of `out`, which begins at index
-/// `start`.
+/// Puts a link packet with a PIT token around the packet at the end of `out`. The packet begins at
+/// index `start`.
 fn wrap_with(out: &mut Vec<u8>, start: usize, token: &[u8]) -> Result<(), Memory>
     requires start { start ≤ vec_len out.old }
     requires is_token { IsToken token.now }
@@ -287,7 +289,8 @@ pub fn put_nack(out: &mut Vec<u8>, reason: u64, interest: &[u8]) -> Result<(), M
     ensures room { vec_len out.old + length (nack_text reason interest.now) ≤ vec_capacity out.old
         → IsOk result }
     ensures capacity { vec_capacity out.old ≤ vec_capacity out.new }
-    // If `interest` is one Interest, the result reads as a Nack with that reason for that Interest.
+    // If `interest` is one Interest, the appended octets are a frame with a Nack of this reason for
+    // this Interest.
     ensures reads_back { (i : PlainInterest) → IsInterest interest.now i
         → IsFrame (nack_text reason interest.now) (ANack reason interest.now i) }
 {

@@ -4,16 +4,16 @@ ghost use Rattle.ndn_packets.specs.FieldReader.{ignored_by};
 
 use crate::types::{INTEREST_SIGNATURE_INFO, INTEREST_SIGNATURE_VALUE, VALIDITY_PERIOD};
 
-/// The kind of value that contains elements. This kind decides which elements are ignored (NDN
+/// The kind of a value that contains elements. This kind decides which elements are ignored (NDN
 /// Packet Format 0.3, "Considerations for Evolvability of TLV-Based Encoding").
 #[derive(Clone, Copy)]
 pub enum Rules {
     /// The value of a packet after its Name, or the value of a Nack: even types from 32 on are
     /// ignored.
     Packet,
-    /// The value of a MetaInfo: the types 128 to 252 are ignored too.
+    /// The value of a MetaInfo: even types from 32 on and the types 128 to 252 are ignored.
     MetaInfo,
-    /// The value of a SignatureInfo: a ValidityPeriod is ignored too.
+    /// The value of a SignatureInfo: even types from 32 on and the ValidityPeriod are ignored.
     SignatureInfo,
 }
 
@@ -33,7 +33,7 @@ impl Rules {
 }
 
 /// Returns whether a field of this type may come only after the field of the preceding type in the
-/// schema. Ignored elements between the two fields do not matter.
+/// schema. Ignored elements may come between a field and the field that precedes it.
 #[inline(always)]
 pub fn needs_previous_field(kind: u32) -> bool
     ensures { result ≡ needs_previous_field kind }

@@ -26,7 +26,8 @@ pub enum Locator<'a> {
     Name(Name<'a>),
     /// The value is exactly one KeyDigest, of any length.
     Digest,
-    /// The value is anything else, for example a malformed Name.
+    /// The value is neither exactly one Name nor exactly one KeyDigest, for example a malformed
+    /// Name.
     Other,
 }
 
@@ -95,7 +96,7 @@ impl<'a> SignatureInfo<'a> {
     ghost use Rattle.ndn_packets.specs.Packet.{plain_signature, signed_with};
     ghost use Rattle.ndn_packets.specs.SoFar.{plain_info};
 
-    /// Returns the signature with this SignatureInfo and the given value of its SignatureValue.
+    /// Returns the signature with this SignatureInfo and with the SignatureValue `value`.
     #[inline(always)]
     pub fn with_value(self, value: &'a [u8]) -> Signature<'a>
         ensures { plain_signature result ≡ signed_with (plain_info self.entry) value.entry.now }

@@ -1,4 +1,4 @@
--- What the fault of a packet writer tells about the packet.
+-- Why a packet cannot be written, if its writer returns a fault.
 use Rattle.std.proofs.Common.{◌≡◌, ℕ, List, Option, None, Some, Result, Ok, Err, IfErr, MatchOption, refl, ap}
 use Rattle.ndn_tlv.specs.Element.{Field}
 use Rattle.ndn_packets.specs.declared.fault.WriteFault.{WriteFault}
@@ -9,7 +9,7 @@ use Rattle.ndn_packets.specs.Writing.{interest_refusal}
 use Rattle.ndn_requests.specs.Lists.{next_name}
 use Rattle.ndn_requests.specs.Exchange.{AsksPlainly, IsNoRequest, IsNextRefusal}
 
--- the fault that a writer returns is the cause of its refusal or, if there is no such cause,
+-- the fault `why` of a writer is the cause of the refusal; if there is no cause, the fault is
 -- `Memory`
 abbrev pub IsToldBy : Option WriteFault → WriteFault → Type 0
 IsToldBy None why = why ≡ Memory

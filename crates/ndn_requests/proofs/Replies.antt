@@ -1,4 +1,4 @@
--- What is printed for a reply that was written, and how this reply is judged.
+-- What is printed for a reply that was written, and which outcome the reply has.
 use Rattle.std.proofs.Common.{◌≡◌, ℕ, ◌^◌, ◌<◌, ◌≤◌, Bool, true, false, List, [], ◌∷◌, ◌++◌, length, Option, None, Some, refl, ap, ◌∙◌, append_assoc, append-nil, arith, length-append, lit<, lit≤}
 use Rattle.std.specs.Prelude.{if◌then◌else◌, ◌==◌, ◌&&◌, ◌||◌, codes, option_and_then, is_some}
 use Rattle.std.specs.Option.{option_map}

@@ -19,7 +19,7 @@ use Rattle.ndn_requests.specs.Parameters.{command_name, node_fields}
 
 -- ---- values of the client's types
 
--- the octets of these components are the value of a Name
+-- these components form a Name: the octets of the components are the TLV-VALUE of the Name
 abbrev pub IsWhole : List Field → Type 0
 IsWhole name = IsNameValue (octets_of name) name
 
@@ -38,7 +38,7 @@ pub record AreValues (p : Parameters) : Type 0 where
   pub count : Fits64 p.count
   pub lifetime : Fits64 p.lifetime
 
--- a field, as the result of reading it
+-- the field as the successful result of a reader
 abbrev pub as_read : Field → Result Field TlvFault
 as_read f = Ok f
 
@@ -68,8 +68,8 @@ suits action p =
     && list_all (λ kind. has kind (kinds p)) (row_of action).needs
     && not (is_root p.name && not (row_of action).takes_root)
 
--- the command that these parameters ask for; without the parameter, the face, the origin and the
--- cost are 0, and the flags are child-inherit
+-- the command that these parameters ask for; an absent face, origin or cost is 0, and absent flags
+-- are child-inherit
 abbrev pub asked_of : Action → Parameters → PlainCommand
 asked_of action p = record {
   action = action;

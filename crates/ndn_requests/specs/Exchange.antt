@@ -42,8 +42,8 @@ IsRequest name nonce packet =
     (w : InterestWriter) × AsksPlainly name nonce w × (interest_refusal w ≡ None)
     × (packet ≡ interest_text w)
 
--- why an Interest with this name and Nonce and no other fields cannot be written, or that memory
--- ran out
+-- the reason why the Interest with this name and Nonce, and with no other fields, cannot be
+-- written; the reason `Memory` is always allowed
 abbrev pub IsNoRequest : List Field → List ℕ → WriteFault → Type 0
 IsNoRequest name nonce Memory = ⊤
 IsNoRequest name nonce why =
@@ -77,9 +77,9 @@ IsProgress view request datagram (Some outcome) progress =
 
 -- ---- an exchange for the segments of a list
 
--- The Content of the Data is appended to the contents so far. The first argument tells whether
--- there is a next segment. If there is one, it is requested; otherwise the exchange is over, with
--- the table of the list.
+-- The Content of the Data is appended to the contents so far. If there is a next segment (`true`),
+-- the next segment is requested. If there is no next segment (`false`), the exchange is over, and
+-- the table of the list is printed.
 abbrev pub IsStepped : Bool → Exchange → NodeList → ℕ → List ℕ → PlainData → Exchange → Progress
     → Type 0
 IsStepped true old list segment nonce d new progress =
@@ -124,7 +124,7 @@ IsTurned (Some turn) old list datagram new progress =
 
 -- The effect of a datagram on a list exchange, given the outcome that the datagram has for the
 -- request. Without an outcome, the datagram is ignored. If the outcome is a failure, the exchange
--- is over. If it is a success, the datagram may have a segment.
+-- is over. If the outcome is a success, the datagram is handled as a possible segment of the list.
 abbrev pub IsSegment : Option Outcome → Exchange → NodeList → List ℕ → Exchange → Progress → Type 0
 IsSegment None old list datagram new progress = (new ≡ old) × (progress ≡ Ignored)
 IsSegment (Some (Err failure)) old list datagram new progress =
@@ -150,8 +150,8 @@ IsTakenBy view old book datagram new progress =
 abbrev pub IsTaken : Exchange → List NamedKey → List ℕ → Exchange → Progress → Type 0
 IsTaken old book datagram new progress = IsTakenBy old.view old book datagram new progress
 
--- memory ran out, or `frame` is a Data, and an Interest for a segment of the list in the Data
--- cannot be written for the reason `why`
+-- the reason is `Memory`; or the frame is a Data, and for this reason the Interest for another
+-- segment of the Data's list cannot be written
 abbrev pub IsNextRefusal : WriteFault → Result PlainFrame PacketFault → Type 0
 IsNextRefusal Memory frame = ⊤
 IsNextRefusal why (Ok (AData whole d)) =
@@ -160,8 +160,8 @@ IsNextRefusal why frame = ⊥
 
 -- ---- no answer
 
--- Whether a segment with a Content that is not empty has been received. If one has, and the next
--- segment does not come, the node no longer has this version of the list.
+-- Whether a segment with a Content that is not empty has been received. If so, and no further
+-- segment comes in time, the reported reason is `Changed`.
 abbrev pub has_begun : Exchange → Bool
 has_begun x = not (is_nil x.contents.items)
 

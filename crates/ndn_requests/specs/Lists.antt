@@ -24,8 +24,8 @@ in_turn is_first (Some segment) (Some last) =
 in_turn is_first segment last = None
 
 -- The number of the segment in a Data with this name and these octets, and the number of the last
--- segment. It is None if one of them is missing, or if `is_first` is true and the segment does not
--- have the number 0.
+-- segment. The result is None if one of these numbers is missing, or if `is_first` is true and the
+-- segment's number is not 0.
 abbrev pub place_of : Bool → List Field → List ℕ → Option (ℕ × ℕ)
 place_of is_first name whole = in_turn is_first (segment_of name) (last_segment whole)
 

@@ -31,7 +31,7 @@ Outcome = Result Unit Failure
 -- ---- statuses
 
 -- The number in the first field of the type `kind` in a Content that is a single element of the
--- type `response`. It is None if there is no such element, field or number.
+-- type `response`. The result is None if there is no such element, field or number.
 abbrev pub code_in : ℕ → ℕ → List ℕ → Option ℕ
 code_in response kind content =
     option_and_then (λ value. result_ok (nni_at value))
@@ -42,7 +42,8 @@ abbrev pub is_word : List ℕ → Option Field → Bool
 is_word word None = false
 is_word word (Some c) = c.0 == GENERIC && bytes_eq c.1 word
 
--- whether a command is an insert; its verb is the component before the parameters and the digest
+-- whether a command is an insert; the verb of a command is the name component before the parameters
+-- and the digest
 abbrev pub is_insert : List Field → Bool
 is_insert name = is_word (codes "insert") (slice_get name (length name - 3))
 
@@ -95,8 +96,8 @@ abbrev pub is_same_name : List Field → List Field → Bool
 is_same_name a b = bytes_eq (octets a) (octets b)
 
 -- The outcome of a request, given a Data that answers its Interest. If the Interest is not a
--- command, the Data is accepted. If it is a command, the Data must also have the command's name
--- and a right signature; otherwise there is no outcome.
+-- command, the Data is accepted. If the Interest is a command, the Data must also have the
+-- command's name and a right signature; otherwise there is no outcome.
 abbrev pub data_outcome : PlainInterest → PlainData → Option TagCheck → Option Outcome
 data_outcome asked d check =
     if is_command asked.name
@@ -104,8 +105,8 @@ data_outcome asked d check =
     then Some (reply_outcome asked.name d.content) else None)
     else Some (Ok tt)
 
--- whether two Interests have the same name and the same Nonce; a Nack of such an Interest answers
--- the request
+-- whether two Interests have the same name and the same Nonce; a Nack answers a request if its
+-- Interest and the request's Interest are the same in this sense
 abbrev pub is_same : PlainInterest → PlainInterest → Bool
 is_same asked i = is_same_name asked.name i.name && bytes_eq asked.nonce i.nonce
 
@@ -147,8 +148,8 @@ IsRequestJudged (Ok (ANack reason whole i)) book datagram outcome = outcome ≡ 
 IsRequestJudged (Ok Idle) book datagram outcome = outcome ≡ None
 IsRequestJudged (Err why) book datagram outcome = outcome ≡ None
 
--- The outcome of a request, given a received datagram. It is None if the request is not an Interest
--- or the datagram does not answer the Interest.
+-- The outcome of a request, given a received datagram. The outcome is None if the request is not an
+-- Interest or the datagram does not answer the Interest.
 abbrev pub IsJudged : List ℕ → List NamedKey → List ℕ → Option Outcome → Type 0
 IsJudged request book datagram outcome = IsRequestJudged (frame_at request) book datagram outcome
 
@@ -167,8 +168,8 @@ long_lines (Ok (ANack reason whole i)) datagram = []
 long_lines (Ok Idle) datagram = []
 long_lines (Err why) datagram = []
 
--- the lines that `explain` prints without keys for the datagram, also if the datagram is a reply of
--- more than 8,800 octets to this request; otherwise no lines
+-- the lines that `explain` prints without keys for the datagram, which may be a packet or a reply
+-- of any length to the request; no lines for any other datagram
 abbrev pub explained_lines : List ℕ → List ℕ → Result PlainFrame PacketFault → List ℕ
 explained_lines request datagram (Ok frame) = explanation frame None
 explained_lines request datagram (Err why) = long_lines (frame_at request) datagram
@@ -183,10 +184,10 @@ is_local (Ok (ANack reason whole i)) = false
 is_local (Ok Idle) = false
 is_local (Err why) = false
 
--- Why no answer came to a request that was sent from the port `from`, or from a new port if
--- `from` is absent. If `is_closed` is true, the reason is `Closed`: no program listens on the
--- destination port. Otherwise, if `from` is absent and the request's name is under `/localhost`,
--- the reason is `Far`; else it is `Late`.
+-- Why no answer came to a request that was sent from the port `from`, or from a new port if `from`
+-- is absent. If `is_closed` is true, the reason is `Closed`: no program listens on the destination
+-- port. Otherwise the reason is `Far` if `from` is absent and the request's name is under
+-- `/localhost`, and `Late` in any other case.
 abbrev pub silence_of : List ℕ → Option ℕ → Bool → Silence
 silence_of request from is_closed =
     if is_closed then Closed else (

@@ -42,7 +42,7 @@ fields_shown c face =
     (option_map strategy_shown (given c STRATEGY (strategy_asked c)))
     ++ optional_line (codes "count") (option_map decimal (given c COUNT c.count))))))))
 
--- the lines of a reply of the node, which has fields only at status 200
+-- the lines of a reply of the node; the reply has fields only if the status is 200
 abbrev pub node_shown : PlainCommand → ℕ → ℕ → List ℕ → List ℕ
 node_shown c face status text =
     status_shown status text ++ (if status == OK then fields_shown c face else [])

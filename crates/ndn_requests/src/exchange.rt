@@ -38,7 +38,7 @@ pub struct Exchange {
     pub request: Vec<u8>,
     /// The port of 127.0.0.1 that the packet is sent to.
     pub to: u16,
-    /// The port that the packet is sent from. If it is absent, a new port is used.
+    /// The port that the packet is sent from. `None` means that a new port is used.
     pub from: Option<u16>,
     /// What is printed of the answer.
     pub view: View,
@@ -217,7 +217,7 @@ impl Exchange {
         Ok(Progress::Next)
     }
 
-    /// Returns why no answer came. `is_closed` tells whether no program listens on the port.
+    /// Returns why no answer came. `is_closed` is true if no program listens on the port.
     pub fn silence(&self, is_closed: bool) -> Silence
         ensures { result ≡ silence_in self.now is_closed }
     {
@@ -248,8 +248,8 @@ fn content_in(datagram: &[u8]) -> &[u8]
     }
 }
 
-/// Returns which segment an Interest asks for, and the Interest's Nonce, or `None` if the request
-/// is not an Interest.
+/// Returns which segment the request asks for, and the request's Nonce, or `None` if the request is
+/// not an Interest.
 fn turn_of(request: &[u8]) -> Option<Turn>
     ensures { result ≡ turn_of (frame_at request.now) }
 {

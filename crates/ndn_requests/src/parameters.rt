@@ -18,8 +18,9 @@ use ndn_packets::types::{CAN_BE_PREFIX, INTEREST_LIFETIME, NAME};
 use ndn_tlv::{Memory, put_element, put_flag, put_number_field};
 use std::alloc::Global;
 
-/// The parameters of a command for the node or for a repository. A field that only commands for the
-/// node have is not written for a repository, and vice versa.
+/// The parameters of a command for the node or for a repository. In a command for a repository,
+/// fields that only commands for the node have are left out. In a command for the node, fields that
+/// only commands for a repository have are left out.
 #[derive(Drop)]
 pub struct Parameters {
     /// The name that the command applies to.

@@ -27,11 +27,11 @@ pub type Outcome = Result<(), Failure>;
 /// Returns the outcome of a request, given a received datagram, or `None` if the datagram does not
 /// answer the request.
 ///
-/// A Nack of the request's Interest is an answer. If the request is not a command, a Data that
-/// answers the Interest is an answer too. In this case, the request is done. If the request is a
-/// command, a Data of any length is an answer if it is exactly the reply that a node writes. A Data
-/// with the command's name is also an answer if its signature is right, by DigestSha256 or by a key
-/// of the book. A command is done if the status is 200, or 100 for an insert to a repository.
+/// A Nack of the request's Interest is an answer. If the request is not a command, the request is
+/// done when a Data answers the Interest. If the request is a command, a Data of any length is an
+/// answer if the Data is exactly the reply that a node writes. A Data with the command's name is
+/// also an answer if its signature is right, by DigestSha256 or by a key of the book. A command is
+/// done if the status is 200, or 100 for an insert to a repository.
 pub fn judge(
     alloc: Global,
     request: &[u8],
@@ -97,8 +97,8 @@ fn frame_outcome(
     }
 }
 
-/// Returns the outcome of a request, given a Data that answers its Interest. Returns `None` if the
-/// request is a command, and the Data does not have its name or has no right signature.
+/// Returns the outcome of a request, given a Data that answers its Interest. If the request is a
+/// command, returns `None` for a Data with another name or without a right signature.
 fn data_outcome(asked: &Interest<'_>, packet: &Data<'_>, check: Option<TagCheck>) -> Option<Outcome>
     ensures { result ≡ data_outcome (plain_interest asked.now) (plain_data packet.now) check }
 {
@@ -227,9 +227,9 @@ fn is_word(component: Option<Component<'_>>, word: &str) -> bool
     }
 }
 
-/// Appends the lines that `explain` prints for the answer to a request, also for a reply of more
-/// than 8,800 octets. Appends nothing for any other datagram that is not a packet. If memory runs
-/// out, some of the lines may have been appended.
+/// Appends the lines that `explain` prints for a datagram that answers a request. A reply of more
+/// than 8,800 octets is explained, too. Appends nothing for a datagram that is neither a packet nor
+/// a reply to the request. If memory runs out, some of the lines may have been appended.
 pub fn put_explained(
     alloc: Global,
     text: &mut Vec<u8>,
@@ -277,7 +277,7 @@ fn put_reply(
 }
 
 /// Returns why no answer came to a request that was sent from the port `from`, or from a new port
-/// if `from` is absent. `is_closed` tells whether no program listens on the request's destination
+/// if `from` is absent. `is_closed` is true if no program listens on the request's destination
 /// port.
 pub fn silence_of(request: &[u8], from: Option<u16>, is_closed: bool) -> Silence
     ensures { result ≡ silence_of request.now from is_closed }

@@ -9,8 +9,8 @@ use Rattle.ndn_tlv.specs.declared.memory.Memory.{Memory}
 use Rattle.ndn_tlv.specs.Writing.{Puts}
 use Rattle.ndn_tlv.proofs.Lengths.{begins_more}
 
--- Let a call append all of `octets` if it succeeds, and nothing if it fails. If it also succeeds
--- whenever the capacity suffices, and does not reduce the capacity, it satisfies `Puts`.
+-- a call satisfies `Puts` if it appends all of `octets` on success and nothing on failure, succeeds
+-- whenever the capacity suffices, and does not reduce the capacity
 pub puts_one : (old new : Vec ℕ) (result : Result (Unit {0}) Memory) (octets : List ℕ)
     → OnOk result (new.items ≡ old.items ++ octets) → OnErr result (new.items ≡ old.items)
     → (vec_len old + length octets ≤ vec_capacity old → IsOk result)
@@ -28,8 +28,8 @@ puts_one old new (Err fault) octets ok err room capacity = record {
   capacity = capacity;
 }
 
--- Let a call satisfy `Puts` for the octets `front` and succeed, and let the next call satisfy
--- `Puts` for the octets `back`. Then both calls together satisfy `Puts` for `front ++ back`.
+-- if a call satisfies `Puts` for `front` and succeeds, and the next call satisfies `Puts` for
+-- `back`, both calls together satisfy `Puts` for `front ++ back`
 pub puts_both : (old mid new : Vec ℕ) (before : Unit {0}) (result : Result (Unit {0}) Memory) (front back : List ℕ)
     → Puts old mid (Ok before) front → Puts mid new result back → Puts old new result (front ++ back)
 puts_both old mid new before (Ok done) front back p q = record {

@@ -243,8 +243,8 @@ long_again w limit wide least n rest lt le =
     let long : ltb (length (to_be_bytes w n ++ rest)) (byte_len w) ≡ false = le-ltb _ _ (omega (arith, length-append (to_be_bytes w n) rest)) in
     rw (long, take_at (to_be_bytes w n) rest (byte_len w) len, drop_at (to_be_bytes w n) rest (byte_len w) len, wide.again n lt, le-ltb n least le) refl
 
--- Let there be at least `byte_len w` octets. Then the first `byte_len w` of them encode a number
--- below `limit`, and are the big-endian encoding of this number.
+-- if there are at least `byte_len w` octets, the first `byte_len w` octets are the big-endian
+-- encoding of a number below `limit`
 long_front : (w : Width) (limit : ℕ) (wide : IsWide w limit) (bytes : List ℕ) → IsBytes bytes → byte_len w ≤ length bytes → (from_be_bytes w (take (byte_len w) bytes) < limit) × (bytes ≡ to_be_bytes w (from_be_bytes w (take (byte_len w) bytes)) ++ drop (byte_len w) bytes)
 long_front w limit wide bytes fits long =
     let front = wide.back (take (byte_len w) bytes) (omega (arith, length-take (byte_len w) bytes)) (IsBytes-take (byte_len w) bytes fits) in

@@ -15,8 +15,8 @@ first_of kind [] = None
 first_of kind (Err fault ∷ es) = None
 first_of kind (Ok e ∷ es) = if e.0 == kind then Some e.1 else first_of kind es
 
--- the value of the only item in the list, or `None` unless the list has exactly one item, which is
--- an element of type `kind`
+-- the value of the element if the list has exactly one item and this item is an element of type
+-- `kind`, otherwise `None`
 abbrev pub single : ℕ → Elements → Option (List ℕ)
 single kind [] = None
 single kind (Err fault ∷ es) = None

@@ -13,8 +13,8 @@ abbrev pub ◌>>=◌ : {A B F : Type 0} → Result A F → (A → Result B F) �
 (Ok x) >>= f = f x
 (Err e) >>= f = Err e
 
--- The number of width `w` at the front of `bytes`, which follow a first octet of 253, 254 or 255,
--- and the octets after the number. The result is the fault `Truncated` if octets of the number are
+-- The number of width `w` at the front of `bytes`, and the octets after the number. An octet 253,
+-- 254 or 255 comes before `bytes`. The result is the fault `Truncated` if octets of the number are
 -- missing, and `NotShortest` if the number is below `least`.
 abbrev pub long_number_at : Width → ℕ → List ℕ → Result (ℕ × List ℕ) TlvFault
 long_number_at w least bytes =
@@ -42,16 +42,17 @@ nni_at value =
     if length value == 8 then Ok (from_be_bytes w64 value) else
     Err BadInteger)))
 
--- The TLV-TYPE at the front of the octets, and the octets after it. The result is the fault of the
--- number if it cannot be read, `TypeZero` for 0, and `TypeTooLarge` for a number from 2^32 on.
+-- The TLV-TYPE at the front of the octets, and the octets after it. The result is the fault of
+-- `number_at` if no number can be read, `TypeZero` for the number 0, and `TypeTooLarge` for a
+-- number from 2^32 on.
 abbrev pub type_at : List ℕ → Result (ℕ × List ℕ) TlvFault
 type_at bytes = do
   kind ← number_at bytes
   if kind.0 == 0 then Err TypeZero
       else (if nat_lt kind.0 (2 ^ 32) then Ok kind else Err TypeTooLarge)
 
--- the element at the front of the octets, and the octets after it, or the fault of its type or its
--- length; the fault is `Truncated` if octets of its value are missing
+-- the element at the front of the octets, and the octets after it, or a fault: the fault of its
+-- type, the fault of its length, or `Truncated` if octets of its value are missing
 unfoldable pub element_at : List ℕ → Result (Field × List ℕ) TlvFault
 element_at bytes = do
   kind ← type_at bytes

@@ -63,7 +63,7 @@ pub fn put_flag(out: &mut Vec<u8>, kind: u32, set: bool) -> Result<(), Memory>
 pub fn nni_element_len(kind: u32, number: u64) -> usize
     ensures exact { result ≡ length (element (kind, shortest_nni number)) }
     ensures small { result ≤ 26 }
-    // The number is below 2^64. Proofs about the grammar of written packets use this fact.
+    // The number is below 2^64, which proofs about the grammar of written packets use.
     ensures sound { number < 2 ^ 64 }
 {
     let value_len = nni_len(number);

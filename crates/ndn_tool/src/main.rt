@@ -1,5 +1,5 @@
-//! A Named Data Networking client. It writes packets, sends them, computes tags and explains
-//! packets.
+//! A Named Data Networking client. The client writes, sends and explains packets, and computes
+//! HMACs.
 #![tactic(auto)]
 
 use ndn_client::run;

@@ -148,13 +148,15 @@ fn spelled(alloc: Global, dialogue: &str) -> Option<String> {
     Some(text)
 }
 
-/// Returns the outcome of the script of a dialogue without words.
+/// Plays the script of a dialogue, and returns the output and how the script ended. No word of the
+/// dialogue may stand for a packet.
 fn dialogue_outcome(alloc: Global, rules: &str, cache: u32, dialogue: &str) -> Option<String> {
     let script = script_of(alloc, dialogue)?;
     outcome_under(alloc, rules, cache, script.as_str())
 }
 
-/// Checks that the outcome of a dialogue consists of each answer in it and an end without a fault.
+/// Checks that `outcome` consists of the answers in the dialogue, followed by an end without a
+/// fault.
 fn check_answers(rt: &impl Abort, dialogue: &str, outcome: &str) {
     let mut answers = outcome.lines();
     for line in dialogue.lines() {
@@ -185,7 +187,8 @@ fn on_node_under<F: Fn(Global, &mut Node) -> Option<bool>>(
     play(alloc, &mut node)
 }
 
-/// Returns whether the events of a dialogue at a port have the answers in this outcome.
+/// Returns whether a new node gives the answers in `outcome` if the events of the dialogue come
+/// from a port.
 fn is_same_at_a_port(
     alloc: Global,
     rules: &str,
@@ -202,7 +205,7 @@ fn is_same_at_a_port(
     )
 }
 
-/// Does the same as `replies_under` for a dialogue without words.
+/// Does the same as `replies_under` for a dialogue in which all packets are in hexadecimal.
 fn check_dialogue(rt: &(impl Abort + AllocGlobal), rules: &str, cache: u32, dialogue: &str) {
     let alloc = rt.alloc();
     let outcome = dialogue_outcome(alloc, rules, cache, dialogue).expect(rt, "an outcome");
@@ -213,14 +216,16 @@ fn check_dialogue(rt: &(impl Abort + AllocGlobal), rules: &str, cache: u32, dial
     );
 }
 
-/// Plays the script of a dialogue, and checks each answer and that the script then ends without a
-/// fault. The same events at a port must have the same answers.
+/// Plays the script of a dialogue. Checks that a node gives the answers in the dialogue, and that
+/// the script ends without a fault. Also checks that a node gives the same answers if the events
+/// come from a port.
 fn replies_under(rt: &(impl Abort + AllocGlobal), rules: &str, cache: u32, dialogue: &str) {
     let dialogue = spelled(rt.alloc(), dialogue).expect(rt, "memory");
     check_dialogue(rt, rules, cache, dialogue.as_str());
 }
 
-/// Does the same as `replies_under`, with the sample rules and a cache of 1,024 Data.
+/// Checks the answers of a dialogue as `replies_under` does, with the sample rules and a cache of
+/// 1,024 Data.
 fn replies(rt: &(impl Abort + AllocGlobal), dialogue: &str) {
     replies_under(rt, SAMPLE, 1024, dialogue);
 }

@@ -11,8 +11,8 @@ use Rattle.forwarder.specs.Event.{Send}
 use Rattle.std.specs.List.{flat_map}
 use Rattle.std.proofs.lemmas.List.{append-nil}
 
--- the texts of the first `i + 1` elements are the texts of the first `i` elements, followed by
--- the text of the element at index `i`
+-- the concatenated texts of the first `i + 1` elements are the concatenated texts of the first `i`
+-- elements, followed by the text of the element at index `i`
 pub flat_map-take_next : {X : Type 0} (f : X → List ℕ) (xs : List X) (i : ℕ) (x : X) → slice_get xs i ≡ Some x → flat_map f (take (suc i) xs) ≡ flat_map f (take i xs) ++ f x
 flat_map-take_next f [] i x h = cc h
 flat_map-take_next {X} f (y ∷ ys) zero x h = let same : y ≡ x = cc h in append-nil (f y) ∙ ap f same
@@ -22,8 +22,8 @@ flat_map-take_next f (y ∷ ys) (suc i) x h =
 pub appended : (a b c d e : List ℕ) → a ≡ b ++ c → b ≡ d ++ e → a ≡ d ++ (e ++ c)
 appended a b c d e h k = h ∙ ap (λ (t : List ℕ). t ++ c) k ∙ append_assoc d e c
 
--- Let the texts of the first `i` elements be appended, and let memory run out for the next element.
--- Then `Puts` with this fault holds for the texts of all elements.
+-- if the texts of the first `i` elements were appended, and memory ran out for the text of the next
+-- element, then memory ran out for appending the texts of all elements (`Puts`)
 pub puts_refused : {X : Type 0} (f : X → List ℕ) (xs : List X) (i : ℕ) (x : X) (old mid new : Vec ℕ) (e : Memory) → slice_get xs i ≡ Some x
     → mid.items ≡ old.items ++ flat_map f (take i xs) → vec_capacity old ≤ vec_capacity mid → Puts mid new (Err e) (f x) → Puts old new (Err e) (flat_map f xs)
 puts_refused f xs i x old mid new e is text capacity p =

@@ -6,8 +6,8 @@ use Rattle.hex.specs.Hex.{decode_pairs, digit_or_error, hex_digit_value, is_hex_
 use Rattle.hex.proofs.Pairs.{prepend, decode_step}
 use Rattle.hex.proofs.HexLemmas.{decode_pairs-ok}
 
--- `o` is the value of an octet as a hexadecimal digit, or None if the octet is not a digit. If `o`
--- is such a value, `value` is equal to it and below 16. If `o` is None, `value` is 255.
+-- `value` is the value of a hexadecimal digit, or 255 for an octet that is not a hexadecimal digit.
+-- If `o` is `Some v`, `value` equals `v` and is below 16. If `o` is None, `value` is 255.
 abbrev pub IsValue : Option ℕ → ℕ → Type 0
 IsValue o value = MatchOption o (value ≡ 255) (λ v. (value ≡ v) × (v < 16))
 
@@ -19,13 +19,15 @@ digit_none : (o : Option ℕ) (value : ℕ) → IsValue o value → 16 ≤ value
 digit_none None value is high = refl
 digit_none (Some v) value is high = absurd (omega (arith, is.0, is.1, high))
 
--- if the greatest value so far is below 16, decoding all digits gives the first `i` octets of
--- `octets`, followed by the result of decoding the digits from index `2 * i` on
+-- If `greatest`, the greatest value of the first `2 * i` digits, is below 16, then decoding all
+-- digits gives the first `i` octets of `octets`, followed by the result of decoding the digits
+-- after the first `2 * i` digits.
 abbrev pub SpellSoFar : List ℕ → List ℕ → ℕ → ℕ → Type 0
 SpellSoFar digits octets i greatest =
     greatest < 16 → decode_pairs 0 digits ≡ prepend (take i octets) (decode_pairs (2 * i) (drop (2 * i) digits))
 
--- if the greatest value of the digits read so far is 16 or more, some octet is not a digit
+-- if the greatest value of the digits read so far is 16 or more, some octet of `digits` is not a
+-- hexadecimal digit
 abbrev pub HasNoDigit : List ℕ → ℕ → Type 0
 HasNoDigit digits greatest = 16 ≤ greatest → (k : ℕ) × (k < length digits) × (is_hex_digit (slice_index digits k) ≡ false)
 

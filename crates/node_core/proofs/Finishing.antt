@@ -1,4 +1,4 @@
--- The result of a run, from the octets that were read.
+-- How the result of a run follows from the octets that were read.
 use Rattle.std.proofs.Common.{◌≡◌, ℕ, zero, suc, refl, ◌+◌, ◌≤◌, List, [], ◌∷◌, ◌++◌, length, sym, ap, ◌∙◌, arith, append_assoc, append-nil, subst, take}
 use Rattle.std.specs.Prelude.{Option, Some, None, IfSome, Result, Ok, Err, IfErr, MatchOption}
 use Rattle.std.specs.Io.KnownBytes.{Appends, Consumes, IsAtEnd}
@@ -29,29 +29,31 @@ start first = record { node = first; lines = 0; events = 0 }
 pub start_is : (place : Place) → IsStart place → place ≡ start place.node
 start_is place h = λ i. record { node = place.node; lines = h.lines i; events = h.events i }
 
--- the first node with these rules, keys, prefix and cache capacity is new
+-- the node `first_node` with these rules, keys, prefix and cache capacity is new (`IsNew`)
 pub first_is_new : (rules : List PlainRule) (keys : List NamedKey) (repo : List Field) (cache : ℕ) → IsNew (first_node rules keys repo cache)
 first_is_new rules keys repo cache = record {
   now = refl;
   stands = new_stands (first_policy rules keys repo) cache;
 }
 
--- `why` is the fault because of which no node can be created, or None if there is no such fault. If
--- a node was created, and `P` is true, then `MatchOption why P Q` is true.
+-- if a node was created, the parts of the node have no fault (`why` is None), so `P` implies
+-- `MatchOption why P Q`
 pub made_of_good_parts : {N : Type 0} (P : Type 0) (Q : NodeFault → Type 0) (why : Option NodeFault) (made : Result N NodeFault) (node : N) → made ≡ Ok node
     → MatchOption why (IfErr made (λ f. f ≡ Memory)) (λ f. made ≡ Err f) → P → MatchOption why P Q
 made_of_good_parts P Q None made node is h p = p
 made_of_good_parts P Q (Some f) made node is h p = let other : Ok node ≡ Err f = sym is ∙ h in absurd cc
 
--- Let a property be true of the octets that were read, whatever octets follow them. If the octets
--- that were unread before the reading are known, the property is true of them.
+-- Let `unread` be the octets that were unread at first, and let `front` be the octets that were
+-- read. If `unread` is known, and the property `P` is true of `front` followed by any octets, then
+-- `P` is true of `unread`.
 known_text : (unread left : Option (List ℕ)) (P : List ℕ → Type 0) (front : List ℕ) → Consumes unread left front → ((more : List ℕ) → P (front ++ more)) → IfSome unread P
 known_text None left P front h k = tt
 known_text (Some xs) None P front h k = absurd h
 known_text (Some xs) (Some ys) P front h k = subst P (sym h) (k ys)
 
--- Let a property be true of the octets that were read, and let the reader then be at its end. If
--- the octets that were unread before the reading are known, the property is true of them.
+-- Let `unread` be the octets that were unread at first, and let `front` be the octets that were
+-- read, up to the end of the reader. If `unread` is known, and the property `P` is true of `front`,
+-- then `P` is true of `unread`.
 known_end : (unread left : Option (List ℕ)) (P : List ℕ → Type 0) (front : List ℕ) → Consumes unread left front → IsAtEnd left → P front → IfSome unread P
 known_end None left P front h e k = tt
 known_end (Some xs) None P front h e k = absurd h
@@ -135,8 +137,8 @@ shape_end j l = rw (append-nil l, append-nil (l ++ (10 ∷ []))) (append_assoc j
 shape_all : (j l : List ℕ) → j ++ ((l ++ (10 ∷ [])) ++ []) ≡ (j ++ ((l ++ (10 ∷ [])) ++ [])) ++ []
 shape_all j l = sym (append-nil (j ++ ((l ++ (10 ∷ [])) ++ [])))
 
--- if a text is whole lines and a last line without an LF, appending an LF makes it a text of whole
--- lines
+-- if a text consists of whole lines and a last line without an LF, the text with an LF appended
+-- consists of whole lines
 ended_whole : (front line : List ℕ) (lines : List (List ℕ)) → front ≡ joined lines ++ (line ++ []) → ended front ≡ joined (lines ++ (line ∷ [])) ++ []
 ended_whole front line lines is =
     ap ended is ∙ shape_end (joined lines) line ∙ shape_all (joined lines) line

@@ -28,7 +28,6 @@ pub split_at_place : (text : List ℕ) (i at : ℕ) → i < length text → get_
 split_at_place text i at lt e =
     sym (take-append-drop i text) ∙ ap (λ (d : List ℕ). take i text ++ d) (drop-cons text i 0 lt ∙ ap (λ (o : ℕ). o ∷ drop (suc i) text) e ∙ rw add-one refl)
 
--- a text that contains an octet does not lack it
 pub Lacks-no_cut : (octet : ℕ) (a b : List ℕ) → Lacks octet (a ++ (octet ∷ b)) → ⊥
 Lacks-no_cut octet [] b h = h.0 refl
 Lacks-no_cut octet (o ∷ a) b h = Lacks-no_cut octet a b h.1
@@ -97,8 +96,8 @@ full_list (o ∷ text) h = omega arith
 pub differ_bytes : (xs ys : List ℕ) (r : Bool) → r ≡ pointwise eqb xs ys → r ≡ false → xs ≡ ys → ⊥
 differ_bytes xs ys r h apart e = let same = (slice_eq-Decides Decides-eqb xs ys r h).1 e in cc (apart, same)
 
--- if a text is `front` and then `rest`, it is also `front` with the first `n` octets of `rest`, and
--- then the other octets of `rest`
+-- if `whole` is `front` followed by `rest`, the first `n` octets of `rest` can be moved from `rest`
+-- to the end of `front`
 pub front_longer : (whole front rest : List ℕ) (n : ℕ) → whole ≡ front ++ rest → whole ≡ (front ++ take n rest) ++ take (length rest - n) (drop n rest)
 front_longer whole front rest n e =
     e ∙ ap (λ (d : List ℕ). front ++ d) (sym (take-append-drop n rest) ∙ ap (λ (d : List ℕ). take n rest ++ d) (take_rest n rest)) ∙ sym (append_assoc front (take n rest) (take (length rest - n) (drop n rest)))

@@ -13,8 +13,8 @@ AreOutcomes-append a b c [] fs (r ∷ rs) ss h k = absurd h
 AreOutcomes-append a b c (e ∷ es) fs [] ss h k = absurd h
 AreOutcomes-append a b c (e ∷ es) fs (r ∷ rs) ss h k = (h.0, h.1, AreOutcomes-append h.0 b c es fs rs ss h.2 k)
 
--- Let the old node agree with a valid run from a policy at time 0. Then this run, extended by the
--- events and their answers, is valid, and the new node agrees with it.
+-- if the old node agrees with a valid run from a policy at time 0, the run extended by the answered
+-- events is valid, and the new node agrees with the extended run
 pub runs_stand : (first : Policy) (past : Run) (old new : NodeState) (events : List PlainEvent) (outcomes : List Outcome) → first.now ≡ 0 → AreOutcomes old events outcomes new → IsRun first past
     → Stands first past old → IsRun first (run_from past events outcomes) × Stands first (run_from past events outcomes) new
 runs_stand first past old new [] [] begins runs run stands = (run, subst (Stands first past) (sym runs) stands)

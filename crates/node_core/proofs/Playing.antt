@@ -261,8 +261,8 @@ Fed-start place line rest held =
 shape_line : (j l f a : List ℕ) → j ++ (l ++ (f ++ (10 ∷ a))) ≡ (j ++ ((l ++ f) ++ (10 ∷ []))) ++ a
 shape_line j l f a = simp append_assoc
 
--- Let there be an LF among the unread octets. Then the stream has three parts: the finished lines,
--- the unfinished line with the unread octets before this LF, and the octets from this LF on.
+-- if there is an LF among the unread octets, the stream consists of the finished lines, the
+-- unfinished line with the unread octets before this LF, and the octets from this LF on
 Fed-line_is : (stream : List ℕ) (from to : Place) (line rest front after : List ℕ) (held holds : Option (List ℕ)) → (fed : Fed stream from to line rest held holds)
     → rest ≡ front ++ (10 ∷ after) → stream ≡ joined fed.lines ++ ((line ++ front) ++ (10 ∷ after))
 Fed-line_is stream from to line rest front after held holds fed is =
@@ -314,7 +314,6 @@ FeedStops-line fault.Memory stream from mid line rest front after held holds fed
 
 -- ---- answers that were gathered and are then written
 
--- if the gathered text `a` consists of `text` only, and `a` was then written, `text` was written
 gathered : (a : List ℕ) (text : List ℕ) (held holds : Option (List ℕ)) → a ≡ [] ++ text → Appends held holds a → Appends held holds text
 gathered a text held holds is written = subst (Appends held holds) is written
 
@@ -322,8 +321,8 @@ gathered_front : (a text : List ℕ) (held holds : Option (List ℕ)) → Append
 gathered_front a text held holds h k =
     (k.0, k.1 ++ h.1, h.2 ∙ ap (λ (t : List ℕ). t ++ h.1) (sym h.3 ∙ k.2) ∙ append_assoc k.0 k.1 h.1, k.3)
 
--- Let the octets `xs`, followed by one more octet, begin with the octets `ys` and be longer than
--- `ys`. Then `xs` begins with `ys`.
+-- if `xs` followed by one more octet begins with `ys` and is longer than `ys`, then `xs` begins
+-- with `ys`
 init_after : (xs ys zs : List ℕ) (a z : ℕ) → xs ++ (a ∷ []) ≡ ys ++ (z ∷ zs) → (rest : List ℕ) × (xs ≡ ys ++ rest)
 init_after xs [] zs a z h = (xs, refl)
 init_after [] (y ∷ ys) zs a z h = absurd (let e = ap length h in omega (arith, e, length-append ys (z ∷ zs)))
@@ -374,8 +373,7 @@ module _ (stream : List ℕ) (from to : Place) (line after : List ℕ) (held hol
   gathered_cut_of (Err f) played stopped cut = FeedStops-cut f stream from after held holds stopped cut
 
 module _ (result : Result (Unit {0}) RunFault) (stream : List ℕ) (from : Place) where
-  -- The next two lemmas are about answers that are gathered, in a text that is empty at first, and
-  -- are then written.
+  -- In this module, answers are gathered in a text that is empty at first, and are then written.
   module _ (to : Place) (line before after : List ℕ) (held holds : Option (List ℕ)) (none : before ≡ []) where
     pub gathered_written : OnOk result ((lines : List (List ℕ)) × (text : List ℕ) × Plays lines from to text × Appends (Some before) (Some after) text × (stream ≡ joined lines ++ line))
         → Appends held holds after

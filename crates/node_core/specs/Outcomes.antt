@@ -17,16 +17,16 @@ pub data Outcome : Type 0 where
 abbrev pub IsEvent : PlainEvent → Type 0
 IsEvent event = BringsOctets event × BringsKeysApart event
 
--- The event is valid, and this is its outcome. `Answered`: a step with this answer leads from the
--- node `old` to the node `new`. `NoMemory`: the event is one that needs memory, and nothing changed
--- except that the cache may have dropped or reordered Data.
+-- The event is valid and has this outcome. `Answered`: a step with this answer leads from the node
+-- `old` to the node `new`. `NoMemory`: the event needs memory, and nothing changed except that the
+-- cache may have dropped or reordered Data.
 abbrev pub IsOutcome : NodeState → PlainEvent → Outcome → NodeState → Type 0
 IsOutcome old event (Answered answer) new = IsEvent event × IsStep old event answer new
 IsOutcome old event NoMemory new =
     IsEvent event × ChangesCacheOnly old new × (AsksNoMemory old event → ⊥)
 
--- each event has one outcome, these are the outcomes in order, and the events lead from the old
--- node to the new one
+-- `outcomes` has one outcome for each event, in the order of the events; handling the events leads
+-- from the old node to the new node
 abbrev pub AreOutcomes : NodeState → List PlainEvent → List Outcome → NodeState → Type 0
 AreOutcomes old [] [] new = new ≡ old
 AreOutcomes old [] (done_as ∷ outcomes) new = ⊥

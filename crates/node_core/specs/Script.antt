@@ -32,8 +32,9 @@ SpellEvents (line ∷ lines) (event ∷ events) =
     (IsSkipped line × SpellEvents lines (event ∷ events))
     ⊎ (IsEventLine event line × SpellEvents lines events)
 
--- The text with an LF appended is these lines, each with its LF, and then `rest`. The appended LF
--- ends a last line that has no LF. After a final LF, it adds an empty line, which a script skips.
+-- The text with an LF appended consists of these lines, each with its LF, followed by `rest`. The
+-- appended LF ends a last line that has no LF. If the text ends with an LF, the appended LF adds an
+-- empty line, which a script skips.
 abbrev pub BeginsWithLines : List ℕ → List (List ℕ) → List ℕ → Type 0
 BeginsWithLines text lines rest = AreLines lines × (ended text ≡ joined lines ++ rest)
 
@@ -42,7 +43,8 @@ abbrev pub IsScript : List ℕ → List PlainEvent → Type 0
 IsScript text events =
     (lines : List (List ℕ)) × BeginsWithLines text lines [] × SpellEvents lines events
 
--- these are the events of some first lines of the text, possibly of no line or of all lines
+-- the first lines of the text, zero or more of them, spell these events; nothing is stated about
+-- the octets after these lines
 abbrev pub BeginsWithEvents : List ℕ → List PlainEvent → Type 0
 BeginsWithEvents text events =
     (lines : List (List ℕ)) × (rest : List ℕ) × BeginsWithLines text lines rest

@@ -42,8 +42,8 @@ pub fn put_answer(
 }
 
 /// Appends the line of an answered event: its number and its verdict, in the format of scripts. A
-/// rule is printed as its id, or as nothing if no rule has the rule number in the verdict. If
-/// memory runs out, nothing is appended.
+/// rule is printed as its id, or as nothing if `rules` has no rule with the number in the verdict.
+/// If memory runs out, nothing is appended.
 pub fn put_verdict(
     text: &mut Vec<u8>,
     number: u64,
@@ -104,7 +104,7 @@ pub fn put_sends(text: &mut Vec<u8>, outbox: &Outbox) -> Result<(), Memory>
     done
 }
 
-/// Appends the text of an answer. If memory runs out, some of its octets may be appended.
+/// Appends the text of an answer. If memory runs out, some octets of the text may be appended.
 fn put_parts(
     text: &mut Vec<u8>,
     number: u64,
@@ -119,7 +119,7 @@ fn put_parts(
     put_send_lines(text, outbox)
 }
 
-/// Appends the line of an event. If memory runs out, some of its octets may be appended.
+/// Appends the line of an event. If memory runs out, some octets of the line may be appended.
 fn put_outcome(
     text: &mut Vec<u8>,
     number: u64,
@@ -135,7 +135,8 @@ fn put_outcome(
     }
 }
 
-/// Appends the line of an answered event. If memory runs out, some of its octets may be appended.
+/// Appends the line of an answered event. If memory runs out, some octets of the line may be
+/// appended.
 fn put_line(text: &mut Vec<u8>, number: u64, verdict: Verdict, rules: &Rules) -> Result<(), Memory>
     ensures { Puts text.old text.new result
         (numbered_line number (verdict_text rules.now (verdict_of verdict))) }
@@ -155,8 +156,8 @@ fn put_refused_line(text: &mut Vec<u8>, number: u64) -> Result<(), Memory>
     put_word(text, b" memory\n")
 }
 
-/// Appends one line for each packet that is sent. If memory runs out, some of their octets may be
-/// appended.
+/// Appends one line for each packet that is sent. If memory runs out, some octets of the lines may
+/// be appended.
 fn put_send_lines(text: &mut Vec<u8>, outbox: &Outbox) -> Result<(), Memory>
     ensures { Puts text.old text.new result (flat_map send_text outbox.now) }
 {
@@ -168,7 +169,7 @@ fn put_send_lines(text: &mut Vec<u8>, outbox: &Outbox) -> Result<(), Memory>
     Ok(())
 }
 
-/// Appends the line of one packet that is sent. If memory runs out, some of its octets may be
+/// Appends the line of one packet that is sent. If memory runs out, some octets of the line may be
 /// appended.
 fn put_send(text: &mut Vec<u8>, face: u64, octets: &[u8]) -> Result<(), Memory>
     ensures { Puts text.old text.new result (send_text (face, octets.now)) }
@@ -234,7 +235,7 @@ fn put_number(text: &mut Vec<u8>, number: u64) -> Result<(), Memory>
     put_word(text, buffer.format(number).as_bytes())
 }
 
-/// Appends the verdict on an event. If memory runs out, some of its octets may be appended.
+/// Appends the verdict on an event. If memory runs out, some octets of the verdict may be appended.
 fn put_verdict_text(text: &mut Vec<u8>, rules: &Rules, verdict: Verdict) -> Result<(), Memory>
     ensures { Puts text.old text.new result (verdict_text rules.now (verdict_of verdict)) }
 {
@@ -303,8 +304,8 @@ fn kind_name(kind: Kind) -> &'static [u8]
     }
 }
 
-/// Appends two words, one directly after the other. If memory runs out, some of their octets may be
-/// appended.
+/// Appends two words, one directly after the other. If memory runs out, some octets of the words
+/// may be appended.
 fn put_words(text: &mut Vec<u8>, first: &[u8], second: &[u8]) -> Result<(), Memory>
     ensures { Puts text.old text.new result (first.now ++ second.now) }
 {

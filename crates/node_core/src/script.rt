@@ -48,10 +48,11 @@ pub enum RunFault {
 /// A line is `up FACE local|far MOMENT`, `down FACE MOMENT`, `tick MOMENT`, `in FACE MOMENT HEX` or
 /// `rules MOMENT HEX HEX`. Words are separated by single spaces, numbers are decimal without
 /// leading zeros, and `-` stands for no octets. A line has at most 20,000 octets, not counting its
-/// LF. It ends with an LF or at the end of the input. The two HEX words of `rules` are the octets
-/// of a rule file and of a key file. Empty lines and lines that begin with `#` are skipped. If
-/// memory runs out for an event, its answer has `memory` in place of a verdict. This event has no
-/// effect, except that the cache may have dropped or reordered Data.
+/// LF. A line ends with an LF or at the end of the input. The two HEX words of `rules` are the
+/// octets of a rule file and of a key file. Empty lines and lines that begin with `#` are skipped.
+/// If memory runs out for an event, the answer to the event has `memory` in place of a verdict. An
+/// event for which memory runs out has no effect, except that the cache may have dropped or
+/// reordered Data.
 pub fn run_script<R: Read, W: Write>(
     alloc: Global,
     reader: &mut R,

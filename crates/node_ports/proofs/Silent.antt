@@ -16,7 +16,7 @@ abbrev pub heard_at : List Client → ℕ → ℕ
 heard_at clients k = (slice_index_or clients k nobody).heard
 
 -- Of the first `count` clients, the client at index `place` has been silent longest. If several
--- have been silent equally long, it is the first of them.
+-- clients have been silent equally long, the client at index `place` is the first of these clients.
 pub record IsLongestOf (clients : List Client) (count place : ℕ) : Type 0 where
   pub within : place < count
   pub least : (k : ℕ) → k < count → heard_at clients place ≤ heard_at clients k

@@ -133,15 +133,16 @@ KeepsJournal-then old mid a b c es fs rs ss outcomes goes_on h k = λ first past
     let two = k first (run_from past es rs) one.0 one.1 begins on.0 on.1 one.2 one.3 one.4 in
     (two.0, two.1, subst (λ (r : Run). IsJournalOf first r two.0) (sym (run_from-append old mid past es fs rs ss outcomes)) two.2, two.3, two.4)
 
--- The next items state what is appended to the journal for an event that was answered.
+-- what is appended to the journal for an event that was answered
 module _ (old new : NodeState) (event : PlainEvent) (v : PlainVerdict) (sends : List Send) (coming : Coming) (time : ℕ) (before after : Option (List ℕ)) (is : IsEventOf (moment event) coming.entry event)
     (at : time ≡ max old.policy.now (moment event)) (step : IsStep old event (record { verdict = v; sends = sends }) new)
     (wanted : (text : List ℕ) → before ≡ Some text → coming.is_wanted ≡ brings_wanted (at_moment old.policy (moment event)) event) where
   abbrev pub answer : Answer
   answer = record { verdict = v; sends = sends }
 
-  -- Let `text` be the text of the journal of a run. Then the run followed by the event has a
-  -- journal. Its text is `text` followed by the text that is appended for the event.
+  -- if `text` is the text of the journal of a run, then the run extended by the event has a
+  -- journal, and the text of this longer journal is `text` followed by the text that is appended
+  -- for the event
   grows : (text : List ℕ) → before ≡ Some text → (is_journalled_entry coming.entry coming.is_wanted v ≡ true → IsLineAt time coming.entry) → (first : Policy) (past : Run) (journal : List PlainEvent) → Stands first past old
       → IsJournalOf first past journal → IsTextOf journal text
       → (longer : List PlainEvent) × IsJournalOf first (Then past event answer) longer
@@ -258,8 +259,9 @@ take-next [] i x h = cc h
 take-next (y ∷ ys) zero x h = let same : y ≡ x = cc h in ap (λ (t : Send). t ∷ []) same
 take-next (y ∷ ys) (suc i) x h = ap (λ (t : List Send). y ∷ t) (take-next ys i x h)
 
--- Let the first `i` sends be made, and then the send at index `i`. Then the first `i + 1` sends
--- were made, and the numbers of failed sends add up.
+-- if `failed` of the first `i` sends failed, and `more` (0 or 1) is the number of failures of the
+-- send at index `i`, then `failed + more` of the first `i + 1` sends failed, and the other sends
+-- were accepted
 pub sent_next : (xs : List Send) (i failed more : ℕ) (x : Send) (y : List Send) (a b c : Option (List Send)) → slice_get xs i ≡ Some x
     → ((taken : List Send) × AreSendsTaken (take i xs) failed taken × Takes a b taken) → AreSendsTaken (x ∷ []) more y → Takes b c y
     → (taken : List Send) × AreSendsTaken (take (i + 1) xs) (failed + more) taken × Takes a c taken

@@ -9,7 +9,7 @@ use Rattle.node_ports.specs.Endpoints.{is_at}
 pub record ClientsState : Type 0 where
   -- the clients in the order of their faces
   pub rows : List Client
-  -- the idle time after which a face closes; without it, no face closes
+  -- the idle time after which a face closes, or None if no face closes
   pub idle : Option ℕ
 
 -- the last datagram of the client arrived at least `time` before `now`
@@ -27,8 +27,8 @@ abbrev pub GivesWay : Option ℕ → ℕ → Client → Type 0
 GivesWay None now client = ⊥
 GivesWay (Some idle) now client = IsSilent GIVE_WAY_MILLISECONDS now client
 
--- the client at index `place` has been silent longest; if several have been silent equally long, it
--- is the first of them
+-- The client at index `place` has been silent longest. If several clients have been silent equally
+-- long, the client at index `place` is the first of these clients.
 pub record IsSilentLongest (clients : List Client) (place : ℕ) (client : Client) : Type 0 where
   pub is : slice_get clients place ≡ Some client
   pub least : All (λ other. client.heard ≤ other.heard) clients

@@ -1,6 +1,6 @@
 -- The endpoints that have faces, and what is done with a datagram: it arrives on its endpoint's
--- face, a face opens for its endpoint, or the face of a client closes first. This client may be the
--- endpoint itself.
+-- face, a face opens for its endpoint, or the face of a client closes first. The client whose face
+-- closes may be the datagram's own endpoint.
 use Rattle.std.specs.Prelude.{◌≡◌, ℕ, ◌+◌, ◌-◌, ◌<◌, ◌≤◌, ◌⊎◌, ◌==◌, List, [], ◌∷◌, ◌++◌, All, find, length, option_map, position, remove, slice_get, unwrap_or, Option, None, Some, if◌then◌else◌}
 use Rattle.std.specs.Option.{option_or}
 use Rattle.std.specs.declared.net.socket_addr.SocketAddr.{SocketAddr}
@@ -21,7 +21,7 @@ known_count endpoints = length endpoints.peers + length endpoints.clients.rows
 abbrev pub peer_at : List SocketAddr → ℕ → Option SocketAddr
 peer_at peers face = if face == 0 then None else slice_get peers (face - 1)
 
--- the endpoint of the peer or client with this face, or None if none has it
+-- the endpoint of the peer or client with this face, or None if no endpoint has this face
 abbrev pub endpoint_at : KnownEndpoints → ℕ → Option SocketAddr
 endpoint_at endpoints face = option_or (peer_at endpoints.peers face)
     (option_map (λ (client : Client). client.endpoint)
@@ -61,15 +61,15 @@ OpensNew before after endpoint now face =
       refused = None;
     })
 
--- No face opens for the endpoint. The endpoint gets a face number. All endpoints without a face get
--- this number until a face opens.
+-- No face opens for the endpoint, but the endpoint gets the face number `face`. All endpoints
+-- without a face get the same face number until a face opens.
 abbrev pub OpensNone : KnownEndpoints → KnownEndpoints → ℕ → Type 0
 OpensNone before after face =
     (face ≡ unwrap_or before.refused before.next)
     × (after ≡ record before { next = one_more face; refused = Some face })
 
--- The face of the client that was silent longest before the datagram closes. The clients are then
--- `rows` without this client.
+-- The face of `client` closes. Among the clients in `before`, `client` has been silent longest. The
+-- clients in `after` are `rows` without `client`.
 abbrev pub Closes : KnownEndpoints → List Client → KnownEndpoints → Client → ℕ → Type 0
 Closes before rows after client face =
     (place : ℕ) × IsSilentLongest before.clients.rows place client × (face ≡ client.face)
@@ -87,12 +87,14 @@ NoneGivesWay before now =
     All (λ client. GivesWay before.clients.idle now client → ⊥) before.clients.rows
 
 -- What is done with a datagram from `endpoint`. If a client is idle, the face of the client that
--- has been silent longest closes, whatever the endpoint. In this case, if the endpoint is a client
--- that is not idle, the time of its last datagram becomes `now`. If no client is idle and the
--- endpoint has a face, the datagram arrives on this face. If no client is idle, the endpoint has no
--- face, and fewer than 64 endpoints are known, a face opens for it. If 64 are known, the face of
--- the client that has been silent longest closes, if this client gives way (`GivesWay`). If no
--- client gives way, no face closes and none opens.
+-- has been silent longest closes, whatever the endpoint. If a client is idle, and the endpoint is
+-- another client that is not idle, the time of the last datagram from the endpoint becomes `now`.
+-- If no client is idle and the endpoint has a face, the datagram arrives on this face. If no client
+-- is idle, the endpoint has no face, and fewer than 64 endpoints are known, a face opens for the
+-- endpoint. If no client is idle, the endpoint has no face, 64 endpoints are known, and the client
+-- that has been silent longest gives way (`GivesWay`), then the face of this client closes. If no
+-- client is idle, the endpoint has no face, 64 endpoints are known, and no client gives way, then
+-- no face closes and no face opens.
 abbrev pub Meets : KnownEndpoints → KnownEndpoints → SocketAddr → ℕ → Met → Type 0
 Meets before after endpoint now (Face face) =
     NoneIsIdle before now × Knows before after endpoint now face

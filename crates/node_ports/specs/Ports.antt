@@ -4,7 +4,7 @@ use Rattle.node_ports.specs.declared.ports.Arrival.{Arrival}
 use Rattle.node_ports.specs.declared.ports.Arrival.TheVariants as code
 use Rattle.forwarder.specs.Event.{PlainEvent, Packet, FaceUp, FaceDown, Tick, NewRules, Send}
 
--- the packet of the arrival is at most as long as a buffer of this size
+-- if the arrival is a packet, the packet has at most `size` octets
 abbrev pub LiesWithin : ℕ → Arrival → Type 0
 LiesWithin size code.End = ⊤
 LiesWithin size (code.Packet face now len) = len ≤ size

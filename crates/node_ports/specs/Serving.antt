@@ -70,9 +70,8 @@ refused_count [] = 0
 refused_count (Answered answer ∷ outcomes) = refused_count outcomes
 refused_count (NoMemory ∷ outcomes) = refused_count outcomes + 1
 
--- Let the old node agree with a valid run from a policy at time 0, and let `before` be the text of
--- this run's journal. Then `after` is the text of the journal of this run, extended by the answered
--- events.
+-- if the old node agrees with a valid run from a policy at time 0, and `before` is the text of this
+-- run's journal, then `after` is the text of the journal of the run extended by the answered events
 abbrev pub KeepsJournal : NodeState → Option (List ℕ) → List PlainEvent → List Outcome
     → Option (List ℕ) → Type 0
 KeepsJournal old before events outcomes after =
@@ -83,9 +82,9 @@ KeepsJournal old before events outcomes after =
     × IsJournalOf first (run_from past events outcomes) longer
     × IsTextOf longer longer_text × (after ≡ Some longer_text)
 
--- One event arrived and had this outcome, `failed` of its sends failed, and the port accepted the
--- others. The journal and each run of the node are extended as `KeepsJournal` and `ExtendsRuns`
--- state.
+-- One event arrived and had this outcome, `failed` of the sends of this event failed, and the port
+-- accepted the other sends. The journal and each run of the node are extended as `KeepsJournal` and
+-- `ExtendsRuns` state.
 pub record Handles (old new : NodeState) (before after : Shown) (done_as : Outcome)
     (failed : ℕ) : Type 0 where
   pub event : PlainEvent
@@ -111,7 +110,7 @@ HasFront old before event answer after =
     × IsTextOf longer (text ++ (front ++ back)) × (after ≡ Some (text ++ front)))
 
 -- An event arrived and was answered, but it could not be journalled: at most a prefix of the
--- event's line was appended to the journal. None of its packets was sent.
+-- event's line was appended to the journal. None of the event's packets was sent.
 pub record FailsToWrite (old new : NodeState) (before after : Shown) : Type 0 where
   pub event : PlainEvent
   pub answer : Answer
@@ -128,7 +127,7 @@ pub record FailsNext (before after : Shown) : Type 0 where
   pub journal : after.journal ≡ before.journal
   pub failures : after.failures ≡ one_more before.failures
 
--- nothing changed, and no event was still to come if the events to come are known
+-- nothing changed; if the events to come are known, no event was still to come
 pub record EndsNext (before after : Shown) : Type 0 where
   pub coming : Gives before.coming after.coming FRAME_ROOM None
   pub taken : after.taken ≡ before.taken
@@ -150,8 +149,8 @@ IsTurn old new before after sends turn.End =
     EndsNext before after × (new ≡ old) × (sends ≡ [])
 
 -- `events` events arrived, memory ran out for `refused` of them, and `failed` sends failed. If the
--- old node agrees with a valid run from a policy at time 0, then this run, extended by the answered
--- events, is valid. The new node agrees with the extended run.
+-- old node agrees with a valid run from a policy at time 0, then this run extended by the answered
+-- events is valid, and the new node agrees with the extended run.
 pub record Serves (old new : NodeState) (before after : Shown)
     (events refused failed : ℕ) : Type 0 where
   pub arrivals : List PlainEvent
@@ -167,8 +166,9 @@ pub record Serves (old new : NodeState) (before after : Shown)
   pub events_is : events ≡ length arrivals
   pub refused_is : refused ≡ refused_count outcomes
 
--- If the port did not reach its end, each turn had an event. Otherwise there were fewer events than
--- turns, and no event is still to come if the events to come are known.
+-- If the port did not reach its end, each turn had an event. If the port reached its end, there
+-- were fewer events than turns. If the port reached its end and the events to come are known, no
+-- event is still to come.
 abbrev pub EndsAfter : ℕ → Bool → ℕ → Option (List PlainEvent) → Type 0
 EndsAfter turns false events coming = events ≡ turns
 EndsAfter turns true events coming = (events < turns) × HasEnded coming

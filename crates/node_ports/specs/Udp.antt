@@ -18,7 +18,7 @@ use Rattle.node_ports.specs.Ports.{one_more}
 -- a datagram that was received, but whose arrival was not yet returned
 pub record Datagram : Type 0 where
   pub endpoint : SocketAddr
-  -- the face that the datagram is for, or None if that is not yet decided
+  -- the face that the datagram is for, or None if the face is not yet decided
   pub face : Option ℕ
   pub octets : List ℕ
 
@@ -68,7 +68,8 @@ closes_after idle ports = record ports {
 abbrev pub scope_of_face : ℕ → ℕ → Scope
 scope_of_face local face = if nat_le face local then Local else Far
 
--- `endpoint`, from which a datagram waits, if the datagram is for this face; otherwise None
+-- the endpoint `endpoint` of a waiting datagram, if the datagram is for the face `face`; None, if
+-- the datagram is for another face, or if its face is not yet decided
 abbrev pub waiting_for : ℕ → SocketAddr → Option ℕ → Option SocketAddr
 waiting_for face endpoint None = None
 waiting_for face endpoint (Some other) = if other == face then Some endpoint else None
@@ -94,8 +95,8 @@ OpensPeer before after (Tick now) = ⊥
 OpensPeer before after (NewRules renewal now) = ⊥
 
 -- The face of the waiting datagram was decided in an earlier turn, and now the datagram arrives on
--- this face, truncated to the length of the buffer. If its endpoint is a client, the time of its
--- last datagram becomes `now`.
+-- this face, truncated to the length of the buffer. If the endpoint of the datagram is a client,
+-- the time of the last datagram from this client becomes `now`.
 abbrev pub GivesWaiting : UdpState → UdpState → List ℕ → Arrival → Type 0
 GivesWaiting before after buffer (Packet face now len) =
     (endpoint : SocketAddr) × (octets : List ℕ) × (rows : List Client) × HasOpened before
@@ -121,9 +122,10 @@ kept endpoint face datagram = record {
   octets = take FRAME_ROOM datagram;
 }
 
--- What is done with a datagram from this endpoint, as `Meets` states. `Packet`: it arrives on the
--- face of the endpoint, truncated to the length of the buffer. `FaceUp`: it waits while a face
--- opens. `FaceDown`: it waits while the face of a client closes, which may be this endpoint.
+-- What is done with a datagram from this endpoint, as `Meets` states. `Packet`: the datagram
+-- arrives on the face of the endpoint, truncated to the length of the buffer. `FaceUp`: the
+-- datagram waits while a face opens. `FaceDown`: the datagram waits while the face of a client
+-- closes. The client whose face closes may be this endpoint.
 abbrev pub Brings : UdpState → UdpState → SocketAddr → List ℕ → List ℕ → Arrival → Type 0
 Brings before after endpoint datagram buffer (Packet face now len) =
     (known : KnownEndpoints) × Meets before.known known endpoint now (Face face)
@@ -158,7 +160,7 @@ IsAccepted before endpoint =
     (before.accepts_strangers ≡ true) ⊎ (position (is_at endpoint) before.known.peers ≢ None)
 
 -- Datagrams from endpoints that are not peers may have been dropped and counted, and nothing else
--- changed. If such endpoints are accepted, none were dropped.
+-- changed. If datagrams from endpoints that are not peers are accepted, no datagram was dropped.
 pub record DropsStrangers (before after : UdpState) : Type 0 where
   pub count : ℕ
   pub is : after ≡ record before { strangers = count }

@@ -87,7 +87,7 @@ impl Clients {
         self.rows.len()
     }
 
-    /// Returns the endpoint of a face, or `None` if no client has it.
+    /// Returns the endpoint of a face, or `None` if no client has this face.
     pub fn endpoint_of(&self, face: u64) -> Option<SocketAddr>
         ensures { result ≡ option_map (λ client. client.endpoint)
             (find (λ client. client.face == face) self.now.rows) }
@@ -117,8 +117,8 @@ impl Clients {
         let _client = self.rows.remove(place);
     }
 
-    /// If a client has this endpoint, sets the time of its last datagram to `now`, and returns its
-    /// face. Otherwise returns `None`.
+    /// If a client has this endpoint, sets the time of its last datagram to `now`, and returns the
+    /// client's face. Returns `None` if no client has this endpoint.
     pub fn hear(&mut self, endpoint: SocketAddr, now: u64) -> Option<u64>
         ensures found { IfSome result (λ face. (rows : List Client)
             × Hears self.old.rows rows endpoint now face

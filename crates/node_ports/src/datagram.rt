@@ -9,7 +9,7 @@ use std::time::Duration;
 pub const ANSWER_SECONDS: u64 = 4;
 
 /// Sends the octets in one datagram to port `to` of 127.0.0.1. The new socket receives only from
-/// that port.
+/// port `to`.
 pub fn send_one(rt: &impl Net, to: u16, octets: &[u8]) -> Result<UdpSocket, PortFault> {
     send_from(rt, 0, to, octets)
 }

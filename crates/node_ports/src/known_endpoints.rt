@@ -54,7 +54,7 @@ impl KnownEndpoints {
         }
     }
 
-    /// Returns the endpoint of a face, or `None` if no endpoint has it.
+    /// Returns the endpoint of a face, or `None` if no endpoint has this face.
     pub fn endpoint_of(&self, face: u64) -> Option<SocketAddr>
         ensures { result ≡ endpoint_at self.now face }
     {
@@ -64,7 +64,7 @@ impl KnownEndpoints {
         }
     }
 
-    /// Returns the endpoint of a peer's face.
+    /// Returns the endpoint of a peer's face, or `None` if no peer has this face.
     fn peer_of(&self, face: u64) -> Option<SocketAddr>
         ensures { result ≡ peer_at self.now.peers face }
     {
@@ -79,7 +79,7 @@ impl KnownEndpoints {
         if let Some(place) = self.clients.idle_place(now) {
             let face = self.clients.face_at(place);
             // If the endpoint is a client that is not idle, the time of its last datagram becomes
-            // `now`, although the datagram is handled after the face is closed.
+            // `now`, although the datagram is handled only after the face `face` is closed.
             self.clients.hear_in_time(endpoint, now);
             self.clients.remove(place);
             return Met::Closing(face);

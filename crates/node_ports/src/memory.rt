@@ -36,8 +36,7 @@ pub enum OwnedArrival {
     },
 }
 
-/// Ports in memory. Their arrivals are the events of a list, and they store the packets that are
-/// sent.
+/// Ports in memory, whose arrivals are the events of a list. The packets that are sent are stored.
 ///
 /// `fail_next` makes one later call of `next` fail, and `fail_send` makes one later call of `send`
 /// fail. A send also fails if memory runs out.
@@ -86,7 +85,7 @@ impl MemoryPorts {
     }
 
     /// Makes the `k`th call of `next` fail, counted from 1 for the first call after this one. If
-    /// `k` is 0, no call fails.
+    /// `k` is 0, no call of `next` fails.
     pub fn fail_next(&mut self, k: u64)
         ensures { self.new ≡ record self.old { next_told = k } }
     {
@@ -198,8 +197,8 @@ fn is_told(told: &mut u64) -> bool
     now
 }
 
-// Returns the arrival for an event. Copies as many octets of its packet as fit to the start of the
-// buffer.
+// Returns the arrival for an event. Copies as many octets of the event's packet as fit to the start
+// of the buffer.
 fn put_event(event: OwnedArrival, buffer: &mut [u8]) -> Arrival
     ensures fits { LiesWithin (length buffer.new) result }
     ensures event { arrived result buffer.new

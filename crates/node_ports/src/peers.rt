@@ -6,8 +6,8 @@ use forwarder::MAX_FACES;
 use std::marker::Model;
 use std::net::{Ipv4Addr, SocketAddr, SocketAddrV4};
 
-/// The endpoints of the peers, in the order of their faces. There are at most 64, since a node has
-/// at most 64 faces. These faces never close.
+/// The endpoints of the peers, in the order of their faces. There are at most 64 peers, since a
+/// node has at most 64 faces. The faces of peers never close.
 #[derive(Drop)]
 pub struct Peers {
     endpoints: [SocketAddr; MAX_FACES],
@@ -27,7 +27,7 @@ impl Model for Peers {
 }
 
 impl Peers {
-    /// Returns the peers with these endpoints. There are at most 64 endpoints.
+    /// Returns the peers with these endpoints. Precondition: there are at most 64 endpoints.
     pub fn new(endpoints: &[SocketAddr]) -> Peers
         requires { length endpoints.now ≤ MAX_FACES }
         ensures { result ≡ endpoints.now }

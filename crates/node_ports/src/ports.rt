@@ -12,9 +12,9 @@ use journal::Coming;
 use ndn_packets::MAX_FRAME;
 use thiserror::Error;
 
-/// The greatest number of octets that are read of a packet or datagram. It is one octet more than a
-/// node accepts. A packet that is longer than a node accepts is therefore still too long after it
-/// is truncated, and the node drops it.
+/// The greatest number of octets that are read of a packet or datagram: one octet more than the
+/// longest packet that a node accepts. A packet that is longer than a node accepts is therefore
+/// still too long after it is truncated, and the node drops it.
 pub const FRAME_ROOM: usize = MAX_FRAME + 1;
 
 /// Law: a buffer has room for 9,001 octets, one more than the longest packet that a node accepts.
@@ -35,7 +35,7 @@ pub enum Arrival {
     FaceDown { face: u64, now: u64 },
     /// Time passed.
     Tick { now: u64 },
-    /// These rules and keys replace those in force. They apply to later arrivals.
+    /// These rules and keys replace those in force. The new rules and keys apply to later arrivals.
     NewRules { renewal: Renewal, now: u64 },
 }
 
@@ -71,13 +71,14 @@ pub trait Ports {
         ensures takes_none { taken self.new ≡ taken self.old }
         ensures journals_none { journal self.new ≡ journal self.old }
         ensures works { OnOk result (failures self.new ≡ failures self.old) }
-        // A failed call returns no arrival, and the call is counted.
+        // If the call fails, the events that have not yet arrived are unchanged, and the call is
+        // counted.
         ensures failed { OnErr result ((coming self.new ≡ coming self.old)
             × (failures self.new ≡ one_more (failures self.old))) };
 
     /// Returns the next arrival like `next`, but only if the arrival is available at once or within
-    /// some milliseconds. Otherwise returns `None`. A port that cannot wait for so short a time may
-    /// always return `None`.
+    /// some milliseconds. Returns `None` if no arrival is available within some milliseconds. A
+    /// port that cannot wait for only some milliseconds may always return `None`.
     fn next_soon(&mut self, _buffer: &mut [u8]) -> Option<Arrival>
         ensures fits { IfSome result (LiesWithin (length _buffer.new)) }
         ensures gives { IfSome result (λ arrival. Gives (coming self.old) (coming self.new)
@@ -120,8 +121,8 @@ pub trait Ports {
 
     /// Is called with the result of the latest arrival, after the packets of this turn were sent.
     /// If the arrival is a packet, `_octets` begins with the packet's octets. `_rules` are the
-    /// rules in force after the arrival. A port with a log writes the result to the log. Nothing
-    /// else changes.
+    /// rules in force after the arrival. A port with a log writes the result to the log, and
+    /// nothing else changes.
     fn note(&mut self, _turn: &Turn, _octets: &[u8], _rules: &Rules)
         ensures gives_none { coming self.new ≡ coming self.old }
         ensures takes_none { taken self.new ≡ taken self.old }

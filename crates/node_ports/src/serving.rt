@@ -15,25 +15,26 @@ use thiserror::Error;
 /// The result of one turn.
 #[derive(Clone, Copy, Debug, PartialEq, Eq)]
 pub enum Turn {
-    /// An event was answered. `failed` is the number of its sends that failed.
+    /// An event was answered. `failed` is the number of the event's sends that failed.
     Done { verdict: Verdict, failed: u64 },
     /// Memory ran out for handling an event. The event has no effect, except that the cache may
     /// have dropped or reordered Data.
     Refused,
-    /// An event was answered but could not be journalled. None of its packets is sent, and the node
-    /// must stop.
+    /// An event was answered but could not be journalled. None of the event's packets is sent, and
+    /// the node must stop.
     Unwritten,
     /// There are no more arrivals.
     End,
 }
 
-/// Why serving a port stopped before all turns were done.
+/// Why a node stopped serving a port before all turns were done.
 #[derive(Clone, Copy, Debug, PartialEq, Eq, Error)]
 pub enum ServeFault {
-    /// The port failed to give the next arrival, after this number of events.
+    /// After `after` events, the port failed to give the next arrival.
     #[error("the port failed after {after} events")]
     Next { after: u64 },
-    /// The event after this number of events could not be journalled. None of its packets was sent.
+    /// The event after the first `after` events could not be journalled. None of the event's
+    /// packets was sent.
     #[error("the journal cannot be written after {after} events")]
     Journal { after: u64 },
 }
@@ -55,7 +56,7 @@ pub struct Served {
 /// ends.
 ///
 /// A failed send is counted and does not prevent other sends. An event for which memory runs out is
-/// counted. It has no other effect, except that the cache may have dropped or reordered Data. Only
+/// counted, and has no other effect, except that the cache may have dropped or reordered Data. Only
 /// the first 9,001 octets of a longer packet are read, and the node drops the packet as too long.
 /// If the port fails to give the next arrival, all earlier events remain handled.
 pub fn serve<P: Ports>(
@@ -117,8 +118,8 @@ pub fn serve<P: Ports>(
 /// Lets a node handle the next arrival of a port.
 ///
 /// If the result is `Done`, the outbox contains exactly the event's sends, including those that
-/// failed. For any other result, the outbox is empty. The only fault is `Next` after 0 events. If
-/// this fault is returned, the node is unchanged.
+/// failed. If the result is not `Done`, the outbox is empty. The only fault is `Next` with `after`
+/// 0. If the fault `Next` is returned, the node is unchanged.
 pub fn serve_turn<P: Ports>(
     node: &mut Node,
     ports: &mut P,
@@ -169,8 +170,8 @@ pub fn serve_turn_in<P: Ports>(
 }
 
 /// Does the same as `serve_turn_in` if `next_soon` returns an arrival. If `next_soon` returns
-/// `None`, also returns `None`. In this case, the node and the visible state of the port are
-/// unchanged, and the outbox is empty.
+/// `None`, also returns `None`. When `None` is returned, the node and the visible state of the port
+/// are unchanged, and the outbox is empty.
 pub fn serve_turn_soon<P: Ports>(
     node: &mut Node,
     ports: &mut P,

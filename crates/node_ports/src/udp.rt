@@ -33,10 +33,11 @@ pub trait Moments: Drop {
 /// The peers' endpoints have the faces 1, 2 and so on. Each of these faces is opened in a turn of
 /// its own before any datagram is received. For an unknown endpoint, a Far face with the next
 /// number is opened before the endpoint's first packet arrives. While 64 endpoints are known, an
-/// unknown endpoint is not stored. The arrivals for its datagram are the opening of a face and the
-/// packet. Both have the next face number, which is 65 if no face has closed. A node with 64 faces
-/// does not open a face with this number. The number of an opened face is never used for another
-/// face. The ports never end.
+/// unknown endpoint is not stored. A datagram from an endpoint that is not stored gives two
+/// arrivals: the opening of a face and the packet. The two arrivals for an endpoint that is not
+/// stored have a face number that no open face has: 65 if no face has closed. A node with 64 faces
+/// does not open a face for an endpoint that is not stored. The number of an opened face is never
+/// used for another face. The ports never return `End`.
 ///
 /// After `close_after`, idle faces close. A peer's face never closes. After `ignore_strangers`,
 /// only datagrams from peers are accepted.
@@ -48,12 +49,13 @@ pub struct UdpPorts<M: Moments> {
     // The number of peers' faces that are already opened.
     opened: usize,
     local: u64,
-    // The datagram that waits for the next turn. Its octets are in `octets`.
+    // The datagram that waits for the next turn. The octets of the waiting datagram are the first
+    // `len` octets of `octets`.
     waiting: Option<Waiting>,
     octets: [u8; FRAME_ROOM],
     len: usize,
-    // Whether receiving ends after `SOON_MILLISECONDS`. If not, receiving waits until a datagram
-    // arrives.
+    // Whether receiving ends after `SOON_MILLISECONDS`. If `is_brief` is not set, receiving waits
+    // until a datagram arrives.
     is_brief: bool,
     accepts_strangers: bool,
     strangers: u64,
@@ -118,9 +120,9 @@ impl<M: Moments> UdpPorts<M> {
     /// Binds the endpoint `listen`. The peers' faces are opened in the first turns: the first
     /// `local` faces are Local, the others Far. One socket and no heap memory are used. There are
     /// at most 64 peers, all of the address family of `listen`. If an endpoint is given twice, only
-    /// its first face gets its datagrams. No face closes, and strangers are accepted. A Local peer
-    /// may send commands, so it should have a loopback address. Fails if the endpoint cannot be
-    /// bound.
+    /// its first face gets its datagrams. No face closes, and datagrams from endpoints that are not
+    /// peers are accepted. A Local peer may send commands, so it should have a loopback address.
+    /// Fails if the endpoint cannot be bound.
     pub fn bind_at(
         rt: &impl Net,
         listen: SocketAddr,
@@ -152,8 +154,8 @@ impl<M: Moments> UdpPorts<M> {
 
     /// From now on, a client's face closes if nothing has arrived on it for `idle` milliseconds. If
     /// a datagram arrives from an unknown endpoint while 64 endpoints are known, the face of the
-    /// client that has been silent longest closes. It closes only if this client has been silent
-    /// for at least 10,000 milliseconds.
+    /// client that has been silent longest closes, provided that this client has been silent for at
+    /// least 10,000 milliseconds.
     ///
     /// A face closes when a datagram from any endpoint has arrived, before that datagram is
     /// handled. At most one face closes in each turn. If a face was opened for a datagram in the
@@ -164,8 +166,8 @@ impl<M: Moments> UdpPorts<M> {
         self.known.clients.close_after(idle);
     }
 
-    /// From now on, a datagram from an endpoint that is not a peer is dropped and counted. It does
-    /// not become an arrival.
+    /// From now on, a datagram from an endpoint that is not a peer is dropped and counted. A
+    /// dropped datagram does not become an arrival.
     pub fn ignore_strangers(&mut self)
         ensures { self.new ≡ record self.old { accepts_strangers = false } }
     {
@@ -180,7 +182,8 @@ impl<M: Moments> UdpPorts<M> {
     }
 
     /// Returns the endpoint of a face, or the endpoint of the datagram that waits for a face with
-    /// this number. Returns `None` if there is neither.
+    /// this number. Returns `None` if no endpoint has this face and no datagram waits for this
+    /// face.
     pub fn endpoint_of(&self, face: u64) -> Option<SocketAddr>
         ensures { result ≡ option_or (endpoint_at self.now.known face)
             (waiting_at face self.now.waiting) }
@@ -191,7 +194,7 @@ impl<M: Moments> UdpPorts<M> {
         }
     }
 
-    /// Returns the endpoint of the waiting datagram, if it waits for this face.
+    /// Returns the endpoint of the waiting datagram, if the datagram waits for this face.
     fn waiting_at(&self, face: u64) -> Option<SocketAddr>
         ensures { result ≡ waiting_at face self.now.waiting }
     {
@@ -209,7 +212,7 @@ impl<M: Moments> UdpPorts<M> {
         self.accepts_strangers || self.known.peers.place_of(endpoint).is_some()
     }
 
-    /// Counts a dropped datagram from a stranger.
+    /// Counts a dropped datagram from an endpoint that is not a peer.
     fn count_stranger(&mut self)
         ensures counted { self.new
             ≡ record self.old { strangers = one_more self.old.strangers } }
@@ -349,9 +352,9 @@ impl<M: Moments> UdpPorts<M> {
 
     /// Receives a datagram and returns its arrival, or `None` if the socket gives no datagram or
     /// its waiting time cannot be set. A datagram from an endpoint that is not accepted is counted.
-    /// After a datagram that is counted, returns `None` if `is_brief` is set. If it is not set,
-    /// receives the next datagram. Precondition: all peers' faces are opened, and no datagram waits
-    /// for the next turn.
+    /// After a counted datagram, returns `None` if `is_brief` is set. If `is_brief` is not set,
+    /// receives the next datagram after a counted datagram. Precondition: all peers' faces are
+    /// opened, and no datagram waits for the next turn.
     fn receive(&mut self, buffer: &mut [u8], is_brief: bool) -> Option<Arrival>
         requires { Listens self.old }
         ensures fits { IfSome result (LiesWithin (length buffer.new)) }

@@ -25,8 +25,8 @@ use Rattle.pit_fib.proofs.KeptTables.{both_equal, row_changes}
 
 -- ---- the keys that a walk along the Data's name finds
 
--- Whether a Data of this name answers a key, judged by the names alone. It does if the names are
--- equal, or if the key has CanBePrefix and its name is a proper prefix of the Data's name.
+-- whether the key's name equals the Data's name or, if the key has CanBePrefix, is a prefix of the
+-- Data's name
 abbrev pub along : List Field → List Field → Bool → Bool
 along [] [] can_be_prefix = true
 along [] (c ∷ name) can_be_prefix = can_be_prefix
@@ -76,7 +76,7 @@ never_last true false = refl
 never_last false true = refl
 never_last false false = refl
 
--- a Data answers exactly the keys along its name and the keys of its full name
+-- a Data answers exactly the keys that `along` accepts for its name, and the keys of its full name
 pub answers_along : (q name : List Field) (digest : List ℕ) (p : Bool) → answers name digest q p ≡ (along q name p || eq_by_cmp name_cmp q (full_name name digest))
 unfolding answers
 answers_along [] [] digest p = refl
@@ -94,7 +94,7 @@ answers_along (d ∷ q) (c ∷ name) digest p =
     ∙ apart same (along q name p) (eq_by_cmp name_cmp q (full_name name digest))
     ∙ ap (λ b. (same && along q name p) || b) (sym (same_name d c q (full_name name digest)))
 
--- a walk along a name does not change the value of the name extended by one component
+-- a walk along `name` does not change the value of the name `name ++ c ∷ []`
 pub below_stays : {V : Type 0} (own below : V → Option V) (name : List Field) (c : Field) → changed_along own below (name ++ c ∷ []) name ≡ Some
 below_stays own below [] c = refl
 below_stays own below (d ∷ name) c =

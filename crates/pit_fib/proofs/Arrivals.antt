@@ -28,8 +28,8 @@ or_so true b h = refl
 or_so false b (inl e) = absurd cc
 or_so false b (inr e) = e
 
--- Let the face have an in-record, or let fewer than 64 faces have one. Then the arrival of an
--- Interest sets the face's in-record, and changes nothing else in the entry.
+-- if the face has an in-record, or fewer than 64 faces have one, the arrival of an Interest sets
+-- the face's in-record, and changes nothing else in the entry
 pub asked_is : (face : ℕ) (in_record : InRecord) (s : Kept) → IsSome (get s.records.in_records face) ⊎ (len s.records.in_records < 64)
     → with_in_record face in_record s ≡ record { records = record { in_records = map.insert s.records.in_records face in_record; out_records = s.records.out_records }; is_wide = s.is_wide }
 asked_is face in_record s room =
@@ -55,9 +55,9 @@ module _ {X : Type 0} (room face : ℕ) (x : X) (f : Faced X) where
   made_wide few place more =
       (λ i. cond (not_wide _ few i) (false, f) (cond (place i) (true, f) (cond (wide _ more i) (true, record { values = f.values; is_wide = true }) (false, f))))
 
-  -- Let the face have a value, or let fewer than 64 faces have one. Let the map's own memory or the
-  -- supplied memory suffice. Then setting the value inserts it. The map has memory for 64 values
-  -- afterwards if it had this memory before, or if its own memory did not suffice.
+  -- If the face is not a 65th face, and the map's own memory or the supplied memory suffices,
+  -- setting the value of the face inserts the value. The map then has memory for 64 values if the
+  -- map had this memory before, or if the map's own memory did not suffice.
   pub set_is : IsSome (get f.values face) ⊎ (len f.values < 64) → ((contains_key f.values face || has_place f) ≡ false → 64 ≤ room)
       → ((set_in room face x f).values ≡ map.insert f.values face x)
       × (((contains_key f.values face || has_place f) ≡ false) ⊎ (f.is_wide ≡ true) → (set_in room face x f).is_wide ≡ true)
@@ -111,10 +111,10 @@ one_of {k} e = ap (key_in k) e
     key_in k None = k
     key_in k (Some c) = c.0
 
--- After an Interest is sent, there is memory for the calls that are still prepared, under two
--- conditions. If the entry's own memory sufficed, the spare memory is unchanged. If it did not
--- suffice, or if the entry had memory for the out-records of 64 faces, the entry has memory for the
--- out-records of 64 faces afterwards.
+-- After an Interest is sent, there is memory for the calls that are still prepared. A precondition
+-- is that the spare memory is unchanged if the entry's own memory sufficed. Another precondition is
+-- that the entry has memory for 64 out-records after the call if it had this memory before the
+-- call, or if its own memory did not suffice.
 pub memory_sent : (old new : NameTable Row) (spare left : ℕ) (key : PlainKey) (prepared after : Option Prepared) (has_place : Bool) (was is : Kept) → HasMemory old spare prepared → HasNoArrival after
     → (calls_of after ≡ None) ⊎ ((calls_of prepared ≡ Some (key, None)) × (calls_of after ≡ Some (key, None)))
     → kept_at old.table key ≡ Some was → kept_at new.table key ≡ Some is → (has_place ≡ true → left ≡ spare) → ((has_place ≡ false) ⊎ (was.is_wide ≡ true) → is.is_wide ≡ true)

@@ -108,8 +108,8 @@ module _ (wanted : Route → Bool) (f : ℕ) where
   abbrev IsOne : List Row → ℕ → Type 0
   IsOne rows c = (e : Row) × Has rows e × (e.0.face ≡ f) × (wanted e.1 ≡ true) × (e.1.cost ≡ c)
 
-  -- The last argument is the least of the cost `o` and of the costs of the routes in the list that
-  -- are on the face `f` and pass the test. It is None if there is no such cost.
+  -- `Says o rows least`: `least` is the least of the cost `o` and the costs of those routes in
+  -- `rows` that are on the face `f` and pass the test, or None if there are no such costs
   abbrev Says : Option ℕ → List Row → Option ℕ → Type 0
   Says o rows None = (o ≡ None) × ((e : Row) → Has rows e → e.0.face ≡ f → wanted e.1 ≡ false)
   Says o rows (Some c) = ((o ≡ Some c) ⊎ IsOne rows c) × ((x : ℕ) → o ≡ Some x → c ≤ x) × ((e : Row) → Has rows e → e.0.face ≡ f → wanted e.1 ≡ true → c ≤ e.1.cost)
@@ -168,8 +168,8 @@ module _ (wanted : Route → Bool) (f : ℕ) where
       ] refl
 
   module _ (m : Registered) where
-    -- the cost is the least cost of the routes on the face that pass the test, or it is None and
-    -- there is no such route
+    -- `Tells least`: `least` is the least cost of the routes on the face `f` that pass the test, or
+    -- None if no route on the face passes the test
     abbrev Tells : Option ℕ → Type 0
     Tells None = HasNone wanted m f
     Tells (Some c) = IsLeastCost wanted m f c

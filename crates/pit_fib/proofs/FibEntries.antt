@@ -21,7 +21,7 @@ use Rattle.name_trie.specs.Flat.{size_of}
 use Rattle.pit_fib.proofs.FibTables.{EntryLeads, IsPartOf, count_insert, count_remove}
 use Rattle.pit_fib.proofs.Routes.{from_kept, sorted_kept}
 
--- if `unless_vacant` returns an entry, this entry is its argument, and has next hops or routes
+-- if `unless_vacant e` returns an entry, this entry is `e`, and has next hops or routes
 pub left_is : (e part : Entry) → unless_vacant e ≡ Some part → (part ≡ e) × (is_vacant e ≡ false)
 left_is e part is =
     elim (is_vacant e) as (λ b. cond b None (Some e) ≡ Some part → (part ≡ e) × (b ≡ false)) [
@@ -174,8 +174,7 @@ some_in total m k x =
     positive : (n : ℕ) → 0 < n → eqb n 0 ≡ false
     positive n less = elim (eqb n 0) as (λ b. eqb n 0 ≡ b → b ≡ false) [ true ↦ λ e. (let zero = eqb-true n 0 e in absurd (omega (arith, zero, less))) | false ↦ λ e. refl ] refl
 
--- Let the optional value `o` be replaced by the value `x` if the test `b` is true, and let the
--- statement `A` follow from `b`. If there is a value afterwards, then `o` is a value, or `A` holds.
+-- if `b` implies `A`, and `cond b (Some x) o` is not None, then `o` is not None or `A` holds
 set_or : {X : Type 0} (b : Bool) (x : X) (o : Option X) {A : Type 0} → (b ≡ true → A) → IsSome (cond b (Some x) o) → IsSome o ⊎ A
 set_or true x o is some = inr (is refl)
 set_or false x o is some = inl some
@@ -245,8 +244,8 @@ size_left e =
       | false ↦ λ v. refl
     ] refl
 
--- Let the entry of a name be changed to `e`. Then the number of all routes decreases by the name's
--- old number of routes, and increases by the number of routes in `e`.
+-- if the entry of a name is changed to `e`, the number of all routes decreases by the name's old
+-- number of routes, and increases by the number of routes in `e`
 pub count_changed : (t : Routes) (name : List Field) (e : Entry) → route_count (with_value t name (unless_vacant e)) + len (registered_at t name) ≡ route_count t + len e.registered
 count_changed t name e =
     elim (unless_vacant e) as (λ o. unless_vacant e ≡ o → route_count (with_value t name o) + len (registered_at t name) ≡ route_count t + len e.registered) [

@@ -43,8 +43,8 @@ way_along s f front (c ∷ rest) =
     way_along (taken past_at s (f front)) f (front ++ c ∷ []) rest
     ∙ ap (λ (w : Inheriting). taken_along past_entry past_entry w f (front ++ c ∷ []) rest) (way_kept s (f front))
 
--- Let a walk along a name pass the name's entry `e`. After the walk, the field `is_left` is true
--- exactly if `e` remains after an expiry at the moment of the walk.
+-- after a walk along a name that has the entry `e`, the field `is_left` is true exactly if `e`
+-- remains after an expiry at the moment of the walk
 left_along : (s : AtName) (f : List Field → Option Entry) (front rest : List Field) (e : Entry) → f (front ++ rest) ≡ Some e
     → (taken_along past_at past_at s f front rest).is_left ≡ is_some (entry_left_at s.now e)
 left_along s f front [] e is = ap (λ o. (taken past_at s o).is_left) (ap f (sym (append-nil front)) ∙ is)
@@ -109,6 +109,7 @@ module _ {S X : Type 0} (show : S → List ℕ → X → S) (t : ByName X) (befo
       ap (λ (x : X). shown_known show (known_at latest before (get t)) (show s (octets_of e.0) x) es) (own_along before (get t) [] e.0 e.1 (each 0 e (omega arith)))
       ∙ own_shown es (λ i d lt. each (suc i) d (omega (arith, lt))) (show s (octets_of e.0) e.1)
 
-  -- if the state of the walk is the latest value, each name is shown with its own value
+  -- on a walk whose state is the value that the walk passed last, each name is shown with its own
+  -- value
   pub own_are_shown : (s : S) → shown_known show (known_at latest before (get t)) s (entries t) ≡ shown_each show s (entries t)
   own_are_shown s = own_shown (entries t) (λ i d lt. entry_is_there name_cmp-total t i d lt) s

@@ -56,8 +56,8 @@ IsShrunk t new = (q : List Field) (part : Entry) → get new q ≡ Some part →
 entry_is : (t : Routes) (q : List Field) (e : Entry) → get t q ≡ Some e → entry_at t q ≡ e
 entry_is t q e is = ap (λ o. unwrap_or o no_entry) is
 
--- if `A` follows from each entry that leads to the face `f`, then `A` follows if the table leads to
--- `f`
+-- if `A` follows from each entry of the table that has a next hop or a route on the face `f`, then
+-- `A` follows from `LeadsTo t f`
 leads_by : {A : Type 0} (t : Routes) (f : ℕ) → ((q : List Field) (e : Entry) → get t q ≡ Some e → EntryLeads e f → A) → LeadsTo t f → A
 leads_by {A} t f by way =
     elim (get t way.0) as (λ o. get t way.0 ≡ o → EntryLeads (unwrap_or o no_entry) f → A) [
@@ -118,8 +118,8 @@ module _ (t : Routes) (within : IsWithinFib t) (name : List Field) where
   part_itself : (e : Entry) → is_vacant e ≡ false → IsPartOf e e
   part_itself e some = record { some = some; fewer = omega arith; leads = λ f l. l; kept = λ key r is. is }
 
-  -- Let `g` turn each entry into a part of this entry, or remove it. If `g` is applied to the entry
-  -- of one name, each entry of the new table is part of the old table's entry for the same name.
+  -- if `g` removes an entry or returns a part of the entry (`IsPartOf`), applying `g` to the entry
+  -- of one name only shrinks the table (`IsShrunk`)
   pub shrunk_one : (g : Entry → Option Entry) → ((whole part : Entry) → g whole ≡ Some part → IsPartOf part whole) → IsShrunk t (Changed g)
   shrunk_one g parts q part =
       elim (get t name) as (λ o. get t name ≡ o → get (with_value t name (option_and_then g o)) q ≡ Some part → (whole : Entry) × (get t q ≡ Some whole) × IsPartOf part whole) [
@@ -259,8 +259,8 @@ module _ (t : Routes) (within : IsWithinFib t) (name : List Field) (e : Entry) w
 pub earlier_none : (t : Routes) (early late : ℕ) → early ≤ late → NoneEndsBefore late t → NoneEndsBefore early t
 earlier_none t early late le later q e is key r there deadline ends = (let after = later q e is key r there deadline ends in omega (arith, le, after))
 
--- Let the table have room for the face. Then the face has a next hop at this name, or fewer than 64
--- faces have a next hop at this name.
+-- if the table has room for the face, then either the face has a next hop at this name, or fewer
+-- than 64 faces have a next hop at this name
 pub hop_room : (t : Routes) (name : List Field) (face : ℕ) → HasRoomFor t face → IsSome (get (entry_at t name).hops face) ⊎ (len (entry_at t name).hops < 64)
 hop_room t name face room = room_in (entry_at t name).hops face (at_most (λ f has. elim has as (λ _. LeadsTo t f ⊎ (f ≡ face)) [ (inl some) ↦ inl (name, inl some) | (inr is) ↦ inr is ]) room)
 

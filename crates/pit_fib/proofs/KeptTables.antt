@@ -102,8 +102,7 @@ step_follows cause rows new dead step k =
           | false ↦ refl
         ]
 
--- if `living` returns an entry, this entry has an in-record, and the same `is_wide` as the argument
--- of `living`
+-- if `living t` is `Some s`, then `s` has an in-record, and the same `is_wide` as `t`
 left_alive : (t s : Kept) → living t ≡ Some s → (is_alive s.records ≡ true) × (s.is_wide ≡ t.is_wide)
 left_alive t s e =
     elim (is_alive t.records) as (λ b. is_alive t.records ≡ b → cond b (Some t) None ≡ Some s → (is_alive s.records ≡ true) × (s.is_wide ≡ t.is_wide)) [
@@ -279,8 +278,8 @@ step_one change key rows new is k =
     ] refl
     ∙ ap (λ b. cond b (option_and_then change (kept_at rows k)) (kept_at rows k)) (sym (key_ties k key))
 
--- a change of one key's entry is the step of a cause, if the cause changes this entry in the same
--- way and changes no other key
+-- if a cause changes the entry of `key` by `change`, and changes no entry of another key, then
+-- applying `change` to the entry of `key` yields the table after the cause (`Steps`)
 pub one_steps : (cause : Cause) (change : Kept → Option Kept) (key : PlainKey) (rows new : Rows) → AreAlive rows
     → ((k : PlainKey) (r : Records) → same_key k key ≡ false → changed cause k r ≡ r)
     → ((k : PlainKey) (s : Kept) → same_key k key ≡ true → change s ≡ kept_after cause k s)
@@ -401,8 +400,8 @@ turned : (b : Bool) (c : Bool) → c ≡ not b → b ≡ not c
 turned true c e = ap not (sym e)
 turned false c e = ap not (sym e)
 
--- Let `b` be true exactly if the key has no entry, and let the statement `many` be true. Then `b`
--- is true exactly if the key has no in-record and `many` is true.
+-- If `b` is true exactly when the key has no entry, then `b` is true exactly when the key has no
+-- in-record. The result also has the condition `many`, which holds.
 pub new_where_absent : (rows : Rows) (pending : Pending) (key : PlainKey) (found : Option (Bor Kept)) → AreAlive rows → pending_of rows ≡ pending
     → option_map (λ e. e.now) found ≡ kept_at rows key → (b : Bool) → is_some found ≡ not b → (many : Type 0) → many
     → IsTrue b ↔ ((is_alive (records_at pending key) ≡ false) × many)

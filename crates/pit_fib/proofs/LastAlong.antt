@@ -9,8 +9,8 @@ use Rattle.pit_fib.specs.Kept.{Row, Rows}
 use Rattle.pit_fib.specs.Last.{last_above, last_along, last_in_row, last_seen}
 use Rattle.pit_fib.specs.Records.{InRecord}
 
--- if a name has more than n components, its component at index n comes after the first n
--- components, and before the components from index n + 1 on
+-- a name with more than n components is the concatenation of its first n components, its component
+-- at index n, and its components from index n + 1 on
 parts : (n : ℕ) (name : List Field) → n < length name → (c : Field) × (drop n name ≡ c ∷ drop (suc n) name) × (take n name ++ c ∷ [] ≡ take (suc n) name)
 parts n [] less = absurd (omega arith)
 parts zero (c ∷ name) less = (c, refl, refl)
@@ -25,8 +25,8 @@ seen_own face last None = refl
 seen_own face last (Some row) = refl
 
 module _ (rows : Rows) (face : ℕ) (name : List Field) where
-  -- Let a walk start at index `n` with the last in-record of the face before index `n`. Then it
-  -- finds the same in-record as the walk along the whole name.
+  -- a walk that starts at index `n` with the in-record that `last_above` returns for `n` finds the
+  -- same in-record as a walk along the whole name
   walked : (n : ℕ) → n ≤ length name
       → taken_along (last_seen true) (last_seen false) (face, last_above rows face name n) (get rows) (take n name) (drop n name)
       ≡ taken_along (last_seen true) (last_seen false) (face, None) (get rows) [] name

@@ -60,8 +60,8 @@ one_token records name digest face a b (inr some) (inr other) =
 
 -- ---- the last in-record under the keys that were searched
 
--- the last argument is the last of the in-records under the keys in `Seen`, or None if there are no
--- in-records under these keys
+-- `IsLastOf at Seen best`: `best` is the last of the in-records that `at` has under the keys in
+-- `Seen`, or None if there are no in-records under these keys
 abbrev pub IsLastOf : (PlainKey → Option InRecord) → (PlainKey → Type 0) → Option InRecord → Type 0
 IsLastOf at Seen None = (k : PlainKey) (r : InRecord) → Seen k → at k ≡ Some r → ⊥
 IsLastOf at Seen (Some best) =
@@ -83,9 +83,8 @@ not_greater o e g = cc
 not_itself : (k key : PlainKey) → k ≡ key → key_cmp k key ≢ Greater
 not_itself k key e g = let tied : key_cmp k key ≡ Equal = ap (key_cmp k) (sym e) ∙ tied_itself key_cmp-total k in cc
 
--- Let `r`, `b` and `s` be in-records. Let the deadline of `b` be at most the deadline of `s`, and
--- the key of `r` at most the key of `s`. If `r` does not come after `b`, it does not come after
--- `s`.
+-- if the in-record `r` does not come after `b`, the deadline of `b` is at most the deadline of `s`,
+-- and the key of `r` is at most the key of `s`, then `r` does not come after `s`
 moved : (k key new : PlainKey) (r b s : InRecord) → b.deadline ≤ s.deadline → key_cmp k new ≢ Greater → IsNotAfter k r key b → IsNotAfter k r new s
 moved k key new r b s le order (inl less) = inl (omega arith)
 moved k key new r b s le order (inr same) =
@@ -216,9 +215,9 @@ one_of : (k : PlainKey) (q : List Field) (x y : Bool) → k.name ≡ q → k.can
 one_of k q x y n p m = λ i. record { name = n i; can_be_prefix = p i; must_be_fresh = m i }
 
 module _ (rows : Rows) (face : ℕ) (at : PlainKey → Option InRecord) (shown : (k : PlainKey) → at k ≡ ask_in face (kept_at rows k)) where
-  -- Let `best` be the last in-record under the keys in `Seen`, and let none of these keys be
-  -- greater than either of the two keys of `q` that have CanBePrefix. Then `last_prefix` gives the
-  -- last in-record under the keys in `Seen` and these two keys.
+  -- If `best` is the last in-record under the keys in `Seen`, `last_prefix` gives the last
+  -- in-record under the keys in `Seen` and the two keys of `q` with CanBePrefix. No key in `Seen`
+  -- may be greater than a key of `q` with CanBePrefix.
   prefix_more : (Seen : PlainKey → Type 0) (q : List Field) (best : Option InRecord) (row : Row) → get rows q ≡ Some row → ((k : PlainKey) (y : Bool) → Seen k → key_cmp k (key_at q (flags true y)) ≢ Greater) → IsLastOf at Seen best
       → IsLastOf at (λ k. (Seen k ⊎ (k ≡ key_at q (flags true false))) ⊎ (k ≡ key_at q (flags true true))) (last_prefix face best row)
   prefix_more Seen q best row here order h =
@@ -233,9 +232,9 @@ module _ (rows : Rows) (face : ℕ) (at : PlainKey → Option InRecord) (shown :
       ]) (is (flags true true))
       (one_more at Seen third best (ask (flags true false)) (λ k s. order k false s) (is (flags true false)) h)
 
-  -- Let `best` be the last in-record under the keys in `Seen`, and let none of these keys be
-  -- greater than either of the two keys of `q` that lack CanBePrefix. Then `last_exact` gives the
-  -- last in-record under the keys in `Seen` and these two keys.
+  -- If `best` is the last in-record under the keys in `Seen`, `last_exact` gives the last in-record
+  -- under the keys in `Seen` and the two keys of `q` without CanBePrefix. No key in `Seen` may be
+  -- greater than a key of `q` without CanBePrefix.
   exact_more : (Seen : PlainKey → Type 0) (q : List Field) (best : Option InRecord) (row : Row) → get rows q ≡ Some row → ((k : PlainKey) (y : Bool) → Seen k → key_cmp k (key_at q (flags false y)) ≢ Greater) → IsLastOf at Seen best
       → IsLastOf at (λ k. (Seen k ⊎ (k ≡ key_at q (flags false false))) ⊎ (k ≡ key_at q (flags false true))) (last_exact face best row)
   exact_more Seen q best row here order h =
@@ -260,9 +259,9 @@ module _ (rows : Rows) (face : ℕ) (at : PlainKey → Option InRecord) (shown :
       none_more at Seen (OfName is_own q) best
       (λ k own. shown k ∙ ap (λ n. ask_in face (option_and_then (λ r. get r (flags_of k)) (get rows n))) own.0 ∙ ap (λ (o : Option Row). ask_in face (option_and_then (λ r. get r (flags_of k)) o)) none) h
 
-  -- Let the names of the keys in `Seen` be proper prefixes of `q`, and let `best` be the last
-  -- in-record under these keys. Then `last_prefix` gives the last in-record under the keys in
-  -- `Seen` and the keys of `q` with CanBePrefix.
+  -- If `best` is the last in-record under the keys in `Seen`, `last_prefix` gives the last
+  -- in-record under the keys in `Seen` and the keys of `q` with CanBePrefix. The names of the keys
+  -- in `Seen` must be proper prefixes of `q`.
   prefix_row : (Seen : PlainKey → Type 0) (q : List Field) (best : Option InRecord) (row : Row) → get rows q ≡ Some row → ((k : PlainKey) → Seen k → IsProperPrefix k.name q) → IsLastOf at Seen best
       → IsLastOf at (λ k. Seen k ⊎ OfName false q k) (last_prefix face best row)
   prefix_row Seen q best row here order h =
@@ -288,9 +287,9 @@ module _ (rows : Rows) (face : ℕ) (at : PlainKey → Option InRecord) (shown :
   abbrev Four : (PlainKey → Type 0) → List Field → PlainKey → Type 0
   Four Seen q k = (Two Seen q k ⊎ (k ≡ key_at q (flags true false))) ⊎ (k ≡ key_at q (flags true true))
 
-  -- Let the names of the keys in `Seen` be proper prefixes of `q`, and let `best` be the last
-  -- in-record under these keys. Then `last_exact` and after it `last_prefix` give the last
-  -- in-record under the keys in `Seen` and all keys of `q`.
+  -- If `best` is the last in-record under the keys in `Seen`, `last_exact` followed by
+  -- `last_prefix` gives the last in-record under the keys in `Seen` and all keys of `q`. The names
+  -- of the keys in `Seen` must be proper prefixes of `q`.
   own_row : (Seen : PlainKey → Type 0) (q : List Field) (best : Option InRecord) (row : Row) → get rows q ≡ Some row → ((k : PlainKey) → Seen k → IsProperPrefix k.name q) → IsLastOf at Seen best
       → IsLastOf at (λ k. Seen k ⊎ OfName true q k) (last_prefix face (last_exact face best row) row)
   own_row Seen q best row here order h =

@@ -34,7 +34,7 @@ numbers-push : (front : List Row) (row : Row) → numbers (front ++ row ∷ []) 
 numbers-push [] row = refl
 numbers-push (e ∷ front) row = ap (λ l. (e.0, e.1.moment) ∷ l) (numbers-push front row)
 
--- if `x` is less than all faces of a list of rows, the face of each row is greater than `x`
+-- if `below_all` is true for `x` and a list of rows, the face of each row is greater than `x`
 below_later : (x : ℕ) (front : List Row) (row : Row) (rest : List Row) → T (below_all nat_cmp x (front ++ row ∷ rest)) → nat_cmp row.0 x ≡ Greater
 below_later x [] row rest h = nat_cmp_total.antisymm row.0 x ∙ ap ordering_reverse (is_less (nat_cmp x row.0) (first_of _ _ h))
 below_later x (e ∷ front) row rest h = below_later x front row rest (second_of _ _ h)

@@ -88,8 +88,8 @@ module _ (least : ℕ) where
         | false ↦ λ e. all_found rows all.1 face sent e
       ] e
 
-  -- if a face has an out-record in the rows after the first row, it has the same out-record in all
-  -- rows
+  -- if a lookup of a face in the rows after the first row finds an out-record, a lookup in all rows
+  -- finds the same out-record
   kept : (row : Row) (rows : List Row) → T (is_sorted nat_cmp (row ∷ rows)) → (face : ℕ) (sent : OutRecord) → find nat_cmp face rows ≡ Some sent → find nat_cmp face (row ∷ rows) ≡ Some sent
   kept row rows sorted face sent e =
       elim (eq_by_cmp nat_cmp face row.0) as (λ b. eq_by_cmp nat_cmp face row.0 ≡ b → cond b (Some row.1) (find nat_cmp face rows) ≡ Some sent) [
@@ -130,7 +130,7 @@ module _ (r : Records) (face : ℕ) (nonce : List ℕ) (reason : ℕ) where
   abbrev after : OutRecords
   after = with_reason face nonce reason r.out_records (map.get r.out_records face)
 
-  -- if the face's out-record has the Nonce of the Nack, it has the reason of the Nack afterwards
+  -- if the face's out-record has the Nonce of the Nack, it has the Nack's reason after the Nack
   here : was_sent (map.get r.out_records face) nonce ≡ true → (sent : OutRecord) × (map.get after face ≡ Some sent) × (sent.reason ≡ Some reason)
   here was = go (map.get r.out_records face) was
     where

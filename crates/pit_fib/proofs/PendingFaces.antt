@@ -36,7 +36,7 @@ Adds (Closed face) f = ⊥
 never : {A : Type 0} → false ≡ true → A
 never e = absurd cc
 
--- ---- a value that is in a map after a change was there before, or was put there
+-- ---- each value of a map after a change was there before, or the change put it there
 module _ {X : Type 0} (A : Type 0) (was : Option X) where
   gone : (b : Bool) → IsSome (cond b None was) → IsSome was ⊎ A
   gone true e = never e
@@ -155,8 +155,8 @@ pub stays_few : (cause : Cause) (old new : Pending) → ((f : ℕ) → Adds caus
 stays_few cause old new none follows few =
     at_most (λ f has. elim (had_record cause old new follows f has) [ (inl was) ↦ was | (inr adds) ↦ absurd (none f adds) ]) few
 
--- Let a cause give no face except `face` a record, and let at most 64 faces be `face` or have
--- records before the cause. Then at most 64 faces have records after the cause.
+-- if a cause gives a record to no face but `face`, and the faces with records before the cause,
+-- together with `face`, are at most 64, then at most 64 faces have records after the cause
 pub grows_few : (cause : Cause) (old new : Pending) (face : ℕ) → ((f : ℕ) → Adds cause f → f ≡ face) → Follows cause old new
     → AtMost64 (λ f. HasRecord old f ⊎ (f ≡ face)) → AtMost64 (HasRecord new)
 grows_few cause old new face one follows room =
@@ -215,14 +215,14 @@ all_with P f [] h all = (h, tt)
 all_with P f (g ∷ faces) h all =
     elim (ltb f g) as (λ b. AllByRecursion P (cond b (f ∷ g ∷ faces) (g ∷ with_face f faces))) [ true ↦ (h, all) | false ↦ (all.0, all_with P f faces h all.1) ]
 
--- Let at most 64 faces be `f` or have the property `P`. Then a rising list of faces that all have
--- the property `P`, but without `f`, has fewer than 64 faces.
+-- if the faces with the property `P`, together with `f`, are at most 64, then a rising list of
+-- faces with the property `P` that does not contain `f` has fewer than 64 faces
 pub room_in_list : (P : ℕ → Type 0) (f : ℕ) (faces : List ℕ) → AtMost64 (λ g. P g ⊎ (g ≡ f)) → IsRising faces → AllByRecursion P faces → has_face f faces ≡ false → length faces < 64
 room_in_list P f faces few rising all out =
     let more = few (with_face f faces) (with_rises f faces rising out) (all_with (λ g. P g ⊎ (g ≡ f)) f faces (inr refl) (all_before (λ g h. inl h) faces all)) in
     omega (arith, more, length_with f faces)
 
--- each face of a sorted list has a value in that list
+-- a lookup of each face of a sorted list finds a value
 each_found : {X : Type 0} (es : List (ℕ × X)) → T (is_sorted nat_cmp es) → AllByRecursion (λ f. IsSome (find nat_cmp f es)) (faces_of es)
 unfolding faces_of
 each_found [] h = tt

@@ -12,7 +12,6 @@ use Rattle.pit_fib.specs.Cause.{Arrives, SentTo, NackCame, changed, same_key, se
 use Rattle.ndn_packets.specs.Key.{key_cmp-total, key_cmp-antisymmetric}
 use Rattle.pit_fib.proofs.PendingTables.{same_self, dead_none}
 
--- records into which an in-record was inserted have an in-record
 pub alive_insert : (m : FinMap nat_cmp InRecord) (out_records : FinMap nat_cmp OutRecord) (f : ℕ) (a : InRecord) → is_alive (record { in_records = map.insert m f a; out_records = out_records }) ≡ true
 alive_insert m out_records f a =
     ap (ltb 0) (len-insert nat_cmp_total m f a)

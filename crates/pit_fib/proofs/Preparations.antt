@@ -33,7 +33,7 @@ some_left ready b e f = e ∙ ap not f
 pub are_sendings : (p : Prepared) (key : PlainKey) (b : Bool) → is_some p.arrival ≡ not b → b ≡ true → same_key p.key key ≡ true → calls_of (Some p) ≡ Some (key, None)
 are_sendings p key b e t same = λ i. Some (one_key p.key key same i, room_of (none_left p.arrival b e t i))
 
--- prepared calls of another key are not calls of this key
+-- if the key of the prepared calls is not `key`, `calls_of` does not return calls of `key`
 another_key : (p : Prepared) (key : PlainKey) (room : Option ℕ) → same_key p.key key ≡ false → calls_of (Some p) ≡ Some (key, room) → ⊥
 another_key p key room other e = differ (sym (same_self key) ∙ ap (λ k. same_key k key) (sym (ap (key_in key) e)) ∙ other)
 
@@ -47,8 +47,8 @@ not_sendings p key (inl some) e = at p.arrival some (ap room_in e)
     at None some e = absurd cc
     at (Some r) some e = absurd cc
 
--- Let an `arrive` be prepared, and let the prepared calls be calls of this key. Then they begin
--- with an `arrive` of this key, with memory for some number `room` of octets.
+-- if an `arrive` is prepared, and the prepared calls are calls of this key, the first prepared call
+-- is an `arrive` of this key with memory for some number `room` of octets
 pub is_arrival : (p : Prepared) (key : PlainKey) → is_some p.arrival ≡ true → same_key p.key key ≡ true → (room : ℕ) × (calls_of (Some p) ≡ Some (key, Some room))
 is_arrival p key some same =
     let found = at p.arrival some in (found.0, λ i. Some (one_key p.key key same i, found.1 i))
@@ -57,7 +57,8 @@ is_arrival p key some same =
     at None some = absurd cc
     at (Some r) some = (r.size, refl)
 
--- prepared `sent` calls, or calls of another key, do not include an `arrive` of this key
+-- if no `arrive` is prepared, or if the prepared calls are of another key, no `arrive` of this key
+-- is prepared
 pub not_arrival : (p : Prepared) (key : PlainKey) (room : ℕ) → (p.arrival ≡ None) ⊎ (same_key p.key key ≡ false) → calls_of (Some p) ≡ Some (key, Some room) → ⊥
 not_arrival p key room (inr other) e = another_key p key (Some room) other e
 not_arrival p key room (inl none) e = apart (sym (ap room_of none) ∙ ap room_in e)
@@ -104,9 +105,8 @@ pub memory_after : (rows : NameTable Row) (spare : ℕ) (prepared : Option Prepa
 memory_after rows spare None none h = tt
 memory_after rows spare (Some p) none h = (h p.key (λ i. Some (p.key, room_of (none i))), rw none tt)
 
--- Let the spare memory have capacity for 64 out-records, let the key's name be prepared in the
--- table, and let the memory of the prepared `arrive` be ready. Then there is memory for this
--- `arrive` and for the `sent` calls after it.
+-- if the spare memory has capacity for 64 out-records, the key's name is prepared in the table, and
+-- the memory of the prepared `arrive` is ready, there is memory for all prepared calls
 pub memory_new : (rows : NameTable Row) (spare size : ℕ) (p : Prepared) → 64 ≤ spare → rows.prepared ≡ Some p.key.name → room_of p.arrival ≡ Some size → IfSome p.arrival IsReady
     → HasMemory rows spare (Some p)
 memory_new rows spare size p room name is ready = (inl room, at p.arrival ready)

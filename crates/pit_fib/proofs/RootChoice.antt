@@ -13,7 +13,6 @@ use Rattle.ndn_names.specs.Key.{name_cmp-total, name_cmp-antisymmetric}
 use Rattle.name_trie.specs.ByName.{ByName, longest, longest_within}
 use Rattle.pit_fib.specs.StrategyTable.{without_choice}
 
--- in `cond b x z`, replacing `z` by a second test of `b` that gives `z` for false changes nothing
 one_test : {A : Type 0} (b : Bool) (x y z : A) → cond b x z ≡ cond b x (cond b y z)
 one_test true x y z = refl
 one_test false x y z = refl

@@ -127,7 +127,7 @@ all_in_order (e ∷ costs) hops sorted order apart =
       | (inr old) ↦ (not_first g.face e costs (apart g old)).1
     ])
 
--- the hop has a face of these costs, with that face's cost
+-- the list has the hop's cost for the hop's face, and the hop's `local` is false
 IsOf : List (ℕ × ℕ) → Hop → Type 0
 IsOf costs g = (find nat_cmp g.face costs ≡ Some g.cost) × (g.local ≡ false)
 

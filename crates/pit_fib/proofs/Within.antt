@@ -6,8 +6,8 @@ use Rattle.std.specs.FinMap.{contains_key, get, insert, len}
 use Rattle.pit_fib.specs.Tables.{ByFace}
 use Rattle.pit_fib.specs.Within.{set_within}
 
--- If the face has a cost, or fewer than 64 faces have one, let `new` be `old` with the cost of the
--- face inserted. In all other cases, let `new` be `old`. Then `new` is the result of `set_within`.
+-- if `new` is `insert old face cost` when there is room for the cost, and `old` when there is not,
+-- then `new` is `set_within old face cost`
 pub set_is : (b : Bool) (old new : ByFace) (face cost : ℕ) → b ≡ (contains_key old face || nat_lt (len old) 64) → (b ≡ true → new ≡ insert old face cost) → (b ≡ false → new ≡ old)
     → new ≡ set_within old face cost
 set_is true old new face cost is ok full = ok refl ∙ ap (λ b. cond b (insert old face cost) old) is

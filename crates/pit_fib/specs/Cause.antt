@@ -45,15 +45,15 @@ nacked_with nonce reason out_record =
     if same_nonce out_record.nonce nonce then record out_record { reason = Some reason }
     else out_record
 
--- the out-records after a Nack with this Nonce and reason arrived on a face; the last argument is
--- the face's out-record, if there is one
+-- The out-records after a Nack with this Nonce and reason arrived on a face. The face's out-record
+-- is `Some out_record`, or None if the face has no out-record.
 abbrev pub with_reason : ℕ → List ℕ → ℕ → OutRecords → Option OutRecord → OutRecords
 with_reason face nonce reason out_records None = out_records
 with_reason face nonce reason out_records (Some out_record) =
     map.insert out_records face (nacked_with nonce reason out_record)
 
--- the records of a key after the change that a cause makes, before out-records without any
--- in-record are removed
+-- the records of a key after the change that a cause makes, before the out-records are removed if
+-- no in-record is left
 abbrev pub changed : Cause → PlainKey → Records → Records
 changed (Expires now) k r = record r { in_records = revise (until_after now) r.in_records }
 changed (Arrives key face in_record) k r =

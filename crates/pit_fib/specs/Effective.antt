@@ -12,7 +12,7 @@ use Rattle.pit_fib.specs.Hops.{hops_of}
 use Rattle.pit_fib.specs.Route.{Registered, is_capture, is_child_inherit}
 use Rattle.pit_fib.specs.Tables.{ByFace}
 
--- the costs in `first`, and for faces without a cost there, the costs in `second`
+-- the costs in `first`, and for faces without a cost in `first`, the costs in `second`
 abbrev pub prefer : ByFace → ByFace → ByFace
 prefer first second = map.from_entries (map.entries first ++ map.entries second)
 
@@ -34,9 +34,10 @@ least_costs wanted routes =
 abbrev pub has_capture : Registered → Bool
 has_capture registered = list_any (λ e. is_capture e.1) (map.entries registered)
 
--- The costs that the names below an entry inherit. For each face with child-inherit routes in the
--- entry, this is the least cost of these routes. For every other face, it is the cost in `above`,
--- unless the entry has a capture route. Without an entry, the names inherit the costs in `above`.
+-- The costs that the names below an entry inherit. For a face with child-inherit routes in the
+-- entry, the names below inherit the least cost of these routes. For every other face, the names
+-- below inherit the cost in `above`, unless the entry has a capture route. If there is no entry,
+-- the names below inherit the costs in `above`.
 abbrev pub passed_on : Option Entry → ByFace → ByFace
 passed_on None above = above
 passed_on (Some e) above =
@@ -54,9 +55,9 @@ handed_down routes name (suc n) =
 abbrev pub does_inherit : Registered → Bool
 does_inherit registered = not (map.len registered == 0) && not (has_capture registered)
 
--- The costs of an entry's next hops; for faces without a next hop, the least costs of the entry's
--- routes. For the remaining faces, the costs in `above`, if the entry has routes but no capture
--- route.
+-- The effective cost of a face is the cost of the entry's next hop on the face or, without a next
+-- hop, the least cost of the entry's routes on the face. For a face with neither a next hop nor a
+-- route, the effective cost is the cost in `above`, if the entry has routes but no capture route.
 abbrev pub effective_of : Entry → ByFace → ByFace
 effective_of e above =
     prefer e.hops (prefer (least_costs (λ _. true) (map.entries e.registered))
@@ -110,9 +111,10 @@ HasNone wanted registered face =
     (origin : ℕ) (r : Route)
     → map.get registered (record { face = face; origin = origin }) ≡ Some r → wanted r ≡ false
 
--- The name inherits this cost for the face. It is the least cost of the child-inherit routes on
--- that face at the longest proper prefix that has such a route. No prefix between that prefix and
--- the name has a capture route.
+-- The name inherits `cost` for `face`. The prefix of `from` components is the longest proper prefix
+-- of the name that has a child-inherit route on `face`. `cost` is the least cost of the
+-- child-inherit routes of this prefix on `face`. No proper prefix of the name with more than `from`
+-- components has a capture route.
 pub record IsInherited (routes : Routes) (name : List Field) (face cost : ℕ) : Type 0 where
   pub from : ℕ
   pub shorter : from < length name

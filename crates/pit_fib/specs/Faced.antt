@@ -24,10 +24,9 @@ none_in room = record { values = map.empty; is_wide = nat_le MAX_FACES room }
 abbrev pub has_place : {X : Type 0} → Faced X → Bool
 has_place f = f.is_wide || nat_lt (map.len f.values) FEW
 
--- Whether there is memory for the value of one more face, and the values with the memory that they
--- then have. If 64 faces have values, there is no memory for one more. Otherwise, the values' own
--- memory is used if it suffices, and if not, the supplied memory, which suffices if `room` is at
--- least 64.
+-- The returned Boolean is whether there is memory for the value of one more face. If 64 faces have
+-- values, there is no memory for one more. The values stay in their own memory if it suffices, and
+-- otherwise move into the supplied memory if `room` is at least 64.
 abbrev pub placed : {X : Type 0} → ℕ → Faced X → Bool × Faced X
 placed room f =
     if nat_le MAX_FACES (map.len f.values) then (false, f) else (

@@ -12,8 +12,8 @@ use Rattle.pit_fib.specs.Route.{is_capture, is_child_inherit, is_due}
 use Rattle.pit_fib.specs.Tables.{ByFace}
 use Rattle.pit_fib.specs.Within.{set_within}
 
--- the costs in `second` after each cost in `first` is set; a cost is not set if its face is new and
--- 64 faces already have a cost
+-- the costs in `second`, overwritten by the costs in `first`; a cost in `first` is left out if its
+-- face is new and 64 faces already have a cost
 abbrev pub laid_over : ByFace → ByFace → ByFace
 laid_over first second =
     fold {A = ℕ × ℕ} {B = ByFace} (λ costs e. set_within costs e.0 e.1) second (map.entries first)
@@ -40,7 +40,7 @@ has_route_at at rows = list_any (λ e. counts_at at e.1) rows
 abbrev pub has_capture_at : Option ℕ → List (RouteKey × Route) → Bool
 has_capture_at at rows = list_any (λ e. counts_at at e.1 && is_capture e.1) rows
 
--- the state `s` of the walk after it has passed the entry `e`
+-- the state of the walk after the entry `e`, if its state before `e` is `s`
 abbrev pub past_entry : Inheriting → Entry → Inheriting
 past_entry s e =
     let rows = map.entries e.registered in

@@ -62,8 +62,8 @@ with_in_record face in_record s =
     } else s
 
 -- The entry after the out-record of a face is set, in the entry's own memory or in the supplied
--- memory for `room` out-records. It is unchanged if the face is new and there is no memory for its
--- out-record.
+-- memory for `room` out-records. The entry is unchanged if the face is new and there is no memory
+-- for its out-record.
 abbrev pub sent_in : ℕ → ℕ → OutRecord → Kept → Kept
 sent_in room face out_record s =
     with_out_records s (set_in room face out_record (kept_out_records s))
@@ -108,7 +108,8 @@ kept_after cause k s = living (record s { records = changed cause k s.records })
 abbrev pub deadline : Kept → ℕ
 deadline s = least (λ in_record. in_record.deadline) (map.entries s.records.in_records)
 
--- the faces in `faces` with the faces of these in-records added; no face is added to 64 or more
+-- the faces in `faces` with the faces of these in-records added; no face is added if there are
+-- already 64 faces
 abbrev pub with_faces_of : List (ℕ × InRecord) → List ℕ → List ℕ
 with_faces_of [] faces = faces
 with_faces_of (e ∷ es) faces = with_faces_of es (adding e.0 faces).1
@@ -168,8 +169,8 @@ abbrev pub row_arrived : Flags → ℕ → InRecord → ℕ → Option Row → R
 row_arrived f face in_record room row =
     with_kept f (with_in_record face in_record (unwrap_or (kept_in row f) (new_in room))) row
 
--- the row after the entry, if there is one, is put under the key with these flags; without an
--- entry, the row is unchanged
+-- the row with the entry, if there is one, under the key with these flags; without an entry, the
+-- row is unchanged
 abbrev pub with_kept_if : Flags → Option Kept → Option Row → Row
 with_kept_if f None row = unwrap_or row map.empty
 with_kept_if f (Some s) row = with_kept f s row
@@ -181,16 +182,16 @@ row_sent f face out_record room row =
     with_kept_if f (option_map (sent_in room face out_record) (kept_in row f)) row
 
 -- Whether a Data answers the key with these flags. If the key's name is the Data's name or full
--- name (`is_own`), the Data answers every key of that name. If the key's name is a proper prefix,
--- the Data answers only the keys with CanBePrefix.
+-- name (`is_own`), the Data answers every key of that name. If the key's name is a proper prefix of
+-- the Data's name, the Data answers only the keys with CanBePrefix.
 abbrev pub is_answered : Bool → Flags → Bool
 is_answered is_own f = is_own || f.can_be_prefix
 
 abbrev pub unanswered : Bool → Flags → Kept → Option Kept
 unanswered is_own f s = if is_answered is_own f then None else Some s
 
--- the faces in `faces`, with the faces added that have an in-record under a key of the row that the
--- Data answers; no face is added to 64 or more
+-- the faces in `faces`, and the faces that have an in-record under a key of the row that the Data
+-- answers; no face is added if there are already 64 faces
 abbrev pub with_answered : Bool → List ℕ → Row → List ℕ
 with_answered is_own faces row =
     with_asking (map.get row (flags true true)) (
@@ -216,8 +217,8 @@ abbrev pub was_sent_in : Option Kept → ℕ → List ℕ → Bool
 was_sent_in None face nonce = false
 was_sent_in (Some s) face nonce = was_sent (map.get s.records.out_records face) nonce
 
--- the result of a Nack, from the entry of its key after the Nack's reason was recorded in the
--- entry; NoPending if there is no entry
+-- the result of a Nack whose reason is already recorded in the entry of its key; NoPending if there
+-- is no entry
 abbrev pub answer_in : Option Kept → ℕ → Nacked
 answer_in None reason = NoPending
 answer_in (Some s) reason = all_nacked (least_reason reason (map.entries s.records.out_records))

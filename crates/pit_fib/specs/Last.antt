@@ -1,6 +1,6 @@
--- Which in-record of a face is the last: the in-record with the latest deadline and, if several
--- have this deadline, the in-record under the greatest key. Also whether any in-record has a token.
--- These definitions are for the contracts of private functions.
+-- The last in-record of a face, and whether any in-record has a PIT token, for the contracts of
+-- private functions. The last in-record of a face is the in-record with the latest deadline and, if
+-- several have this deadline, the in-record under the greatest key.
 use Rattle.std.specs.Prelude.{◌≡◌, ℕ, zero, suc, Bool, true, false, List, Option, None, Some, length, nat_lt, if◌then◌else◌, take}
 use Rattle.std.specs.Option.{option_and_then}
 use Rattle.std.specs.FinMap as map
@@ -11,8 +11,8 @@ use Rattle.pit_fib.specs.Kept.{Kept, Row, Rows, pending_of}
 use Rattle.pit_fib.specs.Records.{InRecord}
 use Rattle.pit_fib.specs.Tokens.{HaveNoTokens}
 
--- the in-record with the later deadline, or the second one if both deadlines are the same; if one
--- of the two is None, the other one
+-- `later a b` is the in-record with the later deadline, or `b` if both deadlines are the same. If
+-- one of `a` and `b` is None, `later a b` is the other one.
 abbrev pub later : Option InRecord → Option InRecord → Option InRecord
 later None b = b
 later (Some a) None = Some a
@@ -36,8 +36,8 @@ last_prefix face last row =
     (ask_in face (map.get row (flags true true)))
 
 -- The last in-record (`later`) among `last` and the face's in-records under the keys of the row
--- that a Data answers. These are the keys with CanBePrefix and, if `is_own` is true, those without
--- it.
+-- that a Data answers. A Data answers the keys with CanBePrefix and, if `is_own` is true, also the
+-- keys without CanBePrefix.
 abbrev pub last_in : Bool → ℕ → Option InRecord → Row → Option InRecord
 last_in is_own face last row =
     last_prefix face (if is_own then last_exact face last row else last) row

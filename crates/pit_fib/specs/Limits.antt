@@ -26,7 +26,7 @@ HaveSome routes =
     (name : List Field) (e : Entry) → map.get routes name ≡ Some e → is_vacant e ≡ false
 
 -- A table has at most 4,096 names of at most 32 components, 16,384 routes, and 64 faces with next
--- hops or routes. Each of its names has next hops or routes.
+-- hops or routes. Each name in the table has next hops or routes.
 pub record IsWithinFib (routes : Routes) : Type 0 where
   pub names : IsWithinLimits routes
   pub some : HaveSome routes

@@ -17,7 +17,7 @@ start_at now =
       way = record { at = Some now; inherited = map.empty; costs = map.empty };
     }
 
--- the state `s` of a walk after it has passed the entry `e`
+-- the state of a walk after the entry `e`, if its state before `e` is `s`
 abbrev pub past_at : AtName → Entry → AtName
 past_at s e =
     record {

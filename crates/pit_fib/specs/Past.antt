@@ -12,7 +12,8 @@ abbrev pub records_after_all : List Cause → PlainKey → Records
 records_after_all [] k = no_records
 records_after_all (cause ∷ before) k = records_after cause k (records_after_all before k)
 
--- the in-record of the face f under the key k after one more cause, if it was `was` before
+-- the in-record of the face f under the key k after one more cause, where `was` is the in-record
+-- before the cause
 abbrev pub in_record_after : Cause → PlainKey → ℕ → Option InRecord → Option InRecord
 in_record_after (Expires now) k f was = option_and_then (until_after now) was
 in_record_after (Arrives key face in_record) k f was =
@@ -31,8 +32,8 @@ abbrev pub in_record_of : List Cause → PlainKey → ℕ → Option InRecord
 in_record_of [] k f = None
 in_record_of (cause ∷ before) k f = in_record_after cause k f (in_record_of before k f)
 
--- the out-record of the face g under the key k after one more cause, if it was `was` before and the
--- key still has an in-record
+-- the out-record of the face g under the key k after one more cause, where `was` is the out-record
+-- before the cause, and the key still has an in-record after the cause
 abbrev pub out_record_after : Cause → PlainKey → ℕ → Option OutRecord → Option OutRecord
 out_record_after (Expires now) k g was = was
 out_record_after (Arrives key face in_record) k g was = was
@@ -46,9 +47,8 @@ out_record_after (Withdrawn key face) k g was = was
 out_record_after (Removed key) k g was = if same_key k key then None else was
 out_record_after (Closed face) k g was = if g == face then None else was
 
--- The out-record of a face after these causes. It is that of the last Interest of the key that was
--- sent to the face since the key last had no in-record. There is none if the face has closed since,
--- or the key has no in-record.
+-- the out-record of a face after these causes: the out-record of the last Interest of the key that
+-- was sent to the face, unless the face has closed or the key was without an in-record since then
 abbrev pub out_record_of : List Cause → PlainKey → ℕ → Option OutRecord
 out_record_of [] k g = None
 out_record_of (cause ∷ before) k g =

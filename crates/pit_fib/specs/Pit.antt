@@ -18,9 +18,10 @@ use Rattle.pit_fib.specs.Cause.{with_reason}
 
 pub record PitState : Type 0 where
   pub pending : Pending
-  -- The key of the prepared calls, and a number or None. With a number, the prepared calls are one
-  -- `arrive` and the `sent` calls after it; the Interest and the token of this `arrive` have
-  -- together at most this number of octets. With None, the prepared calls are `sent` calls only.
+  -- The key of the prepared calls, and a number of octets if an `arrive` is prepared. The Interest
+  -- and the token of a prepared `arrive` have together at most this number of octets. The `sent`
+  -- calls after a prepared `arrive` are prepared too. If the number is None, only `sent` calls are
+  -- prepared.
   pub prepared : Option (PlainKey × Option ℕ)
 
 abbrev pub pit_code : Coded PitState
@@ -100,9 +101,9 @@ pub record IsLeastReason (out_records : OutRecords) (least : ℕ) : Type 0 where
   pub one : (face : ℕ) × (out_record : OutRecord)
       × (map.get out_records face ≡ Some out_record) × (out_record.reason ≡ Some least)
 
--- The result of a Nack with this Nonce and reason from this face. It is NoPending if the face has
--- no out-record with this Nonce. It is Waiting if some out-record then has no reason, or else All
--- with the least reason.
+-- The result of a Nack with this Nonce and reason from this face. The result is NoPending if the
+-- face has no out-record with this Nonce, Waiting if some out-record has no reason even after this
+-- Nack, and otherwise All with the least reason.
 abbrev pub nacked_answer : Records → ℕ → List ℕ → ℕ → Nacked
 nacked_answer r face nonce reason =
     if was_sent (map.get r.out_records face) nonce then all_nacked (least_reason reason

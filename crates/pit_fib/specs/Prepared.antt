@@ -39,9 +39,9 @@ abbrev pub CanSend : Rows → PlainKey → ℕ → Type 0
 CanSend rows key spare =
     (MAX_FACES ≤ spare) ⊎ ((s : Kept) → kept_at rows key ≡ Some s → s.is_wide ≡ true)
 
--- If calls are prepared and their key has an entry, there is memory for its out-records of 64
--- faces. For an `arrive`, this is the spare memory, its vector is ready, and a row for its name is
--- prepared.
+-- If calls are prepared, there is memory for the out-records of 64 faces under their key
+-- (`CanSend`). If an `arrive` is prepared, the spare memory has capacity for 64 out-records, the
+-- vector for the octets of the `arrive` is ready, and the key's name is prepared in the table.
 abbrev pub HasMemory : NameTable Row → ℕ → Option Prepared → Type 0
 HasMemory rows spare prepared =
     IfSome prepared (λ p. CanSend rows.table p.key spare × IfSome p.arrival (λ r.

@@ -17,7 +17,7 @@ pub record InRecord : Type 0 where
   pub token : Option (List ℕ)
 
 -- The last Interest that was sent to a face: its Nonce, and the moment in milliseconds since 1970.
--- `reason` is that of the last Nack with this Nonce that has come back since, if any.
+-- `reason` is the reason of the last Nack that came back with this Nonce, or None if no Nack came.
 pub record OutRecord : Type 0 where
   pub nonce : List ℕ
   pub moment : ℕ

@@ -43,11 +43,11 @@ route_code =
 abbrev pub registered_code : Coded Registered
 registered_code = code route_key_code route_code
 
--- The next two definitions test the flags of a route: the bit of value 1 is child-inherit, and the
--- bit of value 2 is capture.
+-- whether the route is a child-inherit route: the bit of value 1 in its flags is set
 abbrev pub is_child_inherit : Route → Bool
 is_child_inherit r = r.flags % 2 == 1
 
+-- whether the route is a capture route: the bit of value 2 in its flags is set
 abbrev pub is_capture : Route → Bool
 is_capture r = r.flags / 2 % 2 == 1
 

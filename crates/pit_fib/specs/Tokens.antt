@@ -21,16 +21,17 @@ IsNotAfter key in_record last_key last =
     (in_record.deadline < last.deadline)
     ⊎ ((in_record.deadline ≡ last.deadline) × (key_cmp key last_key ≢ Greater))
 
--- the Data answers the face's in-record `in_record` under `key`, and no other such in-record of the
--- face comes after it, by deadline and then by key
+-- of the face's in-records that the Data answers, `in_record` under `key` is the last by deadline
+-- and then by key
 pub record IsLast (records : PlainKey → Records) (name : List Field) (digest : List ℕ) (face : ℕ)
     (key : PlainKey) (in_record : InRecord) : Type 0 where
   pub asks : IsAsker records name digest face key in_record
   pub last : (other_key : PlainKey) (other : InRecord)
       → IsAsker records name digest face other_key other → IsNotAfter other_key other key in_record
 
--- The token that is sent to the face with the Data. It is the token, if any, of the last (`IsLast`)
--- of the face's in-records that the Data answers, or None if the Data answers none of them.
+-- `token` is the PIT token that is sent to the face with the Data. It is the token, if any, of the
+-- last (`IsLast`) of the face's in-records that the Data answers. `token` is None if the Data
+-- answers no in-record of the face.
 abbrev pub IsTokenFor : (PlainKey → Records) → List Field → List ℕ → ℕ → Option (List ℕ) → Type 0
 IsTokenFor records name digest face token =
     (((key : PlainKey) (in_record : InRecord)

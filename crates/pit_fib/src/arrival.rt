@@ -1,5 +1,5 @@
-//! How a call of the pending Interest table changes the row of a name. The call supplies the
-//! memory.
+//! How the calls `arrive` and `sent` of the pending Interest table change the row of a name, in
+//! memory that the call supplies.
 
 ghost use Rattle.std.specs.Prelude.{◌≡◌, ◌≤◌, Option, None, Some, unwrap_or};
 ghost use Rattle.std.specs.Option.{option_map};
@@ -19,8 +19,8 @@ use ndn_tlv::Memory;
 use std::alloc::Global;
 
 /// Memory for the records of one arriving Interest: for the records of a new entry, or for the
-/// in-records of an entry whose own memory is full. It also contains empty slots, for a name
-/// without entries.
+/// in-records of an entry whose own memory is full. This memory also contains empty slots, for a
+/// name without entries.
 #[derive(Drop)]
 pub struct RecordRoom {
     in_records: Room<InRecord>,

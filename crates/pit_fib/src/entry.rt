@@ -119,7 +119,7 @@ impl Model for OutRecord {
 
 impl OutRecord {
     /// Returns the out-record of an Interest that is sent at the moment `now`, in milliseconds
-    /// since 1970. No Nack has come for it yet.
+    /// since 1970. The new out-record has no Nack reason.
     pub fn new(nonce: [u8; 4], now: u64) -> OutRecord
         ensures { result ≡ sent_at nonce now }
     {
@@ -280,14 +280,14 @@ impl Entry {
     }
 
     /// Adds or replaces the out-record of a face, in the out-records' own memory or in the memory
-    /// `room`. If the face is new and neither suffices, changes nothing.
+    /// `room`. Changes nothing if the face is new and there is no memory for its out-record.
     pub fn sent(&mut self, face: u64, out_record: OutRecord, room: Room<OutRecord>)
         ensures { self.new ≡ sent_in room face out_record self.old }
     {
         self.out_records.set(face, out_record, room);
     }
 
-    /// Returns whether an Interest with this Nonce from this face loops.
+    /// Returns whether an Interest of the key with this Nonce from this face loops.
     pub fn loops(&self, face: u64, nonce: [u8; 4]) -> bool
         ensures { result ≡ loops_in self.now.records face nonce }
     {

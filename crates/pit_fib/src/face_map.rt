@@ -14,8 +14,8 @@ use crate::face_set::MAX_FACES;
 use crate::room::{FEW, Room};
 use std::marker::Model;
 
-/// A map from at most 64 faces to values, in rising order of the faces. It has memory for a few
-/// values, or for all 64.
+/// A map from at most 64 faces to values, in rising order of the faces. The map has memory for a
+/// few values, or for 64 values.
 #[derive(Drop)]
 pub struct FaceMap<V> {
     rows: Vec<(u64, V)>,
@@ -88,8 +88,8 @@ impl<V: Drop> FaceMap<V> {
     }
 
     /// Ensures that there is memory for one more value: the map's own memory, or the memory `room`,
-    /// into which the values then move. Returns false if neither suffices, or if there are 64
-    /// values.
+    /// into which the values then move. Returns false if there is no memory for one more value, or
+    /// if the map has 64 values.
     fn make_place(&mut self, room: Room<V>) -> bool
         ensures { (result, self.new) ≡ placed room self.old }
     {

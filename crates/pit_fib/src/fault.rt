@@ -5,8 +5,8 @@ ghost use Rattle.pit_fib.specs.declared.fault.TableFault.TheVariants as faults;
 use ndn_tlv::Memory as NoMemory;
 use thiserror::Error;
 
-/// Why a table of names refuses an entry. If there are several faults, the first in this order is
-/// reported.
+/// Why a table of names refuses an entry. If several faults apply, the first in the order of the
+/// variants is returned.
 #[derive(Clone, Copy, Debug, PartialEq, Eq, Error)]
 pub enum TableFault {
     /// The name has more than 32 components.

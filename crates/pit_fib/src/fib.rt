@@ -38,9 +38,9 @@ pub const MAX_DEPTH: usize = 32;
 pub const MAX_ROUTES: usize = 16384;
 
 /// The table of next hops and registered routes by name (NFD Developer's Guide, "Forwarding
-/// Information Base", "Routing Information Base"). It has at most 4,096 names of at most 32
-/// components, and each name has next hops or routes. It has at most 16,384 routes in all, and at
-/// most 64 different faces.
+/// Information Base", "Routing Information Base"). The table has at most 4,096 names of at most 32
+/// components, and each name has next hops or routes. The table has at most 16,384 routes in all,
+/// and at most 64 different faces.
 #[derive(Drop)]
 pub struct Fib {
     alloc: Global,
@@ -101,7 +101,7 @@ impl Fib {
     /// Adds a next hop, or sets its cost. The faces of all next hops and routes, together with
     /// `face`, must be at most 64.
     ///
-    /// On failure, it returns the first fault in the order of `TableFault`, and the table is
+    /// On failure, returns the first fault in the order of `TableFault`, and leaves the table
     /// unchanged. Each call ends the preparation, even if the call fails. `Memory` is never
     /// returned for a name that has an entry or is prepared.
     pub fn add(&mut self, name: Name<'_>, face: u64, cost: u64) -> Result<(), TableFault>
@@ -126,7 +126,8 @@ impl Fib {
         Ok(())
     }
 
-    /// Returns why the table refuses a next hop for the name, or `None` if it does not refuse one.
+    /// Returns why the table refuses a next hop for the name, or `None` if the table accepts a next
+    /// hop for the name.
     pub fn refusal_of(&self, name: Name<'_>) -> Option<TableFault>
         ensures { result ≡ refusal self.now.table (components name.entry) }
     {
@@ -147,7 +148,7 @@ impl Fib {
     /// name's route with the same face and origin. The faces of all next hops and routes, together
     /// with `face`, must be at most 64.
     ///
-    /// On failure, it returns the first fault in the order of `TableFault`, and the table is
+    /// On failure, returns the first fault in the order of `TableFault`, and leaves the table
     /// unchanged. Each call ends the preparation, even if the call fails. The table is full for a
     /// new name when it has 4,096 names, and for a new route when it has 16,384 routes.
     pub fn register(
@@ -184,8 +185,8 @@ impl Fib {
         Ok(())
     }
 
-    /// Returns why the table refuses a route with this name, face and origin, or `None` if it does
-    /// not refuse it.
+    /// Returns why the table refuses a route with this name, face and origin, or `None` if the
+    /// table accepts the route.
     pub fn route_refusal_of(&self, name: Name<'_>, face: u64, origin: u64) -> Option<TableFault>
         ensures { result ≡ route_refusal self.now.table (components name.entry)
             (record { face = face; origin = origin }) }
@@ -245,8 +246,8 @@ impl Fib {
         self.entries.change(name, &WithoutRoute { key });
     }
 
-    /// Removes the next hops and the routes of a face. An entry that then has neither next hops nor
-    /// routes is removed.
+    /// Removes the next hops and the routes of a face. An entry is removed when it has neither next
+    /// hops nor routes.
     pub fn close_face(&mut self, face: u64)
         ensures table { self.new.table ≡ without_face self.old.table face }
         ensures prepared { self.new.prepared ≡ self.old.prepared }
@@ -258,7 +259,7 @@ impl Fib {
     }
 
     /// Removes the routes that expire by `now`, in milliseconds since 1970, and returns how many
-    /// there were.
+    /// routes were removed.
     pub fn expire(&mut self, now: u64) -> u64
         ensures table { self.new.table ≡ left_at now self.old.table }
         ensures prepared { self.new.prepared ≡ self.old.prepared }
@@ -310,7 +311,8 @@ impl Fib {
     }
 
     /// Returns the names that still have an entry after the routes that expire by `now` are
-    /// removed, in canonical order. Each name comes with the effective next hops that it then has.
+    /// removed, in canonical order. Each name comes with the effective next hops that it has
+    /// without the expired routes.
     pub fn list(&self, alloc: Global, now: u64) -> Result<Vec<(NameBuf, Hops)>, Memory>
         ensures { IfOk result (λ list. list.items ≡ listed (left_at now self.now.table)) }
     {
@@ -336,7 +338,8 @@ impl Fib {
     }
 
     /// Shows the names that still have an entry after the routes that expire by `now` are removed,
-    /// in canonical order. Each name is shown with the effective next hops that it then has.
+    /// in canonical order. Each name is shown with the effective next hops that it has without the
+    /// expired routes.
     pub fn show_all<S: Show<Hops> + Drop>(&self, now: u64, show: S) -> Result<S, Memory>
         ensures { IfOk result
             (λ s. s ≡ shown_each S.shown show (listed (left_at now self.now.table))) }
@@ -378,7 +381,7 @@ impl Fib {
             || (self.count >= MAX_ROUTES && !self.has_route(name, key))
     }
 
-    /// Sets a route that the limits of the table permit.
+    /// Registers a route that the limits of the table permit.
     fn put_route(&mut self, name: Name<'_>, key: RouteKey, route: Route) -> Result<(), Memory>
         requires room { HasRoomFor self.old.table key.face }
         requires taken { route_refusal self.old.table (components name) key ≡ None }
@@ -409,7 +412,7 @@ impl Fib {
     }
 
     /// Returns the effective next hops that a name has after the routes that expire by `now` are
-    /// removed. The name must then still have an entry.
+    /// removed. The name must have a next hop, or a route that does not expire by `now`.
     fn hops_left_at(&self, name: Name<'_>, now: u64) -> Hops
         requires { IsSome (map.get (left_at now self.now.table) (components name)) }
         ensures { result
@@ -446,8 +449,8 @@ fn is_same_row(row: &(NameBuf, &Entry), other: &(NameBuf, &Entry)) -> bool
     is_same_name && row.1.is_same(other.1)
 }
 
-/// Returns the vector `room`, if it has capacity for `len` routes and one more. Otherwise returns a
-/// new vector with this capacity.
+/// Returns the vector `room` if it has capacity for `len + 1` routes, and otherwise a new vector
+/// with this capacity.
 fn enough_room(
     alloc: Global,
     room: Vec<(RouteKey, Route)>,

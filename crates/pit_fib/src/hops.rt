@@ -116,7 +116,7 @@ fn place_of(hops: &[Hop], hop: Hop) -> usize
     hops.len()
 }
 
-/// Returns faces and their costs as next hops, in order.
+/// Returns the faces in `costs` as next hops, ordered by cost and then by face.
 pub fn hops_in_order(costs: &[(u64, u64)]) -> Hops
     requires { length costs.now ≤ MAX_FACES }
     ensures { result ≡ in_order costs.now }

@@ -10,8 +10,8 @@ use crate::route::{Route, RouteKey};
 use name_trie::See;
 
 /// The state of a walk along a name, after the last entry that the walk passed (NFD Developer's
-/// Guide, "Routing Information Base"). It has the effective next hops of that entry, and the costs
-/// that the names below that entry inherit.
+/// Guide, "Routing Information Base"). The state has the effective next hops of the last entry that
+/// the walk passed, and the costs that the names below this entry inherit.
 #[derive(Drop)]
 pub struct Inheriting {
     /// If `at` is a moment, routes that expire by that moment do not count.

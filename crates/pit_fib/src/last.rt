@@ -1,6 +1,6 @@
 //! The search for the last of a face's in-records that a Data answers. The last in-record is the
-//! in-record with the latest deadline. If several in-records have this deadline, it is the
-//! in-record under the greatest key.
+//! in-record with the latest deadline. If several in-records have the latest deadline, the last one
+//! is the in-record under the greatest key.
 ghost use Rattle.std.specs.Prelude.{◌≡◌};
 ghost use Rattle.std.specs.Option.{option_map};
 ghost use Rattle.sha2.specs.Sha256.{sha256};
@@ -45,9 +45,9 @@ impl<'a> Look<'a, Row> for LastOf<'a> {
     }
 }
 
-/// Of the face's in-records under the keys of this name, and under those keys of its proper
-/// prefixes that have CanBePrefix, returns the in-record with the latest deadline. If several
-/// in-records have this deadline, returns the in-record under the greatest key.
+/// Of the face's in-records under the keys of `name` and under the keys with CanBePrefix of the
+/// proper prefixes of `name`, returns the in-record with the latest deadline. If several in-records
+/// have the latest deadline, returns the one under the greatest key.
 fn last_along<'a>(rows: &'a TimedMap<Row>, name: Name<'_>, face: u64) -> Option<&'a InRecord>
     ensures { option_map (λ r. r.now) result
         ≡ last_along rows.now.table face (components name.entry) }
@@ -58,7 +58,7 @@ fn last_along<'a>(rows: &'a TimedMap<Row>, name: Name<'_>, face: u64) -> Option<
 }
 
 /// Of the face's in-records that a Data answers, returns the in-record with the latest deadline. If
-/// several in-records have this deadline, returns the in-record under the greatest key. The Data's
+/// several in-records have the latest deadline, returns the one under the greatest key. The Data's
 /// digest is computed only if some key may have the Data's name followed by a digest component
 /// (`TimedMap::has_below`).
 pub fn last_for<'a>(rows: &'a TimedMap<Row>, packet: &Data<'_>, face: u64) -> Option<&'a InRecord>

@@ -32,8 +32,8 @@ pub fn longest_is_the_longest_prefix<V>()
         → longest table name ≡ None }
 {}
 
-/// Law: the next hops of an entry are ordered by cost and then by face, and they are exactly the
-/// entry's faces with their costs. No other list has both properties.
+/// Law: `hops_of costs` is the only list of next hops that is ordered by cost and then by face, and
+/// that has exactly the faces in `costs`, each with its cost and with `local` false.
 pub fn hops_are_in_order()
     ensures sorted { (costs : ByFace) → AreInOrder (hops_of costs) }
     ensures same { (costs : ByFace) → AreHopsOf costs (hops_of costs) }
@@ -41,18 +41,19 @@ pub fn hops_are_in_order()
         → hops ≡ hops_of costs }
 {}
 
-/// Law: a face has a cost among the effective next hops of a name in three cases and no others. The
-/// name has a next hop of that cost on the face. Or the name has no next hop on the face but has
-/// routes on it, and that cost is the least cost of these routes. Or the name has neither on the
-/// face but has routes on other faces, none of them is a capture route, and the name inherits that
-/// cost for the face.
+/// Law: the effective next hops of a name have the costs of the name's own next hops, of its own
+/// routes, and of the routes that it inherits, and no others. For a face with a next hop of the
+/// name, the cost is the cost of this next hop. For a face with routes of the name but no next hop,
+/// the cost is the least cost of these routes. For a face without a next hop or route of the name,
+/// the cost is the cost that the name inherits, if the name has routes and none of them is a
+/// capture route.
 pub fn effective_hops_are_as_defined()
     ensures { (routes : Routes) (name : List Field) (face cost : ℕ)
         → (map.get (effective routes name) face ≡ Some cost) ↔ IsEffective routes name face cost }
 {}
 
 /// Law: the next hops for an Interest are the effective next hops of the longest prefix of its name
-/// that has an entry. There are none if no prefix has an entry.
+/// that has an entry. An Interest has no next hops if no prefix of its name has an entry.
 pub fn routes_are_those_of_the_longest_prefix()
     ensures found { (routes : Routes) (name : List Field) (n : ℕ) → IsLongest routes name n
         → longest_hops routes name ≡ hops_of (effective routes (take n name)) }
@@ -77,10 +78,10 @@ pub fn revising_changes_each_value<V, W>()
 {}
 
 /// Law: the records of each face under a key follow from the list of past causes, in which the
-/// latest cause comes first. The in-record of a face is its last Interest, unless something has
-/// removed it since. The out-record of a face is the last Interest that was sent to that face since
-/// the key was last without an in-record, unless the face has closed since. The key has an
-/// in-record exactly if the last Interest of some face has not been removed since.
+/// latest cause comes first. The in-record of a face is its last Interest, unless a later cause has
+/// removed it. The out-record of a face is the last Interest that was sent to that face. The
+/// out-record is removed when the face closes, and when the key has no in-record any more. The key
+/// has an in-record exactly if `in_record_of` is not None for some face.
 pub fn records_are_the_past()
     ensures in_records { (causes : List Cause) (key : PlainKey) (face : ℕ)
         → map.get (records_after_all causes key).in_records face ≡ in_record_of causes key face }
@@ -92,8 +93,8 @@ pub fn records_are_the_past()
 {}
 
 /// Law: the result of a Nack is `NoPending` exactly if its Nonce was not the last one sent to its
-/// face. If it was, the result is `All` exactly if each out-record has a reason after the Nack, and
-/// the number in `All` is the least of these reasons.
+/// face. If the Nonce was the last one sent to the face, the result is `All` exactly if each
+/// out-record has a reason after the Nack, and the number in `All` is the least of these reasons.
 pub fn nacks_tell_the_least_reason()
     ensures pending { (r : Records) (face : ℕ) (nonce : List ℕ) (reason : ℕ)
         → (nacked_answer r face nonce reason ≡ answers.NoPending)
@@ -105,7 +106,7 @@ pub fn nacks_tell_the_least_reason()
         (map.get r.out_records face)) least }
 {}
 
-/// Law: for a Data and a face, at most one PIT token can be the token to send.
+/// Law: the PIT token that is sent to a face with a Data is unique.
 pub fn tokens_for_data_are_one()
     ensures { (records : PlainKey → Records) (name : List Field) (digest : List ℕ) (face : ℕ)
         (a b : Option (List ℕ)) → IsTokenFor records name digest face a

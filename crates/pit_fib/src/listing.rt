@@ -46,8 +46,8 @@ impl Carry<Entry> for AtName {
     }
 }
 
-/// A visitor that passes on the effective next hops of each name whose entry remains at the moment
-/// `now`.
+/// A visitor of a walk over all names. It shows each name whose entry remains at the moment of the
+/// walk, with the name's effective next hops, to the visitor `show`.
 #[derive(Drop)]
 pub struct AsHops<S> {
     pub show: S,

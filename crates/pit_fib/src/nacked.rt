@@ -1,10 +1,10 @@
 /// The result of a Nack (NFD Developer's Guide, "Incoming Nack Pipeline").
 #[derive(Clone, Copy, Debug, PartialEq, Eq)]
 pub enum Nacked {
-    /// The Nack's Nonce was not the last one sent to its face under its key.
+    /// The Nonce of the Nack is not the last Nonce that was sent to the Nack's face under its key.
     NoPending,
     /// At least one out-record has no Nack yet.
     Waiting,
-    /// Each out-record has the reason of a Nack. The number is the least of these reasons.
+    /// Each out-record has the reason of a Nack, and the number is the least of these reasons.
     All(u64),
 }

@@ -39,10 +39,10 @@ use std::mem;
 /// The greatest number of keys with pending Interests.
 pub const MAX_PENDING: usize = MAX_ENTRIES;
 
-/// The pending Interest table (NFD Developer's Guide, "Pending Interest Table"). Under each key it
-/// has an in-record for each face with a pending Interest, and an out-record for each face to which
-/// an Interest was sent. Each key in the table has an in-record. The table has at most 4,096 keys,
-/// and records of at most 64 different faces.
+/// The pending Interest table (NFD Developer's Guide, "Pending Interest Table"). Under each key,
+/// the table has an in-record for each face with a pending Interest, and an out-record for each
+/// face to which an Interest was sent. Each key in the table has an in-record. The table has at
+/// most 4,096 keys, and records of at most 64 different faces.
 #[derive(Drop)]
 pub struct Pit {
     alloc: Global,
@@ -51,8 +51,8 @@ pub struct Pit {
     prepared: Option<Prepared>,
     // Spare memory for the out-records of an entry whose own memory is full.
     spare: Room<OutRecord>,
-    // Whether any Interest that was ever recorded had a PIT token. While this is false, no search
-    // looks for a token.
+    // Whether any Interest that was ever recorded had a PIT token. While `has_tokens` is false, no
+    // search looks for a token.
     has_tokens: bool,
 }
 
@@ -108,9 +108,9 @@ impl Pit {
         self.len() == 0
     }
 
-    /// Returns whether an Interest with this key and Nonce from a face loops. It loops if the Nonce
-    /// is in an out-record or in the in-record of another face, and not in the face's own in-record
-    /// (NFD Developer's Guide, "Incoming Interest Pipeline").
+    /// Returns whether an Interest with this key and Nonce from a face loops. An Interest loops if
+    /// its Nonce is in an out-record or in the in-record of another face, but not in the in-record
+    /// of its own face (NFD Developer's Guide, "Incoming Interest Pipeline").
     pub fn loops(&self, key: Key<'_>, face: u64, nonce: [u8; 4]) -> bool
         ensures { result
             ≡ loops_in (records_at self.now.pending (plain_key key.entry)) face nonce }
@@ -123,8 +123,8 @@ impl Pit {
 
     /// Prepares one `arrive` of this key, for an Interest and a PIT token of at most `octets`
     /// octets together, and the `sent` calls of this key after it. The prepared calls cannot run
-    /// out of memory if the only calls between `prepare` and them are calls that remove records.
-    /// `prepare` fails only if memory runs out; then no call is prepared.
+    /// out of memory if, after `prepare`, only calls that remove records come before or between the
+    /// prepared calls. `prepare` fails only if memory runs out; then no call is prepared.
     pub fn prepare(&mut self, key: Key<'_>, octets: usize) -> Result<(), Memory>
         ensures pending { self.new.pending ≡ self.old.pending }
         ensures ok { OnOk result (self.new.prepared
@@ -142,8 +142,8 @@ impl Pit {
 
     /// Records the Interest of a face until a deadline, in milliseconds since 1970. `interest` has
     /// the octets of the Interest, and `token` is its PIT token, of 1 to 32 octets (NDNLPv2, "PIT
-    /// Token"). The Interest and its token replace those that the face had under this key. The
-    /// faces that have records, together with `face`, must be at most 64.
+    /// Token"). The new in-record replaces an older in-record of the face under this key. The faces
+    /// that have records, together with `face`, must be at most 64.
     ///
     /// On failure, the records are unchanged. An `arrive` that fails, or that is not the prepared
     /// one, ends the preparation. `arrive` fails with `PitFull` if the key is new and there are
@@ -255,10 +255,10 @@ impl Pit {
     }
 
     /// Records that an Interest with this key and Nonce was sent to a face at the moment `now`, in
-    /// milliseconds since 1970. This replaces the face's older out-record. The key must have an
-    /// in-record, and the faces that have records, together with `face`, must be at most 64. A call
-    /// that is not prepared ends the preparation, and may run out of memory. On `Memory`, the
-    /// records are unchanged.
+    /// milliseconds since 1970. The new out-record replaces an older out-record of the face under
+    /// this key. The key must have an in-record, and the faces that have records, together with
+    /// `face`, must be at most 64. A call that is not prepared ends the preparation, and may run
+    /// out of memory. If `sent` fails with `Memory`, the records are unchanged.
     pub fn sent(&mut self, key: Key<'_>, face: u64, nonce: [u8; 4], now: u64) -> Result<(), Memory>
         requires stands { is_alive (records_at self.old.pending (plain_key key)) ≡ true }
         requires room { HasRoomFor self.old.pending face }
@@ -325,12 +325,12 @@ impl Pit {
         entry_of(&self.rows, key)?.token_of(face)
     }
 
-    /// Returns the PIT token that is sent to a face with a Data (NDNLPv2, "PIT Token"). It is the
-    /// token of the last of the face's Interests that the Data answers, with or without
-    /// MustBeFresh. The last Interest is the one with the latest deadline. Of the Interests with
-    /// this deadline, it is the one with the greatest key, where keys are ordered by name in
-    /// canonical order, then by CanBePrefix, then by MustBeFresh. Returns `None` if that Interest
-    /// has no token, or if the Data answers no Interest of the face.
+    /// Returns the PIT token that is sent to a face with a Data (NDNLPv2, "PIT Token"). The token
+    /// comes from the last of the face's Interests that the Data answers, with or without
+    /// MustBeFresh. The last Interest is the one with the latest deadline. If several Interests
+    /// have the latest deadline, the last Interest is the one with the greatest key. Keys are
+    /// ordered by name in canonical order, then by CanBePrefix, then by MustBeFresh. Returns `None`
+    /// if the last Interest has no token, or if the Data answers no Interest of the face.
     pub fn token_for(&self, packet: &Data<'_>, face: u64) -> Option<&[u8]>
         ensures token { IsTokenFor (records_at self.now.pending) (components packet.now.name)
             (sha256 packet.now.whole.now) face (option_map (λ t. t.now) result) }
@@ -424,7 +424,7 @@ impl Pit {
         answer_of(&self.rows, key, reason)
     }
 
-    /// Removes the in-record of a face, if there is one. If the key then has no in-record, its
+    /// Removes the in-record of a face, if there is one. If the key has no other in-record, its
     /// out-records are removed too.
     pub fn withdraw(&mut self, key: Key<'_>, face: u64)
         ensures pending { Follows (Withdrawn (plain_key key.entry) face)
@@ -474,9 +474,10 @@ fn entry_of<'a>(rows: &'a TimedMap<Row>, key: Key<'_>) -> Option<&'a Entry>
     rows.get(key.name)?.get(Flags::of(key))
 }
 
-/// If there is a row, adds the faces that have an in-record under a key of the row's name that the
-/// Data answers. If the name is the Data's name or full name (`is_own`), the Data answers all keys
-/// of the name. If it is a proper prefix, the Data answers only the keys with CanBePrefix.
+/// Adds the faces that have an in-record under a key of the row that the Data answers, if there is
+/// a row. If the name of the row is the Data's name or full name (`is_own`), the Data answers all
+/// keys of the row. If the name of the row is a proper prefix of the Data's name, the Data answers
+/// only the keys with CanBePrefix.
 fn add_of(row: Option<&Row>, is_own: bool, faces: &mut Faces)
     ensures { faces.new
         ≡ taken (with_answered is_own) faces.old (option_map (λ r. r.now) row.entry) }
@@ -496,8 +497,8 @@ fn was_sent(rows: &TimedMap<Row>, key: Key<'_>, face: u64, nonce: [u8; 4]) -> bo
     }
 }
 
-/// Returns whether an entry's own memory suffices for an out-record of this face. Also returns true
-/// if there is no entry.
+/// Returns whether the own memory of the key's entry suffices for an out-record of this face, or
+/// true if the key has no entry.
 fn has_place_for(rows: &TimedMap<Row>, key: Key<'_>, face: u64) -> bool
     ensures { result ≡ has_place_in (kept_at rows.now.table (plain_key key.entry)) face }
 {

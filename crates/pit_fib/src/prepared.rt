@@ -42,7 +42,7 @@ impl Ready {
 }
 
 impl Prepared {
-    /// Prepares an `arrive` of this key with `size` octets, and the `sent` calls after it.
+    /// Prepares an `arrive` of this key with at most `size` octets, and the `sent` calls after it.
     pub fn new(alloc: Global, key: Key<'_>, size: usize) -> Result<Prepared, Memory>
         ensures { IfOk result (λ made. (made.key ≡ plain_key key.entry)
             × (room_of made.arrival ≡ Some size) × IfSome made.arrival IsReady) }
@@ -81,7 +81,7 @@ pub fn arriving(prepared: Option<Prepared>, key: Key<'_>) -> (Option<Ready>, Opt
     (arrival, Some(after))
 }
 
-/// Returns `ready`, if it has capacity for `size` octets. If it does not, returns new memory.
+/// Returns `ready` if it has capacity for `size` octets, and new memory otherwise.
 fn ready_for(alloc: Global, ready: Option<Ready>, size: usize) -> Result<Ready, Memory>
     requires { IfSome ready IsReady }
     ensures ok { IfOk result (λ ready. (size ≤ ready.size) × IsReady ready) }
@@ -104,7 +104,7 @@ fn octets_of(token: Option<&[u8]>) -> &[u8]
 }
 
 /// Returns the octets of an Interest and its token, and memory for the Interest's records. The
-/// memory is `ready` if it is large enough, and otherwise newly allocated.
+/// memory is taken from `ready` if `ready` is large enough, and is newly allocated otherwise.
 fn octets_and_room(
     alloc: Global,
     ready: Option<Ready>,
@@ -122,8 +122,9 @@ fn octets_and_room(
     Ok((ready.octets, ready.records))
 }
 
-/// Returns the in-record of an Interest with a token, and memory for the Interest's records. The
-/// memory is `ready` if it is large enough, and otherwise newly allocated.
+/// Returns the in-record of an Interest and its token, if it has one, and memory for the Interest's
+/// records. The memory is taken from `ready` if `ready` is large enough, and is newly allocated
+/// otherwise.
 pub fn in_record_and_room(
     alloc: Global,
     ready: Option<Ready>,

@@ -107,8 +107,8 @@ impl Revision for Removal {
     }
 }
 
-/// A revision that removes the entries that a Data answers, under the Data's name or full name
-/// (`is_own`), or under a proper prefix.
+/// A revision that removes the entries that a Data answers, either under the Data's name or full
+/// name (`is_own`), or under a proper prefix of the Data's name.
 #[derive(Drop)]
 pub struct Answered {
     pub is_own: bool,

@@ -8,8 +8,8 @@ use std::marker::Model;
 /// The number of faces for which the memory of a new entry has capacity.
 pub const FEW: usize = 2;
 
-/// Memory for values of faces. It has no values yet. Its model is the number of values for which it
-/// has capacity.
+/// Memory for values of faces. The memory has no values yet. The model of a `Room` is the number of
+/// values for which it has capacity.
 #[derive(Drop)]
 pub struct Room<V> {
     rows: Vec<(u64, V)>,

@@ -11,8 +11,8 @@ use crate::slots::{Revision, Slots};
 use name_trie::{Change, Timed};
 use std::marker::Model;
 
-/// The entries under the keys of one name. They are stored apart from the name's node, so that a
-/// node without a value is small.
+/// The entries under the keys of one name. The entries are stored apart from the name's node, so
+/// that a node without a value is small.
 #[derive(Drop)]
 pub struct Row {
     slots: Option<Box<Slots>>,
@@ -75,7 +75,8 @@ impl Row {
 
     /// Adds the faces that have an in-record under a key of this name that the Data answers. If the
     /// name is the Data's name or full name (`is_own`), the Data answers all keys of the name. If
-    /// it is a proper prefix, the Data answers only the keys with CanBePrefix.
+    /// the name is a proper prefix of the Data's name, the Data answers only the keys with
+    /// CanBePrefix.
     pub fn add_answered(&self, is_own: bool, faces: &mut Faces)
         ensures { faces.new ≡ with_answered is_own faces.old self.now }
     {
@@ -85,10 +86,11 @@ impl Row {
     }
 
     /// Of `last` and the face's in-records under the keys of this name that the Data answers,
-    /// returns the in-record with the latest deadline. Among in-records with the same deadline, a
-    /// greater key takes precedence over a lesser key, and every key takes precedence over `last`.
-    /// If the name is the Data's name or full name (`is_own`), the Data answers all keys of the
-    /// name. If it is a proper prefix, the Data answers only the keys with CanBePrefix.
+    /// returns the in-record with the latest deadline. Among in-records with the same deadline, the
+    /// in-record under the greatest key takes precedence, and `last` has the lowest precedence. If
+    /// the name is the Data's name or full name (`is_own`), the Data answers all keys of the name.
+    /// If the name is a proper prefix of the Data's name, the Data answers only the keys with
+    /// CanBePrefix.
     pub fn last_of<'a>(
         &'a self,
         is_own: bool,

@@ -134,7 +134,8 @@ impl Slots {
 
     /// Adds the faces that have an in-record under a key of this name that the Data answers. If the
     /// name is the Data's name or full name (`is_own`), the Data answers all keys of the name. If
-    /// it is a proper prefix, the Data answers only the keys with CanBePrefix.
+    /// the name is a proper prefix of the Data's name, the Data answers only the keys with
+    /// CanBePrefix.
     pub fn add_answered(&self, is_own: bool, faces: &mut Faces)
         ensures { faces.new ≡ with_answered is_own faces.old self.now }
     {
@@ -147,8 +148,8 @@ impl Slots {
     }
 
     /// Of `last` and the face's in-records under the keys without CanBePrefix, returns the
-    /// in-record with the latest deadline. Among in-records with the same deadline, a greater key
-    /// takes precedence over a lesser key, and every key takes precedence over `last`.
+    /// in-record with the latest deadline. Among in-records with the same deadline, the in-record
+    /// under the greatest key takes precedence, and `last` has the lowest precedence.
     fn last_exact<'a>(&'a self, face: u64, last: Option<&'a InRecord>) -> Option<&'a InRecord>
         ensures { option_map (λ r. r.now) result
             ≡ last_exact face (option_map (λ r. r.now) last.entry) self.now }
@@ -158,8 +159,8 @@ impl Slots {
     }
 
     /// Of `last` and the face's in-records under the keys with CanBePrefix, returns the in-record
-    /// with the latest deadline. Among in-records with the same deadline, a greater key takes
-    /// precedence over a lesser key, and every key takes precedence over `last`.
+    /// with the latest deadline. Among in-records with the same deadline, the in-record under the
+    /// greatest key takes precedence, and `last` has the lowest precedence.
     fn last_prefix<'a>(&'a self, face: u64, last: Option<&'a InRecord>) -> Option<&'a InRecord>
         ensures { option_map (λ r. r.now) result
             ≡ last_prefix face (option_map (λ r. r.now) last.entry) self.now }
@@ -169,10 +170,11 @@ impl Slots {
     }
 
     /// Of `last` and the face's in-records under the keys of this name that the Data answers,
-    /// returns the in-record with the latest deadline. Among in-records with the same deadline, a
-    /// greater key takes precedence over a lesser key, and every key takes precedence over `last`.
-    /// If the name is the Data's name or full name (`is_own`), the Data answers all keys of the
-    /// name. If it is a proper prefix, the Data answers only the keys with CanBePrefix.
+    /// returns the in-record with the latest deadline. Among in-records with the same deadline, the
+    /// in-record under the greatest key takes precedence, and `last` has the lowest precedence. If
+    /// the name is the Data's name or full name (`is_own`), the Data answers all keys of the name.
+    /// If the name is a proper prefix of the Data's name, the Data answers only the keys with
+    /// CanBePrefix.
     pub fn last_of<'a>(
         &'a self,
         is_own: bool,

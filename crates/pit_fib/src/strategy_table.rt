@@ -35,8 +35,8 @@ impl Carry<StrategyId> for StrategyId {
     }
 }
 
-/// The table of strategies by name (NFD Developer's Guide, "Strategy Choice Table"). It has at most
-/// 4,096 names of at most 32 components. One of these names is always `/`.
+/// The table of strategies by name (NFD Developer's Guide, "Strategy Choice Table"). The table has
+/// at most 4,096 names of at most 32 components. The name `/` is always in the table.
 #[derive(Drop)]
 pub struct StrategyTable {
     // The strategy of `/`, stored separately, since it needs no memory.
@@ -89,7 +89,7 @@ impl StrategyTable {
 
     /// Sets the strategy of a name.
     ///
-    /// On failure, it returns the first fault in the order of `TableFault`, and the table is
+    /// On failure, returns the first fault in the order of `TableFault`, and leaves the table
     /// unchanged. Each call ends the preparation, even if the call fails. `Memory` is never
     /// returned for a name that has a strategy, such as `/`, or is prepared.
     pub fn set(&mut self, name: Name<'_>, strategy: StrategyId) -> Result<(), TableFault>
@@ -117,7 +117,8 @@ impl StrategyTable {
         Ok(())
     }
 
-    /// Returns why the table refuses a strategy for the name, or `None` if it does not refuse one.
+    /// Returns why the table refuses a strategy for the name, or `None` if the table accepts a
+    /// strategy for the name.
     pub fn refusal_of(&self, name: Name<'_>) -> Option<TableFault>
         ensures { result ≡ refusal self.now.table (components name.entry) }
     {
@@ -194,7 +195,7 @@ impl StrategyTable {
         Ok(are_same(&choices, &others))
     }
 
-    /// Shows all names in canonical order, each with its strategy. If it fails, some names may have
+    /// Shows all names in canonical order, each with its strategy. On failure, some names may have
     /// been shown already.
     pub fn show_all<S: Show<StrategyId>>(&self, show: &mut S) -> Result<(), Memory>
         ensures { OnOk result

@@ -43,7 +43,8 @@ impl See<Entry> for Left {
     }
 }
 
-/// Returns the earlier of `moment` and of the earliest deadline of the routes.
+/// Returns the earlier of `moment` and the earliest deadline of the routes, or `moment` if no route
+/// has a deadline.
 fn earliest(rows: &[(RouteKey, Route)], moment: u64) -> u64
     ensures { result ≡ earliest moment rows.now }
 {

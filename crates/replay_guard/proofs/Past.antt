@@ -1,5 +1,6 @@
 -- A guard stores only the greatest time and the greatest number of each signer. A command is fresh
--- by this state exactly if it is fresh by the list of all recorded commands.
+-- according to the state of a guard exactly if it is fresh according to the list of all recorded
+-- commands.
 use Rattle.std.proofs.Common.{◌≡◌, ℕ, ◌<◌, Bool, true, false, cond, List, [], ◌∷◌, refl, sym, subst, arith}
 use Rattle.std.specs.Prelude.{◌↔◌, Option, Some, None}
 use Rattle.std.specs.List.{AllByRecursion}
@@ -16,9 +17,9 @@ number_after (Some m) None number = (λ h. (h, tt), λ h _. h)
 number_after (Some m) (Some n) None = (λ h. (tt, tt), λ _ _. tt)
 number_after (Some m) (Some n) (Some k) = (λ h. (omega (arith, h), omega (arith, h)), λ h k'. omega (arith, h, k'))
 
--- One more recorded command raises the state of its signer. A command of this signer is newer
--- than the new state exactly if it is newer than the earlier state and newer than the recorded
--- command.
+-- Let `kept` be the state of a signer before a command with time `t` and number `n` is recorded.
+-- Another command of this signer is newer than the state afterwards exactly if it is newer than
+-- `kept` and newer than the recorded command.
 raised_after : (kept : Option Latest) (t : ℕ) (n : Option ℕ) (time : ℕ) (number : Option ℕ)
     → (IsAfterLatest (Some (raised kept t n)) time number → IsAfterLatest kept time number × ((t < time) × NumberRises n number))
     × (IsAfterLatest kept time number → (t < time) × NumberRises n number → IsAfterLatest (Some (raised kept t n)) time number)
@@ -29,9 +30,8 @@ raised_after (Some l) t n time number =
       λ h k. let e = h.0 in let f = k.0 in (omega (arith, e, f), both.1 h.1 k.1),
     )
 
--- After `r` is recorded, a command is newer than its signer's state exactly if two conditions
--- hold: it is newer than its signer's state before `r`, and, if `r` has the same signer, it is
--- newer than `r`.
+-- a command is newer than the state of its signer after `r` is recorded exactly if it is newer than
+-- the state before `r` and `IsNewer` holds for this command and `r`
 pub one_more : (table : Signer → Option Latest) (r : Recorded) (signer : Signer) (time : ℕ) (number : Option ℕ) (b : Bool) → eq_by_cmp signer_cmp signer r.signer ≡ b
     → (IsAfterLatest (cond b (Some (raised (table r.signer) r.time r.number)) (table signer)) time number → IsAfterLatest (table signer) time number × IsNewer signer time number r)
     × (IsAfterLatest (table signer) time number → IsNewer signer time number r → IsAfterLatest (cond b (Some (raised (table r.signer) r.time r.number)) (table signer)) time number)

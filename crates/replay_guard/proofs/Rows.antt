@@ -95,14 +95,13 @@ pub push_is_insert : (k : Signer) (v : Latest) (es : List Row) → find signer_c
     → from_entries {R = signer_cmp} (es ++ (k, v) ∷ []) ≡ map.insert (from_entries es) k v
 push_is_insert k v es h = from_entries_push signer_cmp-total signer_cmp-antisymmetric es k v h
 
--- if the prepared signer `spare` is the signer `k`, and is also the signer `s`, then comparing `s`
--- with `k` does not return false
+-- if the prepared signer `spare` is both `k` and `s`, then `s` and `k` compare as equal
 pub other_spare : (spare : Option Signer) (k s : Signer) (b : Bool) → spare ≡ Some k → spare ≡ Some s → b ≡ same s k → b ≡ false → ⊥
 other_spare spare k s b h e is other = (let one : k ≡ s = cc in let tied = same_signer s k (sym one) in cc)
 
--- The next two lemmas are about a command near the present moment. If its signer has a row, the
--- command is fresh exactly if it is newer than this row. If its signer has no row, the command is
--- fresh.
+-- Let the time of a command be near `now`. `fresh_found`: if the signer of the command has a row,
+-- the command is fresh exactly if it is newer than this row. `fresh_new`: if the signer of the
+-- command has no row, the command is fresh.
 pub fresh_found : (table : Table) (es : List Row) (at : ℕ) (row : Row) (s : Signer) (t : ℕ) (n : Option ℕ) (now : ℕ) (b : Bool) → from_entries es ≡ table → IsFirst s es at → row ≡ get_or es at row
     → AreNear t now → (IsTrue b → IsAfterLatest (Some row.1) t n) × (IsAfterLatest (Some row.1) t n → IsTrue b) → (IsTrue b → IsFresh table s t n now) × (IsFresh table s t n now → IsTrue b)
 fresh_found table es at row s t n now b shown first is near both =
@@ -116,8 +115,8 @@ fresh_new table es s t n now shown none near =
     let got : map.get table s ≡ None = ap (λ (m : Table). map.get m s) (sym shown) ∙ get_none s es none in
     (near, subst (λ (o : Option Latest). IsAfterLatest o t n) (sym got) tt)
 
--- The next two lemmas: after one more command is recorded, the rows represent the new table. The
--- first lemma is for a signer that has a row, the second for a signer that has none.
+-- After one more command is recorded, the rows represent the new table. `recorded_found` is for a
+-- signer that has a row. `recorded_new` is for a signer that has no row.
 pub recorded_found : (table : Table) (es new : List Row) (at : ℕ) (row : Row) (s : Signer) (t : ℕ) (n : Option ℕ) → from_entries es ≡ table → IsFirst s es at → row ≡ get_or es at row
     → new ≡ set es at (row.0, raised (Some row.1) t n) → from_entries new ≡ with_recorded table (record { signer = s; time = t; number = n })
 recorded_found table es new at row s t n shown first is set_is =
@@ -131,7 +130,6 @@ pub recorded_new : (table : Table) (s : Signer) (t : ℕ) (n : Option ℕ) → m
     → map.insert table s (record { time = t; number = n }) ≡ with_recorded table (record { signer = s; time = t; number = n })
 recorded_new table s t n got = ap (λ (o : Option Latest). map.insert table s (raised o t n)) (sym got)
 
--- the row at index `at`
 abbrev pub row_at : List Row → ℕ → Row
 row_at es at = get_or es at (None, record { time = 0; number = None })
 

@@ -20,21 +20,22 @@ pub record Recorded : Type 0 where
 abbrev pub AreNear : ℕ → ℕ → Type 0
 AreNear a b = (a ≤ b + 120000) × (b ≤ a + 120000)
 
--- the first number is less than the second, or one of the two numbers is absent
+-- `NumberRises m n` states that m is less than n, or that m or n is absent
 abbrev pub NumberRises : Option ℕ → Option ℕ → Type 0
 NumberRises None number = Unit {0}
 NumberRises (Some m) None = Unit {0}
 NumberRises (Some m) (Some n) = m < n
 
 -- A command with this signer, time and number is newer than the recorded command `earlier`, or has
--- another signer. Newer means that its time is greater and, if both commands have a number, its
--- number is greater.
+-- another signer. Newer means that the command has a greater time than `earlier` and, if both have
+-- a number, also a greater number.
 abbrev pub IsNewer : Signer → ℕ → Option ℕ → Recorded → Type 0
 IsNewer signer time number earlier =
     earlier.signer ≡ signer → (earlier.time < time) × NumberRises earlier.number number
 
--- A command with this signer, time and number is fresh at the moment `now`. Its time differs from
--- `now` by at most 120,000 milliseconds, and it is newer than all commands of its signer in `past`.
+-- A command with this signer, time and number is fresh at the moment `now`. The time of the command
+-- differs from `now` by at most 120,000 milliseconds, and the command is newer than all commands of
+-- its signer in `past`.
 abbrev pub Fresh : List Recorded → Signer → ℕ → Option ℕ → ℕ → Type 0
 Fresh past signer time number now =
     AreNear time now × AllByRecursion (IsNewer signer time number) past

@@ -1,5 +1,6 @@
--- The state of a guard. For each signer, it has the greatest time and the greatest number of the
--- recorded commands. It also has the signer for which a call of `record` is prepared, if any.
+-- The state of a guard. For each signer, the state has the greatest time and the greatest number of
+-- its recorded commands. The state also has the signer for which a call of `record` is prepared, if
+-- any.
 use Rattle.std.specs.Prelude.{◌≡◌, ◌⊎◌, ℕ, ◌<◌, List, [], ◌∷◌, Option, None, Some, IsSome, max, refl}
 use Rattle.std.specs.Coded.{Coded, code_by, coded×, coded_ℕ, coded_option}
 use Rattle.std.specs.declared.cmp.Ordering.{Ordering}
@@ -60,8 +61,9 @@ abbrev pub table_of : List Recorded → Table
 table_of [] = map.empty
 table_of (r ∷ before) = with_recorded (table_of before) r
 
--- The time is greater than the greatest recorded time of the signer. The number is greater than the
--- greatest recorded number, if both are given. Always true if nothing is recorded of the signer.
+-- The time is greater than the greatest recorded time of the signer. If the command has a number
+-- and the signer has a recorded number, the number of the command is greater than the greatest
+-- recorded number of the signer. If no command of the signer is recorded, the statement is true.
 abbrev pub IsAfterLatest : Option Latest → ℕ → Option ℕ → Type 0
 IsAfterLatest None time number = Unit {0}
 IsAfterLatest (Some l) time number = (l.time < time) × NumberRises l.number number

@@ -54,9 +54,10 @@ impl Guard {
         }
     }
 
-    /// Returns whether a signed command is fresh. Its time, in milliseconds since 1970, must differ
-    /// from `now` by at most 120,000 and be greater than each recorded time of its signer. If the
-    /// command has a number, the number must be greater than each recorded number of its signer.
+    /// Returns whether a signed command is fresh. The time of the command, in milliseconds since
+    /// 1970, must differ from `now` by at most 120,000 and be greater than each recorded time of
+    /// its signer. If the command has a number, the number must be greater than each recorded
+    /// number of its signer.
     pub fn check(&self, signer: Signer<'_>, time: u64, seq: Option<u64>, now: u64) -> bool
         ensures { IsTrue result ↔ IsFresh self.now.latest (signer_of signer.entry) time seq now }
     {
@@ -76,9 +77,9 @@ impl Guard {
         place_of(&self.rows, signer).is_some()
     }
 
-    /// Records a command. Each call ends the preparation, even if the call fails. `Memory` is
-    /// returned only for a signer that has no recorded command and is not prepared. On `Memory`,
-    /// the recorded commands are unchanged.
+    /// Records a command. Each call of `record` ends the preparation by `prepare`, even if the call
+    /// fails. `Memory` is returned only for a signer that has no recorded command and is not
+    /// prepared. On `Memory`, the recorded commands are unchanged.
     pub fn record(&mut self, signer: Signer<'_>, time: u64, seq: Option<u64>) -> Result<(), Memory>
         ensures ok { OnOk result (self.new.latest ≡ with_recorded self.old.latest
             (record { signer = signer_of signer.entry; time = time; number = seq })) }
@@ -111,9 +112,10 @@ impl Guard {
         Ok(())
     }
 
-    /// Prepares one `record` of this signer. The prepared call cannot run out of memory. The next
-    /// `record` or `prepare`, of any signer, ends this preparation, even if that call fails. For a
-    /// signer that has a recorded command, no memory is needed.
+    /// Prepares one call of `record` for this signer. The prepared call cannot run out of memory.
+    /// The next call of `record` or `prepare`, for any signer, ends this preparation, even if that
+    /// call fails. If a command of the signer is already recorded, `prepare` needs no memory and
+    /// cannot fail.
     pub fn prepare(&mut self, signer: Signer<'_>) -> Result<(), Memory>
         ensures latest { self.new.latest ≡ self.old.latest }
         ensures ok { OnOk result (IsPrepared self.new (signer_of signer.entry)) }
@@ -133,7 +135,7 @@ impl Guard {
 
 impl Guard {
     /// Returns whether both guards have the same signers, each with the same time and number. The
-    /// contract says only what a result `true` means.
+    /// contract guarantees nothing for the result `false`.
     pub fn has_same_times(&self, other: &Guard) -> bool
         ensures { IsTrue result → self.now.latest ≡ other.now.latest }
     {

@@ -81,9 +81,9 @@ as_data name n d true =
     prefix (inr (inr (f, inl q))) = (q.0 ++ (1, d) ∷ [], ap (λ (m : List Field). full_name m d) q.1 ∙ append_assoc name q.0 ((1, d) ∷ []))
     prefix (inr (inr (f, inr q))) = q
 
--- Let the full name `f` have the digest of the octets `w`. Then the object with the full name `f`
--- and the octets `w` is the object of a Data exactly if `w` is the octets of the Data and `f` has
--- the Data's name.
+-- Precondition: the digest in the full name `f` is the digest of the octets `w`. The pair of `f`
+-- and `w` is the stored Data with the name `name` and the octets `octets` exactly if `octets`
+-- equals `w` and `name` is the name in `f`.
 pub one_object : (f : PlainFullName) (w octets : List ℕ) (name : List Field) → f.digest ≡ sha256 w
     → (((w ≡ octets) × (name ≡ f.name)) ↔ (◌≡◌ {A = List Field × List ℕ} (all_components f, w) (full_name name (sha256 octets), octets)))
 one_object f w octets name digest = (

@@ -51,7 +51,8 @@ one_less : (b : Bool) (n : ℕ) → cond b (n - 1) n ≤ n
 one_less true n = omega arith
 one_less false n = omega arith
 
--- if an insert is answered with status 100, there is an equal want, or the repository is not full
+-- if an insert is answered with status 100, there is a want with the same name and CanBePrefix, or
+-- the repository is not full
 pending : (stored wanted full : Bool) → eqb (cond stored 200 (cond wanted 100 (cond full 503 100))) 100 ≡ true → (wanted ≡ true) ⊎ (full ≡ false)
 pending true wanted full e = absurd cc
 pending false true full e = inl refl

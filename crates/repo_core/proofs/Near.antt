@@ -1,6 +1,6 @@
 -- Only full names that are near the Interest's name (`is_near`) can answer the Interest. In sorted
 -- rows, the near full names are contiguous and come directly after the full names that are less
--- than that name.
+-- than the Interest's name.
 use Rattle.std.proofs.Common.{◌≡◌, ◌≢◌, ℕ, suc, ◌+◌, ◌<◌, Bool, true, false, cond, List, [], ◌∷◌, ◌++◌, length, get_or, take, drop, filter, refl, sym, ap, subst, ◌∙◌, arith, inl, inr, append-nil}
 use lib.Dec.{T}
 use Rattle.std.specs.Prelude.{◌&&◌, ◌||◌, ◌==◌, nat_lt}
@@ -97,8 +97,8 @@ all_map : {X : Type 0} (P Q : X → Type 0) → ((x : X) → P x → Q x) → (x
 all_map P Q f [] h = tt
 all_map P Q f (x ∷ xs) h = (f x h.0, all_map P Q f xs h.1)
 
--- if the rows that are near the name come first, and the row at index `stop` is not near it, no row
--- from `stop` on answers
+-- if all rows near `name` come first, and the row at index `stop` is not near `name`, then no row
+-- at index `stop` or later answers an Interest with this name and CanBePrefix
 pub ended : (name : List Field) (flag : Bool) (rest : Rows) (stop : ℕ) (row : List Field × List ℕ) → IsPartitionedBy (λ o. is_near name flag o.0) rest → stop < length rest → row ≡ get_or rest stop row
     → is_near name flag row.0 ≡ false → answering name flag rest ≡ answering name flag (take stop rest)
 ended name flag rest stop row parted lt is far =
@@ -130,8 +130,8 @@ candidates_are name flag rows rest start place is =
     ∙ ap (filter test) (sym is)
     )
 
--- Let the row at index `at` be the first row that passes the test. Then the rows that pass are this
--- row, followed by the later rows that pass.
+-- if the row at index `at` is the first row that passes the test, the rows that pass are this row
+-- followed by the later rows that pass
 pub first_is : (test : List Field × List ℕ → Bool) (rows : Rows) (at : ℕ) (row : List Field × List ℕ) → at < length rows → row ≡ get_or rows at row → filter test (take at rows) ≡ [] → test row ≡ true
     → filter test rows ≡ row ∷ filter test (drop (suc at) rows)
 first_is test rows at row lt is none passes =

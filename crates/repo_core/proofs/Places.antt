@@ -20,15 +20,16 @@ stands [] at lt = absurd (omega arith)
 stands (x ∷ xs) zero lt = (x, refl)
 stands (x ∷ xs) (suc n) lt = stands xs n (omega arith)
 
--- The next two lemmas: if each element at an index below `at` has the property `P`, all elements of
--- `take at xs` have it. If each element from index `at` on has it, all elements of `drop at xs`
--- have it.
+-- if each element at an index below `at` has the property `P`, all elements of `take at xs` have
+-- the property
 pub all_before : {X : Type 0} (P : X → Type 0) (xs : List X) (at : ℕ) → ((k : ℕ) (d : X) → k < at → k < length xs → P (get_or xs k d)) → AllByRecursion P (take at xs)
 all_before P [] zero h = tt
 all_before P [] (suc n) h = tt
 all_before P (x ∷ xs) zero h = tt
 all_before P (x ∷ xs) (suc n) h = (h 0 x (omega arith) (omega arith), all_before P xs n (λ k d lt within. h (suc k) d (omega arith) (omega arith)))
 
+-- if each element at index `at` or later has the property `P`, all elements of `drop at xs` have
+-- the property
 pub all_from : {X : Type 0} (P : X → Type 0) (xs : List X) (at : ℕ) → ((k : ℕ) (d : X) → at ≤ k → k < length xs → P (get_or xs k d)) → AllByRecursion P (drop at xs)
 all_from P [] zero h = tt
 all_from P [] (suc n) h = tt
@@ -124,7 +125,7 @@ module _ {K X : Type 0} {R : K → K → Ordering} (total : IsTotalOrder R) wher
     find_at true sorted is = sym (find_there (is.0 refl))
     find_at false sorted is = sym (find_new sorted (λ has. let t = is.1 has in cc))
 
--- if an insertion succeeds, the list after it is the list `new`
+-- if an insertion succeeds, the resulting list is `new`
 pub inserted : {X A E : Type 0} (r : Result A E) (new old : List X) → IsOk r → (if is_ok r then new else old) ≡ new
 inserted (Ok u) new old h = refl
 inserted (Err e) new old h = absurd cc

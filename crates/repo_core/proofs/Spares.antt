@@ -10,8 +10,6 @@ use Rattle.ndn_names.specs.Order.{name_cmp}
 use Rattle.ndn_names.specs.Key.{name_cmp-total}
 use Rattle.repo_core.specs.declared.want_names.Names.{Names}
 
--- if `spare` contains the names `k`, and the key in `spare` is `name`, then comparing `name` with
--- the key of `k` gives Equal
 pub other_spare : (spare : Option Names) (k : Names) (name : List Field) → spare ≡ Some k → option_map (λ n. n.key) spare ≡ Some name → is_eq (name_cmp name k.key) ≡ false → ⊥
 other_spare spare k name h e other =
     (let one : Some k.key ≡ Some name = ap (λ o. option_map (λ n. n.key) o) h' ∙ e in let same : k.key ≡ name = cc in let tied = ap is_eq (ap (λ (n : List Field). name_cmp name n) same ∙ tied_itself name_cmp-total name) in cc)
@@ -33,7 +31,6 @@ any_here test (y ∷ xs) (suc n) x lt is passes = by (test y) (any_here test xs 
     by true rest = refl
     by false rest = rest
 
--- if `b` implies `c`, then `a || b` implies `a || c`
 either : (a b c : Bool) → (b ≡ true → c ≡ true) → (a || b) ≡ true → (a || c) ≡ true
 either true b c f e = refl
 either false b c f e = f e
@@ -50,8 +47,8 @@ any_of_part test stays (x ∷ xs) some = by (stays x) some (λ rest. any_of_part
     by true some again = either (test x) (list_any test (filter stays xs)) (list_any test xs) again some
     by false some again = later (test x) (list_any test xs) (again some)
 
--- some element passes both `stays` and `test` if and only if, of the elements that pass `stays`,
--- some element passes `test`
+-- some element passes both `stays` and `test` if and only if some element of the list filtered by
+-- `stays` passes `test`
 pub any_of_those : {X : Type 0} (test stays : X → Bool) (xs : List X)
     → list_any (λ x. stays x && test x) xs ≡ list_any test (filter stays xs)
 any_of_those test stays [] = refl

@@ -1,5 +1,5 @@
 -- The commands of a repository, one row for each: the verb, and the statuses of its replies. This
--- file also defines the texts of the statuses; `src/types.rt` defines their numbers.
+-- file also defines the status texts; `src/types.rt` defines the status codes.
 use Rattle.std.specs.Prelude.{ℕ, List, [], ◌∷◌, Option, find, codes, bytes_eq, ◌==◌}
 use Rattle.std.specs.Option.{option_map}
 use Rattle.repo_core.specs.declared.verb.Verb.{Verb}
@@ -10,7 +10,7 @@ use Rattle.repo_core.specs.declared.types.TheConstants.{BAD_PARAMETERS, FULL, NO
 pub data Case : Type 0 where
   -- at least one stored Data matches the command
   Stored : Case
-  -- there is a want with the command's name and CanBePrefix
+  -- there is a want (a pending insert) with the command's name and CanBePrefix
   Wanted : Case
   -- one more want would exceed the limits
   NoPlace : Case

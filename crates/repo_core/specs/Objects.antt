@@ -26,7 +26,7 @@ pub record IsObject (full : List Field) (octets : List ℕ) : Type 0 where
   pub read : IsData octets packet
   pub name : full ≡ full_name packet.name (sha256 octets)
 
--- each entry of the map is the octets of a Data under the Data's full name
+-- each entry of the map consists of the full name and the octets of a Data
 abbrev pub AreObjects : Objects → Type 0
 AreObjects objects =
     (full : List Field) (octets : List ℕ) → get objects full ≡ Some octets → IsObject full octets
@@ -36,7 +36,8 @@ unfoldable pub kept : {K X : Type 0} {R : K → K → Ordering} → (K × X → 
     → FinMap R X
 kept test m = from_sorted (filter test (entries m))
 
--- the optional value of a key after the entries that fail the test are removed
+-- the result of a lookup of `key` after all entries that fail `test` are removed, computed from the
+-- result of the lookup before the removal
 abbrev pub if_kept : {K X : Type 0} → (K × X → Bool) → K → Option X → Option X
 if_kept test key None = None
 if_kept test key (Some x) = if test (key, x) then Some x else None
@@ -48,12 +49,14 @@ is_digest_alone (c ∷ []) = c.0 == IMPLICIT_SHA256_DIGEST
 is_digest_alone (c ∷ (d ∷ cs)) = false
 
 -- Whether the Data with this full name answers an Interest with this name and CanBePrefix. The name
--- is a prefix of the full name and, without CanBePrefix, at most an implicit digest follows it.
+-- must be a prefix of the full name. Without CanBePrefix, only an implicit digest or nothing may
+-- follow this prefix in the full name.
 abbrev pub full_name_answers : List Field → Bool → List Field → Bool
 full_name_answers name can_be_prefix full =
     begins_with name full && (can_be_prefix || is_digest_alone (drop (length name) full))
 
--- the objects that answer an Interest with this name and CanBePrefix, in the same order
+-- the objects of the list that answer an Interest with this name and CanBePrefix, in the order of
+-- the list
 abbrev pub answering : List Field → Bool → List (List Field × List ℕ)
     → List (List Field × List ℕ)
 answering name can_be_prefix rows =

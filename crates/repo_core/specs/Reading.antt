@@ -24,7 +24,7 @@ pub record RepoCommand : Type 0 where
   pub verb : Verb
   pub name : List Field
   pub can_be_prefix : Bool
-  -- the lifetime of the want in milliseconds
+  -- the lifetime of the want (the pending insert) in milliseconds
   pub lifetime : ℕ
 
 abbrev pub plain : Asked → RepoCommand

@@ -15,7 +15,7 @@ use Rattle.repo_core.specs.Reading.{RepoCommand, repo_command_at}
 use Rattle.repo_core.specs.Objects.{Objects, number_answering, without_answering}
 use Rattle.repo_core.specs.Wants.{Wants, WantKey, want_code, is_wanted, unfilled, want_deadline, wants_after}
 
--- the objects and the wants
+-- what a repository holds: stored Data (objects) and pending inserts (wants)
 pub record Held : Type 0 where
   pub objects : Objects
   pub wants : Wants
@@ -56,8 +56,8 @@ first_case_status s c (row ∷ rows) = if holds s c row.0 then row.1 else first_
 abbrev pub repo_status_of : Held → RepoCommand → ℕ
 repo_status_of s c = first_case_status s c (verb_row c.verb).answers
 
--- the Interest to send for a pending insert, with the command's name, CanBePrefix and lifetime;
--- None for other commands
+-- the Interest to send, with the command's name, CanBePrefix and lifetime, if the command is an
+-- insert with status 100 (pending); otherwise None
 abbrev pub fetch_of : RepoCommand → ℕ → Option Want
 fetch_of c status =
     elim c.verb [
@@ -82,8 +82,9 @@ abbrev pub reply_to : Held → Option RepoCommand → RepoReply
 reply_to s None = record { status = BAD_PARAMETERS; count = 0; fetch = None }
 reply_to s (Some c) = reply_with s c (repo_status_of s c)
 
--- the state after an insert: if its status is 100 (pending), its want is added, or an equal want
--- gets the new deadline
+-- the state after an insert: an insert with status 100 adds a want (a pending insert), or sets the
+-- deadline of the want with the same name and CanBePrefix; an insert with another status changes
+-- nothing
 abbrev pub after_insert : RepoCommand → ℕ → Held → Held
 after_insert c now s =
     if repo_status_of s c == PENDING then record s {
@@ -101,12 +102,13 @@ abbrev pub after_known : RepoCommand → ℕ → Held → Held
 after_known c now s =
     elim c.verb [ Insert ↦ after_insert c now s | Delete ↦ after_delete c s | Check ↦ s ]
 
--- the state after a command at the time `now`; if there is no command, it is unchanged
+-- the state after a command at the time `now`; without a command, the state is unchanged
 abbrev pub after_some : Option RepoCommand → ℕ → Held → Held
 after_some None now s = s
 after_some (Some c) now s = after_known c now s
 
--- the state after the command with this name at the time `now`, in a repository with this prefix
+-- the state after the command with the name `name` at the time `now`, in a repository with the
+-- prefix `start`
 abbrev pub after_command : List Field → List Field → ℕ → Held → Held
 after_command start name now s = after_some (repo_command_at start name) now s
 
@@ -150,7 +152,7 @@ IsCommandPrepared s name =
     IfSome (repo_command_at s.start name)
     (λ c. is_insert c.verb ≡ true → s.prepared_want ≡ Some c.name)
 
--- if the Data is wanted, its offer is prepared
+-- the Data is not wanted, or the offer of the Data is prepared
 abbrev pub IsOfferPrepared : RepoState → List Field → List ℕ → List ℕ → Type 0
 IsOfferPrepared s name digest octets =
     is_wanted name digest s.held.wants ≡ true

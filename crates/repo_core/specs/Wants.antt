@@ -1,5 +1,5 @@
--- The wants of a repository, by name and CanBePrefix, each with its deadline. The lifetime of a
--- want is not stored.
+-- The wants (pending inserts) of a repository, by name and CanBePrefix, each with its deadline. The
+-- lifetime of a want is not stored.
 use Rattle.std.specs.Prelude.{◌≡◌, ℕ, ◌+◌, ◌-◌, ◌^◌, min, nat_lt, not, Bool, List}
 use Rattle.std.specs.Coded.{Coded, coded×, coded_bool}
 use Rattle.std.specs.List.{list_any}

@@ -15,7 +15,7 @@ use ndn_packets::command_types::REPO_COMMAND_PARAMETER;
 use ndn_tlv::single_element;
 
 /// A well-formed command. It applies to the Data that answer an Interest with this `name` and
-/// `can_be_prefix`. `lifetime` is the lifetime of a want in milliseconds.
+/// `can_be_prefix`. `lifetime` is the lifetime of a want (a pending insert) in milliseconds.
 #[derive(Clone, Copy)]
 pub struct Asked<'a> {
     pub verb: Verb,

@@ -25,8 +25,8 @@ pub fn full_names_answer_as_data()
         ≡ answers name digest asked can_be_prefix }
 {}
 
-/// Law: a Data that is not wanted remains unwanted while wants only expire or are deleted. For this
-/// reason, the preparation of an offer remains valid.
+/// Law: a Data that is not wanted remains unwanted while wants only expire or are deleted, so the
+/// preparation of an offer remains valid.
 pub fn removals_keep_preparations()
     ensures expiry { (now : ℕ) (name : List Field) (digest : List ℕ) (wants : Wants)
         → is_wanted name digest (wants_after now wants) ≡ true
@@ -54,7 +54,8 @@ pub fn repo_statuses_have_texts()
 pub fn repo_replies_are_bounded()
     ensures known { (status count : ℕ) (text : List ℕ) → repo_text_of status ≡ Some text
         → length (repo_response status text count) ≤ MAX_REPLY_LEN }
-    // The bound on a reply with any text, such as the refusal of a command that no rule allows.
+    // The bound on every reply, whatever its text is. For example, the reply to a command that no
+    // rule allows has a text of its own.
     ensures any { (status count : ℕ) (text : List ℕ)
         → length (repo_response status text count) ≤ length text + 40 }
 {}
@@ -80,9 +81,8 @@ pub fn objects_stay_data()
         → AreObjects s.objects → AreObjects (after_time now s).objects }
 {}
 
-/// Law: let all entries that fail a test be removed from a map of objects or wants. A lookup of a
-/// key then finds the same entry as before if that entry passes the test. In all other cases, it
-/// finds no entry.
+/// Law: after all entries that fail a test are removed from a map of objects or wants, a lookup of
+/// a key finds an entry if and only if the map had this entry before and the entry passes the test.
 pub fn kept_entries_by_key()
     ensures objects { (test : List Field × List ℕ → Bool) (objects : Objects) (name : List Field)
         → map.get (kept test objects) name ≡ if_kept test name (map.get objects name) }

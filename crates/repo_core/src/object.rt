@@ -126,9 +126,9 @@ impl Object {
         }
     }
 
-    /// Returns whether `name` is a prefix of the full name and, without CanBePrefix, the next
-    /// component (if there is one) has a type less than 2. Only objects for which this is true can
-    /// answer an Interest with this name and CanBePrefix.
+    /// Returns whether `name` is a prefix of the full name. Without CanBePrefix, the component
+    /// after this prefix, if there is one, must also have a type less than 2. Only objects for
+    /// which `is_near` is true can answer an Interest with this name and CanBePrefix.
     pub fn is_near(&self, name: Name<'_>, can_be_prefix: bool) -> bool
         ensures { result ≡ is_near (components name.entry) can_be_prefix self.now.0 }
     {

@@ -17,7 +17,7 @@ use ndn_tlv::Memory;
 use std::alloc::Global;
 use std::marker::Model;
 
-/// The stored Data. No two of them have the same full name.
+/// The stored Data. No two stored Data have the same full name.
 #[derive(Drop)]
 pub struct Objects {
     // The objects in canonical order of their full names.

@@ -62,7 +62,8 @@ pub fn repo_status_text(status: u16) -> Option<&'static str>
     }
 }
 
-/// Appends a reply: the status, its text and a number. If memory runs out, nothing is appended.
+/// Appends a reply: the status code, the status text and `count`. If memory runs out, nothing is
+/// appended.
 pub fn put_repo_reply(out: &mut Vec<u8>, status: u16, text: &str, count: u64) -> Result<(), Memory>
     ensures ok { OnOk result
         (out.new.items ≡ out.old.items ++ repo_response status text.now count) }
@@ -80,7 +81,7 @@ pub fn put_repo_reply(out: &mut Vec<u8>, status: u16, text: &str, count: u64) ->
     done
 }
 
-/// Appends a reply. If memory runs out, some of its octets may be appended.
+/// Appends a reply. If memory runs out, some octets of the reply may be appended.
 fn put_parts(out: &mut Vec<u8>, status: u16, text: &[u8], count: u64) -> Result<(), Memory>
     ensures { Puts out.old out.new result (repo_response status text.now count) }
 {

@@ -25,19 +25,21 @@ use ndn_tlv::Memory;
 use std::alloc::Global;
 use std::marker::Model;
 
-/// The greatest number of wants.
+/// The greatest number of wants (pending inserts).
 pub const MAX_WANTS: usize = 64;
 
 /// The greatest number of objects and wants together.
 pub const MAX_HELD: usize = 65_536;
 
-/// Law: the limits are 64 wants, and 65,536 objects and wants together.
+/// Law: the limits are 64 wants (pending inserts), and 65,536 objects (stored Data) and wants
+/// together.
 pub fn repo_limits_are_as_promised()
     ensures { (MAX_WANTS ≡ 64) × (MAX_HELD ≡ 65536) }
 {}
 
-/// A repository. It stores the Data that insert commands request, and serves them. It has at most
-/// 64 wants, and at most 65,536 objects and wants together.
+/// A repository stores the Data that insert commands request, and serves the stored Data. A
+/// repository has at most 64 wants (pending inserts), and at most 65,536 objects (stored Data) and
+/// wants together.
 #[derive(Drop)]
 pub struct Repo {
     alloc: Global,
@@ -93,8 +95,8 @@ impl Repo {
         })
     }
 
-    /// Returns the verb of a name that begins with the repository's prefix and a verb. The names of
-    /// commands begin like this.
+    /// Returns the verb of a name that begins with the repository's prefix and a verb. The name of
+    /// every command begins with both.
     pub fn verb_of(&self, name: Name<'_>) -> Option<Verb>
         ensures { result ≡ verb_at self.now.start (components name.entry) }
     {
@@ -104,20 +106,23 @@ impl Repo {
     /// Applies a command. The name of a command is the prefix, the verb, the parameters and the
     /// digest of the Interest's parameters. `now` is in milliseconds since 1970.
     ///
-    /// Objects match a command if they answer an Interest with its name and CanBePrefix. A want is
-    /// equal to a command if it has the same name and CanBePrefix. An insert is answered 200 with
-    /// the number of matching objects if at least one object matches. If no object matches, the
-    /// insert is answered 503 if there is no equal want and one more want would exceed the limits,
-    /// and 100 in all other cases. An insert that is answered 100 adds a want or renews the equal
-    /// want; the want expires when the lifetime of the want is over. A delete removes the matching
-    /// objects and the equal want. The delete is answered 200 with the number of removed objects if
-    /// it removed an object or a want, and 404 if it removed neither. A check is answered 200 with
-    /// the number of matching objects if at least one object matches. If none matches, the check is
-    /// answered 100 if there is an equal want, and 404 if there is none. Any other name is answered
+    /// An object (a stored Data) matches a command if the object answers an Interest with the
+    /// command's name and CanBePrefix. The equal want is the want (pending insert) with the
+    /// command's name and CanBePrefix, if there is one. An insert is answered 200 with the number
+    /// of matching objects if at least one object matches. If no object matches, the insert renews
+    /// the equal want. If no object matches and there is no equal want, the insert adds a want. An
+    /// insert that renews or adds a want is answered 100. An insert is answered 503 if it would
+    /// have to add a want and the limits leave no room for the want. A want expires at the end of
+    /// its lifetime. A delete removes the matching objects and the equal want. The delete is
+    /// answered 200 with the number of removed objects if it removed an object or a want, and 404
+    /// if it removed neither. A check is answered 200 with the number of matching objects if at
+    /// least one object matches. If no object matches, the check is answered 100 if there is an
+    /// equal want, and 404 if there is none. A name that is not the name of a command is answered
     /// 400.
     ///
-    /// Only an insert can return `Memory`. It then leaves the objects and wants unchanged. Every
-    /// insert ends the preparation; other commands do not.
+    /// Only an insert can return `Memory`. An insert that returns `Memory` leaves the objects and
+    /// wants unchanged. Every insert ends the preparation that `prepare_command` or `prepare_offer`
+    /// made; other commands do not.
     pub fn command(&mut self, name: Name<'_>, now: u64) -> Result<RepoReply, Memory>
         ensures reply { IfOk result (λ r.
             r ≡ reply_to self.old.held (repo_command_at self.old.start (components name.entry))) }
@@ -153,9 +158,9 @@ impl Repo {
 
     /// Offers a Data to the repository, and returns whether the Data was wanted. A wanted Data is
     /// added, or replaces the object with the same full name. All wants that the Data answers are
-    /// removed, and the preparation ends. `Memory` is returned only for a wanted Data; then objects
-    /// and wants are unchanged, but the preparation has ended. A Data that is not wanted changes
-    /// nothing.
+    /// removed. An offer of a wanted Data ends the preparation, even if the offer returns `Memory`.
+    /// `Memory` is returned only for a wanted Data, and leaves the objects and wants unchanged. A
+    /// Data that is not wanted changes nothing.
     pub fn offer(&mut self, packet: &Data<'_>) -> Result<bool, Memory>
         ensures filled { IfOk result (λ filled. filled ≡ is_wanted (components packet.now.name)
             (sha256 packet.now.whole.now) self.old.held.wants) }
@@ -225,8 +230,8 @@ impl Repo {
         self.wants.expire(now);
     }
 
-    /// Returns the number of objects and wants. The clauses `limits` and `objects` hold for every
-    /// repository.
+    /// Returns the number of objects and wants. The clauses `limits` and `objects` of the contract
+    /// are true of every repository.
     pub fn held_len(&self) -> usize
         ensures exact { result ≡ map.len self.now.held.objects + map.len self.now.held.wants }
         ensures limits { IsWithinLimits self.now.held }
@@ -236,8 +241,8 @@ impl Repo {
     }
 
     #[tactic(auto, using(crate::proofs::SameNames::same_name))]
-    /// Returns whether both repositories have the same prefix. The contract says only what a result
-    /// `true` means.
+    /// Returns whether both repositories have the same prefix. The contract covers only the result
+    /// `true`.
     pub fn has_same_prefix(&self, other: &Repo) -> bool
         ensures { IsTrue result → self.now.start ≡ other.now.start }
     {
@@ -245,17 +250,17 @@ impl Repo {
     }
 
     /// Returns whether both repositories have the same objects and the same wants. The contract
-    /// says only what a result `true` means.
+    /// covers only the result `true`.
     pub fn holds_same(&self, other: &Repo) -> bool
         ensures { IsTrue result → self.now.held ≡ other.now.held }
     {
         self.objects.is_same(&other.objects) && self.wants.is_same(&other.wants)
     }
 
-    /// Prepares the command with this name, including its reply. The command then cannot run out of
-    /// memory. An insert, an offer of a wanted Data or another preparation ends the preparation,
-    /// even if it fails. Deletes and the expiry of wants do not end the preparation. Only an insert
-    /// needs memory.
+    /// Prepares the command with this name, including its reply. The prepared command cannot run
+    /// out of memory. The preparation ends with the next insert, the next offer of a wanted Data,
+    /// or the next call that prepares a command or an offer, even if that call fails. Deletes and
+    /// the expiry of wants do not end the preparation. Only an insert needs memory.
     pub fn prepare_command(&mut self, name: Name<'_>) -> Result<(), Memory>
         ensures held { self.new.held ≡ self.old.held }
         ensures start { self.new.start ≡ self.old.start }
@@ -278,8 +283,9 @@ impl Repo {
         Ok(())
     }
 
-    /// Prepares the offer of this Data. The offer then cannot run out of memory. An insert, an
-    /// offer of a wanted Data or another preparation ends the preparation, even if it fails.
+    /// Prepares the offer of this Data. The prepared offer cannot run out of memory. The
+    /// preparation ends with the next insert, the next offer of a wanted Data, or the next call
+    /// that prepares a command or an offer, even if that call fails.
     pub fn prepare_offer(&mut self, packet: &Data<'_>) -> Result<(), Memory>
         ensures held { self.new.held ≡ self.old.held }
         ensures start { self.new.start ≡ self.old.start }

@@ -1,4 +1,5 @@
-//! The status codes of the repository's replies, and the default lifetime of a want.
+//! The status codes of the repository's replies, and the default lifetime of a want (a pending
+//! insert).
 
 ghost use Rattle.std.specs.Prelude.{◌≡◌};
 
@@ -16,9 +17,9 @@ pub const FULL: u16 = 503;
 /// "Interest Packet", InterestLifetime).
 pub const DEFAULT_LIFETIME: u64 = 4000;
 
-/// Law: the status codes of the repository's replies have these values, and the default lifetime is
-/// that of an Interest without InterestLifetime (NDN Packet Format 0.3, "Interest Packet",
-/// InterestLifetime).
+/// Law: the status codes of the repository's replies are 100, 200, 400, 404 and 503, and the
+/// default lifetime is that of an Interest without InterestLifetime (NDN Packet Format 0.3,
+/// "Interest Packet", InterestLifetime).
 pub fn repo_statuses_are_as_assigned()
     ensures done { (PENDING ≡ 100) × (OK ≡ 200) }
     ensures refused { (BAD_PARAMETERS ≡ 400) × (NOT_FOUND ≡ 404) × (FULL ≡ 503) }

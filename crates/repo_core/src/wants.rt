@@ -18,7 +18,7 @@ use std::marker::Model;
 /// A want: its name, its CanBePrefix, and its deadline in milliseconds since 1970.
 type Row = ((NameBuf, bool), u64);
 
-/// The wants of a repository, by name and CanBePrefix.
+/// The wants (pending inserts) of a repository, by name and CanBePrefix.
 #[derive(Drop)]
 pub struct Wants {
     // The wants in canonical order of their names. Of two wants with the same name, the one with
@@ -68,8 +68,8 @@ impl Wants {
         has_at(&self.rows, at, name, can_be_prefix)
     }
 
-    /// Sets the deadline of the want with this name and CanBePrefix. Adds the want if it is new. If
-    /// it is new, there must be fewer than 64 wants.
+    /// Sets the deadline of the want with this name and CanBePrefix. Adds the want if it is new.
+    /// Precondition: there are fewer than 64 wants, or the want is not new.
     pub fn put(&mut self, name: NameBuf, can_be_prefix: bool, deadline: u64)
         requires { (map.contains_key self.old (name, can_be_prefix) ≡ true)
             ⊎ (map.len self.old < MAX_WANTS) }

@@ -30,8 +30,8 @@ fn number_in(text: &str) -> Option<Option<u64>> {
     Some(Some(text.parse().ok()?))
 }
 
-/// Records a command, which is given as its signer, time and number. If the first word is
-/// `prepare`, only prepares the recording of a command by the signer that follows.
+/// Records a command, which is given as its signer, time and number. For `prepare SIGNER`, only
+/// prepares the recording of a command of this signer.
 fn record(alloc: Global, guard: &mut Guard, command: &str) -> Option<()> {
     let (signer, rest) = command.split_once(' ')?;
     if signer == "prepare" {
@@ -55,8 +55,8 @@ fn is_fresh(alloc: Global, guard: &Guard, command: &str) -> Option<bool> {
     Some(guard.check(signer_of(&key), time, number, now))
 }
 
-/// Shows `fresh` or `no`: whether a command is fresh after the commands that were recorded before
-/// it.
+/// Shows `fresh` if the command after `? ` is fresh once the commands before `? ` are recorded, and
+/// `no` otherwise.
 fn freshness(alloc: Global, row: &str) -> Option<String> {
     let (past, command) = row.split_once("? ")?;
     let answer = if is_fresh_after(alloc, past, command)? {
@@ -102,8 +102,8 @@ fn are_same(alloc: Global, past: &str, other: &str) -> Option<bool> {
     Some(guard.has_same_times(&other))
 }
 
-/// Two guards have the same times and numbers exactly if they have the same signers, each with the
-/// same time and number.
+/// `has_same_times` is true exactly if both guards have the same signers, each with the same
+/// greatest time and number.
 #[test]
 fn same_times(rt: HostRuntime) {
     let rows = "
@@ -131,7 +131,7 @@ prepare digest, ? digest 0 - 0 -> fresh
     check_rows(&rt, rt.alloc(), rows, freshness);
 }
 
-/// A recording that was prepared records its command.
+/// After a preparation for a signer, a recording for this signer records its command.
 #[test]
 fn prepared_calls_have_their_effect(rt: HostRuntime) {
     let rows = "
@@ -148,8 +148,8 @@ prepare digest, digest 0 0, ? /k 0 0 0 -> fresh
     check_rows(&rt, rt.alloc(), rows, freshness);
 }
 
-/// A preparation for one signer changes neither a recording for another signer nor the first
-/// signer's later recording.
+/// After a preparation for one signer, a recording for another signer records its command, and so
+/// does a later recording for the first signer.
 #[test]
 fn calls_of_others_after_a_preparation(rt: HostRuntime) {
     let rows = "
@@ -178,9 +178,9 @@ prepare /k, prepare /l, /k 0 0, ? /k 0 1 0 -> no
     check_rows(&rt, rt.alloc(), rows, freshness);
 }
 
-/// Returns whether a prepared recording and a second recording of the same signer succeed, and the
-/// first command is not fresh once it is recorded. If the preparation fails, returns whether the
-/// first command is still fresh.
+/// Prepares a recording for a signer, and then records two commands of this signer. Returns whether
+/// both commands are recorded, and the first command is not fresh after it was recorded. If the
+/// preparation fails, returns whether the first command is still fresh.
 fn keeps_its_promise(alloc: Global) -> Option<bool> {
     let key = key_in(alloc, "/k")?;
     let mut guard = Guard::new(alloc);
@@ -201,9 +201,10 @@ fn refused_memory_for_records(rt: HostRuntime) {
     assert!(rt; keeps_its_promise(rt.alloc()) != Some(false));
 }
 
-/// Returns whether earlier records are unchanged by a recording for a new signer that may run out
-/// of memory. Memory may run out because another signer's recording used up the preparation.
-/// Returns `None` if memory runs out before that.
+/// Returns whether a recording for a new signer leaves earlier records unchanged, even if the
+/// recording runs out of memory. The recording may run out of memory because another signer's
+/// recording used up the preparation. Returns `None` if memory runs out before the recording for
+/// the new signer.
 fn leaves_earlier_records(alloc: Global) -> Option<bool> {
     let first = key_in(alloc, "/k")?;
     let second = key_in(alloc, "/l")?;

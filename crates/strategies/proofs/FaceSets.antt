@@ -31,9 +31,8 @@ added_few face faces =
       | false ↦ omega (arith, length-with_face face faces)
     ]
 
--- Let `hops` be `hop` followed by `rest`, and let multicast select `hop`. Let `faces` be the faces
--- that multicast selects from `rest`. If there are fewer than 64 of these faces, adding the face of
--- `hop` to them gives the faces that multicast selects from `hops`.
+-- if multicast selects `hop`, and fewer than 64 faces from `rest`, then adding the face of `hop` to
+-- these faces gives the faces that multicast selects from `hop ∷ rest`
 pub taken_more : (used : ByFace) (now : ℕ) (hop : Hop) (rest hops : List Hop) (faces new : List ℕ) (n : ℕ) → 0 < n
     → (length faces + n ≤ 64) × (faces ≡ faces_of (multicast rest used now)) → hops ≡ hop ∷ rest → was_recent now (map.get used hop.face) ≡ false
     → new ≡ (adding hop.face faces).1 → (length new + (n - 1) ≤ 64) × (new ≡ faces_of (multicast hops used now))

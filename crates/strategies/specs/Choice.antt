@@ -10,7 +10,7 @@ use Rattle.strategies.specs.declared.strategy.Choice.TheVariants.{NoRoute, Send}
 use Rattle.strategies.specs.Eligible.{is_eligible, eligible}
 use Rattle.strategies.specs.Selection.{Selection}
 
--- the faces of the hops in rising order, each face once
+-- the faces of the hops in ascending order, each face once
 abbrev pub faces_of : List Hop → List ℕ
 faces_of [] = []
 faces_of (hop ∷ hops) =

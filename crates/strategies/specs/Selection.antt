@@ -20,8 +20,9 @@ is_recent now time = nat_lt now (time + 10)
 abbrev pub is_new : ByFace → Hop → Bool
 is_new asked hop = not (map.contains_key asked hop.face)
 
--- Whether the last use of hop `a` is earlier than that of hop `b`, where an unused hop counts as
--- used at 0. For equal moments, whether `a` comes before `b` by cost and then by face.
+-- Whether hop `a` was last used earlier than hop `b`. A hop that was never used counts as used at
+-- the moment 0. If `a` and `b` were last used at the same moment, the result is whether `a` comes
+-- before `b` by cost and then by face.
 abbrev pub is_staler : ByFace → Hop → Hop → Bool
 is_staler asked a b =
     let s = unwrap_or (map.get asked a.face) 0 in
@@ -37,9 +38,10 @@ abbrev pub least : (Hop → Hop → Bool) → List Hop → Option Hop
 least before [] = None
 least before (hop ∷ hops) = Some (lesser before hop (least before hops))
 
--- At most one hop: none if the last use of some face is recent (`is_recent`). Otherwise, among the
--- hops that were not used, the least by cost and then by face. If all hops were used, the first hop
--- in the order `is_staler`.
+-- If some face was used recently (`is_recent`), best-route selects no hop. If no face was used
+-- recently, best-route selects the least hop, by cost and then by face, of those that were not
+-- used. If no face was used recently and all hops were used, best-route selects the first hop in
+-- the order `is_staler`.
 abbrev pub best_route : Selection
 best_route hops asked now =
     if list_any (λ e. is_recent now e.1) (map.entries asked) then [] else

@@ -11,9 +11,9 @@ use crate::strategy::{Ask, Choice, Strategy};
 use pit_fib::{Faces, Hop, Hops, Used};
 
 /// Chooses `NoRoute` if no hop is eligible. Sends to no hop if some face was used less than 10
-/// milliseconds ago or in the future. In all other cases, sends to one eligible hop: of those that
-/// were never used, the least by cost and then by face. If all eligible hops were used, sends to
-/// the one that was used longest ago.
+/// milliseconds ago or in the future. In all other cases, sends to the eligible hop that is least
+/// by cost and then by face among those that were never used. If all eligible hops were used, sends
+/// to the one that was used longest ago.
 #[derive(Clone, Copy, Debug)]
 pub struct BestRoute;
 
@@ -52,7 +52,7 @@ fn any_recent(used: &Used, now: u64) -> bool
     false
 }
 
-/// Of the eligible hops that were not used, returns the least by cost and then by face.
+/// Returns the least hop, by cost and then by face, of the eligible hops that were never used.
 fn least_new(hops: &Hops, used: &Used, ask: Ask) -> Option<Hop>
     ensures { result ≡ least is_hop_before (filter (is_hop_new used.now) (eligible ask hops.now)) }
 {
@@ -68,8 +68,8 @@ fn least_new(hops: &Hops, used: &Used, ask: Ask) -> Option<Hop>
 }
 
 /// Returns the eligible hop that was used longest ago. A hop that was never used counts as used at
-/// the moment 0. Of the hops that were used at the same moment, it returns the least by cost and
-/// then by face.
+/// the moment 0. If several hops were used at the same moment, the least by cost and then by face
+/// comes first.
 fn stalest(hops: &Hops, used: &Used, ask: Ask) -> Option<Hop>
     ensures { result ≡ least (is_hop_staler used.now) (eligible ask hops.now) }
 {
@@ -107,9 +107,9 @@ fn staler(used: &Used, hop: Hop, first: Option<Hop>) -> Hop
     }
 }
 
-/// Returns whether hop `a` was used longer ago than hop `b`. If they were used at the same moment,
-/// returns whether `a` comes before `b` by cost and then by face. A hop that was never used counts
-/// as used at the moment 0.
+/// Returns whether hop `a` was used longer ago than hop `b`. If `a` and `b` were used at the same
+/// moment, returns whether `a` comes before `b` by cost and then by face. A hop that was never used
+/// counts as used at the moment 0.
 fn is_staler(used: &Used, a: Hop, b: Hop) -> bool
     ensures { result ≡ is_hop_staler used.now a b }
 {

@@ -11,8 +11,8 @@ use pit_fib::{Hop, Hops};
 const RETRY_AFTER: u64 = 10;
 
 /// Returns whether the Interest may be sent to a hop. An Interest may never be sent back to the
-/// face that it came from. If its name begins with `/localhost`, or its HopLimit has become 0, it
-/// may be sent only to Local faces.
+/// face that it came from. An Interest whose name begins with `/localhost`, or whose HopLimit has
+/// become 0, may be sent only to Local faces.
 pub fn is_eligible(hop: Hop, ask: Ask) -> bool
     ensures { result ≡ may_get ask hop }
 {

@@ -30,14 +30,14 @@ pub enum Choice {
 
 /// Chooses where an Interest is sent (NFD Developer's Guide, "Strategies").
 pub trait Strategy {
-    /// The hops to send to. The arguments are the eligible hops, the moments at which faces were
-    /// last used, and the present moment.
+    /// The hops that the strategy selects. The arguments are the eligible hops, the moments at
+    /// which faces were last used, and the present moment.
     ghost selection: { Selection };
 
-    /// Chooses among next hops. The Local hops have been marked by `Hops::mark`. `used` has the
-    /// moments, in milliseconds since 1970, at which an Interest of this entry was last sent to
-    /// each face. The face of each hop counts as open, since `Fib::close_face` removes the hops of
-    /// a closed face.
+    /// Chooses among next hops. The hops to Local faces have been marked by `Hops::mark`. For each
+    /// face to which an Interest of the PIT entry was sent, `used` has the moment, in milliseconds
+    /// since 1970, at which such an Interest was last sent to the face. The face of each hop counts
+    /// as open, since `Fib::close_face` removes the hops of a closed face.
     fn choose(&self, hops: &Hops, used: &Used, ask: Ask) -> Choice
         ensures { result ≡ chosen selection hops.now used.now ask };
 

@@ -1,5 +1,5 @@
--- Let all records of a table be of faces below 64, so that at most 64 faces have records. Then
--- there is room for a record of any face below 64.
+-- If all records of a table are of faces below 64, the table has room for a record of any face
+-- below 64, since at most 64 faces have records.
 use Rattle.std.proofs.Common.{◌≡◌, ◌⊎◌, inl, inr, ℕ, suc, ◌+◌, ◌<◌, ◌≤◌, zero, Bool, true, false, List, [], ◌∷◌, length, refl, sym, ap, subst, ◌∙◌, arith, ltb, Bor}
 use Rattle.std.specs.Prelude.{Option, Some, None, Result, Ok, Err, unwrap_or, IsSome, is_some, OnOk, OnErr}
 use Rattle.std.specs.Option.{option_map}
@@ -67,7 +67,6 @@ empty_has_none face has = in_none face (subst (λ (r : Records). IsSome (get r.i
 pub none_below : (pending : Pending) → pending ≡ map.empty → AreBelow pending
 none_below pending e face has = absurd (empty_has_none face (subst (λ p. HasRecord p face) e has))
 
--- if a face has an in-record in the records `r`, these records are alive (`is_alive`)
 pub asks_is_alive : (r : Records) (face : ℕ) → IsSome (get r.in_records face) → is_alive r ≡ true
 asks_is_alive r face some = by_len (len r.in_records) (λ e. empty_of_len r.in_records e)
   where

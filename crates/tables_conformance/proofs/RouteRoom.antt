@@ -88,9 +88,9 @@ same f face e = grind (arith, nat_tests, e)
 same_key : (k key : RouteKey) → eq_by_cmp route_cmp k key ≡ true → k ≡ key
 same_key k key e = route_cmp-antisymmetric k key (equal (route_cmp k key) e)
 
--- The lemmas of this module are about the value that a lookup gives in an empty map, or in a map
--- after an insertion, a removal or a change of its values. If there is a value, then `A` follows,
--- provided that `A` follows from each way in which the value can be there.
+-- Each lemma of this module is about a lookup in an empty map, or in a map after an insertion, a
+-- removal or a change of its values. The lemma proves `A` if the lookup finds a value. The premises
+-- of the lemma prove `A` for each case in which the lookup can find a value.
 module _ {X A : Type 0} where
   none_there : (o : Option X) → o ≡ None → IsSome o → A
   none_there o e some = absurd cc
@@ -241,9 +241,8 @@ left_ours now =
     revised_ours (entry_left_at now)
     (λ e all. unless_vacant_ours (record e { registered = revise (until_due now) e.registered }) (until_due_ours now e all))
 
--- Let a call that is refused leave the table unchanged. If all faces satisfy `IsOurs` in the table
--- before the call, and in the table after a successful call, they satisfy it after the call in any
--- case.
+-- if `new` is `after` for a successful call and `old` for a refused call, and `AreOurs` holds for
+-- `old` and for `after`, then `AreOurs` holds for `new`
 pub either_ours : {X Y : Type 0} (answer : Result X Y) (old new after : Routes) → OnOk answer (new ≡ after) → OnErr answer (new ≡ old) → AreOurs old → AreOurs after → AreOurs new
 either_ours (Ok x) old new after ok err all done = subst AreOurs (sym ok) done
 either_ours (Err y) old new after ok err all done = subst AreOurs (sym err) all

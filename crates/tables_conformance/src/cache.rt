@@ -1,4 +1,4 @@
-//! Data that are cached to answer Interests.
+//! Tests of the content store, which caches Data to answer Interests.
 
 mod fresh_among_stale;
 mod random_sequences;
@@ -10,15 +10,15 @@ use ndn_packets::*;
 use std::alloc::Global;
 use test_support::{content_shown, data_of};
 
-/// Returns a Data. The words are its name, Content and FreshnessPeriod.
+/// Returns a Data. `words` are the Data's name, Content and FreshnessPeriod.
 fn data_in(alloc: Global, words: &str) -> Option<Vec<u8>> {
     let (name, rest) = words.split_once(' ')?;
     let (content, freshness) = rest.split_once(' ')?;
     data_of(alloc, name, content, Some(freshness.parse().ok()?))
 }
 
-/// Puts a Data into the store, and returns whether it is cached. The words are its name, Content,
-/// FreshnessPeriod and arrival.
+/// Puts a Data into the store, and returns whether it is cached. `words` are the Data's name,
+/// Content, FreshnessPeriod and time of arrival.
 fn put(alloc: Global, store: &mut Store, words: &str) -> Option<bool> {
     let (data, arrival) = words.rsplit_once(' ')?;
     let arrival = arrival.parse().ok()?;
@@ -26,7 +26,7 @@ fn put(alloc: Global, store: &mut Store, words: &str) -> Option<bool> {
     put_packet(store, &packet, arrival)
 }
 
-/// Puts the Data in a packet into the store, and returns whether it is cached.
+/// Puts the Data that `packet` encodes into the store, and returns whether the Data is cached.
 fn put_packet(store: &mut Store, packet: &[u8], arrival: u64) -> Option<bool> {
     match read_frame(packet).ok()? {
         Frame::Data(data) => Some(store.put(&data, arrival)),
@@ -44,8 +44,8 @@ fn key_of<'a>(name: Name<'a>, flags: &str) -> Key<'a> {
     }
 }
 
-/// Returns the Content of the Data that an Interest gets, or `none` if it gets no Data. The words
-/// are the Interest's name, its flags (`p` for CanBePrefix, `f` for MustBeFresh) and the moment.
+/// Returns the Content of the Data that an Interest gets, or `none` if it gets no Data. `words` are
+/// the Interest's name, its flags (`p` for CanBePrefix, `f` for MustBeFresh) and the moment.
 fn find(alloc: Global, store: &mut Store, words: &str) -> Option<String> {
     let (uri, rest) = words.split_once(' ')?;
     let (flags, now) = rest.split_once(' ')?;
@@ -62,8 +62,8 @@ fn limit_in(text: &str) -> Option<Option<u64>> {
     Some(Some(text.parse().ok()?))
 }
 
-/// Erases Data, and returns how many. The words are a name, and the greatest number of Data to
-/// erase or `all`.
+/// Erases Data, and returns the number of erased Data. `words` are a name, and the greatest number
+/// of Data to erase or `all`.
 fn erase(alloc: Global, store: &mut Store, words: &str) -> Option<u64> {
     let (uri, limit) = words.split_once(' ')?;
     let limit = limit_in(limit)?;
@@ -228,8 +228,8 @@ fn put_other(alloc: Global, store: &mut Store, number: u32) -> Option<bool> {
     put_packet(store, &packet, 0)
 }
 
-/// Puts `count` Data with the names `/other/0`, `/other/1` and so on. Returns whether each of them
-/// is cached.
+/// Puts `count` Data with the names `/other/0`, `/other/1` and so on. Returns whether all of them
+/// are cached.
 fn put_others(alloc: Global, store: &mut Store, count: u32) -> Option<bool> {
     for number in 0..count {
         if !put_other(alloc, store, number)? {
@@ -268,7 +268,8 @@ fn greatest_data_among_others(rt: HostRuntime) {
     assert!(rt; is_greatest_kept(rt.alloc()) == Some(true));
 }
 
-/// Overwrites the second component of the name, which must be `/n` and four octets, with a number.
+/// Replaces the second component of the Data's name by a number of four octets. The name must be
+/// `/n` followed by a component of four octets.
 fn put_number(packet: &mut [u8], number: u32) {
     for (octet, digit) in packet.iter_mut().skip(9).zip(number.to_be_bytes()) {
         *octet = digit;
@@ -276,7 +277,7 @@ fn put_number(packet: &mut [u8], number: u32) {
 }
 
 /// Returns whether the lookup of a name finds the Data in the packet. Returns `None` if the lookup
-/// takes no comparison, or more than `most`.
+/// takes no comparison, or more than `most` comparisons.
 fn is_found_within(store: &mut Store, name: Name<'_>, packet: &[u8], most: u64) -> Option<bool> {
     let mut counted = 0;
     let found = store.find_counted(key_of(name, ""), 0, &mut counted);
@@ -284,8 +285,8 @@ fn is_found_within(store: &mut Store, name: Name<'_>, packet: &[u8], most: u64) 
     (counted >= 1 && counted <= most).then_some(is_found)
 }
 
-/// Returns whether the Data in a packet is cached. Returns `None` if its lookup takes no
-/// comparison, or more than `most`.
+/// Returns whether the Data that `packet` encodes is cached. Returns `None` if the lookup takes no
+/// comparison, or more than `most` comparisons.
 fn is_held(store: &mut Store, packet: &[u8], most: u64) -> Option<bool> {
     match read_frame(packet).ok()? {
         Frame::Data(data) => is_found_within(store, data.name, packet, most),
@@ -293,7 +294,7 @@ fn is_held(store: &mut Store, packet: &[u8], most: u64) -> Option<bool> {
     }
 }
 
-/// Puts a Data for each number up to `last` into a store, and returns whether each of them is
+/// Puts a Data for each number from 0 to `last` into a store, and returns whether all of them are
 /// cached. Afterwards, the packet is the Data with the last number.
 fn put_numbers(store: &mut Store, packet: &mut [u8], last: u32) -> Option<bool> {
     for number in 0..=last {
@@ -305,8 +306,8 @@ fn put_numbers(store: &mut Store, packet: &mut [u8], last: u32) -> Option<bool> 
     Some(true)
 }
 
-/// Returns whether the Data with the number in the packet is cached, and the Data with the number 0
-/// is not.
+/// Returns whether the Data in the packet is cached, and the Data with the number 0 is not. Sets
+/// the number in the packet to 0.
 fn holds_the_last(store: &mut Store, packet: &mut [u8], most: u64) -> Option<bool> {
     let last = is_held(store, packet, most)?;
     put_number(packet, 0);

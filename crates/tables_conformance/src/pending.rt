@@ -1,5 +1,5 @@
-//! Pending Interests, in tables that have records of faces below 64 only. Such a table does not
-//! exceed its limit of 64 faces.
+//! Tests of tables of pending Interests. The tables have records of faces below 64 only, so they do
+//! not exceed their limit of 64 faces.
 
 mod askers;
 mod pending_records;
@@ -70,16 +70,16 @@ impl Table {
         }
     }
 
-    /// Records an Interest of the face `face % 64`, whose octets are its Nonce. Returns the fault
-    /// if the table refuses the Interest.
+    /// Records an Interest of the face `face % 64`. The octets of the Interest are its Nonce.
+    /// Returns the fault if the table refuses the Interest.
     fn ask(&mut self, key: Key<'_>, face: u64, nonce: [u8; 4], deadline: u64) -> Option<PitFault> {
         self.pit
             .arrive(key, face % 64, nonce, &nonce, deadline, None)
             .err()
     }
 
-    /// Records an Interest of the face `face % 64` with a PIT token. Its octets are its Nonce.
-    /// Returns the fault if the table refuses the Interest.
+    /// Records an Interest of the face `face % 64` with a PIT token. The octets of the Interest are
+    /// its Nonce. Returns the fault if the table refuses the Interest.
     fn ask_with(
         &mut self,
         key: Key<'_>,
@@ -96,7 +96,7 @@ impl Table {
     }
 
     /// Records that an Interest under this key was sent to the face `face % 64`, if the face
-    /// `asker` has a pending Interest under the key. Returns whether it was recorded.
+    /// `asker` has a pending Interest under the key. Returns whether the sending was recorded.
     fn sent(&mut self, key: Key<'_>, asker: u64, face: u64, nonce: [u8; 4], now: u64) -> bool {
         if self.pit.interest_of(key, asker).is_none() {
             return false;
@@ -133,7 +133,7 @@ impl Table {
     }
 }
 
-/// The numbers after a key in a call. Numbers that the call does not have are 0.
+/// The numbers after a key in a call. Numbers that are missing in the call are 0.
 #[derive(Clone, Copy)]
 struct Numbers {
     face: u64,
@@ -163,7 +163,7 @@ fn numbers_in(text: &str) -> Option<Numbers> {
     })
 }
 
-/// Returns the octets of a Nonce.
+/// Returns the Nonce that encodes this number in four octets.
 fn nonce_of(number: u64) -> Option<[u8; 4]> {
     Some(u32::try_from(number).ok()?.to_be_bytes())
 }
@@ -299,9 +299,9 @@ fn is_sent(table: &mut Table, key: Key<'_>, numbers: Numbers) -> Option<bool> {
     Some(table.sent(key, numbers.face, numbers.first, nonce, numbers.third))
 }
 
-/// Runs a call that names a key, and returns its answer, yes or no: `ask KEY FACE NONCE DEADLINE`,
-/// `token KEY FACE TOKEN DEADLINE` for an Interest with a PIT token of one octet, `sent KEY ASKER
-/// FACE NONCE NOW`, `loops KEY FACE NONCE`, or `prepare KEY OCTETS`.
+/// Runs one of these calls, which name a key, and returns its answer, true or false:
+/// `ask KEY FACE NONCE DEADLINE`, `token KEY FACE TOKEN DEADLINE` for an Interest with a PIT token
+/// of one octet, `sent KEY ASKER FACE NONCE NOW`, `loops KEY FACE NONCE`, or `prepare KEY OCTETS`.
 fn is_so(table: &mut Table, call: &str, key: Key<'_>, numbers: Numbers) -> Option<bool> {
     match call {
         "ask" => is_asked(table, key, numbers),
@@ -580,9 +580,9 @@ fn keeps_what_is_prepared(
     Some(is_kept && table.sent(key, 1, 2, [2; 4], 6) && table.pit.len() == 1)
 }
 
-/// Returns whether a new Interest of a face replaces the older Interest of this face, or leaves it
-/// unchanged if memory runs out. The out-record must stay. If the older Interest is refused, the
-/// table must be empty.
+/// Returns whether a new Interest of a face replaces the older Interest of this face, or leaves the
+/// older Interest unchanged if memory runs out. The out-record of the older Interest must stay. If
+/// the older Interest is refused, the table must be empty.
 fn leaves_the_older_one(
     _alloc: Global,
     table: &mut Table,

@@ -11,7 +11,7 @@ use ndn_names::{Name, NameBuf};
 use pit_fib::*;
 use std::alloc::Global;
 
-/// Sets one field of a route, such as `cost=5`.
+/// Sets a field of a route, as in `cost=5`.
 fn set_field(route: &mut Route, setting: &str) -> Option<()> {
     let (field, value) = setting.split_once('=')?;
     let value = value.parse().ok()?;
@@ -218,7 +218,7 @@ due 18446744073709551615, expire 18446744073709551615, list 18446744073709551615
 ";
 
 /// A route is listed before its deadline, but not at its deadline. An expiry at the deadline
-/// removes the route. `due` and `expire` count such routes.
+/// removes the route. `due` and `expire` return the number of routes whose deadline has come.
 #[test]
 fn routes_end_at_their_deadlines(rt: HostRuntime) {
     check_rows(&rt, rt.alloc(), ROUTES_END_AT_THEIR_DEADLINES, answers);
@@ -240,7 +240,8 @@ register / 2 cost=1, register /A 2 cost=9 until=5, register /A/B 3, of /A/B, lis
 register /A 2 cost=1 until=5, register /A 2 cost=9 origin=1, of /A, list 5, expire 5, of /A -> 2@1; /A 2@9; 1; 2@9
 ";
 
-/// The next hops of names before and after a route expires.
+/// A route that has expired no longer changes the effective next hops of its name and of longer
+/// names.
 #[test]
 fn what_ends_with_a_route(rt: HostRuntime) {
     check_rows(&rt, rt.alloc(), WHAT_ENDS_WITH_A_ROUTE, answers);
@@ -315,7 +316,8 @@ register /A 18446744073709551615 cost=18446744073709551615 origin=18446744073709
 register /A 0 cost=18446744073709551615, register /A 0 cost=18446744073709551614 origin=18446744073709551615, of /A, unregister /A 0 origin=18446744073709551615, of /A -> 0@18446744073709551614; 0@18446744073709551615
 ";
 
-/// The greatest face, cost, origin, flags and deadline, and the least face and origin.
+/// A route may have the greatest face, cost, origin, flags and deadline, and the least face and
+/// origin.
 #[test]
 fn ends_of_routes(rt: HostRuntime) {
     check_rows(&rt, rt.alloc(), ENDS_OF_ROUTES, answers);

@@ -42,8 +42,8 @@ pub struct Route {
 }
 
 impl Route {
-    /// Returns a child-inherit route with this face and this origin. Its cost is 0, and it never
-    /// expires.
+    /// Returns a child-inherit route with this face and this origin. The cost of the route is 0,
+    /// and the route never expires.
     pub fn new(face: u64, origin: u64) -> Route {
         Route {
             face,

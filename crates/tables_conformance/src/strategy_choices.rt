@@ -1,4 +1,4 @@
-//! Which next hops a strategy chooses.
+//! Tests of the next hops that a strategy chooses.
 
 ghost use Rattle.std.specs.Prelude.{Contains, take};
 ghost use Rattle.std.proofs.lemmas.List.Elements.{All-take, All-contains_itself};
@@ -10,7 +10,8 @@ use pit_fib::{Faces, Fib, Hops, Used};
 use std::alloc::Global;
 use strategies::*;
 
-/// A third strategy: it sends to the first eligible hop only, however recently that hop was used.
+/// A third strategy, which sends only to the first eligible next hop, however recently that next
+/// hop was used.
 struct First;
 
 impl Strategy for First {
@@ -46,7 +47,8 @@ fn root_hops(alloc: Global, fib: &Fib) -> Hops {
     fib.longest(root.view())
 }
 
-/// Returns the next hops of the routes of the name `/`. Face 2 is Local.
+/// Returns the next hops of the name `/` in a table with these next hops. Face 2 is marked as
+/// Local.
 fn hops_in(alloc: Global, routes: &str) -> Option<Hops> {
     let routes = routes_in(alloc, routes)?;
     let mut hops = root_hops(alloc, routes.read());
@@ -66,8 +68,8 @@ fn used_in(text: &str) -> Option<Used> {
     Some(used)
 }
 
-/// Reads the face that the Interest came from or `-`, then `localhost`, `zero` or `-`, and then the
-/// moment.
+/// Reads three words about an Interest: the face that it came from or `-`, then `localhost`, `zero`
+/// or `-`, and then the present moment.
 fn ask_in(text: &str) -> Option<Ask> {
     let (asker, rest) = text.split_once(' ')?;
     let (bound, now) = rest.split_once(' ')?;
@@ -108,8 +110,8 @@ fn chosen(strategy: &str, hops: &Hops, used: &Used, ask: Ask) -> Option<Choice> 
     }
 }
 
-/// Returns the choice of a strategy. The row has the strategy's name, the hops, the Interest, and
-/// the faces that were used.
+/// Shows the choice of a strategy. The row has the strategy's name, the next hops, the Interest,
+/// and the faces that were used.
 fn choice(alloc: Global, row: &str) -> Option<String> {
     let (strategy, rest) = row.split_once(": ")?;
     let (hops, rest) = rest.split_once("; ")?;
@@ -119,8 +121,8 @@ fn choice(alloc: Global, row: &str) -> Option<String> {
     shown(alloc, &chosen(strategy, &hops, &used, ask)?)
 }
 
-/// Interests that every face may get, Interests that only Local faces may get, and Interests that
-/// came from the face of a next hop. None of them was sent before.
+/// A strategy chooses only eligible next hops. A next hop is not eligible if the Interest came from
+/// its face, or if only Local faces may get the Interest and the face is not Local.
 #[test]
 fn only_eligible_hops_are_chosen(rt: HostRuntime) {
     let rows = "
@@ -148,8 +150,9 @@ all: / 2 5, / 3 0; 2 localhost 1000; -> no route
 }
 
 /// Best-route sends nothing if any face was used less than 10 milliseconds ago. If no next hop is
-/// eligible, the result is `no route` even then. Otherwise best-route sends to an eligible next hop
-/// that was not used, or else to the one that was last used the earliest.
+/// eligible, the result is `no route`, even if a face was just used. After 10 milliseconds,
+/// best-route sends to an eligible next hop that was not used, or else to the eligible next hop
+/// that was last used the earliest.
 #[test]
 fn best_route_waits_10_milliseconds(rt: HostRuntime) {
     let rows = "
@@ -179,9 +182,9 @@ all: / 2 5, / 3 0; - - 1009; 7@1000 -> send 2 3
     check_rows(&rt, rt.alloc(), rows, choice);
 }
 
-/// The hop that was last used the earliest is chosen. Among hops that were not used, or were last
-/// used at the same moment, the hop with the least cost is chosen, and among hops with the same
-/// cost, the hop with the least face.
+/// Best-route chooses the next hop that was last used the earliest. If several next hops were not
+/// used, or were last used at the same moment, the next hop with the least cost is chosen. If they
+/// have the same cost, the next hop with the least face is chosen.
 #[test]
 fn best_route_takes_the_least_hop(rt: HostRuntime) {
     let rows = "
@@ -193,7 +196,8 @@ best: / 4 1, / 3 7; - - 20; 3@5 4@5 -> send 4
     check_rows(&rt, rt.alloc(), rows, choice);
 }
 
-/// The greatest faces, costs and moments, and a last use that is later than the present moment.
+/// The strategies accept the greatest faces, costs and moments. A last use that is later than the
+/// present moment counts as less than 10 milliseconds ago.
 #[test]
 fn ends_of_faces_costs_and_moments(rt: HostRuntime) {
     let rows = "
@@ -211,7 +215,7 @@ all: / 2 5, / 3 0; - - 0; 3@18446744073709551615 -> send 2
     check_rows(&rt, rt.alloc(), rows, choice);
 }
 
-/// The third strategy sends to the first eligible hop.
+/// A strategy that these tests define sends to the first eligible next hop.
 #[test]
 fn a_third_strategy(rt: HostRuntime) {
     let rows = "

@@ -1,4 +1,4 @@
-//! Next hops and strategies by name.
+//! Tests of the tables of next hops and of strategies by name.
 
 use crate::route_table::RouteTable;
 use crate::rows::check_rows;
@@ -96,8 +96,8 @@ fn prepare(alloc: Global, routes: &mut RouteTable, hops: &str, removal: &str) ->
     remove(alloc, routes, removal)
 }
 
-/// Returns the answer to a row, which is next hops, `; `, a removal, `; `, and a question: a name
-/// or `list`.
+/// Returns the answer to the question of a row `HOPS; REMOVAL; QUESTION`. The question is a name or
+/// `list`.
 fn next_hops(alloc: Global, row: &str) -> Option<String> {
     let (hops, rest) = row.split_once("; ")?;
     let (removal, question) = rest.split_once("; ")?;
@@ -106,7 +106,7 @@ fn next_hops(alloc: Global, row: &str) -> Option<String> {
     told(alloc, routes.read(), question)
 }
 
-/// An Interest follows the longest prefix that has next hops.
+/// A name has the next hops of its longest prefix that has next hops.
 #[test]
 fn longest_prefix(rt: HostRuntime) {
     let rows = "
@@ -123,8 +123,8 @@ fn longest_prefix(rt: HostRuntime) {
     check_rows(&rt, rt.alloc(), rows, next_hops);
 }
 
-/// Next hops are ordered by cost, and next hops of the same cost by face. A second cost of a face
-/// replaces the first.
+/// Next hops are ordered by cost, and next hops of the same cost by face. A second next hop with
+/// the same face replaces the first.
 #[test]
 fn hops_by_cost_and_then_by_face(rt: HostRuntime) {
     let rows = "
@@ -135,8 +135,8 @@ fn hops_by_cost_and_then_by_face(rt: HostRuntime) {
     check_rows(&rt, rt.alloc(), rows, next_hops);
 }
 
-/// Removing a next hop or closing a face leaves the other next hops; an entry without next hops is
-/// removed.
+/// Removing a next hop or closing a face leaves the other next hops unchanged. An entry without
+/// next hops is removed.
 #[test]
 fn an_entry_without_hops_goes(rt: HostRuntime) {
     let rows = "
@@ -160,7 +160,7 @@ fn routes_in_canonical_order(rt: HostRuntime) {
     check_rows(&rt, rt.alloc(), rows, next_hops);
 }
 
-/// The least and the greatest face, and the greatest cost.
+/// A next hop may have the least and the greatest face, and the greatest cost.
 #[test]
 fn ends_of_faces_and_costs(rt: HostRuntime) {
     let rows = "
@@ -184,7 +184,7 @@ fn strategy_shown(strategy: StrategyId) -> &'static str {
     }
 }
 
-/// Sets the strategy of a name, such as `/A multicast`, or removes it, such as `/A -`.
+/// Runs a call. For example, `/A multicast` sets the strategy of `/A`, and `/A -` removes it.
 fn set_strategy(alloc: Global, table: &mut StrategyTable, call: &str) -> Option<()> {
     let (uri, strategy) = call.split_once(' ')?;
     let name = NameBuf::from_uri(alloc, uri).ok()?;
@@ -205,8 +205,8 @@ fn set_strategies(alloc: Global, table: &mut StrategyTable, calls: &str) -> Opti
     Some(())
 }
 
-/// Reads a table of strategies. Each call sets the strategy of a name, such as `/A multicast`, or
-/// removes it, such as `/A -`.
+/// Returns the table of strategies after the calls in `text`. For example, the call `/A multicast`
+/// sets the strategy of `/A`, and `/A -` removes it.
 fn strategies_in(alloc: Global, text: &str) -> Option<StrategyTable> {
     let mut table = StrategyTable::new(alloc);
     set_strategies(alloc, &mut table, text)?;
@@ -246,7 +246,7 @@ fn strategy_told(alloc: Global, table: &StrategyTable, question: &str) -> Option
     Some(text)
 }
 
-/// Returns the answer to a row, which is calls, `; `, and a question: a name or `list`.
+/// Returns the answer to the question of a row `CALLS; QUESTION`. The question is a name or `list`.
 fn strategy(alloc: Global, row: &str) -> Option<String> {
     let (calls, question) = row.split_once("; ")?;
     let table = strategies_in(alloc, calls)?;
@@ -281,7 +281,7 @@ fn longest_prefix_with_a_strategy(rt: HostRuntime) {
     check_rows(&rt, rt.alloc(), rows, strategy);
 }
 
-/// The strategy that was set last counts.
+/// A name has the strategy that was set last for this name.
 #[test]
 fn the_last_strategy_set_counts(rt: HostRuntime) {
     let rows = "
@@ -365,8 +365,8 @@ fn strategies_answer(alloc: Global, name: Name<'_>, answer: Result<(), TableFaul
     strategies.set(name, StrategyId::Multicast) == answer
 }
 
-/// Returns whether adding a next hop and setting a strategy, both for a name of `depth` components,
-/// have this result.
+/// Returns whether adding a next hop of a name of `depth` components, and setting a strategy of
+/// this name, have this result.
 fn both_answer(alloc: Global, depth: usize, answer: Result<(), TableFault>) -> Option<bool> {
     let name = deep_name(alloc, depth)?;
     let is_added = routes_answer(alloc, name.view(), answer);
@@ -400,8 +400,8 @@ fn leads_to_2(fib: &Fib, name: Name<'_>) -> Option<bool> {
     Some(hop.face == 2 && hop.cost == 0 && steps <= 64)
 }
 
-/// Returns whether a name of 64 components `B` leads to the next hop of `/`, which is on face 2,
-/// with at most 64 searches. `/A` has a next hop on face 3.
+/// Returns whether the lookup of a name of 64 components `B` finds the next hop of `/`, which is on
+/// face 2, with at most 64 searches. The table also has a next hop of `/A` on face 3.
 fn is_deep_found(alloc: Global) -> Option<bool> {
     let name = long_name(alloc)?;
     let routes = routes_in(alloc, "/ 2 0, /A 3 0")?;
@@ -415,7 +415,7 @@ fn deep_lookup(rt: HostRuntime) {
     assert!(rt; is_deep_found(rt.alloc()) == Some(true));
 }
 
-/// Returns a name of one component, a number in two octets.
+/// Returns a name of one component, which is this number in two octets.
 pub fn numbered(alloc: Global, number: u16) -> Option<NameBuf> {
     let mut name = NameBuf::new(alloc);
     name.append(8, &number.to_be_bytes()).ok()?;
@@ -568,9 +568,9 @@ fn is_listed(alloc: Global, fib: &Fib, expected: &str) -> Option<bool> {
     Some(text.as_str() == expected)
 }
 
-/// Returns whether a prepared `add` of this name, which is the name with the number 1, does not run
-/// out of memory in a table with the next hop `/A 3 5`. A preparation that fails must leave the
-/// routes unchanged.
+/// Returns whether a prepared `add` of this name does not run out of memory. A preparation that
+/// fails must leave the routes unchanged. Callers pass the name with the number 1, and a table with
+/// only the next hop `/A 3 5`.
 fn takes_what_is_prepared(alloc: Global, routes: &mut RouteTable, name: Name<'_>) -> Option<bool> {
     if routes.prepare(name).is_err() {
         return is_listed(alloc, routes.read(), "/A 3@5, ");
@@ -599,8 +599,8 @@ fn keeps_what_is_prepared(table: &mut StrategyTable, name: Name<'_>, other: Name
     is_set && table.longest(name) == StrategyId::Multicast
 }
 
-/// Returns whether a prepared `set` does not run out of memory in a table with strategies for `/A`
-/// and for the name `other`, which is the name with the number 2.
+/// Returns what `keeps_what_is_prepared` returns for a table with strategies for `/A` and for
+/// `other`. Callers pass the name with the number 2 as `other`.
 fn takes_strategy(alloc: Global, name: Name<'_>, other: Name<'_>) -> Option<bool> {
     let mut table = strategies_in(alloc, "/A multicast, /%00%02 multicast")?;
     Some(keeps_what_is_prepared(&mut table, name, other))
@@ -626,7 +626,7 @@ fn is_strategy_prepared(alloc: Global, name: Name<'_>) -> bool {
     strategies.prepare(name).is_ok()
 }
 
-/// Returns whether a call can be prepared in each table.
+/// Returns whether calls can be prepared in a table of next hops and in a table of strategies.
 fn are_prepared(alloc: Global) -> Option<bool> {
     let name = numbered(alloc, 1)?;
     let is_hop = is_hop_prepared(alloc, name.view());

@@ -1,4 +1,4 @@
-//! Tests as rows of a text, where each row is a test case. Lines that begin with `#` are comments.
+//! Helpers for tests whose cases are the rows of a text. Lines that begin with `#` are comments.
 
 use std::alloc::Global;
 
@@ -17,8 +17,8 @@ pub fn octets(alloc: Global, text: &str) -> Option<Vec<u8>> {
 }
 
 /// Returns the number of the first line, counted from 1, that `is_right` refuses, or 0 if it
-/// refuses none. A line that is empty or begins with `#` is not a row. A text without rows is
-/// refused at line 1.
+/// refuses none. A line that is empty or begins with `#` is not a row. For a text without rows,
+/// returns 1.
 pub fn first_wrong<F: Fn(Global, &str) -> bool>(alloc: Global, rows: &str, is_right: F) -> usize
     requires { F.IsAlwaysCallable is_right }
 {

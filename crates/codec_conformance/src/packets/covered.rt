@@ -1,4 +1,5 @@
-//! The octets that signatures cover, changing a HopLimit in place, and which names a Data answers.
+//! Tests of the octets that a signature covers, of changing a HopLimit in place, and of the
+//! Interests that a Data answers.
 
 use crate::packets::packet;
 use crate::rows::check_rows;
@@ -68,7 +69,8 @@ fn hop_limit_of(octets: &[u8]) -> Option<u8> {
     }
 }
 
-/// Borrows the HopLimit, if the octets have one, and sets it to 6. Returns whether there was one.
+/// Borrows the HopLimit in the octets and sets it to 6. Returns false if `hop_limit_mut` finds no
+/// HopLimit.
 fn lends(octets: &mut [u8]) -> bool {
     match hop_limit_mut(octets) {
         Some(lent) => {
@@ -79,7 +81,7 @@ fn lends(octets: &mut [u8]) -> bool {
     }
 }
 
-/// Returns the original HopLimit of an Interest and its octets, if their HopLimit is now 6.
+/// Returns the original HopLimit `limit` and the octets, if the HopLimit in the octets is now 6.
 fn lent_shown(alloc: Global, limit: Option<u8>, octets: &[u8]) -> Option<String> {
     if hop_limit_of(octets) != Some(6) {
         return None;
@@ -88,7 +90,7 @@ fn lent_shown(alloc: Global, limit: Option<u8>, octets: &[u8]) -> Option<String>
     format!(in alloc; "{limit:?}, then {octets}").ok()
 }
 
-/// Returns the HopLimit, if the octets are unchanged.
+/// Returns the HopLimit `limit`, if the octets are still those of the packet in the row `input`.
 fn kept_shown(alloc: Global, limit: Option<u8>, octets: &[u8], input: &str) -> Option<String> {
     if !is_packet(alloc, octets, input) {
         return None;
@@ -96,13 +98,13 @@ fn kept_shown(alloc: Global, limit: Option<u8>, octets: &[u8], input: &str) -> O
     format!(in alloc; "{limit:?}").ok()
 }
 
-/// Returns whether the octets are those of the packet in a row.
+/// Returns whether `octets` are the packet that the row `input` gives.
 fn is_packet(alloc: Global, octets: &[u8], input: &str) -> bool {
     packet(alloc, input).is_some_and(|packet| packet.as_slice() == octets)
 }
 
-/// Returns the HopLimit of an Interest, and its octets after the HopLimit is set to 6. If no
-/// HopLimit can be borrowed, returns only the HopLimit that is read, if any.
+/// Returns the HopLimit of an Interest, and its octets after the HopLimit is set to 6. If
+/// `hop_limit_mut` finds no HopLimit, returns the HopLimit that `read_frame` finds, or `None`.
 fn lent(alloc: Global, input: &str) -> Option<String> {
     let mut octets = packet(alloc, input)?;
     lent_or_kept(alloc, &mut octets, input)
@@ -138,16 +140,17 @@ fn hop_limits_in_place(rt: HostRuntime) {
 /// signature.
 const DATA: &str = "060f0703080141150178 16031b0100 1700";
 
-/// Shows four results for an Interest with this name: whether `DATA` answers it without
-/// CanBePrefix, whether `DATA` answers it with CanBePrefix, whether both answers are the same if
-/// the digest of `DATA` is given, and whether the name asks for a digest.
+/// Shows whether `DATA` answers an Interest with this name, first without CanBePrefix and then with
+/// CanBePrefix. Then shows whether `Data::answers_with`, called with the digest of `DATA`, returns
+/// the same two results as `Data::answers`. Finally shows `digest` if the name asks for a digest,
+/// and `name` otherwise.
 fn answers(alloc: Global, input: &str) -> Option<String> {
     let asked = NameBuf::from_uri(alloc, input).ok()?;
     let octets = octets(alloc, DATA)?;
     answers_in(alloc, &octets, asked.view())
 }
 
-/// Shows the four results of `answers` for the Data in these octets.
+/// Shows what `answers` shows, but for the Data in these octets instead of `DATA`.
 fn answers_in(alloc: Global, octets: &[u8], asked: Name<'_>) -> Option<String> {
     match read_frame(octets).ok()? {
         Frame::Data(data) => answers_shown(alloc, data, asked),

@@ -20,8 +20,8 @@ fn token_in(alloc: Global, octets: &[u8]) -> Option<String> {
     value_text(alloc, read_lp(octets).ok()?.token)
 }
 
-/// Returns the link packet around an Interest, with a token. The link packet has a Nack if `reason`
-/// is a number.
+/// Returns a link packet with a PIT token and an Interest. If `reason` is a number, the link packet
+/// also has a Nack with this reason.
 fn with_token(alloc: Global, reason: &str) -> Option<String> {
     let interest = b"\x05\x0b\x07\x03\x08\x01\x41\x0a\x04\x01\x02\x03\x04";
     let mut out = Vec::new(alloc);
@@ -29,8 +29,9 @@ fn with_token(alloc: Global, reason: &str) -> Option<String> {
     hex::encode(alloc, &out).ok()
 }
 
-/// Appends two octets and an Interest to an output, and wraps the Interest in a link packet with
-/// this token, or leaves it bare if there is no token. Returns whether the output is then `wanted`.
+/// Calls `wrap` for an output of two octets and an Interest. With a token, the Interest is wrapped
+/// in a link packet with this token. Without a token, the Interest stays as it is. Returns whether
+/// the output is then `wanted`.
 fn wraps(alloc: Global, token: Option<&[u8]>, wanted: &[u8]) -> bool
     requires { IfSome token (λ t. IsToken t.now) }
 {
@@ -66,8 +67,8 @@ fn link_packets(rt: HostRuntime) {
     check_rows(&rt, rt.alloc(), rows, cut);
 }
 
-/// Sequence alone, and Sequence, FragIndex, FragCount and PitToken in two orders. Each link packet
-/// is read with a Fragment and without one.
+/// A link packet may have the header fields Sequence, FragIndex, FragCount and PitToken in
+/// different orders. A link packet may have no Fragment.
 #[test]
 fn header_fields(rt: HostRuntime) {
     let rows = "
@@ -141,8 +142,8 @@ no Nack -> 64136202a1b2500d050b07030801410a0401020304
     check_rows(&rt, rt.alloc(), rows, with_token);
 }
 
-/// Writing a link packet leaves the octets before it unchanged. Without a token, the packet is
-/// written without a link packet.
+/// Wrapping an Interest in a link packet leaves the octets before the Interest unchanged. Without a
+/// token, the Interest is not wrapped.
 #[test]
 fn octets_in_a_link_packet(rt: HostRuntime) {
     let bare = b"\xfe\xff\x05\x0b\x07\x03\x08\x01\x41\x0a\x04\x01\x02\x03\x04";
@@ -168,8 +169,8 @@ fn a_known_field_twice(rt: HostRuntime) {
     check_rows(&rt, rt.alloc(), rows, outcome);
 }
 
-/// Unknown header fields are ignored only if their types are from 801 to 959 and divisible by 4.
-/// They may be repeated.
+/// Unknown header fields are ignored only if their types are from 801 to 959 and divisible by 4. An
+/// ignored header field may occur twice.
 #[test]
 fn other_header_fields(rt: HostRuntime) {
     let rows = "
@@ -197,8 +198,8 @@ fn other_header_fields(rt: HostRuntime) {
     check_rows(&rt, rt.alloc(), rows, outcome);
 }
 
-/// Of two faulty header fields, the fault of the first one is reported. A header field that is not
-/// a valid TLV element has the fault of its TLV, even if its type is unknown.
+/// Of two faulty header fields, the fault of the first one is reported. If a header field is not a
+/// valid TLV element, the TLV fault is reported, even if the type of the field is unknown.
 #[test]
 fn the_first_header_fault(rt: HostRuntime) {
     let rows = "

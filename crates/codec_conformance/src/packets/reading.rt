@@ -75,7 +75,8 @@ ff0000000100000000 -> Tlv TypeTooLarge
     check_rows(&rt, rt.alloc(), rows, outcome);
 }
 
-/// Faults among the fields after the Name of an Interest.
+/// An Interest is refused if a field after its Name is missing, repeated, out of order, unknown and
+/// critical, or malformed. Of two faulty fields, the fault of the first one is reported.
 #[test]
 fn faults_of_interests(rt: HostRuntime) {
     let rows = "
@@ -118,8 +119,8 @@ fn faults_of_interests(rt: HostRuntime) {
     check_rows(&rt, rt.alloc(), rows, outcome);
 }
 
-/// An Interest with all fields before the ApplicationParameters, and an Interest with elements that
-/// are ignored.
+/// All fields of an Interest that come before the ApplicationParameters are read. Elements that are
+/// to be ignored do not change the result.
 #[test]
 fn fields_of_interests(rt: HostRuntime) {
     let rows = "
@@ -131,8 +132,8 @@ fn fields_of_interests(rt: HostRuntime) {
     check_rows(&rt, rt.alloc(), rows, fields);
 }
 
-/// An Interest without parameters whose name has a parameters digest, and one whose name has an
-/// implicit digest instead.
+/// An Interest without ApplicationParameters is refused if its name has a parameters digest. An
+/// implicit digest in the name is allowed.
 #[test]
 fn digests_without_parameters(rt: HostRuntime) {
     let rows = "
@@ -142,8 +143,8 @@ fn digests_without_parameters(rt: HostRuntime) {
     check_rows(&rt, rt.alloc(), rows, outcome);
 }
 
-/// Interests with ApplicationParameters, whose digest in the name is between two components. Also,
-/// Interests with a signature but without ApplicationParameters.
+/// An Interest with ApplicationParameters is read if its name has the parameters digest, even
+/// between two other components. A signature without ApplicationParameters is ignored.
 #[test]
 fn parameters_of_interests(rt: HostRuntime) {
     let rows = "
@@ -166,7 +167,8 @@ fn parameters_of_interests(rt: HostRuntime) {
     check_rows(&rt, rt.alloc(), rows, fields);
 }
 
-/// A name with two digests of the parameters, and a name without a digest of the parameters.
+/// An Interest with ApplicationParameters is refused if its name has two parameters digests, or
+/// none.
 #[test]
 fn digests_of_parameters(rt: HostRuntime) {
     let rows = "
@@ -192,7 +194,8 @@ fn digests_of_parameters(rt: HostRuntime) {
     check_rows(&rt, rt.alloc(), rows, outcome);
 }
 
-/// An InterestSignatureInfo without a type, and a critical element after the parameters.
+/// An Interest is refused if its InterestSignatureInfo has no SignatureType, or if a critical
+/// element that is out of order comes after its ApplicationParameters.
 #[test]
 fn faults_of_parameters(rt: HostRuntime) {
     let rows = "
@@ -202,8 +205,8 @@ fn faults_of_parameters(rt: HostRuntime) {
     check_rows(&rt, rt.alloc(), rows, outcome);
 }
 
-/// A signed command of the management protocol. Its digest and its HMAC with the key "key" were
-/// computed by another program.
+/// A signed command of the management protocol. The parameters digest and the HMAC with the key
+/// "key" were computed by another program.
 const COMMAND: &str =
     "0598075008096c6f63616c686f737408036e66640803666962080b6164642d6e657874686f70080a680807030801416901020220b3efe71974da9dc26e88d0c074c8f0ff34ea85c38b109d9e9c6400b87694f2f20a040102030424002c1a1b01041c0f070d08036f707308034b45590801312804000f42402e20d113cf38056af9bbbec876471f4b51934978ef69345464b05cb762148eaa5dbb";
 
@@ -233,8 +236,8 @@ fn outcome_with(packet: &mut [u8], place: usize, octet: u8) -> Option<&'static s
     Some(outcome)
 }
 
-/// A change of a packet, and its outcome: each octet from index `first` to `last` is replaced by
-/// `octet` in turn.
+/// Changes of a packet: each octet from index `first` to `last` is replaced by `octet`, one at a
+/// time. The changed packets must have the outcome `wanted`.
 #[derive(Clone, Copy)]
 struct Change<'a> {
     first: usize,
@@ -243,7 +246,8 @@ struct Change<'a> {
     wanted: &'a str,
 }
 
-/// Returns the change in a row, given as the first and the last index, an octet and an outcome.
+/// Reads the changes that the row `input` gives: the first and the last index, an octet and an
+/// outcome.
 fn change_in(input: &str) -> Option<Change<'_>> {
     let (first, rest) = input.split_once(' ')?;
     let (last, rest) = rest.split_once(' ')?;
@@ -256,8 +260,8 @@ fn change_in(input: &str) -> Option<Change<'_>> {
     })
 }
 
-/// Returns how many of the changed packets have the wanted outcome, or the first other outcome.
-/// The wanted outcome `refused` stands for every outcome other than `read`.
+/// Returns the number of changed packets if all of them have the wanted outcome, and otherwise the
+/// first other outcome. The wanted outcome `refused` stands for every outcome other than `read`.
 fn outcomes(packet: &mut [u8], change: &Change<'_>) -> Result<u64, &'static str> {
     let wanted = change.wanted;
     let mut count = 0u64;
@@ -273,15 +277,15 @@ fn outcomes(packet: &mut [u8], change: &Change<'_>) -> Result<u64, &'static str>
     Ok(count)
 }
 
-/// Changes the command as a row says. Returns how many of the changed packets have the outcome of
-/// the row, or the first other outcome.
+/// Changes `COMMAND` as a row says. Returns the number of changed packets if all of them have the
+/// outcome of the row, and otherwise the first other outcome.
 fn changed(alloc: Global, input: &str) -> Option<String> {
     let change = change_in(input)?;
     let mut command = octets(alloc, COMMAND)?;
     outcomes_shown(alloc, &mut command, &change)
 }
 
-/// Shows what `outcomes` returns for a packet and a change.
+/// Shows what `outcomes` returns for a packet and its changes.
 fn outcomes_shown(alloc: Global, packet: &mut [u8], change: &Change<'_>) -> Option<String> {
     match outcomes(packet, change) {
         Ok(count) => format!(in alloc; "{count}").ok(),
@@ -348,7 +352,8 @@ fn lengths_of_names(rt: HostRuntime) {
     check_rows(&rt, rt.alloc(), rows, outcome);
 }
 
-/// Faults among the fields after the Name of a Data.
+/// A Data is refused if a field after its Name is missing, repeated, out of order, unknown and
+/// critical, or malformed. Of two faulty fields, the fault of the first one is reported.
 #[test]
 fn faults_of_data(rt: HostRuntime) {
     let rows = "
@@ -403,7 +408,8 @@ fn faults_of_data(rt: HostRuntime) {
     check_rows(&rt, rt.alloc(), rows, outcome);
 }
 
-/// Elements that are ignored in a Data, in its MetaInfo and in its SignatureInfo.
+/// A Data is read even if elements that are to be ignored are in the Data, in its MetaInfo or in
+/// its SignatureInfo.
 #[test]
 fn unknown_elements(rt: HostRuntime) {
     let rows = "
@@ -422,7 +428,7 @@ fn unknown_elements(rt: HostRuntime) {
     check_rows(&rt, rt.alloc(), rows, outcome);
 }
 
-/// A Data with all fields, and the fields that are read from it.
+/// The name, FreshnessPeriod, Content and signature of a Data with all fields are read.
 #[test]
 fn fields_of_data(rt: HostRuntime) {
     let rows = "
@@ -431,7 +437,8 @@ fn fields_of_data(rt: HostRuntime) {
     check_rows(&rt, rt.alloc(), rows, fields);
 }
 
-/// The forms of a KeyLocator.
+/// A KeyLocator is read as the name of a key if it consists of a Name, and as `digest` if it
+/// consists of a KeyDigest. Every other KeyLocator is read as `other`.
 #[test]
 fn key_locators(rt: HostRuntime) {
     let rows = "
@@ -450,13 +457,13 @@ fn key_locators(rt: HostRuntime) {
     check_rows(&rt, rt.alloc(), rows, fields);
 }
 
-/// Returns the length of the Content of a Data, and of the whole Data.
+/// Returns the length of the Content of a Data and the length of the whole packet.
 fn lengths(alloc: Global, input: &str) -> Option<String> {
     let octets = packet(alloc, input)?;
     lengths_in(alloc, &octets)
 }
 
-/// Returns the two lengths of the Data in these octets.
+/// Returns the length of the Content and the length of the packet, if the octets are a Data packet.
 fn lengths_in(alloc: Global, octets: &[u8]) -> Option<String> {
     match read_frame(octets).ok()? {
         Frame::Data(data) => {
@@ -490,7 +497,7 @@ fn packet_size_limit(rt: HostRuntime) {
     check_rows(&rt, rt.alloc(), rows, lengths);
 }
 
-/// Returns how the keys of two Interests compare.
+/// Returns the order of the keys of two Interests.
 fn keys(alloc: Global, input: &str) -> Option<String> {
     let (one, other) = input.split_once(' ')?;
     let one = packet(alloc, one)?;
@@ -498,7 +505,7 @@ fn keys(alloc: Global, input: &str) -> Option<String> {
     keys_in(alloc, &one, &other)
 }
 
-/// Returns how the keys of the Interests in these octets compare.
+/// Returns the order of the keys of the Interests in these octets.
 fn keys_in(alloc: Global, one: &[u8], other: &[u8]) -> Option<String> {
     match (read_frame(one), read_frame(other)) {
         (Ok(Frame::Interest(one)), Ok(Frame::Interest(other))) => {

@@ -8,9 +8,9 @@ use std::alloc::Global;
 use std::test::*;
 use test_support::octets;
 
-/// Returns the octets that a writer appended to the octet 9, or the writer's fault. If the writer
-/// failed but appended octets, returns a text that says so. If a writer without a fault appended
-/// more than 1,000 octets, returns their number and the outcome of reading them.
+/// Returns the octets that a writer appended to an output with the octet 9, or the writer's fault.
+/// If the writer failed but appended octets, returns a text that says so. If a writer without a
+/// fault appended more than 1,000 octets, returns their number and the outcome of reading them.
 fn appended(alloc: Global, fault: Option<&str>, out: &[u8]) -> Option<String> {
     let written = out.strip_prefix(&[9])?;
     match fault {
@@ -23,7 +23,8 @@ fn appended(alloc: Global, fault: Option<&str>, out: &[u8]) -> Option<String> {
     }
 }
 
-/// Returns how to sign: not at all, with a digest, or with the key "key" under a name.
+/// Reads how to sign: not at all for `-`, with a digest for `digest`, and otherwise by HMAC with
+/// the key "key". The key has the name `key_name`.
 fn sign<'a>(asked: &str, key_name: &'a [u8]) -> Option<Option<Sign<'a>>> {
     match asked {
         "-" => Some(None),
@@ -42,8 +43,8 @@ fn written_interest(alloc: Global, writer: &InterestWriter<'_>) -> Option<String
     appended(alloc, fault, &out)
 }
 
-/// The octets of the columns of a row: a name, a value and the name of a key. The value is the
-/// ApplicationParameters or the Content.
+/// The octets that a row gives for a packet: the name, a value, and the name of a key. The value is
+/// the ApplicationParameters of an Interest or the Content of a Data.
 #[derive(Drop)]
 struct Octets {
     name: Vec<u8>,
@@ -51,8 +52,8 @@ struct Octets {
     key_name: Option<Vec<u8>>,
 }
 
-/// Returns the octets of the name in the first column, and of the value and the name of the key in
-/// the columns at these indexes.
+/// Returns the octets in three columns: the name in the first column, the value at index `value`,
+/// and the name of a key at index `key`.
 fn octets_in(alloc: Global, columns: &[&str], value: usize, key: usize) -> Option<Octets> {
     let (name, value, key) = (columns.first()?, columns.get(value)?, columns.get(key)?);
     let name = octets(alloc, name)?;
@@ -190,8 +191,8 @@ fn refused_interests(rt: HostRuntime) {
     check_rows(&rt, rt.alloc(), rows, interest);
 }
 
-/// The signed management command that is also the constant `COMMAND` in the tests of reading
-/// packets.
+/// Writing a management command that is signed with an HMAC key gives the same octets as another
+/// program computed.
 #[test]
 fn command_signed_by_a_key(rt: HostRuntime) {
     let rows = "
@@ -259,7 +260,7 @@ fn lengths_of_data(rt: HostRuntime) {
     check_rows(&rt, rt.alloc(), rows, interest);
 }
 
-/// Returns whether `show` gives a text that begins with `begin` for this input. If memory ran out,
+/// Returns whether `show` gives a text that begins with `begin` for this input. If memory runs out,
 /// the result is true as well.
 fn begins_or_memory(
     alloc: Global,
@@ -275,7 +276,7 @@ fn begins_or_memory(
     }
 }
 
-/// If memory runs out, nothing is appended.
+/// A writer appends nothing if memory runs out.
 #[test]
 fn refused_memory(rt: HostRuntime) {
     let signed = "080141, false, false, -, -, -, digest, -, -";

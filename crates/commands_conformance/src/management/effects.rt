@@ -38,7 +38,7 @@ impl Model for Station {
 
 impl Station {
     /// Returns a station without routes and Data, where the faces 2 and 9 are up. The time is
-    /// 1000000.
+    /// 1,000,000 milliseconds.
     pub fn new(alloc: Global) -> Option<Station> {
         Station::of_faces(alloc, 2, 9)
     }
@@ -61,7 +61,7 @@ impl Station {
         apply(&mut self.tables, command, 9, &self.up, self.now).ok()
     }
 
-    /// Applies a command from face 9. Returns its status, or 0 if memory runs out.
+    /// Applies a command from face 9. Returns the command's status, or 0 if memory runs out.
     fn status_of(&mut self, command: &Command<'_>) -> u16 {
         match self.apply(command) {
             Some(applied) => applied.status,
@@ -168,8 +168,8 @@ fn hex_shown(alloc: Global, octets: &[u8]) -> Option<String> {
     hex::encode(alloc, octets).ok()
 }
 
-/// Applies a command that is given by its call and parameters. Shows its status and the body of its
-/// reply.
+/// Applies a command. The word `call` stands for the command's verb, and `rest` is the parameters
+/// in hexadecimal. Shows the command's status and the body of the reply.
 fn command_shown(alloc: Global, station: &mut Station, call: &str, rest: &str) -> Option<String> {
     let verb = verb_of(call)?;
     let text = format!(in alloc; "{verb}{rest}").ok()?;
@@ -177,7 +177,7 @@ fn command_shown(alloc: Global, station: &mut Station, call: &str, rest: &str) -
     outcome_shown(alloc, station, name.view())
 }
 
-/// Applies the command with this name. Shows its status and the body of its reply.
+/// Applies the command with this name. Shows the command's status and the body of the reply.
 fn outcome_shown(alloc: Global, station: &mut Station, name: Name<'_>) -> Option<String> {
     let command = Command::read(name).ok()?;
     let applied = station.apply(&command)?;
@@ -291,7 +291,8 @@ add 68080703080141690102, routes, remove 68080703080141690102, routes -> 200 680
     check_rows(&rt, rt.alloc(), rows, answers);
 }
 
-/// A command without a face removes the next hop on the face that it came from.
+/// A remove-nexthop command without a FaceId removes the next hop on the face from which the
+/// command came.
 #[test]
 fn the_hop_of_the_asking_face_goes(rt: HostRuntime) {
     let rows = "
@@ -338,8 +339,8 @@ set 682e07030801416b27072508096c6f63616c686f737408036e66640808737472617465677908
     check_rows(&rt, rt.alloc(), rows, answers);
 }
 
-/// An erase removes all Data under a name, or the first Data up to a Count. The reply contains the
-/// Count, if the command has one.
+/// An erase without a Count removes all Data under a name. An erase with a Count removes only the
+/// first Data under the name, at most as many as the Count, and its reply contains the Count.
 #[test]
 fn erased_data_go(rt: HostRuntime) {
     let rows = "
@@ -390,7 +391,7 @@ fn added(station: &mut Station, name: &NameBuf, face: u64) -> u16 {
     station.status_of(&adds(name.view(), face))
 }
 
-/// Adds next hops on face 2 for 4,096 names. Returns `None` if one of them is refused.
+/// Adds next hops on face 2 for 4,096 names. Returns `None` if a next hop is refused.
 fn add_4096(alloc: Global, station: &mut Station) -> Option<()> {
     for number in (0..4096).rev() {
         if added_at(alloc, station, number, 2)? != 200 {
@@ -471,8 +472,9 @@ fn has_last_segment(alloc: Global, station: &Station, len: usize, last: u64) -> 
     Some(segment.len() == len && number == last)
 }
 
-/// Returns whether 4,095 names can have a strategy in addition to `/`, a further name is refused,
-/// and a known name is accepted. An unknown strategy is reported before the full table.
+/// Sets the strategies of 4,095 names. The name `/` has a strategy from the start, so the table is
+/// then full. Returns whether the 4,095 names are accepted, a further name is refused, and a name
+/// that has a strategy is accepted. An unknown strategy is reported before the full table.
 fn refuses_one_strategy_more(
     alloc: Global,
     station: &mut Station,
@@ -545,8 +547,8 @@ fn list_of_4096_routes(rt: HostRuntime) {
     assert!(rt; played(rt.alloc(), lists_4096_routes) == Some(true));
 }
 
-/// Returns whether the last segment of a dataset of `len` octets, with one route, has the number
-/// `last` and has `last_len` octets.
+/// Adds a route so that the dataset has `len` octets. Returns whether the last segment of the
+/// dataset has the number `last` and has `last_len` octets.
 fn is_cut(
     alloc: Global,
     station: &mut Station,
@@ -568,7 +570,7 @@ fn has_two_segments(alloc: Global, station: &mut Station) -> Option<bool> {
     is_cut(alloc, station, 4097, 1, 1)
 }
 
-/// Adds a route to face 2. The dataset then has `len` octets.
+/// Adds a route to face 2. A dataset with only this route has `len` octets.
 fn add_long(alloc: Global, station: &mut Station, len: usize) -> Option<()> {
     let name = long_name(alloc, len)?;
     add_hop(station, &name, 2)
@@ -582,7 +584,8 @@ fn list_len(alloc: Global, station: &Station) -> Option<usize> {
 
 /// Returns a name for a route. A dataset with only this route has `len` octets.
 fn long_name(alloc: Global, len: usize) -> Option<NameBuf> {
-    // Three headers of four octets each precede the value, and a hop of 8 octets follows it.
+    // Three headers of four octets each precede the value, and a next hop of 8 octets follows the
+    // value.
     let value = sevens(alloc, len.saturating_sub(20))?;
     one_component(alloc, &value)
 }
@@ -594,7 +597,7 @@ pub fn sevens(alloc: Global, len: usize) -> Option<Vec<u8>> {
     Some(octets)
 }
 
-/// Adds a next hop. Returns `None` if it is refused.
+/// Adds a next hop. Returns `None` if the next hop is refused.
 fn add_hop(station: &mut Station, name: &NameBuf, face: u64) -> Option<()> {
     if added(station, name, face) != 200 {
         return None;
@@ -693,8 +696,9 @@ fn a_segment_in_a_packet(rt: HostRuntime) {
     assert!(rt; writes_the_segment(rt.alloc()) == Some(true));
 }
 
-/// Prepares a command. If the preparation fails, returns whether the name still has no next hop.
-/// Otherwise, returns whether the prepared command does not run out of memory and adds a next hop.
+/// Prepares a command. If the preparation fails, returns whether the name still has no next hop. If
+/// the preparation succeeds, returns whether the prepared command adds a next hop, without running
+/// out of memory.
 fn applies_what_is_prepared(alloc: Global, station: &mut Station) -> Option<bool> {
     let name = numbered(alloc, 1)?;
     Some(keeps_its_promise(station, &name))
@@ -722,13 +726,14 @@ fn adds_or_leaves(station: &mut Station, name: &NameBuf) -> bool {
     station.hops(name.view()) == hops
 }
 
-/// Returns whether a reply for which memory runs out leaves the buffer unchanged.
+/// Returns whether a reply is written whole or, if memory runs out, leaves the buffer unchanged.
 fn replies_or_leaves(alloc: Global) -> Option<bool> {
     let mut out = Vec::new(alloc);
     replies_or_leaves_in(&mut out)
 }
 
-/// Returns whether a reply is appended to the buffer after one octet, or nothing is appended.
+/// Appends one octet and then a reply to the buffer. Returns whether the buffer then has the octet
+/// and the whole reply, or only the octet if memory runs out for the reply.
 fn replies_or_leaves_in(out: &mut Vec<u8>) -> Option<bool> {
     out.push(7).ok()?;
     let len = match put_response(out, 200, "OK", &[]) {
@@ -738,22 +743,22 @@ fn replies_or_leaves_in(out: &mut Vec<u8>) -> Option<bool> {
     Some(out.len() == len && out.first() == Some(&7))
 }
 
-/// Adds a route. Returns whether the datasets of routes and of strategies have their whole lengths.
-/// Running out of memory is also accepted.
+/// Adds a route. Returns whether the dataset of routes and the dataset of strategies have the
+/// expected lengths. A dataset for which memory runs out is also accepted.
 fn lists_or_refuses(alloc: Global, station: &mut Station) -> Option<bool> {
     let name = numbered(alloc, 1)?;
     add_hop(station, &name, 2)?;
     Some(both_are_long_or_refused(station, alloc))
 }
 
-/// Returns whether the dataset of one route and the dataset of one strategy have their whole
-/// lengths. Running out of memory is also accepted.
+/// Returns whether the dataset of one route and the dataset of one strategy have the expected
+/// lengths. A dataset for which memory runs out is also accepted.
 fn both_are_long_or_refused(station: &Station, alloc: Global) -> bool {
     is_long_or_refused(station, alloc, false, 16) && is_long_or_refused(station, alloc, true, 46)
 }
 
-/// Returns whether the dataset of strategies or of routes has `len` octets. Running out of memory
-/// is also accepted.
+/// Returns whether the dataset of strategies or of routes has `len` octets. A dataset for which
+/// memory runs out is also accepted.
 fn is_long_or_refused(station: &Station, alloc: Global, of_strategies: bool, len: usize) -> bool {
     match station.list(alloc, of_strategies) {
         Some(text) => text.len() == len,

@@ -26,8 +26,8 @@ fn fields_shown(alloc: Global, command: &Command<'_>) -> Option<String> {
     Some(text)
 }
 
-/// All fields of a route. An absent face, origin or cost is 0, absent flags are 1, and a route
-/// without an expiration period does not expire.
+/// Tests all fields of a command for a registered route. An absent face, origin or cost is 0,
+/// absent flags are 1, and a route without an expiration period does not expire.
 #[test]
 fn fields_of_routes(rt: HostRuntime) {
     let rows = "
@@ -95,8 +95,8 @@ fn replies_of_routes(rt: HostRuntime) {
     check_rows(&rt, rt.alloc(), rows, reply_shown);
 }
 
-/// A name of 33 components is reported before a face that is not up. A removal has status 200 in
-/// spite of such a name and such a face.
+/// A name of 33 components is reported before a face that is not up. A removal has status 200 even
+/// if the name has 33 components and the face is not up.
 #[test]
 fn routes_that_are_refused(rt: HostRuntime) {
     let rows = "

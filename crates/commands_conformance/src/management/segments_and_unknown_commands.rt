@@ -38,8 +38,8 @@ fn commands_that_do_not_exist(rt: HostRuntime) {
     check_rows(&rt, rt.alloc(), rows, command_shown);
 }
 
-/// A command has one component of parameters, and a digest may follow it. Names of another form are
-/// refused with status 400.
+/// A command's name has one component of parameters, and a digest may follow this component. Names
+/// of any other form are refused with status 400.
 #[test]
 fn names_of_another_shape(rt: HostRuntime) {
     let rows = "
@@ -58,8 +58,9 @@ fn names_of_another_shape(rt: HostRuntime) {
     check_rows(&rt, rt.alloc(), rows, command_shown);
 }
 
-/// Returns whether the segment with this number, in a dataset of `len` octets, has the expected
-/// length and the expected number of the last segment, or does not exist if `expected` is `None`.
+/// Returns whether `expected` describes the segment with this number in a dataset of `len` octets.
+/// `expected` is the length of the segment and the number of the last segment, or `None` if the
+/// segment does not exist.
 fn segment_is(alloc: Global, len: usize, number: u64, expected: Option<(usize, u64)>) -> bool {
     match sevens(alloc, len) {
         Some(text) => is_segment(&text, number, expected),
@@ -67,8 +68,9 @@ fn segment_is(alloc: Global, len: usize, number: u64, expected: Option<(usize, u
     }
 }
 
-/// Returns whether the segment with this number has the expected length and the expected number of
-/// the last segment, or does not exist if `expected` is `None`.
+/// Returns whether `expected` describes the segment with this number in the dataset `text`.
+/// `expected` is the length of the segment and the number of the last segment, or `None` if the
+/// segment does not exist.
 fn is_segment(text: &[u8], number: u64, expected: Option<(usize, u64)>) -> bool {
     match segment_of(text, number) {
         None => expected.is_none(),

@@ -31,7 +31,8 @@ fn fills(repo: &mut Repo, number: u32) -> bool {
 }
 
 /// Returns whether 65,536 objects and wants fit in total. A further want must then be refused. A
-/// want that is equal to a present want must be accepted, and so must an insert of a stored Data.
+/// want that is equal to a pending want must be accepted, and so must an insert with the name of a
+/// stored Data.
 fn holds_so_many(repo: &mut Repo) -> bool {
     for number in 0..65_535 {
         if !inserts(repo, number, 100) || !fills(repo, number) {

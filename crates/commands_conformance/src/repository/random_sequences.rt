@@ -209,7 +209,8 @@ fn offer_agrees(all: &[Made], repo: &mut Repo, plain: &mut Plain, state: &mut u6
     Some(repo.offer(&data).ok()? == is_filled)
 }
 
-/// Returns whether the repository serves these octets for an Interest.
+/// Returns whether the repository serves `expected` for the Interest in `packet`. `None` means that
+/// the repository serves nothing.
 fn is_served(repo: &Repo, packet: &[u8], expected: Option<&[u8]>) -> Option<bool> {
     let interest = interest_in(packet)?;
     Some(repo.serve(&interest) == expected)
@@ -271,7 +272,7 @@ fn calls_agree(
     Some(true)
 }
 
-/// Returns whether a repository and lists that are empty at first agree on ten random calls.
+/// Returns whether an empty repository and empty plain lists agree on ten random calls.
 fn sequence_agrees(alloc: Global, all: &[Made], state: &mut u64) -> Option<bool> {
     let mut repo = empty_repo(alloc)?;
     let mut plain = Plain {

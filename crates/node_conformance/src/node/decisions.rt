@@ -62,8 +62,8 @@ in 1 1000000 D_A
 3 no-rule data
 ";
 
-/// Without rules, the verdict on a command and on a Data is `no-rule`. The command is answered by a
-/// reply.
+/// Without rules, the verdict on each command and on each Data is `no-rule`. The node replies to
+/// the command.
 #[test]
 fn without_rules(rt: HostRuntime) {
     replies_under(&rt, "", 1, WITHOUT_RULES);
@@ -124,8 +124,8 @@ in 1 1240002 TOO_FAR_AHEAD
 ";
 
 /// The time of a signer's first command may be at most two minutes ahead of the node's time. A
-/// command whose time is two minutes and a millisecond ahead of the node's time, or behind it, is
-/// denied.
+/// command whose time differs from the node's time by two minutes and a millisecond, in either
+/// direction, is denied.
 #[test]
 fn first_times(rt: HostRuntime) {
     replies(&rt, FIRST_TIMES);

@@ -1,5 +1,5 @@
-//! Tests of endpoints, each of which is an address and a port: which of them get a face, and from
-//! which the node ignores datagrams.
+//! Tests that show which endpoints get a face, and from which endpoints datagrams are ignored. An
+//! endpoint is an address and a port.
 
 use super::udp::{
     Moving, bound_socket, brings_face, brings_packet, free_port, hears_octets, moving_ports, opens,
@@ -18,8 +18,7 @@ fn bound_elsewhere(rt: &impl Net, port: u16) -> Option<UdpSocket> {
     UdpSocket::bind(rt, (Ipv4Addr::new(127, 0, 0, 2), port)).ok()
 }
 
-/// Returns whether two sockets with the same port at two addresses count as two endpoints, each
-/// with its own face.
+/// Returns whether two sockets with the same port at different addresses get different faces.
 fn parts_sockets(
     ports: &mut UdpPorts<Moving>,
     listen: u16,
@@ -36,14 +35,14 @@ fn parts_sockets(
     Some(opened && sent && heard && named && ports.endpoint_of(3).is_none())
 }
 
-/// Returns whether `parts_sockets` is true of two new sockets.
+/// Returns what `parts_sockets` returns for two new sockets.
 fn parts_two(rt: &impl Net, ports: &mut UdpPorts<Moving>, listen: u16) -> Option<bool> {
     let first = bound_socket(rt)?;
     let second = bound_elsewhere(rt, port_of(&first)?)?;
     parts_sockets(ports, listen, &first, &second)
 }
 
-/// Returns whether `parts_two` is true of new ports.
+/// Returns what `parts_two` returns for new ports.
 fn parts_addresses(rt: &impl Net) -> Option<bool> {
     let listen = free_port(rt)?;
     parts_two(rt, &mut moving_ports(rt, listen)?, listen)
@@ -61,7 +60,7 @@ fn serves_peer(ports: &mut UdpPorts<Moving>, listen: SocketAddr, peer: &UdpSocke
     Some(came && ports.send(1, b"back").is_ok() && hears_octets(peer, b"back"))
 }
 
-/// Returns whether `serves_peer` is true of new ports with this peer.
+/// Returns what `serves_peer` returns for new ports with this peer.
 fn knows(rt: &impl Net, peer: &UdpSocket) -> Option<bool> {
     let endpoint = peer.local_addr().ok()?;
     let listen = loopback(free_port(rt)?);
@@ -97,15 +96,15 @@ fn serves_client(
     Some(opened && ports.send(1, b"six").is_ok() && hears_octets(client, b"six"))
 }
 
-/// Returns whether `serves_client` is true of ports of ::1 and a client at ::1.
+/// Returns what `serves_client` returns for ports of ::1 and a client at ::1.
 fn serves_version_six(rt: &impl Net, client: &UdpSocket) -> Option<bool> {
     let listen = free_endpoint(rt)?;
     let mut ports = UdpPorts::bind_at(rt, listen, &[], 0, Moving { last: 0 }).ok()?;
     serves_client(&mut ports, listen, client)
 }
 
-/// Returns whether `serves_version_six` is true of a new client. Returns true, without a test, if
-/// no socket can be bound to ::1.
+/// Returns what `serves_version_six` returns for a new client. Returns true, without a test, if no
+/// socket can be bound to ::1.
 fn serves_where_there_is_one(rt: &impl Net) -> Option<bool> {
     match UdpSocket::bind(rt, (Ipv6Addr::LOCALHOST, 0)) {
         Ok(client) => serves_version_six(rt, &client),
@@ -142,7 +141,7 @@ fn ignores_stranger(
     Some(opened && heard && nothing && brings_packet(ports, 1, 3, 5))
 }
 
-/// Returns whether `ignores_stranger` is true of new ports with this peer.
+/// Returns what `ignores_stranger` returns for new ports with this peer.
 fn ignores_all_but(rt: &impl Net, known: &UdpSocket, stranger: &UdpSocket) -> Option<bool> {
     let peer = port_of(known)?;
     let listen = free_port(rt)?;
@@ -151,7 +150,7 @@ fn ignores_all_but(rt: &impl Net, known: &UdpSocket, stranger: &UdpSocket) -> Op
     ignores_stranger(&mut ports, loopback(listen), known, stranger)
 }
 
-/// Returns whether `ignores_all_but` is true of two new sockets.
+/// Returns what `ignores_all_but` returns for two new sockets.
 fn ignores_strangers(rt: &impl Net) -> Option<bool> {
     let known = bound_socket(rt)?;
     let stranger = bound_socket(rt)?;
@@ -163,8 +162,8 @@ fn endpoint_of_a_stranger(rt: HostRuntime) {
     assert!(rt; ignores_strangers(&rt) == Some(true));
 }
 
-/// Returns whether a datagram from a stranger opens a face and is handled, if strangers are not
-/// ignored.
+/// Returns whether a datagram from a stranger opens a face and arrives on it. The ports must not
+/// ignore strangers.
 fn accepts_stranger(
     ports: &mut UdpPorts<Moving>,
     listen: u16,
@@ -175,14 +174,14 @@ fn accepts_stranger(
     Some(opened && opens(ports, 2, 2, 3, 1) && ports.strangers() == 0)
 }
 
-/// Returns whether `accepts_stranger` is true of new ports with this peer.
+/// Returns what `accepts_stranger` returns for new ports with this peer.
 fn accepts_beside(rt: &impl Net, known: &UdpSocket, stranger: &UdpSocket) -> Option<bool> {
     let peer = port_of(known)?;
     let listen = free_port(rt)?;
     accepts_stranger(&mut ports_of_peer(rt, listen, peer)?, listen, stranger)
 }
 
-/// Returns whether `accepts_beside` is true of two new sockets.
+/// Returns what `accepts_beside` returns for two new sockets.
 fn accepts_strangers(rt: &impl Net) -> Option<bool> {
     let known = bound_socket(rt)?;
     let stranger = bound_socket(rt)?;

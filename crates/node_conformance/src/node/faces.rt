@@ -73,7 +73,8 @@ fn comes_to(alloc: Global, script: &str, wanted: &str) -> Option<bool> {
     Some(came.as_str() == wanted)
 }
 
-/// Returns whether 64 faces open, and a 65th opens only after one of them has closed.
+/// Returns whether a node opens 64 faces, and opens a 65th face only after one of the 64 faces has
+/// closed.
 fn opens_64_faces(alloc: Global) -> Option<bool> {
     let mut script = String::new(alloc);
     let mut wanted = String::new(alloc);

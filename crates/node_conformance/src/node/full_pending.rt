@@ -1,12 +1,12 @@
-//! A node with as many pending Interests as it can have.
+//! Tests of a node that has the greatest number of pending Interests.
 
 use super::octets::hexadecimal_of;
 use super::sample_outcome;
 use std::alloc::Global;
 use std::fmt::Write;
 
-/// Appends a script with 4,096 Interests of different names, then one Interest of a new name, and
-/// one of a known name from another face. Returns `None` if memory runs out.
+/// Appends a script with 4,096 Interests of different names, then an Interest of a new name, and
+/// then an Interest of a known name from another face. Returns `None` if memory runs out.
 fn put_script(script: &mut String) -> Option<()> {
     script
         .push_str("up 1 local 1000000\nup 2 far 1000000\nup 3 far 1000000\nin 1 1000000 ")
@@ -29,7 +29,7 @@ fn script_outcome(alloc: Global) -> Option<String> {
     sample_outcome(alloc, script.as_str())
 }
 
-/// Returns whether an outcome ends with the answers to the last three Interests.
+/// Returns whether an outcome ends with the expected answers to the last three Interests.
 fn is_outcome(came: &str) -> Option<bool> {
     let last = came.rsplit_once("\n4100 passed\n")?.1;
     let (send, rest) = last.split_once('\n')?;
@@ -39,8 +39,9 @@ fn is_outcome(came: &str) -> Option<bool> {
     )
 }
 
-/// Returns whether the Interest of the new name is dropped, but the Interest of the known name is
-/// not. The Interest of the known name waits for the answer to the earlier Interest of this name.
+/// Returns whether a node with 4,096 pending Interests drops an Interest of a new name, but not an
+/// Interest of a known name from another face. The Interest of the known name waits for the answer
+/// to the earlier Interest of this name.
 fn is_refused_alone(alloc: Global) -> Option<bool> {
     let came = script_outcome(alloc)?;
     is_outcome(came.as_str())

@@ -1,5 +1,5 @@
-//! Tests of the lines of a journal, in the format of `docs/SCRIPTS.md`, and of appending and
-//! replaying.
+//! Tests of the lines of a journal, of appending lines to a journal, and of replaying a journal.
+//! `docs/SCRIPTS.md` has the format of the lines.
 
 use super::journalled::MemoryFile;
 use super::ports::on_node;
@@ -58,8 +58,8 @@ fn has_line(alloc: Global, len: usize) -> Option<bool> {
     Some(line_of(alloc, 1000, &entry).is_ok())
 }
 
-/// A line of a script has at most 20,000 octets. The lines of this test consist of `rules 1000 `,
-/// the octets of the rules in hexadecimal, and ` -`.
+/// A line of a journal has at most 20,000 octets without its LF. The lines of this test consist of
+/// `rules 1000 `, the octets of the rules in hexadecimal, and ` -`.
 #[test]
 fn longest_lines(rt: HostRuntime) {
     assert!(rt; has_line(rt.alloc(), 9_993) == Some(true));
@@ -85,7 +85,8 @@ fn appends(alloc: Global, entry: Entry<'_>, verdict: Verdict, octets: &[u8]) -> 
     file_after(alloc, entry, verdict).is_some_and(|file| file.octets.as_slice() == octets)
 }
 
-/// The opening of a face is journalled. An opening that the node refuses is not.
+/// The journal gets a line for the opening of a face, but no line for an opening that the node
+/// refuses.
 #[test]
 fn journal_of_an_opening(rt: HostRuntime) {
     let opens = Entry::FaceUp {
@@ -97,7 +98,7 @@ fn journal_of_an_opening(rt: HostRuntime) {
     assert!(rt; appends(rt.alloc(), opens, dropped, b""));
 }
 
-/// A tick is not journalled.
+/// The journal gets no line for a tick.
 #[test]
 fn journal_of_a_moment(rt: HostRuntime) {
     assert!(rt; appends(rt.alloc(), Entry::Tick, Verdict::Passed, b""));
@@ -135,7 +136,8 @@ fn whole_lines(text: &[u8]) -> (usize, usize) {
     (events, whole)
 }
 
-/// Returns whether the whole lines of the text are replayed. Each line must be an event.
+/// Returns whether a replay of the text replays exactly its whole lines. Each line must be an
+/// event.
 fn replays_whole_lines(alloc: Global, text: &[u8]) -> bool {
     let (events, whole) = whole_lines(text);
     let wanted = Replayed {
@@ -146,7 +148,7 @@ fn replays_whole_lines(alloc: Global, text: &[u8]) -> bool {
     ends_on_new_node(alloc, text, &Ok(wanted)) == Some(true)
 }
 
-/// A crash may cut a journal at any octet. The whole lines that are left are replayed.
+/// A crash may cut a journal at any octet. A replay then replays the whole lines before the cut.
 #[test]
 fn fronts_of_a_journal(rt: HostRuntime) {
     for len in 0..SOME_EVENTS.len() + 1 {
@@ -179,7 +181,7 @@ fn leaves(
     replay(alloc, node, &mut reader).is_ok() && has(node, wanted)
 }
 
-/// Returns whether `leaves` is true of a new node.
+/// Returns whether a new node has this time and these open faces after a replay of the text.
 fn leaves_new_node(
     alloc: Global,
     text: &[u8],
@@ -191,7 +193,7 @@ fn leaves_new_node(
     )
 }
 
-/// A line that was cut short may spell another event, so it is not replayed.
+/// A line that a crash cut short may look like another event, so a replay leaves this line out.
 #[test]
 fn lines_that_were_cut(rt: HostRuntime) {
     let text = b"up 1 local 1000\nup 22 far 1001\ntick 1700\n";
@@ -249,7 +251,8 @@ fn fails_at<R: BufRead>(
     replay(alloc, node, reader) == Err(fault) && node.now() == now
 }
 
-/// Returns whether `fails_at` is true of a node and a reader that fails after these octets.
+/// Returns whether a replay fails with this fault and leaves the node at the time 17, if the reader
+/// fails with `kind` after these octets.
 fn fails_after(
     alloc: Global,
     node: &mut Node,
@@ -262,7 +265,8 @@ fn fails_after(
 }
 
 /// Returns whether a replay on a new node fails with this fault if the reader fails with an error
-/// of this kind. Of the octets before the failure, only the whole line is replayed.
+/// of this kind. Before the failure, the reader gives one whole line and a part of a line. Only the
+/// whole line may be replayed.
 fn fails_with(alloc: Global, kind: ErrorKind, fault: ReplayFault) -> Option<bool> {
     on_node(
         alloc,
@@ -291,7 +295,8 @@ fn last_of_two_lines_of_rules(rt: HostRuntime) {
     assert!(rt; are_last(rt.alloc(), text, b"", b"k") == Some(false));
 }
 
-/// A line of new rules that a crash cut short does not count.
+/// The last rules of a journal are those of its last whole line of rules. A line that a crash cut
+/// short is ignored.
 #[test]
 fn rules_that_were_cut(rt: HostRuntime) {
     let text = b"rules 1 - 6b\nrules 2 3b4a -";

@@ -1,4 +1,4 @@
-//! A node that keeps a journal, and a node that continues from a journal.
+//! Tests of a node that keeps a journal, and of a node that continues from a journal.
 ghost use Rattle.std.specs.Prelude.{None};
 
 use super::ports::{on_node, ports_of};
@@ -35,8 +35,8 @@ impl JournalFile for MemoryFile {
 }
 
 /// Serves a node with the events of a dialogue and a journal file that accepts `lines` lines.
-/// Returns the ports if serving ends with the fault `fault`, or ends without a fault if `fault` is
-/// `None`. Returns `None` if serving ends in another way.
+/// Returns the ports if serving ends as `fault` says, and otherwise `None`. If `fault` is `None`,
+/// serving must end without a fault.
 fn served(
     alloc: Global,
     node: &mut Node,
@@ -57,15 +57,15 @@ fn served(
     }
 }
 
-/// Returns whether a node's journal of a dialogue has these lines, in which words stand for
-/// packets.
+/// Plays the events of a dialogue on a node. Returns whether the node's journal then consists of
+/// these lines, in which words stand for packets.
 fn keeps_journal(alloc: Global, node: &mut Node, dialogue: &str, lines: &str) -> Option<bool> {
     let wanted = spelled(alloc, lines)?;
     let ports = served(alloc, node, dialogue, 1000, None)?;
     Some(ports.file().octets.as_slice() == wanted.as_bytes())
 }
 
-/// Returns whether `keeps_journal` is true of a new node.
+/// Returns whether a new node's journal of the dialogue consists of these lines.
 fn has_journal(alloc: Global, dialogue: &str, lines: &str) -> Option<bool> {
     on_node(
         alloc,
@@ -73,8 +73,8 @@ fn has_journal(alloc: Global, dialogue: &str, lines: &str) -> Option<bool> {
     )
 }
 
-/// The journal of `FROM_INSERT_TO_DELETE`. It has a line for each event except the Interest that is
-/// not a command.
+/// The journal of the dialogue `FROM_INSERT_TO_DELETE`. The journal has a line for each event
+/// except the Interest that is not a command.
 const JOURNAL_OF_A_LIFE: &str = "up 1 local 1000000
 up 2 far 1000000
 in 1 1000000 ADD_FIRST
@@ -90,9 +90,10 @@ fn journal_of_a_life(rt: HostRuntime) {
     assert!(rt; same == Some(true));
 }
 
-/// The opening of a face, the opening of this face while it is open, the closing of a face that is
-/// not open, a denied command, a Data that the repository does not want, a tick, and the opening of
-/// another face at an earlier time.
+/// A dialogue of which only the first and the last event are journalled. The first and the last
+/// event open a face, and the last event has an earlier time than the others. The other events are
+/// the opening of an open face, the closing of a face that is not open, a denied command, a Data
+/// that the repository does not want, and a tick.
 const MOSTLY_DENIED: &str = "
 up 1 local 1000000
 1 passed
@@ -123,7 +124,7 @@ fn has_three_lines(ports: &JournalledPorts<MemoryPorts, MemoryFile>) -> bool {
 }
 
 /// Returns whether a node stops when the journal's file refuses the fourth line. The node must send
-/// nothing for the event of this line.
+/// nothing for the event of the fourth line.
 fn fails_at_the_insert(alloc: Global, node: &mut Node) -> Option<bool> {
     let fault = Some(ServeFault::Journal { after: 3 });
     Some(has_three_lines(&served(alloc, node, FROM_INSERT_TO_DELETE, 3, fault)?))
@@ -140,7 +141,7 @@ fn replayed(alloc: Global, node: &mut Node, journal: &str) -> Option<Replayed> {
     replay(alloc, node, &mut journal.as_bytes()).ok()
 }
 
-/// The journal of a node in which a Data was stored.
+/// The journal of a node that has stored a Data.
 const JOURNAL_OF_A_STORE: &str = "up 1 local 1000000
 up 2 far 1000000
 in 1 1000000 ADD_FIRST
@@ -185,13 +186,13 @@ fn replays_and_sends(alloc: Global, node: &mut Node, wanted: &(u64, usize, bool)
     Some(replayed_and_sent(alloc, node)? == *wanted)
 }
 
-/// Returns whether `replays_and_sends` is true of a new node.
+/// Returns whether `replayed_and_sent` returns these values for a new node.
 fn sends_after_a_restart(alloc: Global, wanted: &(u64, usize, bool)) -> Option<bool> {
     on_node(alloc, &|alloc, node| replays_and_sends(alloc, node, wanted))
 }
 
-/// A node replays five events. The node then sends three packets in answer to an Interest and two
-/// old commands, and the first of these packets is the stored Data.
+/// After a node has replayed five events, it answers an Interest with the Data that was stored
+/// before the restart. The node also answers two old commands.
 #[test]
 fn after_a_restart(rt: HostRuntime) {
     assert!(rt; sends_after_a_restart(rt.alloc(), &(5, 3, true)) == Some(true));

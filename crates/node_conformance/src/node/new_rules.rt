@@ -94,8 +94,8 @@ in 2 1000000 D_A
 > 1 D_A
 ";
 
-/// A Data is decided by the rules that are in force when it comes. An Interest stays pending if no
-/// rule applies to the Data that would have answered it.
+/// The rules that are in force when a Data comes decide whether the Data is allowed. An Interest
+/// stays pending if no rule applies to the Data that would have answered it.
 #[test]
 fn new_rules_before_data(rt: HostRuntime) {
     replies(&rt, NEW_RULES_BEFORE_DATA);

@@ -32,12 +32,12 @@ fn parts_at(alloc: Global, prefix: &str, cache: u32) -> Option<NodeParts> {
     })
 }
 
-/// Returns the result of making a node of these parts, without the node.
+/// Makes a node of these parts and drops it. Returns `Ok(())` or the fault.
 fn made_at(alloc: Global, prefix: &str, cache: u32) -> Option<Result<(), NodeFault>> {
     Some(Node::new(alloc, parts_at(alloc, prefix, cache)?).map(drop))
 }
 
-/// Returns the result of making a node of the parts in a row.
+/// Makes a node of the parts that `row` gives, and returns the result.
 fn made(alloc: Global, row: &str) -> Option<String> {
     let (prefix, cache) = row.split_once(' ')?;
     let made = made_at(alloc, prefix, cache.parse::<u32>().ok()?)?;
@@ -92,14 +92,15 @@ fn sends_in_order(node: &mut Node, outbox: &mut Outbox, interest: &[u8], nack: &
     was_empty && passed && ended && outbox.is_empty()
 }
 
-/// Returns whether `sends_in_order` is true of a node in which the Interest has no route.
+/// Returns what `sends_in_order` returns for an Interest without a route, and the Nack that answers
+/// it.
 fn sends_nack_in_order(alloc: Global, node: &mut Node) -> bool {
     let interest = octets_of(alloc, "INTEREST");
     let nack = octets_of(alloc, "NO_ROUTE");
     sends_in_order(node, &mut Outbox::new(alloc), &interest, &nack)
 }
 
-/// Returns whether `sends_nack_in_order` is true of a new node.
+/// Returns what `sends_nack_in_order` returns for a new node.
 fn new_node_sends_in_order(alloc: Global) -> Option<bool> {
     on_node(alloc, &|alloc, node| Some(sends_nack_in_order(alloc, node)))
 }
@@ -115,7 +116,7 @@ fn are_sample_rules(rules: &Rules) -> bool {
     rules.len() == 3 && rules.id(info_rules::RuleNo(1)) == "repo-ops"
 }
 
-/// Returns whether `are_sample_rules` is true of the rules of a new node.
+/// Returns whether a new node has the sample rules.
 fn tells_rules(alloc: Global) -> Option<bool> {
     on_node(alloc, &|_, node| Some(are_sample_rules(node.rules())))
 }
@@ -134,7 +135,8 @@ fn packet(now: u64, octets: &[u8]) -> Event<'_> {
     }
 }
 
-/// Returns whether the Local face 1 opens and a node then takes the packet of a command.
+/// Opens the Local face 1 of a node, and gives the node the packet of a command. Returns whether
+/// both steps succeed.
 fn takes_command(node: &mut Node, outbox: &mut Outbox, command: &[u8]) -> bool {
     let up = Event::FaceUp {
         face: 1,
@@ -144,15 +146,15 @@ fn takes_command(node: &mut Node, outbox: &mut Outbox, command: &[u8]) -> bool {
     node.step(up, outbox).is_ok() && node.step(packet(1_001_000, command), outbox).is_ok()
 }
 
-/// Returns whether the Local face 1 opens and a node then takes a command to insert a Data. The
-/// deadline of the command is at 1,001,100 milliseconds.
+/// Opens the Local face 1 of a node, and gives the node a command to insert a Data. Returns whether
+/// both steps succeed. The deadline of the command is at 1,001,100 milliseconds.
 fn takes_insert(alloc: Global, node: &mut Node) -> bool {
     let insert = octets_of(alloc, "SHORT_INSERT");
     takes_command(node, &mut Outbox::new(alloc), &insert)
 }
 
-/// Returns whether a node takes the insert. Afterwards its time must be that of the insert, and the
-/// Local face 1 must be its only open face.
+/// Returns whether `takes_insert` returns true for a node. Afterwards the node's time must be the
+/// time of the command, and the Local face 1 must be the node's only open face.
 fn tells_after_insert(alloc: Global, node: &mut Node) -> bool {
     takes_insert(alloc, node)
         && node.now() == 1_001_000
@@ -160,7 +162,7 @@ fn tells_after_insert(alloc: Global, node: &mut Node) -> bool {
         && node.open_face(1).is_none()
 }
 
-/// Returns whether `tells_after_insert` is true of a new node.
+/// Returns what `tells_after_insert` returns for a new node.
 fn tells_time_and_faces(alloc: Global) -> Option<bool> {
     on_node(alloc, &|alloc, node| Some(tells_after_insert(alloc, node)))
 }
@@ -175,28 +177,29 @@ fn wants_at(node: &Node, now: u64, data: &[u8]) -> bool {
     node.wants(&packet(now, data))
 }
 
-/// Returns whether a node wants the Data `wanted` one millisecond before the deadline, but not at
-/// the deadline. The node must not want the Data `other`.
+/// Returns whether a node wants the Data `wanted` one millisecond before the deadline of the insert
+/// command, but not at the deadline. The node must not want the Data `other`.
 fn wants_first(node: &Node, wanted: &[u8], other: &[u8]) -> bool {
     wants_at(node, 1_001_099, wanted)
         && !wants_at(node, 1_001_099, other)
         && !wants_at(node, 1_001_100, wanted)
 }
 
-/// Returns whether a node wants the Data of the insert before the deadline but not at the deadline,
-/// and does not want another Data.
+/// Returns whether a node wants the Data of the insert command one millisecond before the deadline,
+/// but not at the deadline. The node must not want another Data.
 fn wants_inserted(alloc: Global, node: &Node) -> bool {
     let wanted = octets_of(alloc, "D_A");
     let other = octets_of(alloc, "D_B");
     wants_first(node, &wanted, &other)
 }
 
-/// Returns whether a node takes the insert, and `wants_inserted` is true of it afterwards.
+/// Gives a node an insert command. Returns whether the node then wants the Data of the command
+/// before the deadline, but not at the deadline.
 fn wants_after_insert(alloc: Global, node: &mut Node) -> bool {
     takes_insert(alloc, node) && wants_inserted(alloc, node)
 }
 
-/// Returns whether `wants_after_insert` is true of a new node.
+/// Returns what `wants_after_insert` returns for a new node.
 fn wants_in_time(alloc: Global) -> Option<bool> {
     on_node(alloc, &|alloc, node| Some(wants_after_insert(alloc, node)))
 }

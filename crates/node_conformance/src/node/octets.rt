@@ -1,4 +1,4 @@
-//! The packets of dialogues, by the words that stand for them.
+//! The packets of dialogues, and the words that stand for these packets.
 
 use std::alloc::Global;
 

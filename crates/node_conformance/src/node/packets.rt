@@ -39,8 +39,8 @@ in 1 1000000 NO_DIGEST
 6 dropped Malformed DigestMissing
 ";
 
-/// An Interest with parameters is forwarded if its name has the digest of its parameters. It is
-/// dropped if its name has another digest or none.
+/// An Interest with parameters is forwarded if its name has the digest of its parameters. An
+/// Interest with parameters is dropped if its name has another parameters digest or none.
 #[test]
 fn parameters_digest(rt: HostRuntime) {
     replies(&rt, PARAMETERS_DIGEST);
@@ -67,9 +67,9 @@ in 2 1000000 -
 8 dropped Malformed Tlv Truncated
 ";
 
-/// A packet in a link packet is handled like the packet alone. A link packet is dropped if it has
-/// an unknown critical field, has a fragment of a packet, or has no packet. A packet without octets
-/// is dropped.
+/// A packet in a link packet is handled like the packet without the link packet. A link packet is
+/// dropped if it has an unknown critical field, has a fragment of a packet, or has no packet. A
+/// packet without octets is dropped.
 #[test]
 fn link_packets(rt: HostRuntime) {
     replies(&rt, LINK_PACKETS);

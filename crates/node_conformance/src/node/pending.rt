@@ -42,8 +42,8 @@ in 2 1001099 D_A
 > 1 D_A
 ";
 
-/// An Interest is pending until its deadline, and no longer at its deadline. An event with an
-/// earlier time does not set the node's clock back.
+/// An Interest is pending before its deadline, but not at its deadline. An event with an earlier
+/// time does not set the node's clock back.
 #[test]
 fn deadlines(rt: HostRuntime) {
     replies(&rt, BEFORE_THE_DEADLINE);
@@ -103,8 +103,8 @@ in 1 1001010 INTEREST
 > 2 INTEREST
 ";
 
-/// An Interest that loops is answered by a Nack Duplicate. If a face repeats its pending Interest,
-/// the Interest is forwarded again after 10 milliseconds, but not after 9.
+/// An Interest that loops is answered by a Nack with the reason Duplicate. If a face repeats its
+/// pending Interest, the Interest is forwarded again after 10 milliseconds, but not after 9.
 #[test]
 fn loops_and_retries(rt: HostRuntime) {
     replies(&rt, LOOPS_AND_RETRIES);
@@ -160,7 +160,7 @@ in 3 1001002 BACK_2
 
 /// A Nack from the only next hop is sent back once, even if the Interest was forwarded twice. A
 /// further Nack is dropped. If the Interest was forwarded to two next hops, a Nack with the least
-/// reason is sent back when both have sent a Nack.
+/// reason is sent back when both next hops have sent a Nack.
 #[test]
 fn nacks(rt: HostRuntime) {
     replies(&rt, NACKS);

@@ -30,7 +30,7 @@ pub fn word(line: &str, i: usize) -> &str {
     line.split(' ').nth(i).unwrap_or("")
 }
 
-/// Returns the octets that a word gives in hexadecimal; a dash stands for no octets.
+/// Returns the octets that a word gives in hexadecimal. A dash stands for no octets.
 fn packet_of(alloc: Global, word: &str) -> Option<Vec<u8>> {
     hex::decode(alloc, if word == "-" { "" } else { word }).ok()
 }
@@ -168,8 +168,8 @@ pub fn on_node<F: Fn(Global, &mut Node) -> Option<bool>>(alloc: Global, play: &F
     on_node_under(alloc, SAMPLE, 1024, play)
 }
 
-/// Appends the text that is printed for one turn, with an outbox for the turn's sends. Returns
-/// false if the turn answers no event, or the text cannot be appended.
+/// Takes one turn and appends the text that is printed for it. `outbox` receives the packets that
+/// the turn sends. Returns false if the turn answers no event, or the text cannot be appended.
 fn put_turn<P: Ports>(
     node: &mut Node,
     ports: &mut P,
@@ -201,9 +201,9 @@ pub fn prints(alloc: Global, node: &mut Node, dialogue: &str, wanted: &str) -> O
     Some(text.as_slice() == wanted.as_bytes())
 }
 
-/// Returns whether serving a node with `FIRST_PATH` for `turns` turns has the result `wanted`. Call
-/// number `next` of the port's method `next` fails, and so does call number `send` of its method
-/// `send`. With the number 0, no call of the method fails.
+/// Serves a node with the events of `FIRST_PATH` for `turns` turns, and returns whether the result
+/// is `wanted`. Call number `next` of the port's method `next` fails, and so does call number
+/// `send` of its method `send`. With the number 0, no call of the method fails.
 fn node_serves(
     alloc: Global,
     node: &mut Node,
@@ -218,7 +218,7 @@ fn node_serves(
     Some(serve(alloc, node, &mut ports, turns) == *wanted)
 }
 
-/// Returns whether `node_serves` is true of a new node.
+/// Returns whether `node_serves` returns true for a new node.
 fn serves(
     alloc: Global,
     turns: u64,
@@ -234,7 +234,7 @@ fn serves(
 }
 
 /// Returns the result of serving in which this many events come and this many sends fail. `ended`
-/// tells whether the port ends before the last turn.
+/// is true if the port ends before the last turn.
 fn came(events: u64, failed_sends: u64, ended: bool) -> Result<Served, ServeFault> {
     Ok(Served {
         events,
@@ -271,8 +271,7 @@ fn served_turns_with_failed_calls(rt: HostRuntime) {
     assert!(rt; serves(rt.alloc(), 10, 7, 0, &came(5, 0, true)));
 }
 
-/// Does the same as `node_goes_on` for a new node. Returns `None` also if the node cannot be
-/// created.
+/// Returns what `node_goes_on` returns for a new node, or `None` if the node cannot be created.
 fn goes_on(alloc: Global, next: u64, before: u64, left: u64) -> Option<bool> {
     on_node(
         alloc,
@@ -280,8 +279,8 @@ fn goes_on(alloc: Global, next: u64, before: u64, left: u64) -> Option<bool> {
     )
 }
 
-/// Returns whether `stops_and_ends` is true of a node at a port with the events of `FIRST_PATH`.
-/// Call number `next` of the port's method `next` fails.
+/// Returns what `stops_and_ends` returns for a port with the events of `FIRST_PATH`. Call number
+/// `next` of the port's method `next` fails.
 fn node_goes_on(alloc: Global, node: &mut Node, next: u64, before: u64, left: u64) -> Option<bool> {
     let mut ports = ports_of(alloc, FIRST_PATH)?;
     ports.fail_next(next);
@@ -314,7 +313,8 @@ fn first_path(rt: HostRuntime) {
     replies(&rt, FIRST_PATH);
 }
 
-/// The text that is printed for an event whose step ran out of memory.
+/// If the step for an event runs out of memory, the number of the event and the word `memory` are
+/// printed.
 #[test]
 fn refused_line(rt: HostRuntime) {
     let mut text = Vec::new(rt.alloc());

@@ -62,7 +62,7 @@ fn is_line_of_send(alloc: Global, line: &str, sent: Option<(u64, &[u8])>) -> Opt
 }
 
 /// Returns whether a node gives the answers of a dialogue, or `None` if one of the test's own
-/// allocations fails. The outbox is for the sends of each event.
+/// allocations fails. `outbox` receives the packets that the node sends for each event.
 fn plays(alloc: Global, node: &mut Node, outbox: &mut Outbox, dialogue: &str) -> Option<bool> {
     let mut verdict = None;
     let mut sends = 0;
@@ -88,18 +88,19 @@ fn plays(alloc: Global, node: &mut Node, outbox: &mut Outbox, dialogue: &str) ->
     Some(outbox.len() == sends)
 }
 
-/// Does the same as `plays`, with a new outbox.
+/// Returns what `plays` returns with a new outbox.
 fn node_plays(alloc: Global, node: &mut Node, dialogue: &str) -> Option<bool> {
     plays(alloc, node, &mut Outbox::new(alloc), dialogue)
 }
 
-/// Returns whether a new node gives the answers of a dialogue without words, or `None` if the node
-/// cannot be created or one of the test's own allocations fails.
+/// Returns whether a new node gives the answers of a dialogue in which all packets are in
+/// hexadecimal. Returns `None` if the node cannot be created, or one of the test's own allocations
+/// fails.
 fn new_node_plays(alloc: Global, dialogue: &str) -> Option<bool> {
     on_node(alloc, &|alloc, node| node_plays(alloc, node, dialogue))
 }
 
-/// Does the same as `new_node_plays` for a dialogue in which words stand for packets.
+/// Returns what `new_node_plays` returns for a dialogue in which words stand for packets.
 fn steps(alloc: Global, dialogue: &str) -> Option<bool> {
     let dialogue = spelled(alloc, dialogue)?;
     new_node_plays(alloc, dialogue.as_str())
@@ -145,19 +146,20 @@ const ANSWERS_TO_INTEREST: &str = "1 passed
 4 passed
 ";
 
-/// Returns whether a text is the beginning of another text, or all of it.
+/// Returns whether `text` is a prefix of `whole`.
 fn is_front(text: &[u8], whole: &str) -> bool {
     whole.as_bytes().starts_with(text)
 }
 
-/// Returns whether a text is one of the three possible answers to the script, or a prefix of one.
+/// Returns whether a text is a prefix of one of the three possible outputs of `SCRIPT`.
 fn are_answers(text: &[u8]) -> bool {
     is_front(text, ANSWERS)
         || is_front(text, ANSWERS_TO_DATA)
         || is_front(text, ANSWERS_TO_INTEREST)
 }
 
-/// Returns whether the script may end as `end` says, with this text as its output.
+/// Returns whether `end` is a possible end of `SCRIPT`, and `text` a possible output before this
+/// end, if memory may run out.
 fn is_end(end: Result<(), RunFault>, text: &[u8]) -> bool {
     match end {
         Ok(()) => are_answers(text) && text.ends_with(b"4 passed\n"),
@@ -166,8 +168,8 @@ fn is_end(end: Result<(), RunFault>, text: &[u8]) -> bool {
     }
 }
 
-/// Returns whether `is_end` is true of the end and the output of `SCRIPT`, or `None` if one of the
-/// test's own allocations fails.
+/// Plays `SCRIPT`, and returns what `is_end` returns for its end and its output. Returns `None` if
+/// one of the test's own allocations fails.
 fn script(alloc: Global) -> Option<bool> {
     let held = Vec::with_capacity(alloc, 1000).ok()?;
     let mut output = Room {

@@ -36,7 +36,8 @@ in 1 1001000 FOURTH
 > 1 NO_ROUTE_FOURTH
 ";
 
-/// The example of the management manual: routes that are inherited, and routes that expire.
+/// The node gives the answers of the example in `docs/MANAGEMENT.md`: longer names inherit a route,
+/// and a route expires.
 #[test]
 fn registered_routes(rt: HostRuntime) {
     replies(&rt, REGISTERED_ROUTES);
@@ -99,9 +100,9 @@ in 1 1001000 LIST
 > 1 NO_ROUTES
 ";
 
-/// If a route expires at the moment at which its face closes, the version of the list counts the
-/// expiry and the closing. If the route is removed because its face closes, the version counts only
-/// the closing.
+/// If a route expires at the moment at which its face closes, the version of the list of routes
+/// increases for the expiry and for the closing. If the route is removed because its face closes
+/// earlier, the version increases only for the closing.
 #[test]
 fn routes_end_before_the_event(rt: HostRuntime) {
     replies(&rt, CLOSED_AT_THE_DEADLINE);
@@ -133,9 +134,9 @@ in 1 1001000 LIST
 > 1 ROUTES_3
 ";
 
-/// A replayed command, or a register command with a wrong tag, does not extend any route, and is
-/// not counted in the version of the list. The command `rib/list` is unknown, but it is allowed, so
-/// it is counted.
+/// A replayed command, or a register command with a wrong tag, does not extend any route, and does
+/// not increase the version of the list of routes. The unknown command `rib/list` increases the
+/// version, since the rules allow it.
 #[test]
 fn denied_registers_change_nothing(rt: HostRuntime) {
     replies(&rt, REFUSED_COMMANDS);

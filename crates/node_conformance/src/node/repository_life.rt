@@ -1,5 +1,5 @@
-//! What the repository requests, stores and serves, which does not depend on the capacity of the
-//! cache.
+//! Tests of what the repository requests, stores and serves. The capacity of the cache makes no
+//! difference.
 
 use super::replies_under;
 use std::process::Abort;
@@ -39,8 +39,8 @@ in 1 1000000 CHECK
 > 1 NOT_FOUND
 ";
 
-/// An insert requests a Data, which is then stored, served and deleted, and is not found
-/// afterwards.
+/// After an insert command, the repository requests a Data, stores it and serves it. After a delete
+/// command, the Data is not found.
 #[test]
 fn from_insert_to_delete(rt: HostRuntime) {
     replies_with_each_cache(&rt, FROM_INSERT_TO_DELETE);

@@ -23,8 +23,8 @@ in 1 1000180 AGAIN
 > 1 D_A
 ";
 
-/// An Interest follows a route that a command has set, and the Data comes back once. After the face
-/// of the route has closed, the cached Data answers another Interest.
+/// An Interest is forwarded along a route that a command has set, and the Data is sent back once.
+/// After the face of the route has closed, the cached Data answers another Interest.
 #[test]
 fn a_route_and_back(rt: HostRuntime) {
     replies(&rt, A_ROUTE_AND_BACK);
@@ -64,9 +64,9 @@ in 1 1000000 LIST_2
 12 dropped NoSegment
 ";
 
-/// A route needs an open face. The version of the list of routes increases with each allowed
-/// command, and when the face of a route closes. An Interest for an older version, or for a segment
-/// that the list does not have, is dropped.
+/// A command can set a route only on an open face. The version of the list of routes increases with
+/// each allowed command, and when the face of a route closes. An Interest for an older version of
+/// the list, or for a segment that the list does not have, is dropped.
 #[test]
 fn route_command_and_list(rt: HostRuntime) {
     replies(&rt, ROUTE_COMMAND_AND_LIST);

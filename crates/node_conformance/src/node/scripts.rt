@@ -57,7 +57,7 @@ fn shown_outcome(alloc: Global, script: &str) -> Option<String> {
     came.as_str().replace(alloc, '\n', "|").ok()
 }
 
-/// Does the same as `shown_outcome` for a script with `|` for each LF.
+/// Returns what `shown_outcome` returns for a script in which `|` stands for each LF.
 fn played(alloc: Global, script: &str) -> Option<String> {
     let script = script.replace(alloc, '|', "\n").ok()?;
     shown_outcome(alloc, script.as_str())
@@ -77,13 +77,13 @@ fn line_of(alloc: Global, len: usize, rest: &str) -> Option<String> {
     Some(script)
 }
 
-/// Returns the result of a line of `len` octets followed by `rest`.
+/// Returns what `played` returns for a line of `len` octets followed by `rest`.
 fn played_line(alloc: Global, len: usize, rest: &str) -> Option<String> {
     let script = line_of(alloc, len, rest)?;
     played(alloc, script.as_str())
 }
 
-/// Returns whether a line of `len` octets followed by `rest` has this result.
+/// Returns whether `played` returns `wanted` for a line of `len` octets followed by `rest`.
 fn line_comes_to(alloc: Global, len: usize, rest: &str, wanted: &str) -> bool {
     played_line(alloc, len, rest).as_deref() == Some(wanted)
 }

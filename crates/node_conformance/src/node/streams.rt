@@ -74,7 +74,7 @@ fn reads(alloc: Global, script: &str, size: usize, fails: bool, answers: &str) -
     end == Some(wanted) && output.as_slice() == answers.as_bytes()
 }
 
-/// Checks that `reads` is true of a script for each `size` from 1 to 100.
+/// Checks that `reads` returns true for each `size` from 1 to 100.
 fn check_pieces(rt: &(impl Abort + AllocGlobal), script: &str, fails: bool, answers: &str) {
     for size in 1..101 {
         assert!(rt;
@@ -105,8 +105,8 @@ pub fn end_in(alloc: Global, script: &str, output: &mut Room) -> Option<Result<(
     Some(run_script(alloc, &mut script.as_bytes(), output, parts(alloc)?))
 }
 
-/// Returns whether `end` and `written` are right for an output with capacity for `left` octets. If
-/// the answers are longer, only their first `left` octets may be written, and writing must fail.
+/// Returns whether `end` and `written` are right for an output that accepts `left` octets. If the
+/// answers are longer, only their first `left` octets may be written, and writing must fail.
 fn is_end(end: Option<Result<(), RunFault>>, written: &[u8], left: usize, answers: &[u8]) -> bool {
     let (wanted, len) = if left < answers.len() {
         (Err(RunFault::Write), left)
@@ -116,9 +116,8 @@ fn is_end(end: Option<Result<(), RunFault>>, written: &[u8], left: usize, answer
     end == Some(wanted) && written == &answers[..len]
 }
 
-/// Returns whether the answers to a script are written to an output with capacity for `left`
-/// octets. If the answers are longer, only their first `left` octets are written, and writing
-/// fails.
+/// Returns whether the answers to a script are written to an output that accepts `left` octets. If
+/// the answers are longer, only their first `left` octets must be written, and writing must fail.
 fn writes(alloc: Global, script: &str, size: usize, left: usize, answers: &[u8]) -> bool {
     let held = Vec::new(alloc);
     let mut output = Room { held, size, left };
@@ -126,7 +125,7 @@ fn writes(alloc: Global, script: &str, size: usize, left: usize, answers: &[u8])
     is_end(end, output.held.as_slice(), left, answers)
 }
 
-/// Checks that `writes` is true of a script for each `left` from 0 to 40.
+/// Checks that `writes` returns true for each `left` from 0 to 40.
 fn check_rooms(rt: &(impl Abort + AllocGlobal), script: &str, size: usize, answers: &[u8]) {
     for left in 0..41 {
         assert!(rt;

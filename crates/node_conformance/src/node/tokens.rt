@@ -1,6 +1,5 @@
 //! PIT tokens: a packet that is sent back to a face has the token of the Interest that it answers,
-//! and a packet that is forwarded has none. The packets and the answers in these dialogues are
-//! those of other dialogues, with tokens added.
+//! and a packet that is forwarded has none.
 
 use super::replies;
 
@@ -31,8 +30,8 @@ in 2 1000000 NO_ROUTE_OF_7F
 > 1 TOKEN_NO_ROUTE
 ";
 
-/// A Nack is sent back with the token of its Interest in three cases. There is no route, the
-/// Interest loops, or a Nack with another token came back for the Interest.
+/// A Nack is sent back with the token of its Interest if there is no route, if the Interest loops,
+/// or if a next hop has sent a Nack with another token.
 #[test]
 fn token_on_nack(rt: HostRuntime) {
     replies(&rt, NO_ROUTE_FOR_A_TOKEN);
@@ -63,9 +62,9 @@ in 3 1000000 TOKEN_AGAIN
 > 3 D_A_OF_7F
 ";
 
-/// The Interest is forwarded without its token. The Data is sent back with the token to the face
-/// whose Interest had the token, and without a token to the other face. A cached Data is sent back
-/// with the token of the Interest that it answers.
+/// An Interest is forwarded without its token. The Data is sent back with the token only to the
+/// face whose Interest had the token. A cached Data is sent back with the token of the Interest
+/// that it answers.
 #[test]
 fn token_on_data(rt: HostRuntime) {
     replies(&rt, DATA_FOR_A_TOKEN);
@@ -112,7 +111,8 @@ in 2 1000000 D_A
 > 1 D_A_OF_7F
 ";
 
-/// The token of a face's newest Interest counts; if that Interest has no token, none is sent.
+/// A face gets the Data with the token of the face's newest Interest. If the newest Interest has no
+/// token, the face gets the Data without a token.
 #[test]
 fn newer_interest_without_token(rt: HostRuntime) {
     replies(&rt, TOKEN_TAKEN_BACK);
@@ -161,7 +161,7 @@ in 1 1000000 TOKEN_INTEREST
 ";
 
 /// Replies to commands (also to denied commands), segments of lists, and objects of the repository
-/// are sent back with the token. The repository's own Interest has no token.
+/// are sent back with the token of the Interest. The repository's own Interest has no token.
 #[test]
 fn tokens_on_replies(rt: HostRuntime) {
     replies(&rt, REPLIES_FOR_A_TOKEN);
@@ -183,8 +183,8 @@ in 1 1000000 SET_MULTICAST_OF_32
 > 1 MULTICAST_SET_OF_32
 ";
 
-/// A packet with a token of 0 or 33 octets is dropped. A token of 32 octets is sent back. The last
-/// reply is a link packet of more than 252 octets.
+/// A packet with a token of 0 or 33 octets is dropped. A token of 32 octets is sent back. A reply
+/// with a token of 32 octets may need a link packet of more than 252 octets.
 #[test]
 fn tokens_of_other_lengths(rt: HostRuntime) {
     replies(&rt, TOKEN_LENGTHS);

@@ -89,7 +89,8 @@ fn handed_ports<'a>(
     UdpPorts::bind(rt, listen, &[], 0, Handed { moment, last: 0 }).ok()
 }
 
-/// Returns ports with one peer, whose face is Local if `local` is 1. Their clock shows this moment.
+/// Returns ports with one peer, whose face is Local if `local` is 1. The clock of the ports shows
+/// this moment.
 fn handed_ports_of<'a>(
     rt: &impl Net,
     listen: u16,
@@ -131,7 +132,7 @@ fn passes<M: Moments>(alloc: Global, node: &mut Node, ports: &mut UdpPorts<M>, t
         })
 }
 
-/// Returns whether the next arrival has this verdict.
+/// Takes a turn, and returns whether the node has this verdict on the arrival.
 fn says(alloc: Global, node: &mut Node, ports: &mut UdpPorts<Still>, verdict: Verdict) -> bool {
     serve_turn(node, ports, &mut Outbox::new(alloc)) == Ok(Turn::Done { verdict, failed: 0 })
 }
@@ -187,7 +188,7 @@ fn go_through(
         && hears(alloc, operator, "D_A")
 }
 
-/// Returns whether `go_through` is true of a node with two peers: the operator, which is Local, and
+/// Returns what `go_through` returns for a node with two peers: the operator, which is Local, and
 /// the producer.
 fn relays_between(
     rt: &(impl AllocGlobal + Net),
@@ -202,14 +203,14 @@ fn relays_between(
     Some(go_through(rt.alloc(), node, &mut ports, listen, operator, producer))
 }
 
-/// Returns whether `relays_between` is true of a node and two new sockets.
+/// Returns what `relays_between` returns for a node and two new sockets.
 fn relays(rt: &(impl AllocGlobal + Net), node: &mut Node) -> Option<bool> {
     let operator = bound_socket(rt)?;
     let producer = bound_socket(rt)?;
     relays_between(rt, node, &operator, &producer)
 }
 
-/// Returns whether `relays` is true of a new node.
+/// Returns what `relays` returns for a new node.
 fn is_relay(rt: &(impl AllocGlobal + Net)) -> Option<bool> {
     on_node(rt.alloc(), &|_, node| relays(rt, node))
 }
@@ -248,8 +249,8 @@ fn serves_soon(
     Some(soon && hears(alloc, client, "NO_ROUTE") && passes(alloc, node, ports, 2))
 }
 
-/// Returns whether `serve_turn_soon` takes no turn before a client sends, and `serves_soon` is true
-/// afterwards.
+/// Returns whether `serve_turn_soon` takes no turn before a client sends, and `serves_soon` returns
+/// true afterwards.
 fn waits_for_client(
     rt: &(impl AllocGlobal + Net),
     node: &mut Node,
@@ -263,14 +264,14 @@ fn waits_for_client(
     serves_soon(rt, node, ports, listen, &client)
 }
 
-/// Returns whether `waits_for_client` is true of a node at new ports.
+/// Returns what `waits_for_client` returns for a node at new ports.
 fn waits_at_new_ports(rt: &(impl AllocGlobal + Net), node: &mut Node) -> Option<bool> {
     let listen = free_port(rt)?;
     waits_for_client(rt, node, &mut still_ports(rt, listen)?, listen)
 }
 
-/// Returns whether `waits_at_new_ports` is true of a new node: `serve_turn_soon` takes turns only
-/// while a datagram waits, and `serve` can take further turns afterwards.
+/// Returns whether, on a new node, `serve_turn_soon` takes turns only while a datagram waits, and
+/// `serve` can take further turns afterwards.
 fn waits_for_a_short_time(rt: &(impl AllocGlobal + Net)) -> Option<bool> {
     on_node(rt.alloc(), &|_, node| waits_at_new_ports(rt, node))
 }
@@ -298,15 +299,15 @@ fn full_ports(rt: &(impl AllocGlobal + Net), listen: u16) -> Option<UdpPorts<Sti
     UdpPorts::bind(rt, listen, peers.as_slice(), 0, Still).ok()
 }
 
-/// Returns whether 64 faces open, no further face opens, and the packet that came is dropped.
+/// Returns whether a node opens 64 faces, opens no further face, and drops the packet that came.
 fn drops_for_want_of_a_face(alloc: Global, node: &mut Node, ports: &mut UdpPorts<Still>) -> bool {
     passes(alloc, node, ports, 64)
         && says(alloc, node, ports, Verdict::Dropped(DropReason::FacesFull))
         && says(alloc, node, ports, Verdict::Dropped(DropReason::NoFace))
 }
 
-/// Returns whether, if 64 peers have faces, no face opens for another client, and the packet of
-/// this client is dropped.
+/// Returns whether a node with faces of 64 peers opens no face for another client, and drops the
+/// client's packet.
 fn drops_the_next(rt: &(impl AllocGlobal + Net), node: &mut Node) -> Option<bool> {
     let listen = free_port(rt)?;
     let mut ports = full_ports(rt, listen)?;
@@ -314,7 +315,7 @@ fn drops_the_next(rt: &(impl AllocGlobal + Net), node: &mut Node) -> Option<bool
     Some(drops_for_want_of_a_face(rt.alloc(), node, &mut ports))
 }
 
-/// Returns whether `drops_the_next` is true of a new node.
+/// Returns what `drops_the_next` returns for a new node.
 fn has_no_face_left(rt: &(impl AllocGlobal + Net)) -> Option<bool> {
     on_node(rt.alloc(), &|_, node| drops_the_next(rt, node))
 }
@@ -344,7 +345,7 @@ fn drops_9001(rt: &(impl AllocGlobal + Net), node: &mut Node) -> Option<bool> {
     Some(drops_as_too_long(rt.alloc(), node, &mut ports))
 }
 
-/// Returns whether `drops_9001` is true of a new node.
+/// Returns whether a new node drops a datagram of 9,001 octets as too long.
 fn is_too_long(rt: &(impl AllocGlobal + Net)) -> Option<bool> {
     on_node(rt.alloc(), &|_, node| drops_9001(rt, node))
 }
@@ -366,7 +367,7 @@ fn udp_failures(rt: HostRuntime) {
     assert!(rt; counts_failures(&rt) == Some(true));
 }
 
-/// Returns whether a port that another socket is bound to cannot be bound.
+/// Returns whether binding to a port fails if a socket is already bound to this port.
 fn is_taken(rt: &impl Net) -> Option<bool> {
     let socket = bound_socket(rt)?;
     let port = port_of(&socket)?;
@@ -423,14 +424,14 @@ fn open_for(ports: &mut UdpPorts<Moving>, first: &UdpSocket, second: &UdpSocket)
     )
 }
 
-/// Returns whether `open_for` is true of ports and two new clients.
+/// Returns what `open_for` returns for ports and two new clients.
 fn open_for_two(rt: &impl Net, ports: &mut UdpPorts<Moving>, listen: u16) -> Option<bool> {
     let first = send_one(rt, listen, b"1").ok()?;
     let second = send_one(rt, listen, b"22").ok()?;
     open_for(ports, &first, &second)
 }
 
-/// Returns whether `open_for_two` is true of new ports.
+/// Returns what `open_for_two` returns for new ports.
 fn open_themselves(rt: &impl Net) -> Option<bool> {
     let listen = free_port(rt)?;
     open_for_two(rt, &mut moving_ports(rt, listen)?, listen)
@@ -482,9 +483,9 @@ fn brings_end<M: Moments>(ports: &mut UdpPorts<M>, closed: u64, at: u64) -> bool
     )
 }
 
-/// Lets 200 clients send a packet, one after the other. Each client but the first sends when the
-/// face of the client before has been silent for 600 seconds and must close. Returns how many
-/// clients are answered.
+/// Lets 200 clients send a packet, one after the other. Each client after the first sends when the
+/// face of the previous client has been silent for 600 seconds and must close. Returns the number
+/// of clients that are answered.
 fn answered_at(
     rt: &(impl AllocGlobal + Net),
     node: &mut Node,
@@ -503,7 +504,7 @@ fn answered_at(
     answered
 }
 
-/// Returns how many clients a node answers at new ports.
+/// Returns the number of clients that a node answers at new ports.
 fn answered_by(rt: &(impl AllocGlobal + Net), node: &mut Node, moment: &Cell<u64>) -> Option<u64> {
     let listen = free_port(rt)?;
     let mut ports = handed_ports(rt, listen, moment)?;
@@ -521,7 +522,7 @@ fn node_answers(
     Some(answered_by(rt, node, moment)? == clients)
 }
 
-/// Returns whether `node_answers` is true of a new node.
+/// Returns whether a new node answers this many clients at new ports.
 fn answers_clients(
     rt: &(impl AllocGlobal + Net),
     moment: &Cell<u64>,
@@ -555,7 +556,7 @@ fn keeps_peer_alone(
     Some(opened && kept && opens(ports, 3, 86_400_000, 86_400_000, 3))
 }
 
-/// Returns whether `keeps_peer_alone` is true of new ports, this peer and a new client.
+/// Returns what `keeps_peer_alone` returns for new ports, this peer and a new client.
 fn keeps_producer(rt: &impl Net, moment: &Cell<u64>, producer: &UdpSocket) -> Option<bool> {
     let peer = port_of(producer)?;
     let listen = free_port(rt)?;
@@ -565,7 +566,7 @@ fn keeps_producer(rt: &impl Net, moment: &Cell<u64>, producer: &UdpSocket) -> Op
     keeps_peer_alone(&mut ports, moment, listen, producer, &client)
 }
 
-/// Returns whether `keeps_producer` is true of a new peer.
+/// Returns what `keeps_producer` returns for a new peer.
 fn keeps_peer(rt: &impl Net, moment: &Cell<u64>) -> Option<bool> {
     keeps_producer(rt, moment, &bound_socket(rt)?)
 }
@@ -577,8 +578,8 @@ fn udp_silent_peer(rt: HostRuntime) {
     assert!(rt; keeps_peer(&rt, &Cell::new(0)) == Some(true));
 }
 
-/// A datagram of face 2 comes in time. Face 1 closes first, and the idle time of face 2 ends before
-/// the datagram is received. Returns whether the datagram is received.
+/// Sends a datagram on face 2 before the idle time of face 2 ends. Before the datagram is received,
+/// face 1 closes and the idle time of face 2 ends. Returns whether the datagram is received.
 fn hears_in_time(
     ports: &mut UdpPorts<Handed<'_>>,
     moment: &Cell<u64>,
@@ -592,7 +593,7 @@ fn hears_in_time(
     Some(opened && closed && brings_packet(ports, 2, 1_001, 3))
 }
 
-/// Returns whether face 1 opens for a silent client, and `hears_in_time` is true of a second
+/// Returns whether face 1 opens for a silent client, and `hears_in_time` returns true for a second
 /// client.
 fn hears_beside(
     rt: &impl Net,
@@ -609,8 +610,8 @@ fn hears_beside(
     hears_in_time(ports, moment, &client)
 }
 
-/// Returns whether `hears_beside` is true of new ports that close a face after 1,000 milliseconds
-/// of silence.
+/// Returns what `hears_beside` returns for new ports that close a face after 1,000 milliseconds of
+/// silence.
 fn hears_what_waits(rt: &impl Net, moment: &Cell<u64>) -> Option<bool> {
     let listen = free_port(rt)?;
     let mut ports = handed_ports(rt, listen, moment)?;
@@ -635,8 +636,9 @@ fn open_all<M: Moments>(ports: &mut UdpPorts<M>, faces: u64, at: u64) -> bool {
     true
 }
 
-/// Returns whether nothing can be sent to a 65th port if the client at the 64th port was silent for
-/// 9,999 milliseconds. After 10,000 milliseconds the client's face must close to make room.
+/// Returns whether a send to a 65th port fails if the client at the 64th port was silent for 9,999
+/// milliseconds. After 10,000 milliseconds the client's face must close, and a send to the 65th
+/// port must succeed.
 fn gives_way(
     ports: &mut UdpPorts<Handed<'_>>,
     moment: &Cell<u64>,
@@ -675,7 +677,7 @@ fn almost_full_ports<'a>(
     UdpPorts::bind(rt, listen, peers.as_slice(), 0, Handed { moment, last: 0 }).ok()
 }
 
-/// Returns whether `gives_way` is true of two new sockets.
+/// Returns what `gives_way` returns for two new sockets.
 fn makes_room(
     rt: &impl Net,
     ports: &mut UdpPorts<Handed<'_>>,
@@ -687,7 +689,7 @@ fn makes_room(
     gives_way(ports, moment, &client, &newcomer)
 }
 
-/// Returns whether `makes_room` is true of new ports with 63 peers.
+/// Returns what `makes_room` returns for new ports with 63 peers.
 fn is_room_made(rt: &(impl AllocGlobal + Net), moment: &Cell<u64>) -> Option<bool> {
     let listen = free_port(rt)?;
     let mut ports = almost_full_ports(rt, listen, moment)?;
@@ -695,8 +697,8 @@ fn is_room_made(rt: &(impl AllocGlobal + Net), moment: &Cell<u64>) -> Option<boo
     makes_room(rt, &mut ports, moment, listen)
 }
 
-/// A face that was silent for 10 seconds closes to make room for a 65th port, but a face that was
-/// silent for 9,999 milliseconds does not.
+/// A face that was silent for 10 seconds closes to make room for the face of a 65th port, but a
+/// face that was silent for 9,999 milliseconds stays open.
 #[test]
 fn udp_gives_way(rt: HostRuntime) {
     assert!(rt; is_room_made(&rt, &Cell::new(0)) == Some(true));
@@ -726,7 +728,7 @@ fn goes_until_closed(
         && hears(alloc, operator, "NO_ROUTE")
 }
 
-/// Returns whether `goes_until_closed` is true of new ports with one peer, the operator.
+/// Returns what `goes_until_closed` returns for new ports with one peer, the operator.
 fn loses_route_to(
     rt: &(impl AllocGlobal + Net),
     node: &mut Node,
@@ -742,7 +744,7 @@ fn loses_route_to(
     Some(goes_until_closed(alloc, node, &mut ports, moment, listen, operator, producer))
 }
 
-/// Returns whether `loses_route_to` is true of a node and two new sockets.
+/// Returns what `loses_route_to` returns for a node and two new sockets.
 fn node_loses_route(
     rt: &(impl AllocGlobal + Net),
     node: &mut Node,

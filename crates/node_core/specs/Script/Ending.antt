@@ -9,8 +9,8 @@ use Rattle.forwarder.specs.declared.node.NodeFault.TheVariants as node
 use Rattle.node_core.specs.declared.script.RunFault.{RunFault}
 use Rattle.node_core.specs.declared.script.RunFault.TheVariants as fault
 
--- a prefix of these octets, possibly empty, was appended to the octets `old`; nothing is stated if
--- the octets `old` are not known
+-- a prefix of these octets, possibly empty, was appended to `old`; nothing is stated if `old` is
+-- not known (None)
 abbrev pub AppendsFront : Option (List ℕ) → Option (List ℕ) → List ℕ → Type 0
 AppendsFront old new octets =
     (front back : List ℕ) × (octets ≡ front ++ back) × Appends old new front
@@ -24,19 +24,22 @@ ComesWithGoodParts fault.Read = Unit {0}
 ComesWithGoodParts fault.Write = Unit {0}
 ComesWithGoodParts fault.Memory = Unit {0}
 
--- The script was read to its end, and the text of the outcomes of its events was written. What was
--- read and what was written is stated only if the octets of the reader and those of the writer are
--- known.
+-- The script was read to its end, and the text of the outcomes of its events was written. The
+-- octets that the reader still has to read are `unread` before and `left` afterwards. If they are
+-- not known (None), nothing is stated about what was read. The octets of the writer are `held`
+-- before and `holds` afterwards. If they are not known (None), nothing is stated about what was
+-- written.
 abbrev pub Ends : NodeState → Option (List ℕ) → Option (List ℕ) → Option (List ℕ)
     → Option (List ℕ) → Type 0
 Ends first unread left held holds =
     (events : List PlainEvent) × (text : List ℕ) × IsTextOfRun first events text
     × Appends held holds text × IfSome unread (λ script. IsScript script events) × IsAtEnd left
 
--- What was written before the fault, if the octets of the reader and of the writer are known.
--- `BadLine`: the answers to the lines before the first bad line. `Read`: the answers to the whole
--- lines that were read. `Write` and `Memory`: a prefix of the answers to some first lines. `Node`:
--- nothing was read or written.
+-- What was written before the fault. If the octets of the reader or of the writer are not known
+-- (None), nothing is stated about these octets. `BadLine`: the answers to the lines before the
+-- first bad line were written. `Read`: the answers to the whole lines that were read were written.
+-- `Write` and `Memory`: a prefix of the answers to the lines at the beginning of the script was
+-- written. `Node`: nothing was read or written.
 abbrev pub Stops : NodeState → RunFault → Option (List ℕ) → Option (List ℕ) → Option (List ℕ)
     → Option (List ℕ) → Type 0
 Stops first (fault.BadLine n) unread left held holds =

@@ -71,8 +71,8 @@ IsSkipped line = IsShort line × SaysNothing line
 abbrev pub IsEventLine : PlainEvent → List ℕ → Type 0
 IsEventLine event line = IsShort line × LineSpells event line
 
--- the line is not skipped, as an empty line or a comment is, and spells no event; a line of more
--- than 20,000 octets is always bad
+-- the line is neither a skipped line nor the line of an event; a line of more than 20,000 octets is
+-- always bad
 abbrev pub IsBadLine : List ℕ → Type 0
 IsBadLine line = (IsSkipped line → ⊥) × ((event : PlainEvent) → IsEventLine event line → ⊥)
 

@@ -57,8 +57,8 @@ pub record PlaysEvent (event : PlainEvent) (from to : Place) (text : List ℕ) :
   pub events : to.events ≡ from.events + 1
 
 -- Running the lines leads from the state `from` to the state `to`, which also counts these lines
--- and their events. `text` is the text of the outcomes, and the numbers of the events follow those
--- of `from`.
+-- and their events. `text` is the text of the outcomes. The number of the first event is one more
+-- than `from.events`.
 pub record Plays (lines : List (List ℕ)) (from to : Place) (text : List ℕ) : Type 0 where
   pub events : List PlainEvent
   pub outcomes : List Outcome
@@ -78,10 +78,10 @@ LineFails fault.Write line from = ⊥
 LineFails fault.Read line from = ⊥
 LineFails (fault.Node _) line from = ⊥
 
--- The possible faults of running one line in the state `from`. `BadLine`, with the number of this
--- line if it is bad, and `Memory`: nothing was written. `Write`: a prefix of the text of the
--- outcome was written. Nothing is stated about what was written if the octets of the writer are not
--- known.
+-- The possible faults of running one line in the state `from`. `BadLine` with the number of the
+-- line: the line is bad, and nothing was written. `Memory`: nothing was written. `Write`: a prefix
+-- of the text of the outcome was written. The octets of the writer are `held` before and `holds`
+-- afterwards. If they are not known (None), nothing is stated about what was written.
 abbrev pub LineStops : RunFault → List ℕ → Place → Option (List ℕ) → Option (List ℕ) → Type 0
 LineStops (fault.BadLine n) line from held holds =
     (n ≡ from.lines + 1) × IsBadLine line × Keeps held holds
@@ -91,8 +91,9 @@ LineStops fault.Memory line from held holds = Keeps held holds
 LineStops fault.Read line from held holds = ⊥
 LineStops (fault.Node _) line from held holds = ⊥
 
--- The faults of appending octets to an unfinished line, where `line` is the longer line. `BadLine`,
--- with the number of this line: `line` has more than 20,000 octets. `Memory` is always possible.
+-- The possible faults of appending octets to an unfinished line. `line` is the line with the
+-- appended octets. `BadLine` with the number of the line: `line` has more than 20,000 octets.
+-- `Memory` is always possible.
 abbrev pub AddStops : RunFault → List ℕ → Place → Type 0
 AddStops (fault.BadLine n) line from = (n ≡ from.lines + 1) × (20000 < length line)
 AddStops fault.Memory line from = Unit {0}
@@ -100,15 +101,17 @@ AddStops fault.Write line from = ⊥
 AddStops fault.Read line from = ⊥
 AddStops (fault.Node _) line from = ⊥
 
--- whatever octets follow `stream`, the text begins with these lines, and the next line is bad
+-- for all octets `more`, the text `stream ++ more` begins with these lines, and the line after
+-- these lines is bad
 abbrev pub TurnsBad : List ℕ → List (List ℕ) → Type 0
 TurnsBad stream lines = (more : List ℕ) → (line rest : List ℕ)
     × (ended (stream ++ more) ≡ joined lines ++ (ended line ++ rest)) × Lacks 10 line
     × IsBadLine line
 
--- The possible faults of handling the octets `stream` in the state `from`. They also tell what was
--- written, if the octets of the writer are known. `BadLine`: the answers to the lines before the
--- bad line. `Write` and `Memory`: a prefix of the answers to some first lines of `stream`.
+-- The possible faults of handling the octets `stream` in the state `from`. The octets of the writer
+-- are `held` before and `holds` afterwards. If they are not known (None), nothing is stated about
+-- what was written. `BadLine`: the answers to the lines before the bad line were written. `Write`
+-- and `Memory`: a prefix of the answers to the lines at the beginning of `stream` was written.
 abbrev pub FeedStops : RunFault → List ℕ → Place → Option (List ℕ) → Option (List ℕ) → Type 0
 FeedStops (fault.BadLine n) stream from held holds =
     (lines : List (List ℕ)) × (to : Place) × (text : List ℕ) × Plays lines from to text

@@ -48,7 +48,7 @@ abbrev pub result_text : List PlainRule → Result code.Verdict Memory → List 
 result_text rules (Ok said) = verdict_text rules (verdict_of said)
 result_text rules (Err _) = codes "memory"
 
--- hexadecimal in lower case, or a dash for no octets
+-- the octets in lower-case hexadecimal, or a dash if there are no octets
 abbrev pub hex_word : List ℕ → List ℕ
 hex_word [] = codes "-"
 hex_word (o ∷ octets) = encode_lower (o ∷ octets)

@@ -4,8 +4,8 @@ ghost use Rattle.std.specs.Io.KnownBytes.{Consumes, Keeps, IsAtEnd};
 use crate::script::RunFault;
 use std::io::{ErrorKind, Read};
 
-/// Reads octets into `chunk`. Returns their number, or 0 if the read was interrupted. Returns
-/// `None` at the end of the input.
+/// Reads octets into `chunk`. Returns the number of octets that were read, or 0 if the read was
+/// interrupted. Returns `None` at the end of the input.
 pub fn read_some<R: Read>(reader: &mut R, chunk: &mut [u8]) -> Result<Option<usize>, RunFault>
     requires { 0 < length chunk.old }
     ensures bound { IfOk result (λ read. IfSome read (λ count. count ≤ length chunk.new)) }

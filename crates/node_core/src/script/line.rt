@@ -26,7 +26,7 @@ pub enum Line {
     Bad,
 }
 
-/// Reads a line without its LF.
+/// Reads a line of a script. The LF at the end of the line is not part of `line`.
 pub fn line_of(alloc: Global, line: &[u8]) -> Result<Line, Memory>
     ensures { IfOk result (λ said. LineIs said line.now) }
 {

@@ -6,8 +6,8 @@ use crate::script::RunFault;
 use std::io::{ErrorKind, Write};
 
 /// Writes all the octets. Returns `Write` if the writer fails, accepts no octets or was called
-/// 4,294,967,295 times. If it returns `Write`, a prefix of the octets may have been written. An
-/// interrupted call is tried again.
+/// 4,294,967,295 times. On failure, a prefix of the octets may have been written. An interrupted
+/// call is tried again.
 pub fn put_all<W: Write>(writer: &mut W, octets: &[u8]) -> Result<(), RunFault>
     ensures done { OnOk result
         (Appends (W.contents writer.old) (W.contents writer.new) octets.now) }

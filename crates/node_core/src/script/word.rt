@@ -26,7 +26,7 @@ pub fn cut(text: &[u8], at: u8) -> Option<(&[u8], &[u8])>
 }
 
 /// Splits the text at the first LF. Returns the octets before and after that LF, or `None` if the
-/// text has no LF. It is faster than `cut` for long lines.
+/// text has no LF. `cut_line` is faster than `cut` for long lines.
 pub fn cut_line(text: &[u8]) -> Option<(&[u8], &[u8])>
     ensures found { IfSome result
         (λ parts. (text.now ≡ parts.0.now ++ (10 ∷ parts.1.now)) × Lacks 10 parts.0.now) }
@@ -101,8 +101,9 @@ pub fn octets_of(alloc: Global, word: &[u8]) -> Result<Option<Vec<u8>>, Memory>
 }
 
 /// Decodes each pair of hexadecimal digits to one octet of `octets`. Returns whether each octet of
-/// `digits` is a hexadecimal digit. If one is not, the content of `octets` is unspecified. All
-/// digits are always processed, so that the loop has no early exit.
+/// `digits` is a hexadecimal digit. If an octet of `digits` is not a hexadecimal digit, the content
+/// of `octets` is unspecified. The loop has no early exit: it processes all digits, even after an
+/// octet that is not a digit.
 fn fill(octets: &mut [u8], digits: &[u8]) -> bool
     requires { length digits.now ≡ 2 * length octets.old }
     ensures found { IsTrue result → decode_pairs 0 digits.now ≡ Ok octets.new }

@@ -1,9 +1,11 @@
-//! Tests which commands are fresh, by the present time and by the commands recorded before.
+//! Tests that show which commands are fresh. Freshness depends on the present time and on the
+//! commands that were recorded before.
 
 use super::freshness;
 use crate::rows::check_rows;
 
-/// A command's time is at most 120,000 milliseconds before or after the present time.
+/// A command is fresh only if its time is at most 120,000 milliseconds before or after the present
+/// time.
 #[test]
 fn at_most_120_seconds_from_the_present(rt: HostRuntime) {
     let rows = "
@@ -44,7 +46,8 @@ fn a_command_without_a_number_forgets_no_number(rt: HostRuntime) {
     check_rows(&rt, rt.alloc(), rows, freshness);
 }
 
-/// The first number after commands without a number is recorded, and 0 is a number.
+/// The first sequence number is recorded even if earlier commands of the signer had none. Zero is a
+/// sequence number like any other.
 #[test]
 fn a_number_after_none_counts(rt: HostRuntime) {
     let rows = "
@@ -87,7 +90,7 @@ digest 0 0, ? / 0 0 0 -> fresh
     check_rows(&rt, rt.alloc(), rows, freshness);
 }
 
-/// The least and greatest times and numbers.
+/// The rules for freshness also apply to the least and the greatest times and numbers.
 #[test]
 fn ends_of_time_and_of_numbers(rt: HostRuntime) {
     let rows = "

@@ -1,6 +1,7 @@
-//! Tests that compare the matching of patterns with a simple program. This program tries all ways
-//! to split the components of a name among the atoms of a pattern, from the greatest split to the
-//! least.
+//! Tests that compare the matching of patterns with a simple program. The simple program tries all
+//! ways to split the components of a name among the atoms of a pattern. Each split is a list of
+//! counts, one for each atom: the number of components that the atom gets. The lists are tried in
+//! descending lexicographic order.
 
 use name_patterns::Pattern;
 use ndn_names::{Name, NameBuf};
@@ -9,7 +10,7 @@ use std::alloc::Global;
 /// The greatest number of atoms in a pattern of these tests, including two implied atoms.
 const ATOMS: usize = 6;
 
-/// The text of a test of a component, and the letters that pass the test.
+/// Each component test: its text in a pattern, and the letters that pass the test.
 const TESTS: [(&str, &[u8]); 6] = [
     ("<>", b"abc"),
     ("<a>", b"a"),
@@ -19,7 +20,7 @@ const TESTS: [(&str, &[u8]); 6] = [
     ("[^<b><a>]", b"c"),
 ];
 
-/// The text of a repeat, the least count, and the greatest count, if there is one.
+/// Each repeat: its text in a pattern, its least count, and its greatest count if it has one.
 const REPEATS: [(&str, usize, Option<usize>); 10] = [
     ("", 1, Some(1)),
     ("*", 0, None),
@@ -33,7 +34,8 @@ const REPEATS: [(&str, usize, Option<usize>); 10] = [
     ("{0,3}", 0, Some(3)),
 ];
 
-/// An atom: the letters that pass its test, and the bounds of its count.
+/// An atom: the letters that pass its component test, and the least and greatest count of its
+/// repeat.
 #[derive(Clone, Copy)]
 struct Spelled {
     letters: &'static [u8],
@@ -112,7 +114,7 @@ fn spell_next(numbers: &mut Numbers, sample: &mut Sample) -> Option<()> {
 
 impl Sample {
     /// Puts this anchor at one end of the pattern, or leaves the anchor out. Without the anchor,
-    /// the atom with this number is the implied one.
+    /// the atom with this number is an implied atom, which matches any components.
     fn put_end(&mut self, numbers: &mut Numbers, number: usize, anchor: &str) -> Option<()> {
         if numbers.below(2) == 0 {
             *self.atoms.get_mut(number)? = ANYTHING;
@@ -127,7 +129,7 @@ impl Sample {
         self.text.push_str("(").ok()
     }
 
-    /// Puts an atom, which gets this number.
+    /// Appends a random atom to the pattern, as the atom with this number.
     fn put_atom(&mut self, numbers: &mut Numbers, number: usize) -> Option<()> {
         let (test, letters) = *TESTS.get(numbers.below(6))?;
         let (repeat, least, most) = *REPEATS.get(numbers.below(10))?;
@@ -177,9 +179,9 @@ impl Spelled {
     }
 }
 
-/// Returns the greatest list of counts that splits the letters among the atoms. Tries the counts of
-/// the first atom from the greatest to the least, and takes the first count for which the other
-/// atoms have a split.
+/// Returns the list of counts that splits the letters among the atoms and is lexicographically
+/// greatest. Tries the counts of the first atom from the greatest to the least, and takes the first
+/// count for which the other atoms have a split.
 fn greatest_split(atoms: &[Spelled], letters: &[u8]) -> Option<[usize; ATOMS]> {
     let Some((atom, others)) = atoms.split_first() else {
         return letters.is_empty().then_some([0; ATOMS]);
@@ -218,7 +220,8 @@ fn agreed(
     agreed_on(&pattern, name.view(), atoms, group, letters)
 }
 
-/// Returns what `agreed` returns, for the pattern that was read and the name of the letters.
+/// Returns what `agreed` returns, for a pattern that was read and the name with one component for
+/// each letter.
 fn agreed_on(
     pattern: &Pattern,
     name: Name<'_>,

@@ -1,4 +1,4 @@
-//! Tests which names a pattern matches and which groups it captures.
+//! Tests that show which names a pattern matches and which groups it captures.
 
 use super::reading::is_read_so;
 use super::templates::is_made_so;
@@ -214,7 +214,8 @@ const GREEDY: &str = r"
 ^(<a>)<>*(<b>) at /a/b/a/b/a → 0-5 0-1 3-4
 ";
 
-/// Each atom, from left to right, matches as many components as possible.
+/// Each atom, from left to right, matches as many components as a match of the whole pattern
+/// allows.
 #[test]
 fn greedy(rt: HostRuntime) {
     assert_right(&rt, first_wrong(rt.alloc(), GREEDY, is_matched_so));
@@ -256,7 +257,8 @@ const MANY_GROUPS: &str = r"
 (<a>?)(<a>?)(<a>?)(<a>?)(<a>?)(<a>?)(<a>?)(<a>?)(<a>?) → 9 groups
 ";
 
-/// A pattern may have 32 written atoms, two implied atoms beside them, and 9 groups.
+/// A pattern may have 32 written atoms, and two implied atoms in addition. A pattern may have 9
+/// groups.
 #[test]
 fn many_atoms(rt: HostRuntime) {
     assert_right(&rt, first_wrong(rt.alloc(), MANY_ATOMS, is_matched_so));
@@ -283,7 +285,7 @@ const EXAMPLES: &str = r"
 ^[^<a>]$ at /b → 0-1
 ";
 
-/// Further examples of `docs/RULES.md`.
+/// The patterns of further examples in `docs/RULES.md` match as that page says.
 #[test]
 fn examples_for_operators(rt: HostRuntime) {
     assert_right(&rt, first_wrong(rt.alloc(), EXAMPLES, is_matched_so));

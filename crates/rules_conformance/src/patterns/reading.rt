@@ -1,4 +1,4 @@
-//! Tests which texts are patterns, and the faults of other texts.
+//! Tests that show which texts are patterns, and which faults other texts have.
 
 use crate::rows::assert_right;
 use name_patterns::{Pattern, PatternFault};
@@ -329,8 +329,8 @@ const FIRST_FAULT: &str = r"
 [<a*>]{3,2} → Syntax(0)
 ";
 
-/// If several items are faulty, the fault of the leftmost item is reported. If this item has
-/// several faults, `Syntax` is reported before `Inner`.
+/// If several parts of a pattern are faulty, the fault of the leftmost part is reported. If one
+/// part has several faults, `Syntax` is reported rather than `Inner`.
 #[test]
 fn first_fault(rt: HostRuntime) {
     assert_right(&rt, first_wrong(rt.alloc(), FIRST_FAULT, is_read_so));

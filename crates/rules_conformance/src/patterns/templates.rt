@@ -1,4 +1,4 @@
-//! Tests which texts are templates, and the names that they expand to.
+//! Tests that show which texts are templates, and which names the templates expand to.
 
 use crate::rows::assert_right;
 use name_patterns::{Pattern, PatternFault, Template};
@@ -6,9 +6,9 @@ use ndn_names::{Name, NameBuf, NameFault};
 use std::alloc::Global;
 use test_support::first_wrong;
 
-/// Expands a template at a name that the pattern matches. Returns the template's fault if the
-/// template is not valid. Returns `None` if the pattern does not match, or if `is_too_long`
-/// disagrees with the expansion.
+/// Expands a template with the components of a name that the pattern captures. Returns the
+/// template's fault if the template is not valid. Returns `None` if the pattern does not match, or
+/// if `is_too_long` disagrees with the expansion.
 fn expanded(
     alloc: Global,
     pattern: &Pattern,
@@ -27,7 +27,7 @@ fn expanded(
     }
 }
 
-/// Returns the URI of a template's expansion at a name, or the fault of the name that would be too
+/// Returns the URI of the name that a template expands to, or the fault if this name would be too
 /// long. Returns `None` if the pattern, the name or the template is not valid, if the pattern does
 /// not match, or if `is_too_long` disagrees with the expansion.
 fn made(alloc: Global, pattern: &str, name: &str, template: &str) -> Option<String> {
@@ -126,7 +126,7 @@ fn faults(rt: HostRuntime) {
     assert_right(&rt, first_wrong(rt.alloc(), FAULTS, is_template_so));
 }
 
-/// In these rows the pattern is empty. It matches every name.
+/// In these rows the pattern is empty, so it matches every name.
 const LONG_EXPANSIONS: &str = r"
  at /a/a/a/a/a/a/a/a/a/a/a/a/a/a/a/a/a/a/a/a/a/a/a/a/a/a/a/a/a/a/a/a/a/a/a/a/a/a/a/a/a/a/a/a/a/a/a/a/a/a/a/a/a/a/a/a/a/a/a/a/a/a/a/a by \0 → /a/a/a/a/a/a/a/a/a/a/a/a/a/a/a/a/a/a/a/a/a/a/a/a/a/a/a/a/a/a/a/a/a/a/a/a/a/a/a/a/a/a/a/a/a/a/a/a/a/a/a/a/a/a/a/a/a/a/a/a/a/a/a/a
  at /a/a/a/a/a/a/a/a/a/a/a/a/a/a/a/a/a/a/a/a/a/a/a/a/a/a/a/a/a/a/a/a/a/a/a/a/a/a/a/a/a/a/a/a/a/a/a/a/a/a/a/a/a/a/a/a/a/a/a/a/a/a/a by \0<x> → /a/a/a/a/a/a/a/a/a/a/a/a/a/a/a/a/a/a/a/a/a/a/a/a/a/a/a/a/a/a/a/a/a/a/a/a/a/a/a/a/a/a/a/a/a/a/a/a/a/a/a/a/a/a/a/a/a/a/a/a/a/a/a/x
@@ -144,8 +144,8 @@ fn long_expansions(rt: HostRuntime) {
     assert_right(&rt, first_wrong(rt.alloc(), LONG_EXPANSIONS, is_made_so));
 }
 
-/// Returns whether a template expands to five components at /A/KEY. Running out of memory is also
-/// accepted.
+/// Returns whether a template expands to a name of five components, if the pattern `<KEY>` is
+/// matched with the name /A/KEY. Running out of memory is also accepted.
 fn is_made_unless_memory(alloc: Global) -> bool {
     let pattern = match Pattern::read(alloc, "<KEY>") {
         Ok(pattern) => pattern,

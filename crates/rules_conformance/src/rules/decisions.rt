@@ -97,9 +97,9 @@ fn decided(alloc: Global, rules: &Rules, keys: &str, octets: &[u8]) -> Option<De
     rules.decide(alloc, &keys, packet).ok()
 }
 
-/// Returns the decision of a rule file on a packet, as `allowed 0`, `denied 0 Tag` or `no rule`.
-/// For `any` with a kind and a name, returns the first rule that applies, as `rule 0` or `no rule`.
-/// Returns `None` if an input is not valid.
+/// Returns the decision of a rule file on a packet, as `allowed 0`, `denied 0 Tag` or `no rule`. If
+/// `packet` is `any` with a kind and a name, returns the first rule that applies to them, as
+/// `rule 0` or `no rule`. Returns `None` if an input is not valid.
 pub fn told_of(alloc: Global, file: &str, keys: &str, packet: &str) -> Option<String> {
     let rules = typed_rules(alloc, file)?;
     match packet.strip_prefix("any ") {
@@ -247,7 +247,8 @@ interest /A by /ops/KEY/1 kez → denied 0 Tag
 interest /A by digest → denied 0 SigType
 ";
 
-/// All reasons for which a checker for HmacWithSha256 refuses a Data or an Interest.
+/// A checker for HmacWithSha256 refuses a Data or an Interest if the signature type, the KeyLocator
+/// or the tag is wrong, or if the key is unknown.
 #[test]
 fn reasons_of_keys(rt: HostRuntime) {
     assert_right(&rt, first_wrong_of(rt.alloc(), REASONS_OF_KEYS));
@@ -264,7 +265,7 @@ data /A by digest → allowed 0
 octets 062f070308014115017816031b01001720e4f0b5aed03446e702356a360c7194c208b8b6a28ff30de430f1baa08ba29267 → denied 0 Tag
 ";
 
-/// All reasons for which a checker for DigestSha256 refuses a packet.
+/// A checker for DigestSha256 refuses a packet if the signature type or the digest is wrong.
 #[test]
 fn reasons_of_digests(rt: HostRuntime) {
     assert_right(&rt, first_wrong_of(rt.alloc(), REASONS_OF_DIGESTS));
@@ -277,8 +278,8 @@ octets 0610070308014116071b01041c021d001700 → denied 0 KeyLocator
 octets 0610070308014116071b01041c0206001700 → denied 0 KeyLocator
 ";
 
-/// Signatures of type 4 without a KeyLocator, with a KeyDigest, and with a KeyLocator that contains
-/// an element of type 6.
+/// A checker for HmacWithSha256 refuses a signature without a KeyLocator, and a signature whose
+/// KeyLocator has a KeyDigest or another element instead of a Name.
 #[test]
 fn key_locators_that_are_no_names(rt: HostRuntime) {
     assert_right(&rt, first_wrong_of(rt.alloc(), NO_NAMES));
@@ -310,7 +311,7 @@ rule {␊ id a␊ for data␊ checker {␊ type customized␊ sig-type hmac-sha2
 data /A by /ops/KEY/1 kez → denied 0 Tag
 ";
 
-/// If several checkers give reasons, the greatest reason is reported.
+/// If several checkers refuse a packet, the reason that is last in the list `Reason` is reported.
 #[test]
 fn the_greatest_reason(rt: HostRuntime) {
     assert_right(&rt, first_wrong_of(rt.alloc(), GREATEST_REASON));
@@ -324,7 +325,8 @@ rule {␊ id a␊ for data }
 data /A by /ops/KEY/1 kez → denied 0 KeyLocator
 ";
 
-/// A rule whose checkers are for other signature types, and a rule without checkers.
+/// If no checker of a rule is for the packet's signature type, the packet is denied with the reason
+/// `SigType`. A rule without checkers denies a signed packet with the reason `KeyLocator`.
 #[test]
 fn no_checker_of_the_type(rt: HostRuntime) {
     assert_right(&rt, first_wrong_of(rt.alloc(), NO_CHECKER_OF_THE_TYPE));
@@ -335,7 +337,7 @@ rule {␊ id a␊ for data␊ checker {␊ type customized␊ sig-type rsa-sha25
 data /A by /ops/KEY/1 key → allowed 0
 ";
 
-/// A packet is allowed if one checker passes it.
+/// A packet is allowed if at least one checker of the rule accepts it.
 #[test]
 fn one_checker_passes(rt: HostRuntime) {
     assert_right(&rt, first_wrong_of(rt.alloc(), ONE_CHECKER));
@@ -350,8 +352,8 @@ octets 053007250801410220620e59c59d04596b40d4cbe11e875a127f928accec817bec4519ae7
 octets 053307280801410801420220620e59c59d04596b40d4cbe11e875a127f928accec817bec4519ae74d661f47a0a0401020304240170 → no rule
 ";
 
-/// An Interest without a signature is denied. Filters are matched with its name without the
-/// parameters digest.
+/// An Interest without a signature is denied. A filter is matched with the Interest's name without
+/// the parameters digest.
 #[test]
 fn interests_that_are_not_signed(rt: HostRuntime) {
     assert_right(&rt, first_wrong_of(rt.alloc(), NOT_SIGNED));
@@ -364,8 +366,8 @@ octets 0567072508014102204b517d4208fcf6ccf88fa54794a0898bf87bd1bd363776b41a1ffc2
 interest /A by /ops/KEY/1 key → denied 0 KeyLocator
 ";
 
-/// A signed Interest without a SignatureTime, and a signed Interest with one, both under a rule
-/// without a checker.
+/// A rule without checkers denies a signed Interest with the reason `Shape` if it has no
+/// SignatureTime, and with the reason `KeyLocator` otherwise.
 #[test]
 fn signed_interests(rt: HostRuntime) {
     assert_right(&rt, first_wrong_of(rt.alloc(), SIGNED_INTERESTS));
@@ -383,7 +385,8 @@ rule {␊ id a␊ for interest␊ filter {␊ type name␊ regex ^<A>$ }␊ chec
 octets 053c0728080141022041269ed42c4350afd5f68d9befb49e040be485700083988d7704c7e1ad57baaf0801420a040102030424002c061b01002801012e00 → no rule
 ";
 
-/// If the parameters digest is not the last component, the whole name is matched.
+/// If the parameters digest is not the last component of an Interest's name, filters are matched
+/// with the whole name.
 #[test]
 fn a_digest_inside_a_name(rt: HostRuntime) {
     assert_right(&rt, first_wrong_of(rt.alloc(), DIGEST_INSIDE));
@@ -468,7 +471,8 @@ data /a/b/x by /k/b key → denied 0 KeyLocator
 data /a/x/b by /l/b key → denied 0 KeyLocator
 ";
 
-/// Templates with components and several groups, and a key's name that does not match.
+/// The templates of a hyper-relation may have components and several groups. A key is refused if
+/// its name does not match the regular expression for keys.
 #[test]
 fn templates(rt: HostRuntime) {
     assert_right(&rt, first_wrong_of(rt.alloc(), TEMPLATES));
@@ -494,7 +498,7 @@ rule {␊ id a␊ for interest␊ checker {␊ type customized␊ sig-type hmac-
 interest /ops by /ops/KEY/1 key → allowed 0
 "#;
 
-/// For a hyper-relation, an Interest's name does not include its parameters digest.
+/// A hyper-relation uses the name of an Interest without the parameters digest.
 #[test]
 fn hyper_relations_of_interests(rt: HostRuntime) {
     assert_right(&rt, first_wrong_of(rt.alloc(), HYPER_OF_INTERESTS));
@@ -513,7 +517,8 @@ fn is_ops_decided(alloc: Global, keys: &str, wanted: &str) -> bool {
 }
 
 /// An Interest's signature covers the name before the digest, and the octets from the parameters
-/// on. With another key the tag is wrong, and without a key file line the key is unknown.
+/// on. If the key file has other octets for the key, the tag is wrong. If the key file has no line
+/// for the key, the key is unknown.
 #[test]
 fn both_parts_are_covered(rt: HostRuntime) {
     assert!(rt; is_ops_decided(rt.alloc(), "/ops/KEY 6b6579", "allowed 0"));

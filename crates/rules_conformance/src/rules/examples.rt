@@ -429,8 +429,8 @@ octets 060c070308014116031b01031700 → no rule
 octets 060c070308014116031b01051700 → no rule
 ";
 
-/// Data with signatures by RSA, ECDSA and Ed25519 can be read. The rule in `SHARED_PART` denies
-/// them, and the rule in `OPERATORS`, which is for Interests, does not apply.
+/// Data with RSA, ECDSA and Ed25519 signatures can be read. The rule in `SHARED_PART` denies these
+/// Data. The rule in `OPERATORS` does not apply to Data, since it is for Interests.
 #[test]
 fn other_signatures(rt: HostRuntime) {
     assert_right(
@@ -443,8 +443,8 @@ fn other_signatures(rt: HostRuntime) {
     );
 }
 
-/// Returns whether a Data is allowed. Running out of memory, before the decision or in it, is also
-/// accepted.
+/// Returns whether the rule in `SHARED_PART` allows a Data. Running out of memory before or during
+/// the decision is also accepted.
 fn is_allowed_unless_memory(alloc: Global) -> bool {
     let packet = "data /lab/roof/wind by /keys/roof/KEY/7 key";
     told_of(alloc, SHARED_PART, KEYS, packet).is_none_or(|told| told.as_str() == "allowed 0")

@@ -1,4 +1,4 @@
-//! Tests which texts are rule files, and the faults of texts that are not rule files.
+//! Tests that show which texts are rule files, and which faults other texts have.
 
 use crate::rows::{assert_right, check_rows};
 use info_rules::{InfoTree, Reason, Rules, RulesFault, RulesFaultKind};
@@ -38,7 +38,8 @@ fn is_told_between(alloc: Global, before: &str, row: &str, after: &str) -> bool 
     ))
 }
 
-/// Returns a text between two others, where symbols are replaced by what they stand for.
+/// Returns a text between two other texts, with symbols replaced by the characters that they stand
+/// for.
 fn typed_between(alloc: Global, before: &str, inner: &str, after: &str) -> Option<String> {
     let text = format!(in alloc; "{before}{inner}{after}").ok()?;
     typed(alloc, text.as_str())
@@ -224,7 +225,7 @@ rule {␊ id a␊ for data␊ checker {␊ type customized␊ key-locator {␊ t
 rule {␊ id a␊ for data␊ checker {␊ type customized␊ key-locator {␊ type name␊ regex <A>␊ name /A␊ hyper-relation } } } → 9 BadValue
 ";
 
-/// Key locators with several forms, one of which is a hyper-relation.
+/// A key locator with several forms is refused, even if one of the forms is a hyper-relation.
 #[test]
 fn a_hyper_relation_beside_another_form(rt: HostRuntime) {
     assert_right(&rt, first_wrong(rt.alloc(), TWO_FORMS, is_told_so));
@@ -454,7 +455,7 @@ Tag -> Tag: the octets were changed, or the two sides have different keys; compa
 Replay -> Replay: not newer than an allowed command, or the clocks differ; sign it again now
 ";
 
-/// The message for each reason of a denial.
+/// Each reason of a denial has a message that says what was wrong and what to do.
 #[test]
 fn texts_of_reasons(rt: HostRuntime) {
     check_rows(&rt, rt.alloc(), REASON_TEXTS, reason_text);

@@ -1,4 +1,4 @@
-//! Tests which entries a text has, and the faults of texts that cannot be read.
+//! Tests that show which entries a text has, and which faults unreadable texts have.
 
 use crate::rows::assert_right;
 use info_rules::{InfoTree, RulesFault, RulesFaultKind};

@@ -1,4 +1,4 @@
-//! One fresh Data under a name, among many stale Data.
+//! Tests of lookups that search one fresh Data among many stale Data.
 
 use super::{key_of, put_number, put_packet};
 use content_store::*;
@@ -11,11 +11,11 @@ use test_support::data_of;
 const COUNT: u32 = 2000;
 
 /// Puts a Data for each number: the fresh Data for the number `at`, and stale Data for all other
-/// numbers. Returns whether each of them is cached.
+/// numbers. Returns whether all of them are cached.
 fn put_all(alloc: Global, store: &mut Store, fresh: &[u8], at: u32) -> Option<bool> {
     let mut stale = data_of(alloc, "/n/0000", "01", Some(0))?;
     for step in 0..COUNT {
-        // The numbers are not in rising order.
+        // The numbers are not in ascending order.
         let number = step * 7 % COUNT;
         put_number(&mut stale, number);
         let packet = if number == at { fresh } else { &stale };
@@ -57,8 +57,8 @@ fn is_given_while_fresh(store: &mut Store, name: Name<'_>, fresh: &[u8]) -> Opti
     }
 }
 
-/// Puts the fresh Data with this number among Data that are never fresh. Returns whether each of
-/// them is cached, and then what `is_given_while_fresh` returns.
+/// Puts the fresh Data for the number `at`, and stale Data for all other numbers. Returns whether
+/// all of them are cached and `is_given_while_fresh` then returns true.
 fn is_found_among_stale(alloc: Global, store: &mut Store, fresh: &[u8], at: u32) -> Option<bool> {
     if !put_all(alloc, store, fresh, at)? {
         return Some(false);

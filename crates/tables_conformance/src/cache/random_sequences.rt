@@ -38,7 +38,7 @@ struct Held {
     arrival: u64,
 }
 
-/// What an Interest asks for.
+/// An Interest: the index of its name in `NAMES`, its flags and its time.
 #[derive(Clone, Copy)]
 struct Asked {
     name: usize,
@@ -73,7 +73,8 @@ fn all_made(alloc: Global) -> Option<Vec<Made>> {
     Some(all)
 }
 
-/// Returns whether the name `prefix` is a prefix of `name`. Both are indexes into `NAMES`.
+/// Returns whether the name `prefix` is a prefix of `name`. `name` and `prefix` are indexes into
+/// `NAMES`.
 fn is_under(name: usize, prefix: usize) -> bool {
     let (Some(name), Some(prefix)) = (NAMES.get(name), NAMES.get(prefix)) else {
         return false;
@@ -96,7 +97,8 @@ fn compare(made: &Made, other: &Made) -> Ordering {
         .then(made.digest.as_slice().cmp(other.digest.as_slice()))
 }
 
-/// Returns the cached Data with the least full name, among those that can answer.
+/// Returns the cached Data with the least full name among those that can answer the Interest
+/// `asked`.
 fn least<'a>(all: &'a [Made], held: &[Held], asked: Asked) -> Option<(Held, &'a Made)> {
     let mut least: Option<(Held, &Made)> = None;
     for one in held {
@@ -116,8 +118,8 @@ fn forget(held: &mut Vec<Held>, made: usize) {
     held.retain(|other| other.made != made);
 }
 
-/// Puts a random Data into the store and into the list. Returns whether the store's `put` returns
-/// true, as it must with ample memory.
+/// Puts a random Data into the store and into the list. Returns whether the Data is cached in the
+/// store, as it must be with ample memory.
 fn put_agrees(
     all: &[Made],
     store: &mut Store,
@@ -134,9 +136,9 @@ fn put_agrees(
     put_packet(store, &all.get(one.made)?.packet, one.arrival)
 }
 
-/// Returns the result of `find`, `find_counted` or `serve_at`, chosen at random, or `None` if only
-/// one of this call and `place_for` finds a Data, or if `find_counted` takes more than 17
-/// comparisons.
+/// Calls `find`, `find_counted` or `serve_at`, chosen at random, and returns the result. Returns
+/// `None` if `place_for` finds a Data and this call does not, or the other way round. Returns
+/// `None` also if `find_counted` takes more than 17 comparisons.
 fn look_up<'a>(
     store: &'a mut Store,
     key: Key<'_>,
@@ -154,7 +156,7 @@ fn look_up<'a>(
     (place.is_some() == found.is_some() && steps <= 17).then_some(found)
 }
 
-/// Returns whether a lookup gives the result that the list gives.
+/// Returns whether a random lookup in the store gives the same result as in the list.
 fn find_agrees(
     all: &[Made],
     names: &[NameBuf],
@@ -211,7 +213,7 @@ fn erase_agrees(
     Some(before.checked_sub(held.len())? as u64 == erased)
 }
 
-/// Returns whether a random call gives the same answer as the list.
+/// Returns whether a random call gives the same result for the store and for the list.
 fn call_agrees(
     all: &[Made],
     names: &[NameBuf],
@@ -226,8 +228,8 @@ fn call_agrees(
     }
 }
 
-/// Returns whether eight random calls give the same answers as the list, and the store has as many
-/// Data as the list after each call.
+/// Returns whether eight random calls give the same results for the store and for the list. After
+/// each call, the store must have as many Data as the list.
 fn calls_agree(
     all: &[Made],
     names: &[NameBuf],

@@ -1,4 +1,4 @@
-//! The faces that wait for a Data.
+//! Tests of `askers`, which returns the faces that wait for a Data.
 
 use super::answers;
 use crate::rows::check_rows;

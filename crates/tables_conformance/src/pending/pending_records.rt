@@ -1,4 +1,4 @@
-//! How the records of pending Interests change.
+//! Tests of how the records of pending Interests change.
 
 use super::answers;
 use crate::rows::check_rows;
@@ -13,8 +13,8 @@ ask /A 1 7 18446744073709551615, expire 18446744073709551614, len, expire 184467
 ask /A 1 7 18446744073709551615, sent /A 1 2 7 18446744073709551615, used /A -> yes; yes; used 2@18446744073709551615
 ";
 
-/// An expiry before the deadline of an Interest leaves the Interest pending; an expiry at the
-/// deadline removes it.
+/// An expiry before the deadline of an Interest leaves the Interest pending. An expiry at the
+/// deadline removes the Interest.
 #[test]
 fn pending_deadline(rt: HostRuntime) {
     check_rows(&rt, rt.alloc(), PENDING_DEADLINE, answers);
@@ -44,7 +44,7 @@ ask /A+p 1 7 9, ask /A+pf 2 8 9, len, data /A/B, len -> yes; yes; 2 false; faces
 ";
 
 /// Two Interests with the same name, only one of which has MustBeFresh or CanBePrefix, have
-/// different keys. A Data answers both.
+/// different keys. A Data may answer both Interests.
 #[test]
 fn each_flag_makes_another_key(rt: HostRuntime) {
     check_rows(&rt, rt.alloc(), EACH_FLAG_MAKES_ANOTHER_KEY, answers);
@@ -71,8 +71,8 @@ ask /A 1 7 5000, sent /A 1 2 7 1000, sent /A 1 2 8 1010, sent /A 1 1 8 1010, use
 ask /A 1 7 5000, sent /A 1 2 7 1000, loops /A 1 7, ask /A 1 7 5009, used /A, sent /A 1 2 7 1010, used /A, nack /A 2 7 150, of /A 1 -> yes; yes; no; yes; used 2@1000; yes; used 2@1010; all 150; 00000007
 ";
 
-/// An Interest loops if the in-record of another face, or an out-record, has its Nonce. It does not
-/// loop if the in-record of its own face has this Nonce too.
+/// An Interest whose Nonce is in the in-record of its own face does not loop. Any other Interest
+/// loops if its Nonce is in the in-record of another face or in an out-record.
 #[test]
 fn loops_and_retries(rt: HostRuntime) {
     check_rows(&rt, rt.alloc(), LOOPS_AND_RETRIES, answers);
@@ -86,8 +86,8 @@ ask /A 1 7 5000, sent /A 1 2 7 0, sent /A 1 3 7 0, nack /A 3 7 50, sent /A 1 3 8
 ask /A 1 7 5000, nack /A 1 7 50, nack /A+f 1 7 50 -> yes; no pending; no pending
 ";
 
-/// Once all faces that an Interest was sent to have answered with a Nack, the result is the least
-/// reason. A Nack counts only if its Nonce is the one that was last sent to its face.
+/// Once each face to which an Interest was sent has answered with a Nack, the result is the least
+/// reason of these Nacks. A Nack counts only if it has the Nonce that was last sent to its face.
 #[test]
 fn the_least_nack_of_all_faces_asked(rt: HostRuntime) {
     check_rows(&rt, rt.alloc(), THE_LEAST_NACK_OF_ALL_FACES_ASKED, answers);

@@ -41,7 +41,7 @@ struct Asked {
     reason: Option<u64>,
 }
 
-/// The records, in no particular order.
+/// The in-records `asks` and the out-records `asked`, in no particular order.
 #[derive(Drop)]
 struct Records {
     asks: Vec<Asks>,
@@ -63,7 +63,7 @@ fn has_key(asks: &[Asks], key: usize) -> bool {
 }
 
 impl Records {
-    /// Removes the out-records of keys under which no face asks.
+    /// Removes the out-records of keys under which no Interest is pending.
     fn settle(&mut self) {
         let asks = &self.asks;
         self.asked.retain(|sent| has_key(asks, sent.key));
@@ -99,8 +99,8 @@ impl Records {
         false
     }
 
-    /// Returns whether the Nonce was sent, or another face asked with it. Returns false if the face
-    /// itself asked with it.
+    /// Returns false if the Nonce is in the in-record of `face` under the key. Otherwise returns
+    /// whether the Nonce is in an out-record of the key or in the in-record of another face.
     fn loops(&self, key: usize, face: u64, nonce: u64) -> bool {
         let mut is_known = self.was_sent(key, nonce);
         for ask in &self.asks {
@@ -164,7 +164,8 @@ impl Records {
         is_pending
     }
 
-    /// Returns `All` with the least reason of a key, or `Waiting` if a face has not sent a reason.
+    /// Returns `All` with the least reason under a key, or `Waiting` if a face to which the
+    /// Interest was sent has not answered with a Nack.
     fn least_reason(&self, key: usize) -> Nacked {
         let mut least = u64::MAX;
         for sent in &self.asked {
@@ -185,7 +186,7 @@ impl Records {
         self.least_reason(key)
     }
 
-    /// Returns the number of keys under which a face asks.
+    /// Returns the number of keys under which an Interest is pending.
     fn len(&self) -> usize {
         let mut len: usize = 0;
         for key in 0..6 {
@@ -248,7 +249,7 @@ fn are_asking(records: &Records, answered: &[bool], faces: &Faces) -> bool {
     faces.len() == asking
 }
 
-/// Returns whether a Data goes to the faces that the records give.
+/// Returns whether the table and the records agree on the faces that a Data is sent to.
 fn satisfy_agrees(
     table: &mut Table,
     records: &mut Records,
@@ -280,8 +281,8 @@ fn count_answer(seen: &mut Seen, answer: Nacked) {
     }
 }
 
-/// Returns whether a Nack has the result that the records give. The field `moment` of `one` is the
-/// reason.
+/// Returns whether the table and the records agree on the result of a Nack. The field `moment` of
+/// `one` is the reason of the Nack.
 fn nack_agrees(
     table: &mut Table,
     records: &mut Records,
@@ -310,7 +311,7 @@ fn loop_agrees(
 }
 
 /// Returns whether the table and the records agree on whether an Interest loops, and the Interest
-/// is then recorded. The field `moment` of `one` is its deadline.
+/// is then recorded. The field `moment` of `one` is the deadline of the Interest.
 fn ask_agrees(
     table: &mut Table,
     records: &mut Records,
@@ -367,7 +368,7 @@ fn remove(table: &mut Table, records: &mut Records, key: Key<'_>, removal: u64, 
     }
 }
 
-/// Returns a random face, Nonce and moment, for the key `first` or the next one.
+/// Returns a random face, Nonce and moment, for the key with the index `first` or the next index.
 fn random_call(first: u64, state: &mut u64) -> Asked {
     let key = first.saturating_add(random(state, 2)) as usize;
     let (face, nonce, moment) = (random(state, 3), random(state, 2), random(state, 20));
@@ -380,8 +381,8 @@ fn random_call(first: u64, state: &mut u64) -> Asked {
     }
 }
 
-/// Returns whether a random call gives the same answer as the records. Most calls are for one of
-/// two keys.
+/// Returns whether a random call gives the same answer for the table and for the records. Most
+/// calls are for one of two keys.
 fn call_agrees(
     table: &mut Table,
     records: &mut Records,
@@ -426,7 +427,7 @@ fn calls_agree(
     Some(shows_all(table, records, keys))
 }
 
-/// Returns whether a table and records that are empty at first agree on 24 random calls.
+/// Returns whether an empty table and empty records agree on 24 random calls.
 fn sequence_agrees(
     alloc: Global,
     keys: &[OwnedKey],

@@ -15,7 +15,8 @@ token /A 1 5 200, token /A/sha256digest=2d92a383706a615fe67c9a585b00f29c5c06d2ab
 token /A/sha256digest=2d92a383706a615fe67c9a585b00f29c5c06d2abdaec456e9cdc026679eb2479 1 6 100, token /A 1 5 200, token_for /A 1 -> yes; yes; 05
 ";
 
-/// A face gets the token of its Interest with the latest deadline.
+/// With a Data, a face gets the token of its Interest with the latest deadline among the Interests
+/// that the Data answers.
 #[test]
 fn token_of_the_last_deadline(rt: HostRuntime) {
     check_rows(&rt, rt.alloc(), TOKEN_OF_THE_LAST_DEADLINE, answers);
@@ -59,7 +60,7 @@ token /A 1 5 100, token /A 2 6 200, token_for /A 1, token_for /A 2, token_for /A
 ";
 
 /// A face gets no token of an Interest that the Data does not answer, and no token of another face.
-/// It gets no token if its Interest with the latest deadline has none.
+/// A face gets no token if its Interest with the latest deadline has no token.
 #[test]
 fn no_other_token(rt: HostRuntime) {
     check_rows(&rt, rt.alloc(), NO_OTHER_TOKEN, answers);
@@ -87,7 +88,7 @@ const KNOWS_OF_TOKENS: &str = "\
 has_tokens, ask /A 1 7 100, has_tokens, token /B 1 5 100, has_tokens -> false; yes; false; yes; true
 ";
 
-/// A table reports no tokens until an Interest with a token has come.
+/// `has_tokens` is false until an Interest with a token has come.
 #[test]
 fn knows_of_tokens(rt: HostRuntime) {
     check_rows(&rt, rt.alloc(), KNOWS_OF_TOKENS, answers);

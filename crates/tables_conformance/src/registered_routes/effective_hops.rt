@@ -89,8 +89,8 @@ register / 2, register /A 3 flags=2, register /B 4, of /B, of / -> 2@0 4@0; 2@0
 register /A 2, register /A/B 3, register /A/B/C 4 flags=2, of /A/B -> 2@0 3@0
 ";
 
-/// A name with a capture route inherits nothing, and longer names inherit nothing from its proper
-/// prefixes.
+/// A name with a capture route inherits no routes. Longer names inherit no routes from the proper
+/// prefixes of this name.
 #[test]
 fn capture_ends_inheritance(rt: HostRuntime) {
     check_rows(&rt, rt.alloc(), CAPTURE_ENDS_INHERITANCE, answers);

@@ -1,5 +1,5 @@
-//! Random calls of a table, compared with plain lists of next hops and routes, in which the
-//! effective next hops of a name are searched for face by face.
+//! Random calls of a table, compared with plain lists of next hops and routes. To find the
+//! effective next hops of a name, the lists are searched separately for each face.
 
 use crate::route_table::{Route, RouteTable};
 use crate::tables::names_of;
@@ -200,7 +200,7 @@ impl Plain {
         nearest
     }
 
-    /// Returns whether a name between these two names has a capture route.
+    /// Returns whether a proper prefix of `name` that is longer than `above` has a capture route.
     fn is_captured(&self, name: usize, above: usize) -> bool {
         for between in 0..8 {
             if is_above(above, between) && is_above(between, name) && self.has_capture(between) {
@@ -419,7 +419,7 @@ fn set_route(
     Some(true)
 }
 
-/// Makes the same random removal in the table and in the lists.
+/// Makes the removal with this number in the table and in the lists.
 fn remove(
     routes: &mut RouteTable,
     plain: &mut Plain,
@@ -444,8 +444,8 @@ fn remove(
     }
 }
 
-/// Makes the same random change in the table and in the lists, and returns true: a removal if
-/// `change` is below 8, a new next hop if it is 8 or 9, and otherwise a new route.
+/// Makes the same change in the table and in the lists, and returns true. The change is a random
+/// removal if `change` is below 8, a new next hop if `change` is 8 or 9, and otherwise a new route.
 fn change(
     routes: &mut RouteTable,
     plain: &mut Plain,
@@ -505,8 +505,8 @@ fn call_agrees(
     Some(agrees? && longest_agrees(routes, plain, names, seen, asked)?)
 }
 
-/// Returns whether 40 random calls agree with the lists, and the table then has what the lists
-/// have.
+/// Returns whether 40 random calls agree with the lists, and the table then has the same next hops
+/// and routes as the lists.
 fn calls_agree(
     alloc: Global,
     routes: &mut RouteTable,
@@ -524,7 +524,7 @@ fn calls_agree(
     Some(agrees && routes.read().len() == plain.len())
 }
 
-/// Returns whether a table and lists that are empty at first agree on 40 random calls.
+/// Returns whether an empty table and empty lists agree on 40 random calls.
 fn sequence_agrees(
     alloc: Global,
     names: &[NameBuf],

@@ -1,4 +1,4 @@
-//! The limits of routes and names, the depth of a lookup, and preparations.
+//! Tests of the limits of routes and names, of the lookup of long names, and of prepared calls.
 
 use super::list_or_none;
 use crate::route_table::{Route, RouteTable};
@@ -72,8 +72,8 @@ fn refuses_new_routes(alloc: Global, routes: &mut RouteTable) -> Option<bool> {
     Some(further && named && too_deep && again && hop)
 }
 
-/// Returns whether a full table, after one route was unregistered, accepts one new route but no
-/// second new route.
+/// Unregisters one route of a full table. Returns whether the table then accepts one new route, but
+/// no second new route.
 fn takes_one_for_one(alloc: Global, routes: &mut RouteTable) -> Option<bool> {
     unregister(alloc, routes, 7, 0)?;
     let is_taken = register(alloc, routes, 256, Route::new(0, 32))?.is_ok();
@@ -81,8 +81,9 @@ fn takes_one_for_one(alloc: Global, routes: &mut RouteTable) -> Option<bool> {
     Some(is_taken && is_full)
 }
 
-/// Returns whether a full table accepts a route after a face closed, and this route then expires as
-/// the only route that has a deadline.
+/// Closes face 0 of a full table, and registers a route that has a deadline. Returns whether the
+/// table accepts the route, exactly one route expires at the deadline, and then no route has a
+/// deadline.
 fn takes_many_for_many(alloc: Global, routes: &mut RouteTable) -> Option<bool> {
     routes.close_face(0);
     let mut route = Route::new(2, 0);
@@ -151,7 +152,7 @@ fn holds_4096_names(alloc: Global, routes: &mut RouteTable) -> Option<bool> {
     Some(holds && frees_names(alloc, routes)?)
 }
 
-/// Returns what `route_refusal_of` tells of a name of `depth` components.
+/// Returns what `route_refusal_of` returns for a route of a name of `depth` components.
 fn refusal(alloc: Global, fib: &Fib, depth: usize) -> Option<Option<TableFault>> {
     let name = deep_name(alloc, depth)?;
     Some(fib.route_refusal_of(name.view(), 1, 0))
@@ -167,7 +168,7 @@ fn tells_refusals(alloc: Global, routes: &mut RouteTable) -> Option<bool> {
     Some(is_told && refused && register_deep(alloc, routes, 0, route)?.is_ok())
 }
 
-/// Registers routes of the names of up to 32 components, each on its own face.
+/// Registers a route for each name of 0 to 32 components `A`. Each route is on its own face.
 fn register_33(alloc: Global, routes: &mut RouteTable) -> Option<()> {
     for depth in 0..33 {
         let mut route = Route::new(depth as u64, 0);
@@ -201,9 +202,10 @@ fn is_listed(alloc: Global, fib: &Fib, expected: &str) -> Option<bool> {
     Some(listed.as_str() == expected)
 }
 
-/// Prepares a route of this name. If the preparation fails, returns whether the table still has
-/// only the route of the other name. Otherwise, returns whether the prepared route is registered
-/// after the route of the other name has expired.
+/// Prepares a route of this name. Before the call, the table has only a route of another name with
+/// the deadline 9. If the preparation fails, returns whether the table still has only this other
+/// route. If the preparation succeeds, returns whether the prepared route is registered after the
+/// other route has expired.
 fn takes_prepared_route(alloc: Global, routes: &mut RouteTable, name: Name<'_>) -> Option<bool> {
     if routes.prepare(name).is_err() {
         return is_listed(alloc, routes.read(), "/%00%02 2@0");
@@ -225,8 +227,8 @@ fn registers_what_is_prepared(alloc: Global, routes: &mut RouteTable) -> Option<
 }
 
 /// Registers eight routes of this name, and prepares a ninth route. If the preparation fails,
-/// returns whether the name still has eight routes. Otherwise, returns whether the ninth route is
-/// registered.
+/// returns whether the name still has eight routes. If the preparation succeeds, returns whether
+/// the ninth route is registered.
 fn takes_ninth_route(routes: &mut RouteTable, name: Name<'_>) -> Option<bool> {
     for face in 1..9 {
         routes.register(name, Route::new(face, 0)).ok()?;
@@ -265,8 +267,8 @@ fn adds_what_is_prepared(alloc: Global, routes: &mut RouteTable) -> Option<bool>
     takes_prepared_hop(routes, name.view())
 }
 
-/// Returns whether a route of this name replaces the older one, or leaves it unchanged if memory
-/// runs out.
+/// Registers two routes of this name with the same face and origin. Returns whether the second
+/// route replaces the first route, or leaves it unchanged if memory runs out.
 fn keeps_one_route(routes: &mut RouteTable, name: Name<'_>) -> Option<bool> {
     let mut route = Route::new(2, 0);
     route.cost = 5;
@@ -279,8 +281,8 @@ fn keeps_one_route(routes: &mut RouteTable, name: Name<'_>) -> Option<bool> {
     Some(hop.cost == cost && routes.read().len() == 1)
 }
 
-/// Returns whether a route for which memory runs out leaves the older route with its name, face and
-/// origin unchanged.
+/// Returns whether registering a route leaves an older route with the same name, face and origin
+/// unchanged if memory runs out.
 fn leaves_the_older_route(alloc: Global, routes: &mut RouteTable) -> Option<bool> {
     let name = numbered(alloc, 1)?;
     keeps_one_route(routes, name.view())

@@ -27,7 +27,7 @@ made_of_left now number routes choices kind (Ok part) is written = λ p at left 
     ∙ (λ i. fib_text (sym at i) (sym left i)) ∙ ap (dataset_text p) (sym is))
 made_of_left now number routes choices kind (Err memory) is written = tt
 
--- a segment has at most 4,096 octets
+-- a segment contains at most 4,096 octets of the list
 short_part : (made : Result (Option (Vec ℕ Global × ℕ)) Memory) (text : List ℕ) (number : ℕ) → IfOk made (λ part. option_map (λ s. (s.0.items, s.1)) part ≡ segment_at text number)
     → IfOk made (λ part. IfSome part (λ s. length s.0.items ≤ 4096))
 short_part (Ok None) text number is = tt

@@ -8,8 +8,8 @@ use Rattle.ndn_names.proofs.TypeNameReading.{own}
 use Rattle.name_patterns.specs.PatternReading.{count_in}
 use Rattle.name_patterns.proofs.repeat.count_of.Goals as goal
 
--- if at least one of three tests fails, a conditional that needs all three equals its second
--- alternative
+-- if at least one of `a`, `b` and `c` is false, the conditional on `a && (b && c)` equals its
+-- second alternative
 unless_all : {A : Type 0} (a b c : Bool) (x y : A) → (a ≡ true → b ≡ true → c ≡ true → ⊥) → cond (a && (b && c)) x y ≡ y
 unless_all false b c x y h = refl
 unless_all true false c x y h = refl

@@ -154,7 +154,7 @@ returns-in_default-next-clause-few g c = omega (arith, c.loop-next.invariant.few
 pub returns-in_default-next-clause-capacity : goal.returns-in_default-next-clause-capacity
 returns-in_default-next-clause-capacity g c = omega (arith, c.loop-next.invariant.capacity, c.take_at.ensures.capacity)
 
--- if the walk stops early, no node is at the prefix that it has reached
+-- if the walk stops early, the prefix that the walk has reached leads to no node
 nowhere : (g : given.Over) (c : goal.In_default g) → walk (get c.args.nodes.now) c.args.root c.loop-next.invariant.path.0 ≡ None
 nowhere g c = sym (c.loop-next.invariant.walks c.loop-next.invariant.path.0) ∙ c.loop-next.invariant.path.2 ∙ c.in_default.is
 

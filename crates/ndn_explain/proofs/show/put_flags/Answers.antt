@@ -2,7 +2,7 @@ use Rattle.std.proofs.Common.{◌≡◌, ◌++◌, ℕ, List, Result, Ok, Err, O
 use Rattle.ndn_tlv.specs.declared.memory.Memory.{Memory}
 use Rattle.ndn_explain.proofs.show.put_flags.Goals as goal
 
--- appending `first` and then `second` gives `old` followed by both
+-- appending `first` and then `second` to `old` gives `old ++ (first ++ second)`
 two_steps : (r : Result Unit Memory) (old middle new first second : List ℕ)
     → middle ≡ old ++ first → OnOk r (new ≡ middle ++ second) → OnOk r (new ≡ old ++ (first ++ second))
 two_steps (Ok x) old middle new first second e h = h ∙ (ap (λ (t : List ℕ). t ++ second) e ∙ append_assoc old first second)

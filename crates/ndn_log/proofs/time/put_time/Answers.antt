@@ -4,7 +4,7 @@ use Rattle.ndn_log.specs.declared.time.TheConstants.{LAST_DATED}
 use Rattle.ndn_log.specs.Time.{IsDateText, IsDatePut, IsTimePut}
 use Rattle.ndn_log.proofs.time.put_time.Goals as goal
 
--- a time that has a date is shown as its date
+-- a time up to `LAST_DATED` is shown as its date and time in UTC
 dated : (r : Result (Unit {0}) Memory) (moment : ℕ) (nanosecond : ℤ) (old new : List ℕ)
     → moment ≤ LAST_DATED → nanosecond ≡ pos moment *ℤ pos 1_000_000
     → OnOk r (IsDatePut nanosecond old new) → OnOk r (IsTimePut moment old new)

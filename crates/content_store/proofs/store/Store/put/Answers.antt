@@ -14,7 +14,7 @@ use Rattle.content_store.proofs.Renewed.{held_none, held_same}
 use Rattle.content_store.proofs.store.Store.put.Goals as goal
 use Rattle.content_store.proofs.store.Store.put.Goals.{Else-is_full, In-Ok, Else-not-put_new, After-put_same}
 
--- ---- cached Data with these octets
+-- ---- no cached Data has the full name of the packet
 
 other : (c : Else-is_full) → (d : Placed) → c.place_for-at.result < length c.self.inside.rows
     → name_at (get_or c.self.inside.rows c.place_for-at.result d) ≢ full_name_of (cached_at c.args.packet.now c.args.arrival)

@@ -5,7 +5,7 @@ use Rattle.hmac_keys.proofs.Lines.{space_parts, space_whole}
 use Rattle.hmac_keys.proofs.Keys.{name_fault, octets_fault, key_parts}
 use Rattle.hmac_keys.proofs.key_book.Key.read.Goals as goal
 
--- the result that `key_in` has for a line with this key
+-- the result of `key_in` for a line with the key `key`
 abbrev found : NamedKey → Option NamedKey
 found key = Some key
 

@@ -14,7 +14,8 @@ returns-then-is_too_long-clause-long c =
     let long = is_long c.args.captures.now (components c.args.name) c.args.self.now c.requires (sym c.if-is_too_long.true ∙ c.is_too_long.ensures) in
     (λ e. long, λ more. refl)
 
--- if appending a part fails, the whole name has at most 64 components, and the fault is `Memory`
+-- after `is_too_long` has returned false, the expanded name has at most 64 components, and a fault
+-- of appending a part is `Memory`
 memory : (c : goal.After-drop-expanded-inside)
     → (length (expansion_of c.args.self.now c.args.captures.now (components c.args.name)) ≤ 64) × (c.from_residual.result ≡ Err NameFault.Memory)
 memory c =

@@ -12,7 +12,7 @@ use Rattle.ndn_names.proofs.Rows.{sorted_put, from_put}
 use Rattle.name_trie.proofs.children.Children.insert.Goals as goal
 use Rattle.name_trie.proofs.children.Children.insert.Goals.{In_ok-insert-in-Err}
 
--- the insertion of the row gives the rows that `put` gives for the component and the child
+-- the rows after the insertion are those that `put` returns for the component and the child
 inserted : (c : In_ok-insert-in-Err) → items_of c.insert.new.self ≡ put component_cmp c.args.component c.args.child (items_of c.self.inside.rows)
 inserted c =
     let absent = rw (c.as_slice.ensures, c.view.ensures) at c.in-Err.ensures.absent in

@@ -18,8 +18,8 @@ use Rattle.name_trie.proofs.Rings.{same_timers}
 use Rattle.name_trie.proofs.Totals.{counted_same, counted_at}
 use Rattle.name_trie.proofs.timed_map.TimedMap.put_with.Goals as goal
 
--- Let all lookups give the same in the nodes `h1` as in the nodes `h`. Then a lookup in `h1` of a
--- name of at most 64 components gives the value that the table of `h` has for the name.
+-- if the lookup of each name returns the same in `h1` as in `h`, the lookup in `h1` of a name of at
+-- most 64 components returns the value of the name in the table of `h`
 seen : {V : Type 0} (h h1 : Heap V) (root root1 : Option ℕ) (table : ByName V) (name : List Field) → length name ≤ 64 → SameLookups h root h1 root1 → table_of h root ≡ table
     → lookup h1 root1 name ≡ map.get table name
 seen h h1 root root1 table name le same is = same name ∙ sym (get-table h root name le) ∙ ap (λ t. map.get t name) is

@@ -9,7 +9,8 @@ use Rattle.name_trie.proofs.Changed.{if_ok_then, on_ok_then, on_err_then, some_b
 use Rattle.name_trie.proofs.trie.NameTrie.put_with.Given as given
 use Rattle.name_trie.proofs.trie.NameTrie.put_with.Goals as goal
 
--- a lookup in the nodes before the call gives the value that the old table has for the name
+-- the lookup of the name in the nodes before the call returns the value of the name in the old
+-- table
 had : (g : given.Over) (c : goal.After-release g) → lookup (get c.self.inside.nodes) c.self.inside.root (components c.args.name) ≡ map.get c.args.self.now.table (components c.args.name)
 had g c =
     sym (get-table (get c.self.inside.nodes) c.self.inside.root (components c.args.name) c.args.name.spelled.1.0)

@@ -14,8 +14,8 @@ use Rattle.ndn_packets.proofs.Steps.{IsBytes-inside}
 use Rattle.ndn_packets.proofs.Packets.{data_of_found}
 use Rattle.ndn_packets.proofs.data.Data.read.Goals as goal
 
--- Let `from` be the octets from the SignatureValue on in the fields after the Name. Then `from`
--- also are the octets from the SignatureValue on in the whole TLV-VALUE of the Data.
+-- the octets from the SignatureValue on are the same in the fields after the Name and in the whole
+-- TLV-VALUE of the Data
 noted : {A : Type 0} (octets rest : List ℕ) (o : Option A) (from : List ℕ) (value : A) → ((kind : ℕ) → kind ≢ 7 → from_first kind octets ≡ from_first kind rest) → OnSome o (from_first 23 rest ≡ Some from) → o ≡ Some value
     → from_first 23 octets ≡ Some from
 noted octets rest None from value place mark is = absurd cc

@@ -13,8 +13,8 @@ use Rattle.pit_fib.proofs.LastAsks.{token_is_for}
 use Rattle.pit_fib.proofs.Tokenless.{none_for}
 use Rattle.pit_fib.proofs.pit.Pit.token_for.Goals as goal
 
--- Let `last` be the face's last in-record under the keys that the Data answers, and let `token` be
--- the token of `last`. Then `token` is the token that is sent to the face with the Data.
+-- the token that is sent to the face with the Data is the token of the face's last in-record under
+-- the keys that the Data answers
 is_for : (rows : Rows) (pending : Pending) (name : List Field) (digest : List ℕ) (face : ℕ) (last : Option InRecord) (token : Option (List ℕ))
     → pending_of rows ≡ pending → last ≡ last_of rows face name digest → option_and_then (λ r. r.token) last ≡ token
     → IsTokenFor (records_at pending) name digest face token

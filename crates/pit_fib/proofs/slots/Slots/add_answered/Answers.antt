@@ -6,8 +6,8 @@ use Rattle.pit_fib.proofs.Rows.{got_at}
 use Rattle.pit_fib.proofs.slots.Slots.add_answered.Goals as goal
 use Rattle.pit_fib.proofs.slots.Slots.add_answered.Goals.{After-add_faces-3, then-is_own, else-is_own}
 
--- The faces after the first step. If `is_own` is true, this step adds the faces with an in-record
--- under the keys that lack CanBePrefix.
+-- if `is_own` is true, the first step adds the faces with an in-record under the keys without
+-- CanBePrefix; otherwise the first step adds no face
 first : (c : After-add_faces-3) → c.if-is_own.faces
     ≡ cond c.args.is_own (with_asking (get c.args.self.now (flags false true)) (with_asking (get c.args.self.now (flags false false)) c.args.faces.now)) c.args.faces.now
 first c =

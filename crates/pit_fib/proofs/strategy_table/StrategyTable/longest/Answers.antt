@@ -8,8 +8,8 @@ use Rattle.pit_fib.proofs.RootChoice.{longest_with_root}
 use Rattle.pit_fib.proofs.strategy_table.StrategyTable.longest.Goals as goal
 use Rattle.pit_fib.proofs.strategy_table.StrategyTable.longest.Goals.{After-longest}
 
--- Let `o` be the strategy of the longest prefix of the name in `others`, or None. Then the whole
--- table has for this name the strategy `o`, or the strategy of `/` if `o` is None.
+-- the strategy of the longest prefix in the whole table is that of the longest prefix in `others`,
+-- or the strategy of `/` if `others` has no prefix of the name
 found : (c : After-longest) (o : Option StrategyId) → o ≡ longest c.self.inside.others.table (components c.args.name)
     → option_or o (Some c.self.inside.root) ≡ longest c.args.self.now.table (components c.args.name)
 found c o is =
