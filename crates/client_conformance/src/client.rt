@@ -8,7 +8,8 @@ use ndn_client::{
 use std::alloc::Global;
 use test_support::{KEYS, typed};
 
-/// Returns the options that `$KEY` or `$NODE` stands for, or any other word unchanged.
+/// If `word` is `$KEY` or `$NODE`, returns the options that it stands for. Otherwise returns
+/// `word`.
 fn spelled(word: &str) -> &str {
     match word {
         "$KEY" => "--keys F --key /ops/KEY/1",
@@ -87,7 +88,8 @@ pub fn heard(
     Some(Progress::Ignored)
 }
 
-/// Returns the result of an exchange after the node has answered the exchange's present request.
+/// Sends the present request of an exchange to the node, and passes the node's answers to the
+/// exchange. Returns the result of the exchange.
 pub fn turn(
     alloc: Global,
     scene: &mut Scene,
@@ -134,7 +136,8 @@ fn word_of_outcome(outcome: Outcome) -> &'static str {
 }
 
 /// Returns a word for the outcome of an exchange, and the printed text. If no answer has ended the
-/// exchange, the word is the reason why no answer came, and the text is empty.
+/// exchange, the word stands for the reason that the client reports for the missing answer, and the
+/// text is empty.
 pub fn end_of(alloc: Global, exchange: &Exchange, progress: Progress) -> (&'static str, Vec<u8>) {
     match progress {
         Progress::Done(text, outcome) => (word_of_outcome(outcome), text),
@@ -144,8 +147,9 @@ pub fn end_of(alloc: Global, exchange: &Exchange, progress: Progress) -> (&'stat
     }
 }
 
-/// Returns whether an exchange ended as `wanted` says. `wanted` is the word for the outcome, or the
-/// word, a space and the end of the printed text. In this text, symbols stand for LF and tab.
+/// Returns whether an exchange ended as `wanted` says. `wanted` is the word for the outcome, alone
+/// or followed by a space and the end of the printed text. In this end of the text, `␊` stands for
+/// an LF and `␉` for a tab.
 pub fn ends_as(
     alloc: Global,
     exchange: &Exchange,
@@ -168,8 +172,8 @@ pub fn plays(alloc: Global, scene: &mut Scene, book: &KeyBook, row: &str) -> Opt
     ends_as(alloc, &exchange, progress, wanted)
 }
 
-/// Runs all rows on one node, in order. Returns the line number, counted from 1, of the first row
-/// that `plays` does not confirm, or 0 if `plays` confirms every row.
+/// Runs the rows in order on one node, up to the first row that `plays` does not confirm. Returns
+/// the number of this row's line, counted from 1, or 0 if `plays` confirms every row.
 fn first_misplayed(alloc: Global, scene: &mut Scene, book: &KeyBook, rows: &str) -> usize {
     for (before, row) in rows.lines().enumerate() {
         if !row.is_empty() && plays(alloc, scene, book, row) != Some(true) {
@@ -179,7 +183,7 @@ fn first_misplayed(alloc: Global, scene: &mut Scene, book: &KeyBook, rows: &str)
     0
 }
 
-/// Runs all rows on a new node with these rules, and returns what `first_misplayed` returns.
+/// Runs the rows on a new node with these rules, and returns what `first_misplayed` returns.
 /// Returns `None` if the node cannot be made.
 pub fn misplayed(alloc: Global, rules: &str, rows: &str) -> Option<usize> {
     let book = KeyBook::read(alloc, KEYS).ok()?;

@@ -30,7 +30,8 @@ fn job_of(alloc: Global, command: &str) -> Result<Job, ToolFault> {
     parse_words(alloc, 1_000_000, arguments.as_slice())
 }
 
-/// Returns the text that a plan prints, or the fault `NoKey` if the plan prints no UTF-8 text.
+/// Returns the text that a plan prints. Returns the fault `NoKey` if the plan is an exchange, or if
+/// the text is not UTF-8.
 fn printed_text(plan: Plan) -> Result<String, ToolFault> {
     match plan {
         Plan::Print(text) => String::from_utf8(text).map_err(|_| ToolFault::NoKey),
@@ -64,8 +65,8 @@ fn reply(alloc: Global, command: &str, keys: &str) -> Option<(u8, String)> {
     }
 }
 
-/// Returns whether a command prints `wanted`. If the command fails, the last line of `wanted` is
-/// `status ` and the exit status.
+/// Returns whether a command prints `wanted`. If the command fails, `wanted` is the text of the
+/// fault and then a line `status N`, where N is the exit status.
 fn prints(alloc: Global, command: &str, keys: &str, wanted: &str) -> Option<bool> {
     let (status, text) = reply(alloc, command, keys)?;
     if status == 0 {
@@ -90,8 +91,8 @@ fn check_session(rt: &(impl Abort + AllocGlobal), keys: &str, session: &str) {
     }
 }
 
-/// Returns whether a command ends with this exit status and a text that contains `part`. In `part`,
-/// `|` stands for an LF. The text must have exactly one LF at its end.
+/// Returns whether a command ends with this exit status and prints a text that contains `part`. In
+/// `part`, `|` stands for an LF. The printed text must have exactly one LF at its end.
 fn has_part(alloc: Global, command: &str, status: u8, part: &str) -> Option<bool> {
     let (ended, text) = reply(alloc, command, "")?;
     let text = text.as_str();
@@ -194,7 +195,7 @@ lifetime 4000
 hop-limit 255
 ";
 
-/// A HopLimit is an element of type 34 with one octet.
+/// A HopLimit is an element of type 34, whose value is one octet.
 #[test]
 fn hop_limits(rt: HostRuntime) {
     check_session(&rt, "", HOP_LIMITS);
@@ -244,7 +245,7 @@ error: invalid value for nonce: give 8 hexadecimal digits, such as 01020304
 status 2
 ";
 
-/// A Nonce is 8 hexadecimal digits of either case.
+/// The value of the option `--nonce` is 8 hexadecimal digits of either case.
 #[test]
 fn nonces(rt: HostRuntime) {
     check_session(&rt, "", NONCES);
@@ -413,9 +414,9 @@ $ ndn_tool command /localhost/nfd/rib/register --name /A --face 1 --cost 2 --str
 05cd078508096c6f63616c686f737408036e66640803726962080872656769737465720842684007030801416901016a01026b27072508096c6f63616c686f737408036e66640808737472617465677908096d756c7469636173746c01036d01046f01058401060220e81fe4a9c31a791ce2e0a662cf5918ee7259642c519760e37705302f0508fa090a040102030424002c1a1b01041c0f070d08036f707308034b45590801312804000f42402e2084eb55d73ad50d435aa887e0566bf99d86058dcef2a5a89ec5c86825d673df7d
 ";
 
-/// Tests commands for registered routes with each of their options. The commands are written in the
-/// short form `ndn_tool route`, and as `ndn_tool command` with an option for each field. The
-/// packets were made by an independent program.
+/// Tests each option of the commands for registered routes. Commands are written in the short form
+/// `ndn_tool route`, and as `ndn_tool command` with an option for each field. The packets were made
+/// by an independent program.
 #[test]
 fn registered_routes(rt: HostRuntime) {
     check_session(&rt, OPS, ROUTES);
@@ -512,9 +513,9 @@ TooLong
 status 1
 ";
 
-/// Tests commands that are refused. The reason is a key that is not in the key file, a name that
-/// already has a parameters digest, or a name with too many components for the parameters to
-/// follow.
+/// Tests commands that are refused. The reason is that the key is not in the key file, that the
+/// name already has a parameters digest, or that the name has too many components for the
+/// parameters to be appended.
 #[test]
 fn unwritten_commands(rt: HostRuntime) {
     check_session(&rt, OPS, UNWRITTEN_COMMANDS);
@@ -964,8 +965,8 @@ key not found
 status 1
 ";
 
-// The first command has two faults: its key is missing, and its name is not valid. The missing key
-// is reported.
+// The first command has two faults: its key is not found, and its name has no components. Only the
+// fault of the key is reported.
 const REFUSALS: &str = "
 $ ndn_tool interest / --nonce 01020304 --key /ops/KEY/1
 key not found
@@ -1111,7 +1112,7 @@ fn refused<T: Drop>(alloc: Global, read: Result<T, Fault>) -> Option<String> {
     format!(in alloc; "{} {fault}", fault.exit_status()).ok()
 }
 
-/// Returns the refusal of a key file of `count` semicolons.
+/// Returns the refusal of a key file of `count` semicolons, or `None` if the file is accepted.
 fn refused_key_file(alloc: Global, count: u64) -> Option<String> {
     refused(
         alloc,
@@ -1119,12 +1120,12 @@ fn refused_key_file(alloc: Global, count: u64) -> Option<String> {
     )
 }
 
-/// Returns the refusal of a packet of `count` digits.
+/// Returns the refusal of a packet of `count` digits, or `None` if the packet is accepted.
 fn refused_packet(alloc: Global, count: u64) -> Option<String> {
     refused(alloc, read_packet_input(alloc, repeat(b'0').take(count)))
 }
 
-/// Returns the refusal of a line of `count` digits with an LF.
+/// Returns the refusal of a line of `count` digits and an LF, or `None` if the line is accepted.
 fn refused_line(alloc: Global, count: u64) -> Option<String> {
     let input = repeat(b'0').take(count).chain(b"\n0\n".as_slice());
     refused(
@@ -1133,8 +1134,8 @@ fn refused_line(alloc: Global, count: u64) -> Option<String> {
     )
 }
 
-/// A key file, a packet in hexadecimal and a line of input each have a greatest length. This length
-/// is accepted, and one octet more is refused.
+/// A key file, a packet in hexadecimal and a line of input each have a greatest length. Input of
+/// the greatest length is accepted, and input with one octet more is refused.
 #[test]
 fn large_input(rt: HostRuntime) {
     let alloc = rt.alloc();
@@ -1273,9 +1274,9 @@ fn refused_memory(rt: HostRuntime) {
     }
 }
 
-/// The first line is a command. Each further line is a datagram and the outcome of the command if
-/// the datagram arrives. The packets in this constant, and in the constants below whose names end
-/// with `ANSWERS`, were made by an independent program.
+/// The first line is a command. Each further line has a datagram, and the outcome of the command
+/// after this datagram arrives. The packets in this constant, and in the constants below whose
+/// names end with `ANSWERS`, were made by an independent program.
 const ROUTE_ANSWERS: &str =
     "0598075008096c6f63616c686f737408036e66640803666962080b6164642d6e657874686f70080a680807030801416901020220b3efe71974da9dc26e88d0c074c8f0ff34ea85c38b109d9e9c6400b87694f2f20a040102030424002c1a1b01041c0f070d08036f707308034b45590801312804000f42402e20d113cf38056af9bbbec876471f4b51934978ef69345464b05cb762148eaa5dbb
 0684075008096c6f63616c686f737408036e66640803666962080b6164642d6e657874686f70080a680807030801416901020220b3efe71974da9dc26e88d0c074c8f0ff34ea85c38b109d9e9c6400b87694f2f2150965076601c867024f4b16031b01001720b6e80976e9dc6c36e0492f03adf2cda6bfa93df5c7b4489a5fc035173b9449cc done
@@ -1307,8 +1308,8 @@ const ROUTE_ANSWERS: &str =
 0600 ignored
 ";
 
-/// The first line is an insert into a repository. Each further line is a datagram and the outcome
-/// of the insert if the datagram arrives. For an insert, status 100 is a success.
+/// The first line is an insert into a repository. Each further line has a datagram, and the outcome
+/// of the insert after this datagram arrives. For an insert, status 100 is a success.
 const INSERT_ANSWERS: &str =
     "0581073908047265706f0806696e736572740807c90507030801410220856ad41dcba9cd04d16e32da8c22468001abf94c4a2d4d42b7c3a6e26de9f5910a040102030424002c1a1b01041c0f070d08036f707308034b45590801312804000f42402e2067118d1ececd0d1c18fc45b8ae9abc3778200f148c277b58cdf8f39b8cc0c96d
 0675073908047265706f0806696e736572740807c90507030801410220856ad41dcba9cd04d16e32da8c22468001abf94c4a2d4d42b7c3a6e26de9f5911511cf0fd00164670770656e64696e6784010016031b0100172007ca981da7330b26cf7f5160965fc8dceb813aed6b86cf7f235dccc6681de8df done
@@ -1319,8 +1320,8 @@ const INSERT_ANSWERS: &str =
 066d073908047265706f0806696e736572740807c90507030801410220856ad41dcba9cd04d16e32da8c22468001abf94c4a2d4d42b7c3a6e26de9f591150965076601c867024f4b16031b01001720d56beaf70800284532e7a6cd9c7891650a32fa9452c2d0cc736edff9e156e4ee no-status
 ";
 
-/// The first line is a check of a repository. Each further line is a datagram and the outcome of
-/// the check if the datagram arrives. For a check, status 100 is not a success.
+/// The first line is a check of a repository. Each further line has a datagram, and the outcome of
+/// the check after this datagram arrives. For a check, status 100 is not a success.
 const CHECK_ANSWERS: &str =
     "0542073808047265706f0805636865636b0807c9050703080141022033b67cb5385ceddad93d0ee960679041613bed34b8b4a5e6362fe7539ba2d3ce0a04010203042400
 066f073808047265706f0805636865636b0807c9050703080141022033b67cb5385ceddad93d0ee960679041613bed34b8b4a5e6362fe7539ba2d3ce150ccf0ad001c867024f4b84010116031b01001720e321cf1c01ed9976608792d53dbe9f46213bbd83c57e8c27042f544af69c5bf6 done
@@ -1328,8 +1329,8 @@ const CHECK_ANSWERS: &str =
 0677073808047265706f0805636865636b0807c9050703080141022033b67cb5385ceddad93d0ee960679041613bed34b8b4a5e6362fe7539ba2d3ce1514cf12d002019467096e6f7420666f756e6484010016031b0100172027cb3843c2e805daa3395bfd459ed163293d13329285a18a1fdb9aeed87ff864 refused
 ";
 
-/// The first line is an Interest for `/A`. Each further line is a datagram and the outcome of the
-/// Interest if the datagram arrives.
+/// The first line is an Interest for `/A`. Each further line has a datagram, and the outcome of the
+/// Interest after this datagram arrives.
 const INTEREST_ANSWERS: &str = "050b07030801410a0401020304
 062f070308014115017816031b01001720e4f0b5aed03446e702356a360c7194c208b8b6a28ff30de430f1baa08ba29266 done
 062f070308014115017816031b01001720e5f0b5aed03446e702356a360c7194c208b8b6a28ff30de430f1baa08ba29266 done
@@ -1379,8 +1380,8 @@ fn comes_to(alloc: Global, request: &[u8], datagram: &[u8], wanted: &str) -> Opt
     Some(word_of(outcome) == wanted)
 }
 
-/// Returns whether a row is correct. The row is a datagram in hexadecimal (`-` for no octets), and
-/// the word for the outcome of the request when this datagram arrives.
+/// Returns whether a row is correct. The row has a datagram in hexadecimal (`-` for no octets), and
+/// the word for the outcome of the request after this datagram arrives.
 fn row_comes_to(alloc: Global, request: &str, row: &str) -> Option<bool> {
     let (digits, wanted) = row.split_once(' ')?;
     let digits = if digits == "-" { "" } else { digits };
@@ -1389,7 +1390,7 @@ fn row_comes_to(alloc: Global, request: &str, row: &str) -> Option<bool> {
     comes_to(alloc, &request, &datagram, wanted)
 }
 
-/// The first line is a request. Checks each further line with `row_comes_to`.
+/// The first line of `rows` is a request. Checks each further line with `row_comes_to`.
 fn check_answers(rt: &(impl Abort + AllocGlobal), rows: &str) {
     let (request, rows) = rows.split_once('\n').unwrap_or(("", ""));
     assert!(rt; rows.contains(' '), "there are no rows");
@@ -1428,8 +1429,8 @@ fn long_reply(alloc: Global, request: &[u8], status: u8) -> Option<Vec<u8>> {
     Some(reply)
 }
 
-/// Returns whether a long reply has this outcome. The last octet of the reply's signature is
-/// combined with `change` by exclusive or.
+/// Returns whether a command has the outcome `wanted` after a long reply arrives. The last octet of
+/// the reply's signature is first combined with `change` by exclusive or.
 fn long_comes_to(alloc: Global, status: u8, change: u8, wanted: &str) -> Option<bool> {
     let (request, _) = ROUTE_ANSWERS.split_once('\n')?;
     let request = packet_in(alloc, request.as_bytes()).ok()?;
@@ -1499,8 +1500,8 @@ fn hears(
     Some(asks(rt, &client, request, to))
 }
 
-/// Returns the outcome of a client whose second datagram is a reply of more than 9,000 octets with
-/// this status.
+/// Returns the outcome of a client whose second datagram is a reply with this status and with more
+/// than 9,000 octets.
 fn hears_long(rt: &HostRuntime, status: u8) -> Option<Result<(), Fault>> {
     let (request, _) = ROUTE_ANSWERS.split_once('\n')?;
     let request = packet_in(rt.alloc(), request.as_bytes()).ok()?;
@@ -1521,16 +1522,17 @@ fn forged_answers(rt: HostRuntime) {
     );
 }
 
-/// Returns the reason that is reported if no answer arrives to the request in the first line of
-/// `rows`.
+/// Returns the reason that the client reports if the request in the first line of `rows` gets no
+/// answer.
 fn silence(alloc: Global, rows: &str, from: Option<u16>) -> Option<Silence> {
     let (request, _) = rows.split_once('\n')?;
     let request = packet_in(alloc, request.as_bytes()).ok()?;
     Some(silence_of(&request, from, false))
 }
 
-/// If no answer arrives to a command under `/localhost`, the reason is `Far` without a source port
-/// and `Late` with one. For a command to a repository without a source port, the reason is `Late`.
+/// A client that gets no answer to a command under `/localhost` reports `Late` with a source port,
+/// and `Far` without a source port. A client that gets no answer to a command to a repository
+/// reports `Late`, even without a source port.
 #[test]
 fn silences(rt: HostRuntime) {
     assert!(rt; silence(rt.alloc(), ROUTE_ANSWERS, None) == Some(Silence::Far));

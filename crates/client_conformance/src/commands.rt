@@ -3,8 +3,9 @@
 use super::client::misplayed;
 use test_support::SAMPLE;
 
-/// The ten commands of `docs/TOOL.md`, and the request in that document that ends with a Nack. Each
-/// row is a command line, ` => `, the word for its outcome, and the end of the text that it prints.
+/// The ten commands of `docs/TOOL.md`, and the document's example of a request that gets a Nack.
+/// Each row is a command line, ` => `, the word for its outcome, and the end of the text that it
+/// prints.
 const TEN_COMMANDS: &str = "
 route add /lab --face 2 --cost 5 $KEY $NODE => done status 200 OK␊name /lab␊face 2␊cost 5␊
 route list $NODE => done name␉face␉cost␊/lab␉2␉5␊
@@ -26,8 +27,8 @@ fn ten_commands(rt: HostRuntime) {
     assert!(rt; row == Some(0), "line {row:?}");
 }
 
-/// Commands with verbs and options that are not in `TEN_COMMANDS`. A route that expires after one
-/// millisecond is gone at the next command.
+/// Rows in the form of `TEN_COMMANDS`, for further verbs and options. A route that expires after
+/// one millisecond is gone at the next command.
 const OTHER_COMMANDS: &str = "
 route register /A --face 2 --cost 5 $KEY $NODE => done status 200 OK␊name /A␊face 2␊cost 5␊origin 0␊flags child-inherit␊
 route register /A/B --face 1 --flags 2 --expires 1 --origin 65 $KEY $NODE => done status 200 OK␊name /A/B␊face 1␊cost 0␊origin 65␊flags capture␊expires in 1 ms␊

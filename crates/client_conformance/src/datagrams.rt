@@ -8,9 +8,9 @@ use ndn_client::Exchange;
 use std::alloc::Global;
 use test_support::{KEYS, SAMPLE, first_wrong};
 
-/// The datagrams that arrive after a command was sent, and how the command ends. `reply` is the
-/// node's reply to the command. `forged` is the node's reply with a wrong signature. `earlier` is
-/// the node's reply to the previous command, which arrives too late.
+/// Each row has the datagrams that arrive after a command was sent, and how the command ends.
+/// `reply` is the node's reply to the command. `forged` is the node's reply with a wrong signature.
+/// `earlier` is the node's reply to the previous command, which arrives too late.
 const HEARD: &str = "
 reply => done status 200 OK␊name /A␊face 2␊cost 5␊
 forged earlier reply => done status 200 OK␊name /A␊face 2␊cost 5␊
@@ -102,7 +102,8 @@ fn hears_of(alloc: Global, line: &str, len: usize, row: &str) -> Option<bool> {
 }
 
 /// Returns whether a command that adds a route for `/A` ends as the row says. The reply to the
-/// command has 150 octets. The reply's Name, including the parameters, takes 85 of the 150 octets.
+/// command has 150 octets. The reply's Name, including the command's parameters, takes 85 of the
+/// 150 octets.
 fn is_heard(alloc: Global, row: &str) -> bool {
     hears_of(alloc, "route add /A --face 2 --cost 5 $KEY $NODE", 150, row) == Some(true)
 }
@@ -133,8 +134,8 @@ fn long_name(alloc: Global) -> Option<String> {
     Some(name)
 }
 
-/// Returns whether a command for this name ends as the row says. The reply to the command contains
-/// the name twice, in 7,956 octets each time, and 151 other octets.
+/// Returns whether a command that adds a route for this name ends as the row says. The reply to the
+/// command contains the name twice, in 7,956 octets each time, and 151 other octets.
 fn hears_name(alloc: Global, name: &str, row: &str) -> Option<bool> {
     let line = "route add ~ --face 2 $KEY $NODE"
         .replace(alloc, '~', name)

@@ -24,7 +24,7 @@ fn adds_routes(alloc: Global, scene: &mut Scene, book: &KeyBook) -> Option<bool>
     Some(true)
 }
 
-/// Returns the table of the 130 routes.
+/// Returns the table that the client prints for the 130 routes.
 fn table(alloc: Global) -> Option<String> {
     let mut table = String::from_str(alloc, "name\tface\tcost\n").ok()?;
     for number in 100..230 {
@@ -39,7 +39,8 @@ fn goes_on(alloc: Global, scene: &mut Scene, exchange: &mut Exchange, book: &Key
     matches!(turn(alloc, scene, exchange, book), Some(Progress::Next))
 }
 
-/// Returns whether the third segment ends the list, and the list is the table of the 130 routes.
+/// Returns whether the third segment ends the list, and the client prints the table of the 130
+/// routes.
 fn ends_with_table(
     alloc: Global,
     scene: &mut Scene,

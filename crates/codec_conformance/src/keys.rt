@@ -15,8 +15,8 @@ fn tag(alloc: Global, input: &str) -> Option<String> {
     hex::encode(alloc, tag.as_slice()).ok()
 }
 
-/// Returns the HMAC of a text under a key, or `None` where `tag` returns `None`. The key and the
-/// text are given in hexadecimal.
+/// Returns the HMAC of a text under a key. The key and the text are given in hexadecimal. Returns
+/// `None` if hashing the text in two parts, or with an `HmacKey`, gives a different HMAC.
 fn tag_of_both(alloc: Global, key: &str, text: &str) -> Option<[u8; 32]> {
     let text = octets(alloc, text)?;
     let key = octets(alloc, key)?;
@@ -30,7 +30,8 @@ fn tag_under(key: Vec<u8>, text: &[u8]) -> Option<[u8; 32]> {
     (HmacKey::new(key).tag(text, &[]) == tag).then_some(tag)
 }
 
-/// Returns the tag of a text, if every split of the text into two parts gives this tag.
+/// Returns the HMAC of a text under a key. Returns `None` if hashing the text in two parts gives a
+/// different HMAC.
 fn tag_of_any_parts(key: &[u8], text: &[u8]) -> Option<[u8; 32]> {
     let tag = hmac_sha256(key, text, &[]);
     for place in 0..text.len() {
@@ -106,7 +107,7 @@ fn equal_tags(rt: HostRuntime) {
 }
 
 /// Returns the number of keys in a key file, followed by the key with the name `uri` if there is
-/// one. Returns the fault of the file if it is refused.
+/// one. Returns the fault if the file is refused.
 fn found(alloc: Global, file: &str, uri: &str) -> Option<String> {
     match KeyBook::read(alloc, file) {
         Ok(book) => found_in(alloc, &book, uri),
@@ -151,7 +152,7 @@ fn put_keys(file: &mut String, count: u16) -> Option<()> {
     Some(())
 }
 
-/// Appends lines, with an LF for each `↵` and a CR for each `␍`.
+/// Appends `lines` to `file`, with an LF in place of each `↵` and a CR in place of each `␍`.
 fn put_lines(file: &mut String, lines: &str) -> Option<()> {
     for character in lines.chars() {
         file.push(match character {
@@ -218,7 +219,7 @@ A 00 -> BadLine(1)
 }
 
 /// Looks up `/A` in a key file in which the key of `/A` has the octets of the row. Returns the
-/// result without the key's hexadecimal digits at the end.
+/// result. If the result ends with the key's hexadecimal digits, these digits are left out.
 fn file_of_key(alloc: Global, input: &str) -> Option<String> {
     let digits = digits_of(alloc, input)?;
     let found = found_with(alloc, &digits)?;
@@ -307,8 +308,7 @@ Memory -> Memory 0: out of memory
     check_rows(&rt, rt.alloc(), rows, fault_text);
 }
 
-/// Returns whether a key file has this number of keys. If memory runs out, the result is true as
-/// well.
+/// Returns whether `file` is a key file with `len` keys. Also returns true if memory runs out.
 fn reads_or_memory(alloc: Global, file: &str, len: usize) -> bool {
     match KeyBook::read(alloc, file) {
         Ok(book) => book.len() == len,
@@ -322,12 +322,12 @@ fn refused_memory(rt: HostRuntime) {
     assert!(rt; reads_or_memory(rt.alloc(), file, 3));
 }
 
-/// Returns whether a key file is refused with this fault, even if memory runs out.
+/// Returns whether a key file is refused with exactly the fault `fault`.
 fn is_refused(alloc: Global, file: &str, fault: KeyFault) -> bool {
     KeyBook::read(alloc, file).err() == Some(fault)
 }
 
-/// The fault of a file that is not valid is reported even if memory runs out.
+/// If a key file is not valid, the fault in the file is reported, even if memory runs out.
 #[test]
 fn faults_come_before_memory(rt: HostRuntime) {
     let file = "/A 00\n/seg=5 00\n; another\n/50=%05 00";

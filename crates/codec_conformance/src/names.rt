@@ -100,7 +100,7 @@ fn append(alloc: Global, name: &mut NameBuf, component: &str) -> Option<()> {
 }
 
 /// Returns the octets of a name after a component is appended, or the fault if the append fails.
-/// Returns `None` if an append that failed changed the name.
+/// Returns `None` if the append fails but changes the name.
 fn appended(alloc: Global, input: &str) -> Option<String> {
     let (start, component) = input.split_once("+ ")?;
     let (kind, value) = component.split_once(':')?;
@@ -143,7 +143,7 @@ fn appended_components(rt: HostRuntime) {
     check_rows(&rt, rt.alloc(), rows, appended);
 }
 
-/// Returns the URI text of a list of components, if that text reads as the same name.
+/// Returns the URI text of the name with these components, if the text reads as this name.
 fn uri_of(alloc: Global, input: &str) -> Option<String> {
     let name = name_of(alloc, input)?;
     let text = name.to_uri(alloc).ok()?;
@@ -266,7 +266,7 @@ fn words_of_numbers(rt: HostRuntime) {
 }
 
 /// Returns the octets of the name that a URI text reads as, or the fault. Returns `None` if the
-/// result of `uri_len` is neither the number of components of this name nor this fault.
+/// result of `uri_len` disagrees with the number of the name's components or with the fault.
 fn octets_of(alloc: Global, input: &str) -> Option<String> {
     match NameBuf::from_uri(alloc, input) {
         Ok(name) => octets_counted(alloc, name.view(), uri_len(input)),
@@ -469,7 +469,8 @@ ndn:ndn:/A -> BadUri
     check_rows(&rt, rt.alloc(), rows, octets_of);
 }
 
-/// Returns the number of components in a text of 64 components followed by the input, or the fault.
+/// Appends the input to a text of 64 components. Returns the number of components of the name that
+/// the whole text reads as, or the fault.
 fn after_64_components(alloc: Global, input: &str) -> Option<String> {
     let mut text = String::new(alloc);
     put_64_components(&mut text)?;
@@ -507,7 +508,7 @@ fn sixty_four_components(rt: HostRuntime) {
     check_rows(&rt, rt.alloc(), rows, after_64_components);
 }
 
-/// Returns the prefixes of a name, from the empty one to the whole name.
+/// Returns the prefixes of a name, from the empty prefix to the whole name.
 fn prefixes(alloc: Global, input: &str) -> Option<String> {
     let name = NameBuf::from_uri(alloc, input).ok()?;
     prefixes_of(alloc, name.view())
@@ -559,8 +560,8 @@ fn hash_of<T: Hash>(value: &T) -> u64 {
     state.finish()
 }
 
-/// Returns the order of two names, if the reverse comparison, equality and hashes agree with it,
-/// both for owned names and for views.
+/// Returns the order of two names. Returns `None` if the reverse comparison, equality or hashes of
+/// the owned names or of their views disagree with this order.
 fn order_of(left: &NameBuf, right: &NameBuf) -> Option<Ordering> {
     let order = left.cmp(right);
     let is_equal = order.is_eq();
@@ -620,8 +621,8 @@ fn name_order(rt: HostRuntime) {
     check_rows(&rt, rt.alloc(), rows, relation);
 }
 
-/// Returns the order of two components, if the reverse comparison, equality and hashes agree with
-/// it.
+/// Returns the order of two components. Returns `None` if their reverse comparison, equality or
+/// hashes disagree with this order.
 fn order_of_components(left: &Component<'_>, right: &Component<'_>) -> Option<Ordering> {
     let order = left.cmp(right);
     let is_equal = order.is_eq();
@@ -658,8 +659,8 @@ fn component_order(rt: HostRuntime) {
     check_rows(&rt, rt.alloc(), rows, first_components);
 }
 
-/// Returns the number of components after the first one, if the name's iterator and a copy of this
-/// iterator both return this number of components.
+/// Takes the first component from the name's iterator. Returns the number of components that
+/// follow, if the iterator and a copy of the iterator return the same number of components.
 fn count_after_first(name: Name<'_>) -> Option<usize> {
     let mut after_first = name.into_iter();
     after_first.next();
@@ -767,8 +768,9 @@ sha256digest=00 -> BadUri
     check_rows(&rt, rt.alloc(), rows, component);
 }
 
-/// Reads and writes a name, copies it and appends a component. Returns whether each of these calls
-/// succeeds, or fails only because memory runs out.
+/// Reads a name from a URI text, writes the name as a URI text, copies the name and appends a
+/// component to it. Returns whether each of these steps succeeds, or fails only because memory runs
+/// out.
 fn give_all_or_memory(alloc: Global, text: &str) -> bool {
     match NameBuf::from_uri(alloc, text) {
         Ok(mut name) => name_gives_all_or_memory(alloc, &mut name, text),
@@ -776,15 +778,15 @@ fn give_all_or_memory(alloc: Global, text: &str) -> bool {
     }
 }
 
-/// Returns whether writing this name, copying it and appending a component to it each succeed, or
-/// fail only because memory runs out.
+/// Writes this name as a URI text, copies the name and appends a component to it. Returns whether
+/// each of these steps succeeds, or fails only because memory runs out.
 fn name_gives_all_or_memory(alloc: Global, name: &mut NameBuf, text: &str) -> bool {
     is_written_or_memory(alloc, name, text)
         && is_copied_or_memory(alloc, name)
         && appends_or_memory(name)
 }
 
-/// Returns whether the name is written as this text, unless memory runs out.
+/// Returns whether the name is written as this text. Also returns true if memory runs out.
 fn is_written_or_memory(alloc: Global, name: &NameBuf, text: &str) -> bool {
     match name.to_uri(alloc) {
         Ok(printed) => printed.as_str() == text,
@@ -792,7 +794,7 @@ fn is_written_or_memory(alloc: Global, name: &NameBuf, text: &str) -> bool {
     }
 }
 
-/// Returns whether a copy of the name is equal to the name, unless memory runs out.
+/// Returns whether a copy of the name is equal to the name. Also returns true if memory runs out.
 fn is_copied_or_memory(alloc: Global, name: &NameBuf) -> bool {
     match NameBuf::from_name(alloc, name.view()) {
         Ok(copy) => copy == *name,
@@ -809,12 +811,13 @@ fn appends_or_memory(name: &mut NameBuf) -> bool {
     }
 }
 
-/// Returns whether a text is refused with this fault, even if memory runs out.
+/// Returns whether a URI text is refused with exactly the fault `fault`.
 fn is_refused(alloc: Global, text: &str, fault: NameFault) -> bool {
     NameBuf::from_uri(alloc, text).err() == Some(fault)
 }
 
-/// The fault of a text that is not a name or a component is reported even if memory runs out.
+/// If a text is not the URI of a name or of a component, the fault in the text is reported, even if
+/// memory runs out.
 #[test]
 fn faults_come_before_memory(rt: HostRuntime) {
     assert!(rt; is_refused(rt.alloc(), "/A/%4", NameFault::BadUri));

@@ -16,7 +16,8 @@ use std::alloc::Global;
 use test_support::octets;
 
 /// Returns octets, wrapped in nested elements. In `input`, the types of the elements are before the
-/// bar, and the octets are after the bar. The outermost type comes first.
+/// bar, and the octets are after the bar. The outermost type comes first. Without a bar, the octets
+/// are not wrapped.
 fn packet(alloc: Global, input: &str) -> Option<Vec<u8>> {
     let (kinds, value) = input.split_once('|').unwrap_or(("", input));
     let mut octets = octets(alloc, value)?;
@@ -76,8 +77,8 @@ fn cut_shown(alloc: Global, octets: &[u8]) -> Option<String> {
     String::from_str(alloc, outcome).ok()
 }
 
-/// Returns the kind and the octets of the packet in a frame, with the reason of a Nack, or `Idle`
-/// if the frame has no packet.
+/// Returns the kind and the octets of the packet in a frame. For a Nack, returns its reason and the
+/// octets of its Interest. Returns `Idle` if the frame has no packet.
 fn carried(alloc: Global, input: &str) -> Option<String> {
     let octets = packet(alloc, input)?;
     carried_in(alloc, &octets)
@@ -124,7 +125,7 @@ fn locator_text(alloc: Global, locator: Locator<'_>) -> Option<String> {
     }
 }
 
-/// Returns all fields of a signature, or `unsigned` if there is none.
+/// Returns all fields of a signature, or `unsigned` if there is no signature.
 fn signature_text(alloc: Global, signature: Option<Signature<'_>>) -> Option<String> {
     let Some(signature) = signature else {
         return String::from_str(alloc, "unsigned").ok();

@@ -1,11 +1,11 @@
-//! Helpers for tests whose cases are rows of a text. The first wrong row ends the test.
+//! A helper for tests whose cases are the rows of a text. The first wrong row ends the test.
 
 use std::alloc::Global;
 use std::process::Abort;
 use test_support::first_misshown;
 
-/// Fails at the first row whose input gives a text other than the expected one, or if there are no
-/// rows.
+/// Fails at the first row for whose input `show` does not return the text that the row expects.
+/// Also fails if there are no rows.
 pub fn check_rows(
     rt: &impl Abort,
     alloc: Global,

@@ -6,7 +6,7 @@ use std::alloc::Global;
 use std::test::*;
 use test_support::octets;
 
-/// Returns the encoding of a number, if it reads as that number.
+/// Returns the encoding of a number, if this encoding reads as the number.
 fn spelling(alloc: Global, number: &str) -> Option<String> {
     let number = number.parse().ok()?;
     let mut out = Vec::new(alloc);
@@ -14,8 +14,8 @@ fn spelling(alloc: Global, number: &str) -> Option<String> {
     spelling_shown(alloc, number, &out)
 }
 
-/// Returns the octets in hexadecimal, if they read as this number and have the length of its
-/// encoding.
+/// Returns the octets in hexadecimal, if they read as `number` and their length is what
+/// `number_len` returns for `number`.
 fn spelling_shown(alloc: Global, number: u64, octets: &[u8]) -> Option<String> {
     let (read, rest) = number_of(octets).ok()?;
     if read != number || !rest.is_empty() || number_len(number) != octets.len() {
@@ -35,8 +35,9 @@ fn number_spellings(rt: HostRuntime) {
     check_rows(&rt, rt.alloc(), rows, spelling);
 }
 
-/// Returns the type of the first element in some octets, the lengths of its value and of the whole
-/// element, and the number of octets after it. Returns the fault if there is no such element.
+/// Reads the first element in some octets. Returns the type of the element, the length of its
+/// value, the length of the whole element, and the number of octets after the element. Returns the
+/// fault if no element can be read.
 fn first(alloc: Global, input: &str) -> Option<String> {
     let octets = octets(alloc, input)?;
     first_in(alloc, &octets)
@@ -156,7 +157,7 @@ fn shortest_integer(alloc: Global, number: &str) -> Option<String> {
     integer_shown(alloc, number, &out)
 }
 
-/// Returns the octets in hexadecimal, if they have the length of this number's encoding.
+/// Returns the octets in hexadecimal, if their length is what `nni_len` returns for `number`.
 fn integer_shown(alloc: Global, number: u64, octets: &[u8]) -> Option<String> {
     if nni_len(number) != octets.len() {
         return None;
@@ -185,21 +186,21 @@ fn integers(rt: HostRuntime) {
     check_rows(&rt, rt.alloc(), rows, shortest_integer);
 }
 
-/// Returns the types of the elements and the lengths of their values, up to the end or to a fault.
+/// Returns the type of each element in some octets and the length of its value. If an element
+/// cannot be read, its fault comes last.
 fn elements(alloc: Global, input: &str) -> Option<String> {
     let octets = octets(alloc, input)?;
     elements_in(alloc, &octets)
 }
 
-/// Returns the types of the elements in these octets and the lengths of their values, up to the end
-/// or to a fault.
+/// Returns what `elements` returns, for these octets.
 fn elements_in(alloc: Global, octets: &[u8]) -> Option<String> {
     let mut text = String::new(alloc);
     put_elements(&mut text, octets)?;
     Some(text)
 }
 
-/// Appends the types of the elements and the lengths of their values, up to the end or to a fault.
+/// Appends to `text` what `elements` returns for these octets.
 fn put_elements(text: &mut String, octets: &[u8]) -> Option<()> {
     for element in Elements::new(octets) {
         match element {

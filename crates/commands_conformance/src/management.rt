@@ -41,7 +41,7 @@ pub fn data_in(packet: &[u8]) -> Option<Data<'_>> {
     }
 }
 
-/// Returns the Interest in a packet.
+/// Returns the Interest that `packet` encodes.
 pub fn interest_in(packet: &[u8]) -> Option<Interest<'_>> {
     match read_frame(packet) {
         Ok(Frame::Interest(interest)) => Some(interest),
@@ -127,9 +127,9 @@ fn absent_fields(rt: HostRuntime) {
     check_rows(&rt, rt.alloc(), rows, command_shown);
 }
 
-/// Fields may come in any order. If a command has several fields of a type, the first one is used.
-/// A complete element of an unknown type is ignored, while a truncated element is refused with
-/// status 400.
+/// Fields may come in any order. If a command has several fields of the same type, the first one is
+/// used. A complete element of an unknown type is ignored, while a truncated element is refused
+/// with status 400.
 #[test]
 fn the_first_of_each_field_counts(rt: HostRuntime) {
     let rows = "
@@ -213,8 +213,8 @@ fn octets_shown(alloc: Global, status: u16, body: &[u8], list: &[u8]) -> Option<
     format!(in alloc; "{status} {body} {list}").ok()
 }
 
-/// Adds routes to the face of the command, to another face that is up, and to a face that is not
-/// up. A reply with status 200 contains the face of the route.
+/// Adds routes to the face from which the command came, to another face that is up, and to a face
+/// that is not up. A reply with status 200 contains the face of the route.
 #[test]
 fn a_route_needs_an_open_face(rt: HostRuntime) {
     let rows = "
@@ -244,8 +244,8 @@ fn a_strategy_is_known_by_its_name(rt: HostRuntime) {
     check_rows(&rt, rt.alloc(), rows, applied_shown);
 }
 
-/// Adds routes for prefixes of 32 and of 33 components. A prefix that is too long is reported
-/// before a face that is not up.
+/// Adds routes for prefixes of 32 and of 33 components. A prefix that is too long gets status 414,
+/// even if the face is not up.
 #[test]
 fn prefixes_of_32_components(rt: HostRuntime) {
     let rows = "
@@ -292,7 +292,7 @@ fn encoded_reply(alloc: Global, status: u16, text: &str, body: &[u8]) -> Option<
     hex::encode(alloc, &out).ok()
 }
 
-/// Encodes a reply with this status and its text, and without a body.
+/// Encodes a reply with the status in `row`, the text of the status, and no body.
 fn reply_written(alloc: Global, row: &str) -> Option<String> {
     let status = row.parse().ok()?;
     encoded_reply(alloc, status, status_text(status)?, &[])

@@ -64,14 +64,15 @@ fn put_command(name: &mut NameBuf, verb: &str, parameters: &[u8]) -> Option<()> 
 }
 
 /// Returns the name of a command about the Data that answer an Interest. The Interest's name is
-/// `asked`, where `*` at the end means CanBePrefix. A lifetime may be given.
+/// `asked`, where `*` at the end means CanBePrefix. If `lifetime` is `Some`, the command has this
+/// lifetime.
 fn command_on(alloc: Global, verb: &str, asked: &str, lifetime: Option<u64>) -> Option<NameBuf> {
     let fields = fields_of(alloc, asked, lifetime)?;
     let parameters = parameters_of(alloc, &fields)?;
     command_name(alloc, verb, &parameters)
 }
 
-/// Shows a reply: its status, its count, and the Interest to send.
+/// Shows a reply: its status, its count, and the Interest to send, if there is one.
 fn reply_shown(alloc: Global, reply: &RepoReply) -> Option<String> {
     let (status, count) = (reply.status, reply.count);
     let Some(want) = &reply.fetch else {
@@ -290,8 +291,8 @@ fn same_prefixes(rt: HostRuntime) {
     check_rows(&rt, rt.alloc(), rows, same_prefix);
 }
 
-/// An expiry before the deadline of a want leaves the want. An expiry at the deadline removes the
-/// want.
+/// A call of `expire` with a time before the deadline of a want leaves the want. A call with the
+/// deadline as the time removes the want.
 #[test]
 fn want_deadline(rt: HostRuntime) {
     let rows = "
@@ -351,7 +352,8 @@ fn repository_commands(rt: HostRuntime) {
     check_rows(&rt, rt.alloc(), rows, first_answer);
 }
 
-/// If a command has several fields of a type, the first one is used. Unknown elements are ignored.
+/// If a command has several fields of the same type, the first one is used. Unknown elements are
+/// ignored.
 #[test]
 fn the_first_of_each_field_counts(rt: HostRuntime) {
     let rows = "

@@ -1,4 +1,6 @@
--- The freshness bounds of the blocks of the list, for the contracts of private functions.
+-- The list of cached Data is divided into blocks, and each block has a freshness bound: from this
+-- moment on, no Data of the block is fresh. These definitions are for the contracts of private
+-- functions.
 use Rattle.std.specs.Prelude.{◌≡◌, ◌≢◌, ℕ, ◌+◌, ◌-◌, ◌^◌, ◌<◌, ◌≤◌, List, insert, length, min}
 use Rattle.std.specs.Prelude.{slice_index_or}
 use Rattle.std.specs.List.{All}
@@ -9,7 +11,7 @@ use Rattle.content_store.specs.declared.blocks.Block.{Block}
 use Rattle.content_store.specs.declared.blocks.Change.{Change}
 use Rattle.content_store.specs.declared.blocks.Change.TheVariants.{Added, Renewed, Removed}
 
--- the moment at which the FreshnessPeriod after the arrival ends, at most 2^64 - 1
+-- the moment until which the Data is fresh: its arrival plus its FreshnessPeriod, at most 2^64 - 1
 abbrev pub fresh_until : CachedData → ℕ
 fresh_until c = min (c.arrival + c.freshness) (2 ^ 64 - 1)
 
@@ -23,8 +25,8 @@ Bounds rows b =
 abbrev pub AreBounds : List Placed → List Block → Type 0
 AreBounds rows blocks = All (Bounds rows) blocks
 
--- `rows'` is the list `rows` after the change. From the moment `until` of the change on, a row that
--- the change adds or renews is not fresh.
+-- `rows'` is the list `rows` after the change. A change that adds or renews a row contains a moment
+-- `until`: from this moment on, the row is not fresh.
 abbrev pub Follows : Change → List Placed → List Placed → Type 0
 Follows (Added at until) rows rows' =
     (row : Placed) × (at ≤ length rows) × (fresh_until (held_at row) ≤ until)
@@ -37,12 +39,13 @@ Follows (Renewed at until) rows rows' =
 Follows (Removed start end) rows rows' =
     (start ≤ end) × (end ≤ length rows) × (rows' ≡ without_range start end rows)
 
--- if each `until` in `blocks` is a freshness bound of the list, so is each `until` in `blocks'`
+-- for the list `rows`: if the `until` of each block in `blocks` is a freshness bound, the `until`
+-- of each block in `blocks'` is a freshness bound too
 abbrev pub Keeps : List Placed → List Block → List Block → Type 0
 Keeps rows blocks blocks' = AreBounds rows blocks → AreBounds rows blocks'
 
--- if each `until` in `blocks` is a freshness bound before a change of the list, each `until` in
--- `blocks'` is a freshness bound after this change
+-- if the `until` of each block in `blocks` is a freshness bound before `change`, the `until` of
+-- each block in `blocks'` is a freshness bound after `change`, for the new list `rows'`
 abbrev pub Carries : Change → List Placed → List Block → List Block → Type 0
 Carries change rows' blocks blocks' =
     (rows : List Placed) → Follows change rows rows' → AreBounds rows blocks

@@ -22,18 +22,18 @@ shown name octets freshness arrival = record {
   arrival = arrival;
 }
 
--- the octets of an implicit digest component
+-- the octets of the implicit digest component that contains `digest`
 abbrev pub digest_octets : List ℕ → List ℕ
 digest_octets digest = IMPLICIT_SHA256_DIGEST ∷ 32 ∷ digest
 
--- The encoded name is valid and has at least 32 octets; `head` is its first 32 octets.
+-- The encoded name is valid and has at least 32 octets; `head` is the first 32 of these octets.
 pub record IsHead (name : List Field) (head : List ℕ) : Type 0 where
   pub value : IsNameValue (octets_of name) name
   pub long : 32 ≤ length (octets_of name)
   pub first : head ≡ take 32 (octets_of name)
 
--- If `order` is not Equal, it is the result of comparing any full name of a Data named `name` with
--- `other`, and also with any full name of a Data named `other`.
+-- If `order` is not Equal, `order` is the result of each comparison between the full name of a Data
+-- named `name` and either the name `other` or the full name of a Data named `other`.
 abbrev pub OrdersFullNames : List Field → List Field → Ordering → Type 0
 OrdersFullNames name other order =
     order ≢ Equal → (d : List ℕ) → length d ≡ 32

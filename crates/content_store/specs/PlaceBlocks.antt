@@ -1,4 +1,5 @@
--- A list of slab indexes in blocks, for the contracts of private functions.
+-- A list of slab indexes (indexes of rows in a `Slab`) that is divided into blocks, for the
+-- contracts of private functions.
 use Rattle.std.specs.Prelude.{◌≡◌, ℕ, ◌+◌, ◌<◌, ◌≤◌, List, [], ◌∷◌, ◌++◌, length, slice_index_or}
 use Rattle.content_store.specs.declared.places.Block.{Block}
 
@@ -7,8 +8,8 @@ unfoldable pub flat : List Block → List ℕ
 flat [] = []
 flat (b ∷ bs) = b.items.items ++ flat bs
 
--- the first block starts at position `n`, and each other block starts where the block before it
--- ends
+-- the first block starts at position `n`, and each later block starts at the position where the
+-- previous block ends
 unfoldable pub AreLaid : ℕ → List Block → Type 0
 AreLaid n [] = Unit {0}
 AreLaid n (b ∷ bs) = (b.start ≡ n) × AreLaid (n + length b.items.items) bs

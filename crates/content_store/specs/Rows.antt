@@ -45,8 +45,8 @@ pub record IsLower (name : List Field) (rows : List Placed) (at : ℕ) : Type 0 
   pub above : (k : ℕ) (d : Placed) → at ≤ k → k < length rows
       → name_cmp (name_at (slice_index_or rows k d)) name ≡ Less → ⊥
 
--- The optional number is the position of the first row whose Data has the property `P`. None means
--- that no row has the property `P`.
+-- `Some at` means that `at` is the position of the first row whose Data has the property `P`. None
+-- means that there is no such row.
 abbrev pub FirstWith : (CachedData → Type 0) → List Placed → Option ℕ → Type 0
 FirstWith P rows None =
     (k : ℕ) (d : Placed) → k < length rows → ¬ P (held_at (slice_index_or rows k d))

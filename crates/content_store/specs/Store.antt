@@ -26,7 +26,7 @@ pub record CachedData : Type 0 where
   pub freshness : ℕ
   pub arrival : ℕ
 
--- a Data as it is cached if it arrives at the moment `arrival`
+-- the cached Data for the Data `d`, if `d` arrives at the moment `arrival`
 abbrev pub cached_at : Data → ℕ → CachedData
 cached_at d arrival = record {
   name = components d.name;
@@ -39,7 +39,8 @@ cached_at d arrival = record {
 abbrev pub full_name_of : CachedData → List Field
 full_name_of c = full_name c.name c.digest
 
--- The cached Data, the most recently used first, and the capacity: the greatest number of Data.
+-- The state of a store. `cached` is the list of cached Data, with the most recently used Data
+-- first. `capacity` is the greatest number of Data that the store can cache.
 pub record StoreState : Type 0 where
   pub cached : List CachedData
   pub capacity : ℕ
@@ -49,7 +50,8 @@ abbrev pub EachOnce : List CachedData → Type 0
 EachOnce [] = Unit {0}
 EachOnce (c ∷ cs) = AllByRecursion (λ d. full_name_of c ≢ full_name_of d) cs × EachOnce cs
 
--- The octets are a Data with this name, implicit digest and FreshnessPeriod.
+-- The field `octets` of `c` is an encoded Data. The fields `name`, `digest` and `freshness` are the
+-- name, the implicit digest and the FreshnessPeriod of this Data.
 pub record IsCachedData (c : CachedData) : Type 0 where
   pub packet : PlainData
   pub read : IsData c.octets packet
@@ -66,12 +68,13 @@ pub record IsStore (s : StoreState) : Type 0 where
   pub each_once : EachOnce s.cached
   pub each_data : All IsCachedData s.cached
 
--- a Data is fresh if `now` is less than its arrival plus its FreshnessPeriod, and less than
--- 2^64 - 1
+-- the Data is fresh at the moment `now`: `now` is less than the arrival plus the FreshnessPeriod,
+-- and less than 2^64 - 1
 abbrev pub IsFreshData : CachedData → ℕ → Type 0
 IsFreshData c now = now < min (c.arrival + c.freshness) (2 ^ 64 - 1)
 
--- the Data answers an Interest of this key and, if the key has MustBeFresh, is fresh
+-- the Data answers an Interest with this key (the Interest's name, CanBePrefix and MustBeFresh); if
+-- the key has MustBeFresh, the Data is also fresh at the moment `now`
 abbrev pub CanServe : PlainKey → ℕ → CachedData → Type 0
 CanServe key now c =
     Answers c.name c.digest key.name key.can_be_prefix
@@ -83,11 +86,12 @@ pub record IsLeast (P : CachedData → Type 0) (cs : List CachedData) (c : Cache
   pub has : P c
   pub none_less : All (λ d. P d → ¬ Less (full_name_of d) (full_name_of c)) cs
 
--- the Data whose full names differ from `name`, in the same order
+-- the Data of the list `cached` whose full names differ from `name`, in the order of the list
 abbrev pub without : List Field → List CachedData → List CachedData
 without name cached = filter (λ c. not (eq_by_cmp name_cmp (full_name_of c) name)) cached
 
--- `after` is `before` with some elements removed, in the same order.
+-- `after` is the list `before` after some or no elements are removed. The remaining elements keep
+-- their order.
 pub record LosesSome (before after : List CachedData) : Type 0 where
   pub stays : CachedData → Bool
   pub left : after ≡ filter stays before
@@ -99,20 +103,20 @@ with_cached s c = record s {
   cached = take s.capacity (c ∷ without (full_name_of c) s.cached);
 }
 
--- the store with `c` as the most recently used Data
+-- the store after its cached Data `c` becomes the most recently used Data
 abbrev pub with_used : StoreState → CachedData → StoreState
 with_used s c = record s { cached = c ∷ without (full_name_of c) s.cached }
 
 -- What a store returns for a key: the octets of the Data with the least full name among those that
--- can serve an Interest of this key, or nothing if no Data can.
+-- can serve an Interest of this key, or None if no Data can serve it.
 abbrev pub GivesData : PlainKey → ℕ → List CachedData → Option (List ℕ) → Type 0
 GivesData key now cached None = All (λ c. ¬ CanServe key now c) cached
 GivesData key now cached (Some octets) =
     (c : CachedData) × IsLeast (CanServe key now) cached c × (octets ≡ c.octets)
 
--- Of the Data that can serve an Interest of this key, a store returns the octets of the one with
--- the least full name, and this Data becomes the most recently used. If no Data can serve the
--- Interest, the store returns None and is unchanged.
+-- Among the Data that can serve an Interest of this key, a store finds the Data with the least full
+-- name. The store returns the octets of this Data, which becomes the most recently used. If no Data
+-- can serve the Interest, the store returns None and is unchanged.
 abbrev pub Finds : PlainKey → ℕ → StoreState → Option (List ℕ) → StoreState → Type 0
 Finds key now before None after =
     All (λ c. ¬ CanServe key now c) before.cached × (after ≡ before)

@@ -8,7 +8,7 @@ use crate::places::Places;
 use crate::rows::Row;
 use slab::Slab;
 
-/// The greatest number of rows in a block. A larger block is split.
+/// A block with more rows than this number is split in two, unless memory runs out.
 const MAX_BLOCK: usize = 512;
 
 /// The list positions from `start` up to, but not including, `end`, and the freshness bound `until`
@@ -31,7 +31,8 @@ pub enum Change {
     Removed(usize, usize),
 }
 
-/// Returns the new position of `at`, after the positions from `start` up to `end` are removed.
+/// Returns the position that `at` becomes when the positions from `start` up to, but not including,
+/// `end` are removed. A removed position becomes `start`.
 fn moved(at: usize, start: usize, end: usize) -> usize
     ensures low { at ≤ start → result ≡ at }
     ensures within { start ≤ at → at ≤ end → result ≡ start }
@@ -47,16 +48,16 @@ fn moved(at: usize, start: usize, end: usize) -> usize
 }
 
 impl Block {
-    /// Returns whether the block contains a position.
+    /// Returns whether the block contains the position `at`.
     fn holds(self, at: usize) -> bool
         ensures { IsTrue result ↔ ((self.start ≤ at) × (at < self.end)) }
     {
         self.start <= at && at < self.end
     }
 
-    /// Returns the block after a row was inserted before position `at`. A row that is inserted at
-    /// the end of the block belongs to the block. A row that is inserted at the start of the block
-    /// belongs to the block only if the start is 0.
+    /// Returns this block, updated for the insertion of a row before position `at`. A row that is
+    /// inserted at the end of the block belongs to the block. A row that is inserted at the start
+    /// of the block belongs to the block only if the start is 0.
     fn with(self, at: usize, until: u64) -> Block
         ensures { (rows : List Placed) (row : Placed) → at ≤ length rows
             → fresh_until (held_at row) ≤ until → Bounds rows self
@@ -74,7 +75,7 @@ impl Block {
         Block { end, until, ..self }
     }
 
-    /// Returns the block after the row at position `at` was renewed.
+    /// Returns this block, updated for the renewal of the row at position `at`.
     fn renewed(self, at: usize, until: u64) -> Block
         ensures { (rows rows' : List Placed) → Follows (changes.Renewed at until) rows rows'
             → Bounds rows self → Bounds rows' result }
@@ -86,7 +87,8 @@ impl Block {
         Block { until, ..self }
     }
 
-    /// Returns the block after the rows from `start` up to `end` were removed.
+    /// Returns this block, updated for the removal of the rows from `start` up to, but not
+    /// including, `end`.
     fn without(self, start: usize, end: usize) -> Block
         ensures { (rows rows' : List Placed) → Follows (changes.Removed start end) rows rows'
             → Bounds rows self → Bounds rows' result }
@@ -98,7 +100,7 @@ impl Block {
         }
     }
 
-    /// Returns the block after a change.
+    /// Returns this block, updated for `change`.
     fn after(self, change: Change) -> Block
         ensures { (rows rows' : List Placed) → Follows change rows rows'
             → Bounds rows self → Bounds rows' result }
@@ -111,7 +113,7 @@ impl Block {
     }
 }
 
-/// Updates all blocks after a change of the list.
+/// Updates all blocks for `change`.
 pub fn follow(blocks: &mut Vec<Block>, change: Change)
     ensures { (rows' : List Placed) → Carries change rows' blocks.old.items blocks.new.items }
 {
@@ -126,8 +128,9 @@ fn index_at(blocks: &[Block], at: usize) -> usize {
     blocks.partition_point(|block| block.end <= at)
 }
 
-/// Returns the next position to search, if the row at position `at` cannot serve the Interest. With
-/// MustBeFresh, skips rows that are known not to be fresh.
+/// Returns the position where a search for a row that can serve an Interest continues after
+/// position `at`. If `must_be_fresh` is true, the search skips rows that are known not to be fresh
+/// at `now`.
 pub fn next_place(blocks: &[Block], at: usize, must_be_fresh: bool, now: u64) -> usize
     requires { at + 1 < 2 ^ 64 }
     ensures after { at < result }
@@ -169,7 +172,8 @@ fn begin(entries: &Slab<Row>, order: &Places, blocks: &mut Vec<Block>)
     }
 }
 
-/// Splits the block at `index` if it is longer than `MAX_BLOCK`, unless memory runs out.
+/// Splits the block with index `index` in two if it has more than `MAX_BLOCK` rows, unless memory
+/// runs out.
 fn halve(entries: &Slab<Row>, order: &Places, blocks: &mut Vec<Block>, index: usize)
     requires { IsRows (get entries.now) order.now }
     ensures { Keeps (shown (get entries.now) order.now) blocks.old.items blocks.new.items }
@@ -189,7 +193,7 @@ fn halve(entries: &Slab<Row>, order: &Places, blocks: &mut Vec<Block>, index: us
     }
 }
 
-/// Computes the freshness bound of the block at `index` again, from the rows of the block.
+/// Computes the freshness bound of the block with index `index` again, from the rows of the block.
 fn look_again(entries: &Slab<Row>, order: &Places, blocks: &mut Vec<Block>, index: usize)
     requires { IsRows (get entries.now) order.now }
     ensures { Keeps (shown (get entries.now) order.now) blocks.old.items blocks.new.items }
@@ -208,8 +212,8 @@ fn drop_empty(blocks: &mut Vec<Block>)
     blocks.retain(|block| block.start < block.end);
 }
 
-/// Joins a block with the next one if they are adjacent and together have at most half of
-/// `MAX_BLOCK` rows.
+/// Joins the block with index `index` and the next block if they are adjacent and together have at
+/// most `MAX_BLOCK / 2` rows.
 fn join(blocks: &mut Vec<Block>, index: usize)
     ensures { (rows : List Placed) → Keeps rows blocks.old.items blocks.new.items }
 {
@@ -230,7 +234,7 @@ fn join(blocks: &mut Vec<Block>, index: usize)
     };
 }
 
-/// Updates the blocks after a row was inserted before position `at`. The inserted row is fresh
+/// Updates the blocks for a row that was inserted before position `at`. The inserted row is fresh
 /// until `until`.
 pub fn add_row(entries: &Slab<Row>, order: &Places, blocks: &mut Vec<Block>, at: usize, until: u64)
     requires { IsRows (get entries.now) order.now }
@@ -243,7 +247,7 @@ pub fn add_row(entries: &Slab<Row>, order: &Places, blocks: &mut Vec<Block>, at:
     halve(entries, order, blocks, index);
 }
 
-/// Updates the blocks after the row at position `at` was removed. The removed row was fresh until
+/// Updates the blocks for the removal of the row at position `at`. The removed row was fresh until
 /// `until`.
 pub fn remove_row(
     entries: &Slab<Row>,
@@ -273,7 +277,7 @@ pub fn remove_row(
     join(blocks, index);
 }
 
-/// Updates the blocks after the rows from `start` up to `end` were removed.
+/// Updates the blocks for the removal of the rows from `start` up to, but not including, `end`.
 pub fn remove_rows(
     entries: &Slab<Row>,
     order: &Places,

@@ -22,8 +22,8 @@ use std::marker::Model;
 /// A cached Data. The implicit digest of the Data is computed when a comparison needs it.
 #[derive(Drop)]
 pub struct Entry {
-    // The first 32 octets of the name, if the name has at least 32 octets. These octets decide most
-    // comparisons.
+    // The first 32 octets of the encoded name, if the encoded name has at least 32 octets. These
+    // octets decide most comparisons.
     head: Option<[u8; HEAD_LEN]>,
     name: NameBuf,
     octets: Vec<u8>,
@@ -46,7 +46,7 @@ impl Model for Entry {
 }
 
 impl Entry {
-    /// Copies a Data that arrived at the moment `arrival`.
+    /// Creates an entry with a copy of the Data `packet`, which arrived at the moment `arrival`.
     pub fn new(alloc: Global, packet: &Data<'_>, arrival: u64) -> Result<Entry, Memory>
         ensures { IfOk result (λ e. e ≡ cached_at packet.now arrival) }
     {
@@ -117,7 +117,7 @@ impl Entry {
         self.compare(name).is_lt()
     }
 
-    /// Returns whether the full name begins with a name.
+    /// Returns whether the full name of this entry begins with `name`.
     pub fn is_under(&self, name: Name<'_>) -> bool
         ensures { IsTrue result ↔ IsPrefix (components name.entry) (full_name_of self.now) }
     {
@@ -132,10 +132,10 @@ impl Entry {
         self.name.view().compare(name).is_eq() || self.compare(name).is_eq()
     }
 
-    /// Returns whether the full name of this entry is near the key's name. A full name near the
-    /// key's name begins with the key's name. If the key lacks CanBePrefix, the component after the
-    /// key's name, if there is one, has a type number of at most 1. Only Data with a full name near
-    /// a key's name can serve an Interest of this key.
+    /// Returns whether the full name of this entry is near the key's name. A full name is near the
+    /// key's name if it begins with the key's name and satisfies one condition more: the key has
+    /// CanBePrefix, or the component after the key's name, if there is one, has a type number of at
+    /// most 1. Only Data with a full name near a key's name can serve an Interest of this key.
     #[inline(always)]
     pub fn is_near(&self, key: Key<'_>) -> bool
         ensures { result
@@ -153,7 +153,8 @@ impl Entry {
         }
     }
 
-    /// Returns whether the Data can serve an Interest of this key.
+    /// Returns whether the Data can serve an Interest of this key: whether the Data answers the
+    /// Interest and, if the key has MustBeFresh, is fresh at the moment `now`.
     pub fn can_serve(&self, key: Key<'_>, now: u64) -> bool
         ensures { IsTrue result ↔ CanServe (plain_key key.entry) now self.now }
     {
@@ -161,7 +162,8 @@ impl Entry {
         answers && (!key.must_be_fresh || self.is_fresh(now))
     }
 
-    /// Returns the moment at which the FreshnessPeriod after the arrival ends, at most 2^64 - 1.
+    /// Returns the moment until which the Data is fresh: its arrival plus its FreshnessPeriod, at
+    /// most 2^64 - 1.
     pub fn fresh_until(&self) -> u64
         ensures { result ≡ fresh_until self.now }
     {

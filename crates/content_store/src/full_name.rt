@@ -19,11 +19,12 @@ const DIGEST_LEN: u8 = 32;
 /// The length in octets of the head of a name. The head is the start of the encoded name.
 pub const HEAD_LEN: usize = 32;
 
-/// Compares the first 32 octets of an encoded name, which are in `head`, with the first 32 octets
-/// of the encoded name `other`. Returns `Equal` if these octets are equal, or if one of the names
-/// has fewer than 32 octets. For each Data whose name is the first name, a result other than
-/// `Equal` is also the result of comparing its full name with `other`, and with the full name of
-/// each Data named `other`.
+/// `head` contains the first 32 octets of an encoded name (the first name), or is `None` if the
+/// first name has fewer than 32 octets. Compares `head` with the first 32 octets of the encoded
+/// name `other`. Returns `Equal` if the compared octets are equal, or if at least one of the two
+/// names has fewer than 32 octets. A result other than `Equal` is also the result of each
+/// comparison between the full name of a Data with the first name and either the name `other` or
+/// the full name of a Data named `other`.
 #[inline(always)]
 pub fn compare_heads(head: &Option<[u8; HEAD_LEN]>, other: Name<'_>) -> Ordering
     ensures { (name : List Field) → IfSome head.now (λ h. IsHead name h)
@@ -84,7 +85,7 @@ pub fn compare_full_names(
 
 /// Compares, in canonical order, the full name of a Data with the full name of any Data named
 /// `other`. `other` must have more octets than `name`, so that the digest of the Data named `other`
-/// does not matter. The first Data is given by its name and octets.
+/// does not matter. The first Data is given by its name `name` and its octets `octets`.
 fn compare_longer(name: Name<'_>, octets: &[u8], other: Name<'_>) -> Ordering
     requires { AreShorter name other }
     ensures { (digest : List ℕ) → length digest ≡ 32
@@ -99,8 +100,9 @@ fn compare_longer(name: Name<'_>, octets: &[u8], other: Name<'_>) -> Ordering
     }
 }
 
-/// Compares the octets of a Data's implicit digest component with the octets `rest` of other
-/// components.
+/// Compares an encoded implicit digest component with `rest`. The component contains the implicit
+/// digest of the Data that `octets` encodes. `rest` is the octets of the components at the end of
+/// another name.
 fn compare_digest(octets: &[u8], rest: &[u8]) -> Ordering
     ensures { result ≡ slice_cmp nat_cmp (digest_octets (sha256 octets.now)) rest.now }
 {
@@ -119,7 +121,7 @@ fn compare_digest(octets: &[u8], rest: &[u8]) -> Ordering
         .then(Sha256::digest(octets).as_slice().cmp(value))
 }
 
-/// Compares the implicit digests of two Data.
+/// Compares the implicit digests of two Data. `octets` and `other` are the octets of the two Data.
 fn compare_digests(octets: &[u8], other: &[u8]) -> Ordering
     ensures { result ≡ slice_cmp nat_cmp (sha256 octets.now) (sha256 other.now) }
 {

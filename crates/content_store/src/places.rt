@@ -7,17 +7,20 @@ use ndn_tlv::Memory;
 use std::alloc::Global;
 use std::marker::Model;
 
-/// The greatest number of slab indexes in a block. A larger block is split.
+/// The greatest number of slab indexes in a block. A block that has this number of slab indexes is
+/// split before a slab index is inserted into it.
 const MAX_BLOCK: usize = 1024;
 
-/// Consecutive slab indexes of the list, and the position in the list at which they start.
+/// The slab indexes at consecutive positions of the list, and the list position `start` of the
+/// first of these slab indexes.
 #[derive(Drop)]
 pub struct Block {
     pub start: usize,
     pub items: Vec<u32>,
 }
 
-/// A list of slab indexes, in blocks, so that a change moves only the slab indexes of one block.
+/// A list of slab indexes. The list is divided into blocks, so that an insertion or a removal does
+/// not move all slab indexes at later positions.
 #[derive(Drop)]
 pub struct Places {
     alloc: Global,
@@ -79,7 +82,7 @@ fn lay(blocks: &mut Vec<Block>)
     }
 }
 
-/// Splits a block into two.
+/// Splits the block with index `index` into two halves.
 fn split(alloc: Global, blocks: &mut Vec<Block>, index: usize) -> Result<(), Memory>
     requires laid { IsLaid blocks.old.items }
     requires there { index < length blocks.old.items }
@@ -134,7 +137,7 @@ fn put(blocks: &mut Vec<Block>, at: usize, place: u32) -> Result<(), Memory>
     Ok(())
 }
 
-/// Returns the slab indexes of two blocks in one vector.
+/// Returns one vector with the slab indexes `first`, followed by the slab indexes `second`.
 fn joined(alloc: Global, first: &[u32], second: &[u32]) -> Result<Vec<u32>, Memory>
     ensures { IfOk result (λ v. v.items ≡ first.now ++ second.now) }
 {
@@ -143,9 +146,10 @@ fn joined(alloc: Global, first: &[u32], second: &[u32]) -> Result<Vec<u32>, Memo
     Ok(items)
 }
 
-/// Removes a block if it is empty. Joins a block of fewer than `MAX_BLOCK` slab indexes with the
-/// next block, if half the length of the block plus the length of the next block is at most half of
-/// `MAX_BLOCK`. Joins nothing if memory runs out.
+/// Removes the block with index `index` if it is empty. Otherwise joins this block with the next
+/// block, if this block has fewer than `MAX_BLOCK` slab indexes, and half the length of this block
+/// plus the length of the next block is at most half of `MAX_BLOCK`. Joins nothing if memory runs
+/// out.
 fn join(alloc: Global, blocks: &mut Vec<Block>, index: usize)
     requires { index < length blocks.old.items }
     ensures { flat blocks.new.items ≡ flat blocks.old.items }
@@ -167,7 +171,7 @@ fn join(alloc: Global, blocks: &mut Vec<Block>, index: usize)
     }
 }
 
-/// Removes the range from `start` up to `end` from a list.
+/// Removes from `items` the items with the indexes from `start` up to, but not including, `end`.
 fn cut(items: &mut Vec<u32>, start: usize, end: usize)
     requires ordered { start ≤ end }
     requires within { end ≤ length items.old.items }
@@ -178,7 +182,8 @@ fn cut(items: &mut Vec<u32>, start: usize, end: usize)
     items.truncate(left);
 }
 
-/// Removes from a block the slab indexes at the list positions from `start` up to `end`.
+/// Removes from a block the slab indexes at the list positions from `start` up to, but not
+/// including, `end`.
 fn cut_block(block: &mut Block, start: usize, end: usize)
     requires { start ≤ end }
     ensures items { block.new.items.items ≡ without_range (start - block.old.start)
@@ -190,7 +195,8 @@ fn cut_block(block: &mut Block, start: usize, end: usize)
     cut(&mut block.items, from, to);
 }
 
-/// Removes from all blocks the slab indexes at the list positions from `start` up to `end`.
+/// Removes from all blocks the slab indexes at the list positions from `start` up to, but not
+/// including, `end`.
 fn cut_blocks(blocks: &mut Vec<Block>, start: usize, end: usize)
     requires laid { IsLaid blocks.old.items }
     requires ordered { start ≤ end }
@@ -234,10 +240,10 @@ impl Places {
         }
     }
 
-    /// Returns the slab index at position `at` of the list, and the index of its block. `first` and
-    /// `last` are block indexes that shorten the search. The search leaves out the blocks before
-    /// `first` if block `first` starts at or before position `at`. The search leaves out the blocks
-    /// from `last` on if block `last` starts after position `at`.
+    /// Returns the index of the block that contains position `at` of the list, and the slab index
+    /// at this position. `first` and `last` are block indexes that shorten the search. The search
+    /// leaves out the blocks before `first` if block `first` starts at or before position `at`. The
+    /// search leaves out the blocks from `last` on if block `last` starts after position `at`.
     pub fn get_between(&self, first: usize, last: usize, at: usize) -> (usize, u32)
         requires { at < length self.now }
         ensures { result.1 ≡ slice_index self.now at }
@@ -278,7 +284,7 @@ impl Places {
         lay(&mut self.blocks);
     }
 
-    /// Removes the slab indexes at the positions from `start` up to `end`.
+    /// Removes the slab indexes at the positions from `start` up to, but not including, `end`.
     pub fn cut(&mut self, start: usize, end: usize)
         requires ordered { start ≤ end }
         requires within { end ≤ length self.old }

@@ -39,7 +39,7 @@ pub struct Rows {
     entries: Slab<Row>,
     order: Places,
     // Blocks of list positions. From the moment `until` of a block on, none of its Data is fresh,
-    // so that a search with MustBeFresh can skip the block. These are not the blocks inside
+    // so that a search with MustBeFresh can skip the block. These blocks are not the blocks inside
     // `order`.
     blocks: Vec<Block>,
 }
@@ -58,8 +58,8 @@ impl Model for Rows {
         × AreBounds (shown (get r.entries) r.order) r.blocks.items };
 }
 
-/// Returns the position of the first full name that is not less than `sought`. Adds one to `steps`
-/// for each comparison.
+/// Returns the position of the first full name that is not less than `sought`, or the length of the
+/// list if there is no such full name. Adds one to `steps` for each comparison.
 fn lower_bound(entries: &Slab<Row>, order: &Places, sought: Sought<'_>, steps: &mut u64) -> usize
     requires rows { IsRows (get entries.now) order.now }
     requires short { length order.now < 131072 }
@@ -111,7 +111,8 @@ fn first_serving(
 }
 
 /// Returns the position of the first Data that can serve an Interest of this key. `start` must be
-/// the position of the key's name or, if no row has this name, the position at which to insert it.
+/// the position of the first row whose full name is not less than the key's name, or the length of
+/// the list if there is no such row.
 fn first_from(
     entries: &Slab<Row>,
     order: &Places,
@@ -140,8 +141,8 @@ fn first_from(
     None
 }
 
-/// Returns whether the row before position `at` comes before a name. Returns true if there is no
-/// row before `at`.
+/// Returns whether the full name of the row before position `at` is less than `name`. Returns true
+/// if there is no row before position `at`.
 fn is_above(entries: &Slab<Row>, order: &Places, name: Name<'_>, at: usize) -> bool
     requires rows { IsRows (get entries.now) order.now }
     requires within { at ≤ length order.now }
@@ -155,8 +156,9 @@ fn is_above(entries: &Slab<Row>, order: &Places, name: Name<'_>, at: usize) -> b
     entries[order.get(at - 1) as usize].entry.is_below(name)
 }
 
-/// Returns whether `at` is the position of a name, or the position at which to insert it. The
-/// contract covers only the result `true`.
+/// Returns whether position `at` is the place of `name` in the list: the full names before position
+/// `at` are less than `name`, and the full names from position `at` on are not. The contract covers
+/// only the result `true`.
 fn is_lower(entries: &Slab<Row>, order: &Places, name: Name<'_>, at: usize) -> bool
     requires { IsRows (get entries.now) order.now }
     ensures { IsTrue result
@@ -193,8 +195,8 @@ impl Rows {
         first_serving(&self.entries, &self.order, &self.blocks, key, now, steps)
     }
 
-    /// Returns the position of the key's name in the list or, if no row has this name, the position
-    /// at which to insert it. Returns `None` if no Data can serve an Interest of this key.
+    /// If a Data can serve an Interest of this key, returns the position of the first row whose
+    /// full name is not less than the key's name. Otherwise returns `None`.
     pub fn start_for(&self, key: Key<'_>, now: u64) -> Option<usize>
         requires { length self.now < 131072 }
         ensures { MatchOption result (FirstWith (CanServe (plain_key key.entry) now) self.now None)
@@ -208,8 +210,8 @@ impl Rows {
     }
 
     /// Returns the position of the first Data that can serve an Interest of this key. No binary
-    /// search is needed if `place` is the position of the key's name, or the position at which to
-    /// insert this name.
+    /// search is made if `place` is the position of the first row whose full name is not less than
+    /// the key's name.
     pub fn first_at(&self, place: usize, key: Key<'_>, now: u64) -> Option<usize>
         requires { length self.now < 131072 }
         ensures { FirstWith (CanServe (plain_key key.entry) now) self.now result }
@@ -248,7 +250,8 @@ impl Rows {
         self.blocks.clear();
     }
 
-    /// Returns the position of `sought`, or the position at which to insert it.
+    /// Returns the position of the first full name that is not less than `sought`, or the length of
+    /// the list if there is no such full name.
     pub fn place_for(&self, sought: Sought<'_>) -> usize
         requires { length self.now < 131072 }
         ensures { IsLower (sought_name sought.entry) self.now result }
@@ -257,8 +260,8 @@ impl Rows {
         lower_bound(&self.entries, &self.order, sought, &mut steps)
     }
 
-    /// Returns whether the Data at position `at` has the same full name as another Data, given by
-    /// its name and octets.
+    /// Returns whether there is a Data at position `at` and its full name is that of the Data with
+    /// the name `name` and the octets `octets`.
     pub fn is_full(&self, at: usize, name: Name<'_>, octets: &[u8]) -> bool
         ensures yes { IsTrue result → (at < length self.now)
             × ((d : Placed) → name_at (slice_index_or self.now at d)
@@ -327,8 +330,9 @@ impl Rows {
         remove_row(&self.entries, &self.order, &mut self.blocks, at, until);
     }
 
-    /// Removes the Data whose full names begin with a name, and their serial numbers. Removes at
-    /// most `most` Data, the least full names first. Returns the number of removed Data.
+    /// Removes Data whose full names begin with `name`, and removes the serial numbers of these
+    /// Data from `used`. Removes at most `most` Data, those with the least full names first.
+    /// Returns the number of removed Data.
     pub fn remove_under(&mut self, used: &mut LruCache<u64, u32>, name: Name<'_>, most: u64) -> u64
         requires { length self.old < 131072 }
         ensures { (next : ℕ) → Sound self.old used.old.entries next
@@ -343,7 +347,7 @@ impl Rows {
     }
 }
 
-/// Removes, from the slab and from `used`, the Data whose full names begin with a name. Starts at
+/// Removes Data whose full names begin with `name` from the slab and from `used`. Starts at
 /// position `start` of the list, and removes at most `most` Data. Returns the position after the
 /// last removed Data, or `start` if no Data is removed.
 fn remove_under(

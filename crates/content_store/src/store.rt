@@ -19,7 +19,7 @@ use std::alloc::Global;
 use std::marker::Model;
 use std::num::NonZeroUsize;
 
-/// The greatest capacity of a store, in Data.
+/// The greatest capacity that a store can have. A capacity is a number of Data.
 pub const MAX_CAPACITY: usize = 65_536;
 
 /// Law: the greatest capacity of a store is 65,536 Data.
@@ -27,9 +27,10 @@ pub fn store_limits_are_as_promised()
     ensures { MAX_CAPACITY ≡ 65536 }
 {}
 
-/// A content store: Data that answer later Interests (NFD Developer's Guide, "Content Store"). The
-/// store caches each full name once, and at most `capacity` Data. When the store is full, the least
-/// recently used Data is evicted.
+/// A content store: it caches Data to answer later Interests (NFD Developer's Guide, "Content
+/// Store"). The store caches at most `capacity` Data, and no two of these Data have the same full
+/// name. When a Data with a new full name is cached and the store is full, the least recently used
+/// Data is evicted.
 #[derive(Drop)]
 pub struct Store {
     alloc: Global,
@@ -109,12 +110,13 @@ impl Store {
     }
 
     /// Caches a Data that arrived at `arrival`, in milliseconds since 1970, as the most recently
-    /// used. The Data replaces a cached Data with the same full name. If the full name is new and
-    /// the store is full, the least recently used Data is evicted. A Data that is already cached
-    /// needs no memory, and is never refused. Returns false and leaves the store unchanged if
-    /// memory runs out, or if a cached Data with the same full name has other octets. When 2^64 - 1
-    /// new full names have been cached, the next new full name empties the store and is not cached,
-    /// and the result is false.
+    /// used. The Data replaces a cached Data with the same full name and the same octets. If the
+    /// full name is new and the store is full, the least recently used Data is evicted. A Data that
+    /// is already cached with the same octets needs no memory, and is never refused. Returns false
+    /// and leaves the store unchanged if memory runs out, or if a cached Data with the same full
+    /// name has other octets. After 2^64 - 1 Data with new full names have been cached, the next
+    /// Data with a new full name empties the store: this Data is not cached, and the result is
+    /// false.
     pub fn put(&mut self, packet: &Data<'_>, arrival: u64) -> bool
         ensures ok { IsTrue result
             → self.new ≡ with_cached self.old (cached_at packet.now arrival) }
@@ -188,8 +190,8 @@ impl Store {
         Some(self.rows.row(at).entry.octets())
     }
 
-    /// Returns a position for `serve_at`, if `find` would return a Data for this key at the moment
-    /// `now`.
+    /// If `find` would return a Data for this key at the moment `now`, returns a position to pass
+    /// to `serve_at`. Otherwise returns `None`.
     pub fn place_for(&self, key: Key<'_>, now: u64) -> Option<usize>
         ensures { MatchOption result
             (All (λ c. ¬ CanServe (plain_key key.entry) now c) self.now.cached)

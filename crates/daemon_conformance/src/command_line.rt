@@ -158,8 +158,9 @@ fn text_of(alloc: Global, request: &Request) -> Option<String> {
     }
 }
 
-/// Returns as text the rule file, the key file, the repository's prefix and the cache's capacity of
-/// a script's node. The word `none` stands for a file that is not given.
+/// Returns a text with the options of a node that runs a script: the rule file, the key file, the
+/// repository's prefix and the cache's capacity. The word `none` stands for a file that is not
+/// given.
 fn script_text(alloc: Global, options: &Options) -> Option<String> {
     let rules = options.rules.as_deref().unwrap_or("none");
     let keys = options.keys.as_deref().unwrap_or("none");
@@ -167,7 +168,7 @@ fn script_text(alloc: Global, options: &Options) -> Option<String> {
     format!(in alloc; "{rules} {keys} {repo} {cache}").ok()
 }
 
-/// Returns as text the options of a node on a port, in this order: `--cache`, `--listen`,
+/// Returns a text with the options of a node on a port, in this order: `--cache`, `--listen`,
 /// `--turns`, `--local`, `--idle`, `--log`, the peers, the word `open` if the node accepts
 /// strangers, and the word `quiet` if it prints no answers.
 fn udp_text(alloc: Global, cache: u32, udp: &UdpOptions) -> Option<String> {
@@ -193,7 +194,7 @@ fn put_udp(text: &mut String, cache: u32, udp: &UdpOptions) -> Option<()> {
     write!(text, "{open}{quiet}").ok()
 }
 
-/// Returns as text the journal's file and the repository's prefix.
+/// Returns a text with the path of the journal and the repository's prefix.
 fn shortening_text(alloc: Global, options: &ShorteningOptions) -> Option<String> {
     let (journal, repo) = (options.journal.as_str(), options.repo.view());
     format!(in alloc; "{journal} {repo}").ok()
@@ -335,7 +336,7 @@ fn refused_key_comment(alloc: Global, count: u64) -> Option<String> {
 }
 
 /// A file may have as many octets as its limit, but not more. A file that is too long is refused as
-/// too large, even if the limit is inside a character.
+/// too large, even if the limit lies between two octets of a character.
 #[test]
 fn large_files(rt: HostRuntime) {
     let alloc = rt.alloc();

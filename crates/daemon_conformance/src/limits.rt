@@ -18,8 +18,8 @@ impl Read for Broken {
     }
 }
 
-/// Returns the number of octets read from a reader of `count` octets, or `None` if there are too
-/// many.
+/// Returns the number of octets read from a reader of `count` octets, or `None` if `count` is more
+/// than `LIMIT`.
 fn read_of(alloc: Global, count: u64) -> Option<usize> {
     let found = read_within(alloc, repeat(b'x').take(count), LIMIT).ok()?;
     Some(found?.len())
@@ -60,8 +60,8 @@ fn read_lines(alloc: Global, text: &str, lines: &mut Vec<u8>) -> Option<()> {
     put_lines(alloc, &mut reader, text.len(), lines)
 }
 
-/// Reads at most `count` lines with a limit of four octets, and appends them. For a line that is
-/// too long, appends a `-` and stops.
+/// Reads at most `count` lines, each with a limit of four octets, and appends them to `lines`. For
+/// a line that is too long, appends a `-` and stops.
 fn put_lines<R: BufRead>(
     alloc: Global,
     reader: &mut R,

@@ -71,8 +71,9 @@ impl<'a> LogSink for Expected<'a> {
     }
 }
 
-/// Sends octets to a node whose log writes to a sink like `expected`, and lets the node take two
-/// turns. The log shows all events if `shows_all` is true. Returns whether both turns were taken.
+/// Sends octets to a node whose log writes to a sink with the fields of `expected`, and lets the
+/// node take two turns. The log shows all events if `shows_all` is true. Returns whether both turns
+/// were taken.
 fn writes(
     rt: &(impl AllocGlobal + Net),
     node: &mut Node,
@@ -93,8 +94,8 @@ fn writes(
     served
 }
 
-/// Sends octets to this port, and lets the node take two turns at these ports. Returns whether
-/// both turns were taken.
+/// Sends octets to the port `listen`, and lets the node take two turns with `ports`. Returns
+/// whether both turns were taken.
 fn serves<P: Ports>(
     rt: &(impl AllocGlobal + Net),
     node: &mut Node,

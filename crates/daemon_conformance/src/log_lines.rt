@@ -105,8 +105,8 @@ fn says_more(alloc: Global) -> bool {
     )
 }
 
-/// Returns four lines of a log: a closed face at the last time that has a date, two closed faces
-/// one millisecond later, a failed send, and a datagram of a stranger.
+/// Returns four lines of a log: a closed face at the last time that a log shows as a date, two
+/// closed faces one millisecond later, a failed send, and a datagram of a stranger.
 fn shown_notes(alloc: Global) -> Option<Vec<u8>> {
     let mut text = Vec::new(alloc);
     put_notes(alloc, &mut text)?;

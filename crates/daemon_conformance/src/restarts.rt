@@ -65,7 +65,7 @@ fn one_turn_at(port: u16, peers: Vec<SocketAddr>) -> UdpOptions {
     }
 }
 
-/// Returns a source with these rules and without keys.
+/// Returns a source of rules that gives these rules and no keys.
 fn source_of(alloc: Global, rules: &[u8]) -> Option<Once> {
     let rules = Vec::from_slice(alloc, rules).ok()?;
     Some(Once {
@@ -147,7 +147,7 @@ fn a_cut_line_at_a_start(rt: HostRuntime) {
 }
 
 /// A start closes the face of a stranger, and the face of a peer that was Local and is Far now. The
-/// face of the peer stays open if its scope has not changed.
+/// face of a peer stays open if the scope of the face has not changed.
 #[test]
 fn faces_at_a_start(rt: HostRuntime) {
     let peers = [SocketAddr::from((Ipv4Addr::LOCALHOST, 6401))];

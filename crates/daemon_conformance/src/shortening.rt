@@ -21,7 +21,7 @@ fn made(
     }
 }
 
-/// Returns whether this is a shorter journal with this text.
+/// Returns whether `made` is a shorter journal with this text.
 fn has_text(made: Result<Option<ShorterJournal>, ShortenFault>, text: &str) -> bool {
     matches!(made, Ok(Some(shorter)) if shorter.text.as_slice() == text.as_bytes())
 }
@@ -101,7 +101,7 @@ rule
 }
 ";
 
-/// Returns the word at index `i` of a line, counted from 0.
+/// Returns the word at index `i` of a line. The first word has index 0.
 fn word(line: &str, i: usize) -> &str {
     line.split(' ').nth(i).unwrap_or("")
 }
@@ -216,7 +216,7 @@ fn keeps_marked(rt: &(impl Abort + AllocGlobal), lines: &str) {
 }
 
 /// A route of `/A` is registered with the cost 5, then unregistered, and then registered with the
-/// cost 6. The route leads to the face of the commands.
+/// cost 6. The route leads to the face from which the commands came.
 const A_ROUTE_THAT_CAME_BACK: &str = "* rules 900
 * up 1 local 1000
 ask 1 1001 /ops/KEY/1 /localhost/nfd/rib/register/%68%08%07%03%08%01A%6A%01%05
@@ -267,7 +267,7 @@ fn hops_of_a_closed_face(rt: HostRuntime) {
 }
 
 /// Two routes last 1,000 milliseconds. At the end of the journal the route of `/A` has expired, so
-/// its command is left out.
+/// the command that registered this route is left out.
 const ROUTES_THAT_EXPIRE: &str = "* rules 900
 * up 1 local 1000
 ask 1 1001 /ops/KEY/1 /localhost/nfd/rib/register/%68%09%07%03%08%01A%6D%02%03%E8
@@ -293,8 +293,8 @@ fn strategies(rt: HostRuntime) {
     keeps_marked(&rt, STRATEGIES);
 }
 
-/// If a Data is still stored at the end of the journal, its line and the insert that asked for it
-/// stay.
+/// If a Data is still stored at the end of the journal, the line of the Data and the insert that
+/// asked for the Data stay.
 const A_DATA_THAT_STAYS: &str = "* rules 900
 * up 1 local 1000
 * up 2 far 1000

@@ -29,7 +29,7 @@ pub fn renewal_of(alloc: Global, rules: Vec<u8>, keys: Vec<u8>) -> Option<Renewa
     Some(Renewal::new(read, book, FileOctets { rules, keys }))
 }
 
-/// Returns a renewal without rules and keys.
+/// Returns the renewal that an empty rule file and an empty key file give.
 fn no_rules(alloc: Global) -> Option<Renewal> {
     renewal_of(alloc, Vec::new(alloc), Vec::new(alloc))
 }

@@ -16,11 +16,11 @@ use std::alloc::Global;
 use std::io;
 use std::io::{BufReader, Input};
 
-/// The greatest length of a line, in octets: the hexadecimal digits of one octet more than a frame
-/// may have, and the LF.
+/// The greatest length of a line, in octets. A line of this length has the hexadecimal digits of
+/// `MAX_FRAME + 1` octets, and an LF.
 const MAX_LINE: u32 = 2 * (MAX_FRAME as u32 + 1) + 1;
 
-/// The greatest number of packets.
+/// The greatest number of packets that the program reads.
 const MAX_PACKETS: u32 = 1000;
 
 /// The result of reading some octets.

@@ -26,7 +26,7 @@ AllowedIn first (Then before event answer) packet =
     ⊎ ((was : Policy) × IsPolicyOf first before was × Allows was event packet)
 
 -- some event of the run brought this packet, and the packet was allowed; `now` is the greatest
--- moment of the run up to and including this event
+-- moment of the events of the run, up to and including this event
 abbrev pub AllowedAt : Policy → Run → PlainFrame → ℕ → Type 0
 AllowedAt first Start packet now = ⊥
 AllowedAt first (Then before event answer) packet now =

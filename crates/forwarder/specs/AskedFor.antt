@@ -15,8 +15,8 @@ use Rattle.forwarder.specs.Allowed.{AllowedIn, Allows}
 use Rattle.forwarder.specs.Runs.{Run, now_of, records_of}
 use Rattle.forwarder.specs.DataSends.{IsReplyToCommand, IsSegmentAskedFor}
 
--- an Interest of the face is pending after the run, once time has advanced to `now`, and the Data
--- `d` with the octets `whole` answers this Interest
+-- the Data `d` with the octets `whole` answers an Interest from the face that is pending when time
+-- has advanced to `now` after the run
 pub record IsPendingFor (past : Run) (now face : ℕ) (whole : List ℕ) (d : PlainData) : Type 0 where
   pub key : PlainKey
   pub in_record : InRecord
@@ -38,7 +38,7 @@ IsOwnAnswer p face asked i octets =
     IsReplyToCommand p face asked i octets ⊎ IsSegmentAskedFor p face i octets
 
 -- the Data `d` answers the Interest `i`, came in an event of the run `past`, and was allowed at
--- that event; or `whole` is the node's own answer to `i`
+-- that event; or the octets `whole` are the node's own answer to `i`
 abbrev pub AnswersNow : Policy → Run → Policy → ℕ → List ℕ → PlainInterest → List ℕ → PlainData
     → Type 0
 AnswersNow first past p face asked i whole d =
@@ -46,11 +46,12 @@ AnswersNow first past p face asked i whole d =
     × AllowedIn first past (AData whole d))
     ⊎ IsOwnAnswer p face asked i whole
 
--- The face asked for the Data; `was` is the policy after the run. There are three cases. The event
--- brings the Data, which is allowed and answers a pending Interest of the face. Or the event brings
--- an Interest on this face, and the Data answers that Interest, came in an event of the run, and
--- was allowed at that event. Or the event brings an Interest on this face, and the Data is the
--- node's own answer to that Interest.
+-- The face asked for the Data; `was` is the policy after the run `past`. There are three cases. In
+-- the first case, the event brings the Data, the Data is allowed, and the Data answers an Interest
+-- that is pending on the face. In the second case, the event brings an Interest on the face, and
+-- the Data answers that Interest, came in an event of the run, and was allowed at that event of the
+-- run. In the third case, the event brings an Interest on the face, and the Data is the node's own
+-- answer to that Interest.
 abbrev pub WasAskedFor : Policy → Run → Policy → PlainEvent → ℕ → List ℕ → PlainData → Type 0
 WasAskedFor first past was event face whole d =
     (Allows was event (AData whole d)
@@ -58,8 +59,8 @@ WasAskedFor first past was event face whole d =
     ⊎ ((asked : List ℕ) × (i : PlainInterest) × BringsPacketOn event face (AnInterest asked i)
     × AnswersNow first past (at_moment was (moment event)) face asked i whole d)
 
--- the event brings an Interest on the face of the send `sent`, and what is sent is the node's own
--- answer to that Interest, with the Interest's token
+-- the event brings an Interest on a face, and `sent` sends the node's own answer to that Interest
+-- back to that face, with the Interest's token
 abbrev pub AnswersItself : Policy → PlainEvent → Send → Type 0
 AnswersItself was event sent =
     (asked packet : List ℕ) × (i : PlainInterest)

@@ -1,5 +1,5 @@
--- How an event uses the cache, and the cache after this use (NFD Developer's Guide, "Content
--- Store").
+-- How an event uses the cache, and what the cache is after this use (NFD Developer's Guide,
+-- "Content Store").
 use Rattle.std.specs.Prelude.{◌≡◌, ◌⊎◌, ℕ, List, true, All, Contains, Option, None, Result, Ok, Err, IsTrue, is_some, ◌==◌, if◌then◌else◌}
 use Rattle.sha2.specs.Sha256.{sha256}
 use Rattle.ndn_tlv.specs.Element.{Field}
@@ -34,9 +34,9 @@ held_from now whole d = record {
   arrival = now;
 }
 
--- How an allowed command that was answered with `status` uses the cache, given the command that
--- its name encodes. An erase with status 200 erases Data. In all other cases the cache is
--- unchanged.
+-- How an allowed command that was answered with `status` uses the cache, given the result of
+-- reading the command's name (`command_at`). If the result is an erase and the status is 200, the
+-- command erases Data. In all other cases the cache is not used.
 abbrev pub command_use : Result PlainCommand ℕ → ℕ → CacheUse
 command_use (Err refused) status = Untouched
 command_use (Ok c) status = elim c.action [
@@ -67,10 +67,10 @@ MayForget old new =
     All (λ c. Contains old.cached c) new.cached × (new.capacity ≡ old.capacity)
 
 -- The store `new` after a use of the store `old`. The use `Untouched` changes nothing. A Data that
--- a lookup returns becomes the most recently used. If some face waits for an inserted Data, either
--- the Data is cached, or the cache at most drops or reorders Data (`MayForget`). If no face waits
--- for an inserted Data, nothing changes. An erase removes Data as `IsErased` specifies, and leaves
--- the capacity unchanged.
+-- a lookup returns becomes the most recently used. If some face waits for an inserted Data, there
+-- are two cases. Either the Data is cached, or no Data is added, while some Data may be dropped or
+-- reordered (`MayForget`). If no face waits for an inserted Data, nothing changes. An erase removes
+-- Data as `IsErased` specifies, and leaves the capacity unchanged.
 abbrev pub CacheAfter : ℕ → Pending → CacheUse → StoreState → StoreState → Type 0
 CacheAfter now waiting Untouched old new = new ≡ old
 CacheAfter now waiting (LooksUp key) old new =
@@ -82,9 +82,9 @@ CacheAfter now waiting (Erases name count) old new =
     ((gone : ℕ) × IsErased name count old.cached new.cached gone)
     × (new.capacity ≡ old.capacity)
 
--- The use is an erase without Count, and its name is a prefix of the full name of `c`, so the erase
--- removes `c`. An erase with Count is left out, since the event does not determine which Data such
--- an erase removes.
+-- The use is an erase without Count, and the name in the erase is a prefix of the full name of `c`,
+-- so the erase removes `c`. For an erase with Count the statement is false, since the event alone
+-- does not determine which Data such an erase removes.
 abbrev pub TakesAway : CacheUse → CachedData → Type 0
 TakesAway Untouched c = ⊥
 TakesAway (LooksUp key) c = ⊥

@@ -1,5 +1,6 @@
 -- How an event and its answer change the records of pending Interests (NFD Developer's Guide,
--- "Pending Interest Table").
+-- "Pending Interest Table"). A cause (`Cause`) is one thing that may change records, such as an
+-- Interest that arrives.
 use Rattle.std.specs.Prelude.{ℕ, ◌+◌, ◌-◌, ◌^◌, List, [], ◌∷◌, map, min, Bool, true, false, Result, Ok, Err, ◌==◌, if◌then◌else◌}
 use Rattle.std.specs.List.{list_any}
 use Rattle.sha2.specs.Sha256.{sha256}
@@ -28,8 +29,8 @@ in_record_for now token whole i = record {
   token = token;
 }
 
--- Whether some send goes to this face. If an Interest is passed, a send to its own face is a Data
--- or a Nack.
+-- Whether some send goes to this face. If an Interest is passed, a send to the face that the
+-- Interest came on is a Data or a Nack.
 abbrev pub is_answered : ℕ → List Send → Bool
 is_answered face sends = list_any (λ sent. sent.0 == face) sends
 
@@ -47,13 +48,15 @@ is_nack octets = is_nack_frame (frame_at octets)
 abbrev pub is_nacked : List Send → Bool
 is_nacked sends = list_any (λ sent. is_nack sent.1) sends
 
--- for each of these faces, the cause that an Interest with this Nonce was sent to the face
+-- for each of these faces, a cause `SentTo`: an Interest of this key with this Nonce was sent to
+-- the face at the moment `now`
 abbrev pub sent_causes : PlainKey → List ℕ → ℕ → List ℕ → List Cause
 sent_causes key nonce now faces = map (λ face. SentTo key face nonce now) faces
 
--- The causes of a passed Interest. If a Nack was sent, the in-record of the Interest's face is
--- removed. If a Data was sent back, there are no causes. If nothing was sent back, the Interest
--- becomes pending, and is recorded as sent to each face that it went to.
+-- The causes that a passed Interest and the sends of its answer give. If a Nack was sent, the
+-- in-record of the Interest's face under the Interest's key is removed. If a Data was sent back,
+-- there are no causes. If nothing was sent back, the Interest becomes pending, and is recorded as
+-- sent to each face that it went to.
 abbrev pub interest_causes : ℕ → ℕ → Token → List ℕ → PlainInterest → List Send → List Cause
 interest_causes now face token whole i sends =
     let key = key_of i in
@@ -62,15 +65,16 @@ interest_causes now face token whole i sends =
     Arrives key face (in_record_for now token whole i)
     ∷ map (λ (sent : Send). SentTo key sent.0 i.nonce now) sends)
 
--- The causes of a passed Nack. The reason of the Nack is recorded. If the answer sends anything,
--- the records of the key of the Nack's Interest are then removed.
+-- The causes that a passed Nack and the sends of its answer give. The reason of the Nack is
+-- recorded. If there are sends, all records under the key of the Interest in the Nack are then
+-- removed.
 abbrev pub nack_causes : ℕ → ℕ → PlainInterest → List Send → List Cause
 nack_causes face reason i sends =
     NackCame (key_of i) face i.nonce reason
     ∷ (if is_nil sends then [] else Removed (key_of i) ∷ [])
 
--- The causes of an event with this outcome, in order. An allowed Data satisfies all pending
--- Interests that it answers, whether the Data is sent or not.
+-- The causes that an event with this outcome and these sends gives, in order. An allowed Data
+-- satisfies all pending Interests that it answers, whether the Data is sent or not.
 abbrev pub causes_by : ℕ → Token → List Send → Outcome → List Cause
 causes_by now token sends Nothing = []
 causes_by now token sends (InterestPassed face whole i) =
@@ -80,8 +84,8 @@ causes_by now token sends (DataCame whole d) = Satisfied d.name (sha256 whole) �
 causes_by now token sends (NackPassed face reason i) = nack_causes face reason i sends
 causes_by now token sends (FaceClosed face) = Closed face ∷ []
 
--- the causes of an event and its answer, in order; they apply at the moment `now`, after the
--- records that expire by `now` are removed
+-- the causes that an event and its answer give, in order; the causes apply at the moment `now`,
+-- after the records that expire by `now` are removed
 abbrev pub causes_of : ℕ → PlainEvent → Answer → List Cause
 causes_of now event answer =
     causes_by now (token_in event) answer.sends (outcome_of event answer.verdict)

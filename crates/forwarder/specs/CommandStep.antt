@@ -13,7 +13,7 @@ use Rattle.forwarder.specs.Node.{NodeState}
 use Rattle.forwarder.specs.State.{IsLater, state_of}
 
 -- how an allowed command that was answered with `status` uses the cache; only a command under
--- /localhost/nfd may use it
+-- /localhost/nfd may use the cache
 abbrev pub request_use : PlainInterest → ℕ → Request → CacheUse
 request_use i status (Refused reason) = Untouched
 request_use i status (ForList asked) = Untouched
@@ -21,9 +21,9 @@ request_use i status ForTables = command_use (command_at i.name) status
 request_use i status ForRepository = Untouched
 request_use i status ForData = Untouched
 
--- An allowed command with the request `request` was answered and took effect, and was recorded.
--- `was` is the node after time has advanced to the command's moment, and before the command takes
--- effect.
+-- `new` is the node after an allowed command with the request `request` was answered, took effect,
+-- and was recorded. `was` is the node after time has advanced to the command's moment, and before
+-- the command takes effect.
 pub record IsCommanded (was : NodeState) (face : ℕ) (token : Token) (i : PlainInterest)
     (request : Request) (status : ℕ) (sends : List Send) (new : NodeState) : Type 0 where
   pub answered : status ≡ (allowed_reply was.policy face i request).status
@@ -36,7 +36,7 @@ pub record IsCommanded (was : NodeState) (face : ℕ) (token : Token) (i : Plain
       was.cache new.cache
 
 -- An allowed command was carried out: time advanced to `moment`, and the command was answered and
--- took effect. The sends of the answer were appended to the sends in `before`.
+-- took effect. `after` is the list of sends `before`, with the sends of the answer appended.
 abbrev pub IsCarriedOut : State → State → List Send → List Send → ℕ → Token → ℕ → PlainInterest
     → Request → ℕ → Type 0
 IsCarriedOut old new before after face token moment i request status =

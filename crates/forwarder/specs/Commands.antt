@@ -44,8 +44,8 @@ NOT_AUTHORIZED = 403
 
 -- ---- commands on routes, strategies and the cache
 
--- the status in the reply to a command under /localhost/nfd that came from this face and was
--- allowed; if the name encodes no command, this is the status in `Err`
+-- the status in the reply to an allowed Interest under /localhost/nfd that came on this face; if
+-- the Interest's name encodes no command, the status is that in `Err`
 abbrev pub tables_status : Policy → ℕ → Result PlainCommand ℕ → ℕ
 tables_status p face (Err status) = status
 tables_status p face (Ok c) = status_of c face (open_faces p) p.routes p.choices
@@ -82,7 +82,8 @@ repository_content r = repo_response r.status (unwrap_or (repo_text_of r.status)
 abbrev pub after_repository : Policy → PlainInterest → Policy
 after_repository p i = record p { held = after_command p.repo i.name p.now p.held }
 
--- the octets of the Interest with this nonce by which the node fetches the Data of a want
+-- the octets of the Interest that the node sends to fetch the Data for `want`; the Interest has the
+-- Nonce `nonce`
 abbrev pub fetch_text : Want → List ℕ → List ℕ
 fetch_text want nonce =
     element (
@@ -102,9 +103,9 @@ abbrev pub to_chosen : Choice → List ℕ → List Send
 to_chosen choices.NoRoute text = []
 to_chosen (choices.Send faces) text = to_each faces text
 
--- The sends of the node's Interest to the faces that the strategy chooses. There are no sends if no
--- Data is wanted, the Interest cannot be encoded, or the strategy finds no route. For the strategy,
--- the Interest came from no face and was not sent before.
+-- The sends of the node's Interest for a want to the faces that the strategy chooses. There are no
+-- sends if there is no want, if the Interest cannot be encoded, or if the strategy finds no route.
+-- The input of the strategy states that the Interest came from no face and was not sent before.
 abbrev pub fetch_sends : Policy → List ℕ → Option Want → List Send
 fetch_sends p nonce None = []
 fetch_sends p nonce (Some want) =
@@ -136,7 +137,8 @@ allowed_reply p face i ForRepository =
     }
 allowed_reply p face i ForData = record { status = 0; content = []; fetches = [] }
 
--- the Content of a reply with status 403, or no octets if the request is not a command
+-- the Content of a reply with status 403 and this text, or no octets if the request is not a
+-- command
 abbrev pub refused_content : Request → List ℕ → List ℕ
 refused_content (Refused reason) text = []
 refused_content (ForList asked) text = []
@@ -182,8 +184,8 @@ command_answer p face token i decided.NoRule = record {
 }
 
 -- How a packet that is denied, or to which no rule applies, is answered. A command gets a reply
--- with status 403, which gives the reason and the rule, or says that no rule applies. A Data gets
--- no answer. No other packet is denied.
+-- with status 403, which gives the reason and the rule, or says that no rule applies. For a Data,
+-- nothing is sent. No packet of another kind is denied.
 abbrev pub IsDenial : Policy → ℕ → Token → PlainFrame → Decision → Answer → Type 0
 IsDenial p face token (AnInterest whole i) (decided.Allowed rule) answer = ⊥
 IsDenial p face token (AnInterest whole i) (decided.Denied rule reason) answer =
@@ -198,8 +200,8 @@ IsDenial p face token (AData whole d) decided.NoRule answer =
 IsDenial p face token (ANack reason whole i) decision answer = ⊥
 IsDenial p face token Idle decision answer = ⊥
 
--- The policy after the signer, time and number of an allowed command are recorded. With None,
--- nothing is recorded and the policy is unchanged.
+-- The policy after the signer, the SignatureTime and the SignatureSeqNum of an allowed command are
+-- recorded in the guard. With None, nothing is recorded and the policy is unchanged.
 abbrev pub with_record : Policy → Option Recorded → Policy
 with_record p None = p
 with_record p (Some r) = record p { guard = with_recorded p.guard r }

@@ -28,8 +28,8 @@ use Rattle.forwarder.specs.Verdict.{Answer, passed}
 
 -- The event brings a Data that is allowed. The received octets of the Data are sent to another
 -- face, which has a pending Interest that the Data answers. The octets are sent with the token of
--- the Interest with the latest deadline, among that face's pending Interests that the Data answers
--- (`IsTokenFor`).
+-- that Interest. If the Data answers several pending Interests of that face, the token is that of
+-- the Interest with the latest deadline (`IsTokenFor`).
 pub record IsForwardedData (seen : Seen) (event : PlainEvent) (sent : Send) : Type 0 where
   pub face : ℕ
   pub now : ℕ
@@ -47,7 +47,8 @@ pub record IsForwardedData (seen : Seen) (event : PlainEvent) (sent : Send) : Ty
   pub is_token : IsTokenFor seen.records packet.name (sha256 whole) sent.0 token
   pub received : sent ≡ sent_back sent.0 token whole
 
--- `octets` are the reply to the command in the Interest `i`, for some decision on this command
+-- the Interest `i` is a command, and `octets` are the reply to this command, given a decision on
+-- the command (`IsDecidedAs`)
 abbrev pub IsReplyToCommand : Policy → ℕ → List ℕ → PlainInterest → List ℕ → Type 0
 IsReplyToCommand p face whole i octets =
     (is_command (request_of p face i) ≡ true)

@@ -50,8 +50,7 @@ list_answer p face token asked =
     (segment_at (dataset_text p asked.kind) asked.segment)
     else dropped NoSegment
 
--- the answer that sends the octets of a segment back, or a drop with the reason NoSegment if there
--- are none
+-- the answer that sends the octets of a segment back; for None, a drop with the reason NoSegment
 abbrev pub answered_with : ℕ → Token → Option (List ℕ) → Answer
 answered_with face token None = dropped NoSegment
 answered_with face token (Some octets) = passed (sent_back face token octets ∷ [])

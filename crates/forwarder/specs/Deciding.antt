@@ -37,28 +37,29 @@ recorded_of i = elim i.signature [
   | Some signature ↦ recorded_with signature.info signature.info.time
 ]
 
--- what is recorded of a command, from the values read off its Interest
+-- what is recorded of a command, given the values `s` that the code reads off the command's
+-- Interest
 abbrev pub recorded_by : Signed → Recorded
 recorded_by s = record { signer = signer_of s.signer; time = s.time; number = s.seq }
 
--- If a command has a SignatureTime, this time differs from `p.now` by at most 120,000 milliseconds,
--- and the command is newer than all recorded commands of its signer. Always true without a
--- SignatureTime.
+-- The command is fresh. A command with a SignatureTime is fresh if this time differs from `p.now`
+-- by at most 120,000 milliseconds, and the command is newer than all recorded commands of its
+-- signer. A command without a SignatureTime is always fresh.
 abbrev pub IsFreshCommand : Policy → PlainInterest → Type 0
 IsFreshCommand p i =
     IfSome (recorded_of i) (λ r. IsFresh p.guard r.signer r.time r.number p.now)
 
--- the packet, if it is an Interest, is fresh as a command (`IsFreshCommand`); always true for other
--- packets
+-- if the packet is an Interest, the packet is fresh as a command (`IsFreshCommand`); for all other
+-- packets the statement is true
 abbrev pub IsFreshPacket : Policy → PlainFrame → Type 0
 IsFreshPacket p (AnInterest whole i) = IsFreshCommand p i
 IsFreshPacket p (AData whole d) = ⊤
 IsFreshPacket p (ANack reason whole i) = ⊤
 IsFreshPacket p Idle = ⊤
 
--- The packet has this decision. The first rule that applies decides; if none applies, the decision
--- is NoRule. If the rule allows a command that is not fresh, the command is denied as a replay by
--- that rule.
+-- The packet has this decision. The first rule that applies decides; if no rule applies, the
+-- decision is NoRule. If the first rule that applies allows a command that is not fresh, the
+-- decision is that this rule denies the command with the reason Replay.
 abbrev pub IsDecidedAs : Policy → PlainFrame → Decision → Type 0
 IsDecidedAs p packet (Allowed rule) =
     Decides p.rules p.keys packet (Allowed rule) × IsFreshPacket p packet

@@ -39,8 +39,8 @@ moment (FaceDown face now) = now
 moment (Tick now) = now
 moment (NewRules rules keys now) = now
 
--- the rules in force after an event, if `rules` are in force before the event; only new rules
--- change them
+-- the rules in force after an event, if `rules` are in force before the event; only an event
+-- `NewRules` changes the rules in force
 abbrev pub rules_after : PlainEvent → List PlainRule → List PlainRule
 rules_after (Packet face now octets) rules = rules
 rules_after (FaceUp face scope now) rules = rules
@@ -48,7 +48,7 @@ rules_after (FaceDown face now) rules = rules
 rules_after (Tick now) rules = rules
 rules_after (NewRules new keys now) rules = new
 
--- the PIT token of an Interest, if it has one (NDNLPv2, "PIT Token")
+-- the PIT token of an Interest, or None if the Interest has no token (NDNLPv2, "PIT Token")
 abbrev pub Token : Type 0
 Token = Option (List ℕ)
 

@@ -64,8 +64,8 @@ pub record IsAnswered (was : NodeState) (face : ℕ) (token : Token) (packet : P
   pub cache : CacheAfter was.policy.now was.pending
       (packet_use was.policy.now face packet answer.verdict) was.cache new.cache
 
--- A packet was handled: time advanced to `moment`, and the packet was answered and took effect. The
--- sends of the answer were appended to the sends in `before`.
+-- A packet was handled: time advanced to `moment`, and the packet was answered and took effect.
+-- `after` is the list of sends `before`, with the sends of the answer appended.
 abbrev pub IsHandled : State → State → List Send → List Send → ℕ → Token → ℕ → PlainFrame
     → code.Verdict → Type 0
 IsHandled old new before after face token moment packet verdict =
@@ -74,7 +74,7 @@ IsHandled old new before after face token moment packet verdict =
     × IsAnswered was face token packet (record { verdict = verdict_of verdict; sends = sends })
     (state_of new)
 
--- the token that came with a packet as plain data, or None if there is none
+-- a packet's token as plain data, or None if the packet has no token
 abbrev pub token_of : Option (Bor (List ℕ)) → Token
 token_of token = option_map (λ t. t.now) token
 

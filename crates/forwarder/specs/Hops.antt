@@ -11,13 +11,13 @@ use Rattle.mgmt_core.specs.Tables.{face_of}
 use Rattle.forwarder.specs.Outcome.{Outcome, Nothing, InterestPassed, CommandAllowed, DataCame, NackPassed, FaceClosed, outcome_of}
 use Rattle.forwarder.specs.Runs.{Run, Start, Then}
 
--- Whether a command that came from the face `from` is about the next hop of this name on this face.
--- Without a FaceId, or with the FaceId 0, the command is about the face `from`.
+-- Whether a command that came from the face `from` is about the next hop of the name `name` on the
+-- face `face`. Without a FaceId, or with the FaceId 0, the command is about the face `from`.
 abbrev pub names_hop : PlainCommand → ℕ → List Field → ℕ → Bool
 names_hop c from name face = eq_by_cmp name_cmp name c.name && (face == face_of c from)
 
--- The cost of a next hop after a command with status 200, where None means that there is no such
--- next hop. An add-nexthop for this next hop sets the cost, and a remove-nexthop for it removes the
+-- The cost of a next hop after a command with status 200. None means that the next hop does not
+-- exist. An add-nexthop for this next hop sets the cost, and a remove-nexthop for it removes the
 -- next hop. Any other command changes nothing.
 abbrev pub cost_after_command : Result PlainCommand ℕ → ℕ → List Field → ℕ → Option ℕ → Option ℕ
 cost_after_command (Err status) from name face was = was
@@ -28,9 +28,9 @@ cost_after_command (Ok c) from name face was =
       | _ ↦ was
     ]
 
--- The cost of a next hop after an outcome, where None means that there is no such next hop. An
--- allowed command can change the cost only if the command's status is 200. When a face closes, its
--- next hops are removed.
+-- The cost of a next hop after an outcome. None means that the next hop does not exist. An allowed
+-- command can change the cost only if the command's status is 200. When a face closes, its next
+-- hops are removed.
 abbrev pub cost_after : Outcome → List Field → ℕ → Option ℕ → Option ℕ
 cost_after Nothing name face was = was
 cost_after (InterestPassed from whole i) name face was = was

@@ -1,5 +1,6 @@
--- Which Interests become pending (NFD Developer's Guide, "Incoming Interest Pipeline"): passed
--- Interests to whose face neither a Data nor a Nack is sent back.
+-- Which Interests become pending (NFD Developer's Guide, "Incoming Interest Pipeline"). An Interest
+-- becomes pending if the Interest is passed, and neither a Data nor a Nack is sent back to its
+-- face.
 use Rattle.std.specs.Prelude.{◌≡◌, ◌⊎◌, ℕ, List, [], ◌∷◌, false, Ok}
 use Rattle.ndn_packets.specs.FrameReading.{frame_at}
 use Rattle.ndn_packets.specs.Key.{PlainKey, key_of}
@@ -23,9 +24,9 @@ pub record IsPassed (event : PlainEvent) (answer : Answer) (face : ℕ) (whole :
   pub read : frame_at octets ≡ Ok (AnInterest whole interest)
   pub passed : answer.verdict ≡ Passed
 
--- The event brings an Interest of this key that is passed, nothing is sent back to its face, and no
--- Nack is sent. So the Interest is pending on the face, with the in-record `in_record`, which has
--- the Interest's token.
+-- The event brings an Interest of this key on the face `face`. The Interest is passed, nothing is
+-- sent back to `face`, and no Nack is sent. So the Interest becomes pending on `face`, with the
+-- in-record `in_record`, which has the Interest's token.
 pub record IsKept (now : ℕ) (event : PlainEvent) (answer : Answer) (key : PlainKey) (face : ℕ)
     (in_record : InRecord) : Type 0 where
   pub whole : List ℕ
@@ -36,17 +37,17 @@ pub record IsKept (now : ℕ) (event : PlainEvent) (answer : Answer) (key : Plai
   pub is_key : key ≡ key_of interest
   pub is_record : in_record ≡ in_record_for now (token_in event) whole interest
 
--- The Interest is forwarded only to faces other than its own, without its token, and unchanged
--- except for its HopLimit. The Interest may be forwarded to no face, since the strategy may wait
--- for the faces to which an Interest of the same key was sent before.
+-- The Interest is forwarded only to faces other than `face`, from which it came. The Interest is
+-- sent without its token, and unchanged except for its HopLimit. The list of faces may be empty,
+-- since the strategy may wait for the faces to which an Interest of the same key was sent before.
 abbrev pub IsSentOn : ℕ → List ℕ → PlainInterest → List Send → Type 0
 IsSentOn face whole i sends =
     (faces : List ℕ) × (has_face face faces ≡ false)
     × (sends ≡ to_each faces (sent_on whole i.hop_limit))
 
--- One packet is sent back to the Interest's face with its token, and nothing is sent to other
--- faces. The packet is a Nack with the reason NoRoute, or a Data from the cache, the repository or
--- the node.
+-- One packet is sent back to the Interest's face with the Interest's token, and nothing is sent to
+-- other faces. The packet is a Nack with the reason NoRoute, or a Data from the cache, the
+-- repository or the node.
 abbrev pub IsSentBack : Seen → ℕ → Token → List ℕ → PlainInterest → List Send → Type 0
 IsSentBack seen face token whole i sends =
     (sends ≡ nacked_back face token NO_ROUTE whole ∷ [])

@@ -31,8 +31,8 @@ strategy_for p name = unwrap_or (longest p.choices name) BestRoute
 abbrev pub hops_for : Policy → List Field → List Hop
 hops_for p name = marked (local_faces p) (longest_hops p.routes name)
 
--- the strategy's choice for an Interest of this name, where `asked` has the moments at which an
--- Interest of the same key was last sent to each face
+-- the strategy's choice for an Interest of this name, where `asked` has, for each face, the moment
+-- at which an Interest of the same key was last sent to the face
 abbrev pub choice_for : Policy → List Field → ByFace → Ask → Choice
 choice_for p name asked ask =
     chosen (selection_of (strategy_for p name)) (hops_for p name) asked ask
@@ -60,8 +60,8 @@ ask_for p name = record {
   now = p.now;
 }
 
--- the received octets of an Interest with this HopLimit, as they are sent on: the HopLimit is
--- decremented, and nothing else changes
+-- the octets that are sent on for an Interest with the octets `whole`: the HopLimit, if there is
+-- one, is decremented, and nothing else changes
 abbrev pub sent_on : List ℕ → Option ℕ → List ℕ
 sent_on whole None = whole
 sent_on whole (Some limit) = with_octet whole (limit - 1)

@@ -47,9 +47,10 @@ seen_in p waiting cache = record {
 }
 
 -- One step, from received octets to sent octets: time passes, then the event is answered and has
--- its effect. The decision on a packet is stated in `replies` and in `policy`; both decisions are
--- the same if no two keys of the old policy have the same name. What the cache gives is stated in
--- `replies` and in `cache`; both give the same Data if the cache satisfies `IsStore`.
+-- its effect. Each of the fields `replies` and `policy` refers to a decision on the packet. The two
+-- decisions are the same if no two keys of the old policy have the same name. Each of the fields
+-- `replies` and `cache` refers to what the cache gives for an Interest. Both refer to the same Data
+-- if the old cache satisfies `IsStore`.
 pub record IsStep (old : NodeState) (event : PlainEvent) (answer : Answer)
     (new : NodeState) : Type 0 where
   -- the Interests that are pending once time has advanced to the moment of the event
@@ -75,8 +76,8 @@ pub record ChangesCacheOnly (old new : NodeState) : Type 0 where
 
 -- ---- events that need no memory
 
--- The packets that need no memory. No memory is needed for octets that are no packet, a link packet
--- that contains no packet, a packet out of scope, or an Interest whose HopLimit is 0. A Data that
+-- The packets that need no memory. No memory is needed for malformed octets, for a link packet
+-- without a packet, for a packet out of scope, or for an Interest with the HopLimit 0. A Data that
 -- is not allowed needs no memory either, if no checker of the first rule that applies expands a
 -- template.
 abbrev pub NeedsNoMemory : Policy → ℕ → Result PlainFrame PacketFault → Type 0
@@ -91,8 +92,8 @@ NeedsNoMemory p face (Ok (ANack reason whole i)) = is_out_of_scope p face i.name
 NeedsNoMemory p face (Ok Idle) = ⊤
 
 -- The events that need no memory if `old` is the node before the event. A packet needs no memory if
--- its face is not open, or if `NeedsNoMemory` is true of the packet. All other kinds of events need
--- no memory.
+-- its face is not open, or if `NeedsNoMemory` is true of the packet. An event that brings no packet
+-- needs no memory.
 abbrev pub AsksNoMemory : NodeState → PlainEvent → Type 0
 AsksNoMemory old (Packet face now octets) =
     (is_open face old.policy.faces ≡ false) ⊎ NeedsNoMemory old.policy face (frame_at octets)

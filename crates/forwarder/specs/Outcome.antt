@@ -9,8 +9,8 @@ use Rattle.forwarder.specs.Event.{PlainEvent, Packet, FaceUp, FaceDown, Tick, Ne
 use Rattle.forwarder.specs.Verdict.{Verdict, Passed, Allowed, DataAllowed, Denied, NoRule, Dropped}
 
 pub data Outcome : Type 0 where
-  -- a tick, a face that opens, new rules, or anything dropped or denied; apart from what expires at
-  -- its moment, the event changes no record, cached Data, next hop or route
+  -- a tick, a face that opens, new rules, or anything dropped or denied; the event changes no
+  -- record, cached Data, next hop or route, except that records and routes expire as time advances
   Nothing : Outcome
   -- an Interest for Data, or for a segment of a list, was passed
   InterestPassed : (face : ℕ) (whole : List ℕ) (i : PlainInterest) → Outcome
@@ -18,7 +18,7 @@ pub data Outcome : Type 0 where
   CommandAllowed : (face : ℕ) (i : PlainInterest) (status : ℕ) → Outcome
   -- a Data was allowed
   DataCame : (whole : List ℕ) (d : PlainData) → Outcome
-  -- a Nack that came on this face was passed; the Interest in it had been sent to the face
+  -- a Nack that came on this face was passed; the Interest in the Nack had been sent to this face
   NackPassed : (face reason : ℕ) (i : PlainInterest) → Outcome
   -- an open face closed
   FaceClosed : (face : ℕ) → Outcome

@@ -29,8 +29,8 @@ parts_fault repo cache =
     if (cache == 0) || nat_lt 65536 cache then Some BadCapacity else
     None)
 
--- a node with these rules and keys, this repository's prefix and this cache's capacity, before its
--- first event
+-- a node before its first event, with these rules and keys, the prefix `repo` of its repository,
+-- and the capacity `cache` of its cache
 abbrev pub first_node : List PlainRule → List NamedKey → List Field → ℕ → NodeState
 first_node rules keys repo cache = record {
   policy = first_policy rules keys repo;

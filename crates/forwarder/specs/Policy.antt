@@ -17,8 +17,9 @@ use Rattle.forwarder.specs.OpenFaces.{FaceEntry, find_scope, numbers}
 pub record Policy : Type 0 where
   -- the greatest moment of the events that were handled, in milliseconds since 1970
   pub now : ℕ
-  -- the version of the lists: the number of allowed commands under /localhost/nfd, plus the number
-  -- of closed faces, plus the number of expired routes; at most the greatest u64
+  -- the version of the lists of routes and strategies: the number of allowed commands under
+  -- /localhost/nfd, plus the number of closed faces, plus the number of expired routes; at most the
+  -- greatest u64
   pub table_number : ℕ
   pub rules : List PlainRule
   pub keys : List NamedKey
@@ -33,7 +34,8 @@ pub record Policy : Type 0 where
   -- the objects that the repository stores, and the Data that it wants
   pub held : Held
 
--- the policy of a node with these rules, keys and repository's prefix, before its first event
+-- the policy of a node before its first event, with these rules, these keys, and the prefix `repo`
+-- of the repository
 abbrev pub first_policy : List PlainRule → List NamedKey → List Field → Policy
 first_policy rules keys repo = record {
   now = 0;
@@ -48,9 +50,10 @@ first_policy rules keys repo = record {
   held = record { objects = map.empty; wants = map.empty };
 }
 
--- The policy once time has advanced to a moment; the time stays if the moment is earlier. The
--- routes and wants that expire by the new time are removed. Each route that expires increases the
--- version of the lists of routes and strategies by 1, up to the greatest u64.
+-- The policy once time has advanced to the moment `moment`. If `moment` is earlier than the time of
+-- the policy, the time stays. The routes and wants that expire by the new time are removed. Each
+-- route that expires increases the version of the lists of routes and strategies by 1, up to the
+-- greatest u64.
 abbrev pub at_moment : Policy → ℕ → Policy
 at_moment p moment =
     let now = max p.now moment in
@@ -93,8 +96,8 @@ is_far p face = is_far_scope (find_scope face p.faces)
 
 -- ---- two policies compared
 
--- the policies have the same time, repository's prefix, open faces, replay guard, stored Data and
--- wants
+-- the policies agree in the time, the repository's prefix, the open faces, the replay guard, the
+-- stored Data and the wants
 pub record HasSameParts (p q : Policy) : Type 0 where
   pub now : p.now ≡ q.now
   pub repo : p.repo ≡ q.repo

@@ -1,5 +1,6 @@
--- How a node may answer an event (NFD Developer's Guide, "Forwarding Pipelines"). The same
--- definition serves for a step, which reads the node's tables, and for a run, which reads the past.
+-- How a node may answer an event (NFD Developer's Guide, "Forwarding Pipelines"). The definition
+-- `Replies` serves for a step and for a run. For a step, `Seen` is read off the node's tables. For
+-- a run, `Seen` is read off the past events and answers.
 use Rattle.std.specs.Prelude.{◌≡◌, ◌≢◌, ◌↔◌, ℕ, List, [], ◌∷◌, All, map as map_list, Bool, not, Option, None, Some, IsSome, IsTrue, Result, Ok, Err, nat_le, length, ◌==◌, ◌&&◌, if◌then◌else◌}
 use Rattle.std.specs.FinMap as map
 use Rattle.sha2.specs.Sha256.{sha256}
@@ -39,8 +40,8 @@ pub record Seen : Type 1 where
   -- the records of each key, and whether the PIT is full, that is, has records for 4,096 keys
   pub records : PlainKey → Records
   pub is_full : Bool
-  -- Whether the cache may give the Data with these octets for an Interest with this key. With None,
-  -- whether the cache may give no Data.
+  -- Whether the cache may give the Data with these octets for an Interest with this key. For None,
+  -- whether it is possible that the cache gives no Data.
   pub MayGive : PlainKey → Option (List ℕ) → Type 0
 
 -- ---- Interests for Data, pipeline by pipeline
@@ -86,8 +87,8 @@ by_repository seen face token whole i None =
     (choice_for seen.policy i.name (moments (seen.records (key_of i)).out_records)
     (ask_from seen.policy face i))
 
--- Content Store Miss: the repository answers with a stored object or, if none answers, the strategy
--- chooses the faces to send the Interest to
+-- Content Store Miss: the repository answers with a stored object; if no stored object answers the
+-- Interest, the strategy chooses the faces to send the Interest to
 abbrev pub content_store_miss : Seen → ℕ → Token → List ℕ → PlainInterest → Answer
 content_store_miss seen face token whole i =
     by_repository seen face token whole i
@@ -144,10 +145,10 @@ abbrev pub sent_to : Askers → List ℕ → List Send
 sent_to askers whole =
     map_list {A = ℕ × Token} {B = Send} (λ a. sent_back a.0 a.1 whole) askers
 
--- The Data's octets are sent once to each face with a pending Interest that the Data answers, in
--- rising order of the faces, except to `face`, from which the Data came. Each face gets the token
--- of the Interest with the latest deadline, among the face's Interests that the Data answers
--- (`IsTokenFor`).
+-- The Data's octets are sent once to each face with a pending Interest that the Data answers,
+-- except to `face`, from which the Data came. The sends are in rising order of the faces. Each face
+-- gets the token of its Interest. If the Data answers several Interests of a face, the face gets
+-- the token of the Interest with the latest deadline (`IsTokenFor`).
 abbrev pub IsSentToAskers : Seen → ℕ → List ℕ → PlainData → List Send → Type 0
 IsSentToAskers seen face whole d sends =
     (askers : Askers) × IsRising (faces_of askers)
@@ -170,8 +171,8 @@ RepliesToData seen face whole d answer =
     ((decision : Decision) × IsDecidedAs seen.policy (AData whole d) decision
     × RepliesByDecision seen face whole d answer decision)
 
--- for each in-record, in rising order of the faces, a Nack with this reason that contains the
--- Interest and has the token of the in-record
+-- a Nack for each in-record, in rising order of the faces; each Nack has this reason, and the
+-- Interest and the token of its in-record
 abbrev pub nacks_to : InRecords → ℕ → List Send
 nacks_to in_records reason =
     map_list {A = ℕ × InRecord} {B = Send}

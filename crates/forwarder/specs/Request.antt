@@ -1,4 +1,4 @@
--- What an Interest means to a node: a request for a segment of a list, a command, or a request for
+-- What an Interest means to a node: a command, a request for a segment of a list, or a request for
 -- Data (NFD Management, "Control Command", "Status Dataset"; NDN Naming Conventions, revision 3).
 use Rattle.std.specs.Prelude.{ℕ, List, [], ◌∷◌, ◌++◌, Bool, true, false, not, Option, None, Some, is_some, drop, length, codes, bytes_eq, ◌==◌, ◌&&◌, if◌then◌else◌}
 use Rattle.std.specs.Option.{option_map, option_or}
@@ -24,7 +24,8 @@ generic text = (GENERIC, text)
 abbrev pub localhost : List Field
 localhost = generic (codes "localhost") ∷ []
 
--- the prefix /localhost/nfd of the names of commands and lists
+-- the prefix /localhost/nfd; the names of lists, and of commands on routes, strategies and the
+-- cache, begin with this prefix
 abbrev pub management : List Field
 management = generic (codes "localhost") ∷ generic (codes "nfd") ∷ []
 
@@ -62,8 +63,9 @@ segmented kind version None = None
 segmented kind version (Some segment) = versioned kind segment version
 
 -- The request that the components after a list's name encode. A version followed by a segment
--- number requests this segment of this version. If the Interest has CanBePrefix, a version alone,
--- or no component at all, requests the segment 0. Anything else is no request for a list (None).
+-- number requests this segment of this version. A version alone, or no component at all, requests
+-- the segment 0, but only if the Interest has CanBePrefix. Anything else is no request for a list
+-- (None).
 abbrev pub list_after : ListKind → Bool → List Field → Option ListAsked
 list_after kind can_be_prefix [] =
     if can_be_prefix then Some (record { kind = kind; version = None; segment = 0 }) else None

@@ -19,10 +19,10 @@ use Rattle.forwarder.specs.Runs.{Run, Start, Then, now_of}
 abbrev pub names_route : PlainCommand → ℕ → List Field → ℕ → ℕ → Bool
 names_route c from name face origin = names_hop c from name face && (origin == c.origin)
 
--- The route after a command with status 200 at the moment `now`. A register for this route sets its
--- cost, its flags and its deadline: `now` plus the command's period, at most the greatest u64, or
--- None without a period. An unregister for this route removes it. Any other command changes
--- nothing.
+-- The route after a command with status 200 at the moment `now`. A register for this route sets the
+-- cost, the flags and the deadline of the route. The deadline is `now` plus the command's period,
+-- at most the greatest u64, or None if the command has no period. An unregister for this route
+-- removes it. Any other command changes nothing.
 abbrev pub route_after_command : Result PlainCommand ℕ → ℕ → ℕ → List Field → ℕ → ℕ
     → Option Route → Option Route
 route_after_command (Err status) now from name face origin was = was
@@ -37,9 +37,9 @@ route_after_command (Ok c) now from name face origin was =
       | _ ↦ was
     ]
 
--- The route after an outcome at the moment `now`, where None means that there is no such route. An
--- allowed command can change the route only if the command's status is 200. When a face closes,
--- its routes are removed.
+-- The route after an outcome at the moment `now`. None means that the route does not exist. An
+-- allowed command can change the route only if the command's status is 200. When a face closes, its
+-- routes are removed.
 abbrev pub route_after : Outcome → ℕ → List Field → ℕ → ℕ → Option Route → Option Route
 route_after Nothing now name face origin was = was
 route_after (InterestPassed from whole i) now name face origin was = was
@@ -50,8 +50,8 @@ route_after (DataCame whole d) now name face origin was = was
 route_after (NackPassed from reason i) now name face origin was = was
 route_after (FaceClosed closed) now name face origin was = if face == closed then None else was
 
--- The route from the last register with status 200 of this name, face and origin. The result is
--- None if there was no register with status 200, or if the route has ended since: by an unregister,
+-- The route that was set by the last register of this name, face and origin with status 200. The
+-- result is None if there was no such register, or if the route has ended since: by an unregister,
 -- by the closing of its face, or by an event at or after its deadline.
 abbrev pub route_of : Run → List Field → ℕ → ℕ → Option Route
 route_of Start name face origin = None

@@ -1,5 +1,6 @@
--- Runs of events and answers, and what the past of a run determines. The definitions in this file
--- use no timers and no cache, and nothing of the PIT except the number of keys with records.
+-- Runs of events and answers, and what the past of a run determines. Except for `Stands`, which
+-- compares a node with a run, the definitions in this file use neither timers nor the contents of a
+-- cache, and nothing of a PIT except the number of keys with records.
 use Rattle.std.specs.Prelude.{◌≡◌, ◌⊎◌, ℕ, Bool, true, false, List, [], ◌∷◌, ◌++◌, Option, None, Some, All, Result, Ok, Err, max, nat_le, ⊤}
 use Rattle.std.specs.FinMap as map
 use Rattle.hmac_keys.specs.KeyFile.{AreApart, NamedKey}
@@ -24,8 +25,8 @@ use Rattle.forwarder.specs.Cache.{Inserts, IsAwaited, TakesAway, cache_use}
 use Rattle.forwarder.specs.Replies.{Seen, Replies}
 use Rattle.forwarder.specs.Node.{NodeState}
 
--- a run: it is empty, or consists of an earlier run, an event and its answer. An event that ran out
--- of memory is not part of a run.
+-- A run is empty, or consists of a shorter run, a further event and this event's answer. An event
+-- whose step ran out of memory is not part of a run.
 pub data Run : Type 0 where
   Start : Run
   Then : (before : Run) (event : PlainEvent) (answer : Answer) → Run
@@ -83,8 +84,8 @@ pub record AreLastRules (past : Run) (rules : List PlainRule) (keys : List Named
 
 -- ---- pending Interests (NFD Developer's Guide, "Pending Interest Table")
 
--- All causes that change records in a run, with the latest cause first. Each event first causes
--- expiry at the greatest moment so far, and then has its own causes.
+-- All causes that change records in a run, with the latest cause first. Each event first gives the
+-- cause `Expires` with the greatest moment so far, and then the causes in `causes_of`.
 abbrev pub past_causes : Run → List Cause
 past_causes Start = []
 past_causes (Then before event answer) =
@@ -95,8 +96,8 @@ past_causes (Then before event answer) =
 abbrev pub records_of : Run → PlainKey → Records
 records_of past key = records_after_all (past_causes past) key
 
--- `waiting` has the keys that have an in-record after the run, once time has advanced to `now`,
--- with their records
+-- `waiting` has the keys that have an in-record when time has advanced to `now` after the run, each
+-- key with its records
 pub record IsWaiting (past : Run) (now : ℕ) (waiting : Pending) : Type 0 where
   pub living : HoldsTheLiving waiting
   pub records : (key : PlainKey)

@@ -12,7 +12,7 @@ pub record SendsState : Type 0 where
   pub places : ℕ
   pub space : ℕ
 
--- the sends, or none if there was a fault in writing their octets
+-- the sends, or no sends if there was a fault in writing their octets
 abbrev pub unless_refused : Option WriteFault → List Send → List Send
 unless_refused None sends = sends
 unless_refused (Some fault) sends = []
@@ -23,8 +23,8 @@ abbrev pub fetched : List ℕ → InterestWriter → List Send
 fetched faces w = unless_refused (interest_refusal w) (to_each faces (interest_text w))
 
 -- The number of octets to reserve for sending a Data to the faces that asked for it. With tokens,
--- it is `MAX_FACES` times the greatest length of a link packet with the Data. Without tokens, it is
--- the length of the Data.
+-- the number is `MAX_FACES` times the greatest length of a link packet with the Data. Without
+-- tokens, the number is the length of the Data.
 abbrev pub room_for_data : List ℕ → Bool → ℕ
 room_for_data whole with_tokens =
     if with_tokens then MAX_FACES * (length whole + LINK_EXTRA) else length whole

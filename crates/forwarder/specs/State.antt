@@ -32,8 +32,8 @@ state_of s = record {
   cache = s.tables.store;
 }
 
--- Each face with a record, a next hop or a route is open. At most 64 faces are open, and they are
--- in rising order.
+-- Each face with a record, a next hop or a route is open. At most 64 faces are open, and the list
+-- of open faces is in rising order.
 pub record IsSound (s : NodeState) : Type 0 where
   pub few : length s.policy.faces ≤ MAX_FACES
   pub rising : IsRising (numbers s.policy.faces)
@@ -41,7 +41,8 @@ pub record IsSound (s : NodeState) : Type 0 where
   pub routes : AllAreUp s.policy.routes (open_faces s.policy)
 
 -- `new` is the node `old` once time has advanced to `moment`; the time stays if `moment` is
--- earlier. Everything that expires by the new time was removed, and the cache is unchanged.
+-- earlier. The in-records, routes and wants that expire by the new time were removed, and the cache
+-- is unchanged.
 pub record IsLater (old : NodeState) (moment : ℕ) (new : NodeState) : Type 0 where
   pub policy : new.policy ≡ at_moment old.policy moment
   pub expiry : Follows (Expires (max old.policy.now moment)) old.pending new.pending

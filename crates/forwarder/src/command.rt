@@ -29,8 +29,8 @@ use strategies::Choice;
 
 impl State {
     /// Handles a command on routes, strategies or the cache, or a command to the repository (NFD
-    /// Management, "Control Command"). Every command is answered. A command takes effect only if it
-    /// is fresh and the rules allow it.
+    /// Management, "Control Command"). Every command is answered, unless memory runs out. A command
+    /// takes effect only if it is fresh and the rules allow it.
     pub fn receive_command(
         &mut self,
         arrived: &Arrived<'_, Interest<'_>>,
@@ -98,7 +98,8 @@ impl State {
         Ok(())
     }
 
-    /// Applies an allowed command on the tables, answers it, and returns the status of the reply.
+    /// Applies an allowed command on routes, strategies or the cache, answers the command, and
+    /// returns the status of the reply.
     fn command_tables(
         &mut self,
         arrived: &Arrived<'_, Interest<'_>>,
@@ -185,8 +186,8 @@ impl State {
         Ok(applied.status)
     }
 
-    /// Applies an allowed command to the repository, answers it, and sends an Interest for the Data
-    /// that the repository then wants.
+    /// Applies an allowed command to the repository, and answers the command. If the command makes
+    /// the repository want Data, sends an Interest for the Data. Returns the status of the reply.
     fn command_repository(
         &mut self,
         arrived: &Arrived<'_, Interest<'_>>,
@@ -216,7 +217,7 @@ impl State {
     }
 
     /// Sends the Interest in `reply.fetch`, if there is one, to the faces that the strategy
-    /// chooses. Sends nothing if the Interest cannot be encoded.
+    /// chooses. Sends nothing if the strategy finds no route, or if the Interest cannot be encoded.
     fn fetch(&self, reply: &RepoReply, nonce: [u8; 4], out: &mut Sends) -> Result<(), Memory>
         ensures ok { OnOk result (out.new.sends
             ≡ out.old.sends ++ fetch_sends (policy_of self.entry.now) nonce reply.now.fetch) }

@@ -33,7 +33,8 @@ impl State {
     /// Handles a Data (NFD Developer's Guide, "Incoming Data Pipeline"). A Data that the rules
     /// allow is sent, without changes, to each face with a pending Interest for the Data, except
     /// the incoming face. The Data is offered to the cache if any face, even the incoming face, has
-    /// a pending Interest for the Data. The Data is stored if the repository wants the Data.
+    /// a pending Interest for the Data. The repository stores the Data if the repository wants the
+    /// Data.
     pub fn receive_data(
         &mut self,
         arrived: &Arrived<'_, Data<'_>>,
@@ -87,9 +88,9 @@ impl State {
 
     /// Sends an allowed Data to each face with a pending Interest for the Data, except `face`, from
     /// which the Data came. If any face has a pending Interest for the Data, offers the Data to the
-    /// cache, which does not store the Data if memory runs out. Stores the Data if the repository
-    /// wants it. The call never fails: memory for 64 sends and their octets is already reserved,
-    /// and the offer to the repository is prepared.
+    /// cache, which does not store the Data if memory runs out. Stores the Data in the repository
+    /// if the repository wants the Data. The call never fails: memory for 64 sends and their octets
+    /// is already reserved, and the offer to the repository is prepared.
     fn deliver(
         &mut self,
         face: u64,
@@ -132,8 +133,9 @@ impl State {
     }
 
     /// Sends a Data to each face with a pending Interest for the Data, except `face`, from which
-    /// the Data came. Each face gets the token of the Interest with the latest deadline, among the
-    /// face's Interests that the Data answers (see `Pit::token_for`).
+    /// the Data came. Each face gets the token of its Interest. If the Data answers several
+    /// Interests of a face, the face gets the token of the Interest with the latest deadline (see
+    /// `Pit::token_for`).
     fn send_with_tokens(&self, face: u64, packet: &Data<'_>, out: &mut Sends) -> Result<(), Memory>
         requires places { MAX_FACES ≤ out.old.places }
         requires space { room_for_data packet.now.whole.now true ≤ out.old.space }
@@ -146,8 +148,9 @@ impl State {
         self.push_with_tokens(&without_face(&askers, face), packet, out)
     }
 
-    /// Sends a Data to each of these faces. Each face gets the token of the Interest with the
-    /// latest deadline, among the face's Interests that the Data answers (see `Pit::token_for`).
+    /// Sends a Data to each of these faces. Each face gets the token of its Interest. If the Data
+    /// answers several Interests of a face, the face gets the token of the Interest with the latest
+    /// deadline (see `Pit::token_for`).
     fn push_with_tokens(
         &self,
         faces: &Faces,

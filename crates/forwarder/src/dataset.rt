@@ -107,14 +107,14 @@ fn segment_name(
     Ok(name)
 }
 
-/// Appends a GenericNameComponent.
+/// Appends a GenericNameComponent with the value `word`.
 fn append_word(name: &mut NameBuf, word: &[u8]) -> Result<(), Memory>
     ensures { OnOk result (name.new ≡ name.old ++ generic word.now ∷ []) }
 {
     name.append(GENERIC, word).map_err(|_| Memory)
 }
 
-/// Appends a component of the type `kind` that contains this number.
+/// Appends a component that has the type `kind` and contains the number `number`.
 fn append_number(alloc: Global, name: &mut NameBuf, kind: u16, number: u64) -> Result<(), Memory>
     ensures { OnOk result (name.new ≡ name.old ++ (kind, shortest_nni number) ∷ []) }
 {
@@ -152,8 +152,9 @@ fn segment_data<'a>(
 
 impl State {
     /// Sends a segment of a list, as the list is at this moment, to the face that requests the
-    /// segment. Drops the Interest if the requested segment or version does not exist. The segment
-    /// is encoded before time advances, since memory may run out.
+    /// segment. Drops the Interest if the requested segment does not exist, or if the requested
+    /// version is not the current version. The segment is encoded before time advances, so nothing
+    /// has changed if memory runs out.
     pub fn send_list(
         &mut self,
         arrived: &Arrived<'_, Interest<'_>>,

@@ -39,8 +39,8 @@ fn signer_in<'a>(signature: Signature<'a>) -> Signer<'a>
     }
 }
 
-/// Returns the signer of an Interest, with the SignatureTime and the SignatureSeqNum, if the
-/// Interest has both a signature and a SignatureTime.
+/// Returns the signer, the SignatureTime and the SignatureSeqNum of an Interest. Returns `None` if
+/// the Interest has no signature or no SignatureTime.
 fn signed_by<'a>(interest: &Interest<'a>) -> Option<Signed<'a>>
     ensures { option_map recorded_by result ≡ recorded_of (plain_interest interest.now) }
 {
@@ -106,8 +106,8 @@ pub(crate) fn decide_data(
     rules.decide(alloc, keys, Packet::Data(packet))
 }
 
-/// Reserves the memory for one `record` of this command. The reservation lasts until the guard's
-/// next `record` or `prepare`.
+/// Reserves the memory for one call of `record` with this command. The reservation lasts until the
+/// next call of `record` or `prepare` of the guard.
 pub(crate) fn prepare_record(guard: &mut Guard, interest: &Interest<'_>) -> Result<(), Memory>
     ensures latest { guard.new.latest ≡ guard.old.latest }
     ensures ok { OnOk result (IfSome (recorded_of (plain_interest interest.now))

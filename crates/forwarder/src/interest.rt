@@ -58,8 +58,8 @@ impl State {
 
     /// Handles an Interest for Data. If the Interest loops, sends a Nack back. If the Interest does
     /// not loop, answers the Interest from the cache or the repository, or forwards the Interest.
-    /// Looks up the cache and the repository before a PIT record is prepared, since a hit needs no
-    /// PIT record.
+    /// Looks for the Data in the cache and the repository before a PIT record is prepared, since an
+    /// answer from the cache or the repository needs no PIT record.
     fn answer(
         &mut self,
         arrived: &Arrived<'_, Interest<'_>>,

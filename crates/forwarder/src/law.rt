@@ -96,11 +96,12 @@ pub fn refused_steps_stand_still()
 {}
 
 /// Law: let no key book have two keys of the same name. Two runs with the same events that start
-/// from the same policy lead to the same policy. For the next event, all valid answers after both
-/// runs are equal if the event brings a command, a request for a list, or an Interest that is
-/// dropped because of its HopLimit or scope. If the event brings a Data, the verdicts of all valid
-/// answers after both runs are equal. It follows that all clauses of this law are true at each
-/// event of two runs with the same events.
+/// from the same policy lead to the same policy. Let the same event follow both runs. If the event
+/// brings a command, a request for a list, or an Interest that is dropped because of its HopLimit
+/// or scope, each valid answer after one run equals each valid answer after the other run. If the
+/// event brings a Data, each valid answer after one run has the same verdict as each valid answer
+/// after the other run. It follows that all clauses of this law are true at each event of two runs
+/// with the same events.
 pub fn histories_decide()
     ensures policy { (first p q : Policy) (past other : Run) → KeysAreApart first past
         → HaveOneHistory past other → IsPolicyOf first past p → IsPolicyOf first other q → p ≡ q }

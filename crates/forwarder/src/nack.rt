@@ -76,7 +76,8 @@ impl State {
     }
 
     /// Sends a Nack with this reason to each face with an in-record of the key. Each Nack contains
-    /// the Interest and the token of the in-record. Memory for the Nacks is already reserved.
+    /// the Interest of the face's in-record, and has the token of this in-record. Memory for the
+    /// Nacks is already reserved.
     fn push_nacks(&self, key: Key<'_>, reason: u64, out: &mut Sends) -> Result<(), Memory>
         requires known { (f : ℕ)
             → IsSome (map.get (in_records_at self.now.pit.pending (plain_key key)) f)

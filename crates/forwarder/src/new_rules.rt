@@ -12,7 +12,7 @@ use hmac_keys::KeyBook;
 use info_rules::Rules;
 
 impl State {
-    /// Advances time to the moment, and then puts these rules and keys in force. Nothing else
+    /// Advances time to the moment `now`, and then puts these rules and keys in force. Nothing else
     /// changes.
     pub fn replace_rules(&mut self, rules: Rules, keys: KeyBook, now: u64) -> Verdict
         ensures step { IsStep (state_of self.old) (NewRules rules keys now)

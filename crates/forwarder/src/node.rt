@@ -168,9 +168,10 @@ impl Node {
         self.state.faces.entry(i)
     }
 
-    /// Returns whether two nodes have the same time, repository's prefix, open faces, routes,
-    /// strategies, replay guard, stored Data and wants. The version of the lists, the rules and the
-    /// keys are not compared. The contract says only what a result `true` means.
+    /// Returns whether two nodes agree in the time, the repository's prefix, the open faces, the
+    /// routes, the strategies, the replay guard, the stored Data and the wants. The rules, the keys
+    /// and the version of the lists are not compared. The contract says only what a result `true`
+    /// means.
     pub fn has_same_tables(&self, other: &Node) -> Result<bool, Memory>
         ensures { IfOk result
             (λ same. IsTrue same → HasSameTables self.now.policy other.now.policy) }

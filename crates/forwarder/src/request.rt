@@ -129,8 +129,9 @@ fn numbered(kind: u16, component: Component<'_>) -> Option<u64>
 }
 
 /// Returns the request that the components after a list's name encode. A version followed by a
-/// segment number requests this segment of this version. If the Interest has CanBePrefix, a version
-/// alone, or no component at all, requests the first segment. Returns `None` in all other cases.
+/// segment number requests this segment of this version. A version alone, or no component at all,
+/// requests the first segment, but only if the Interest has CanBePrefix. Returns `None` in all
+/// other cases.
 fn list_after(kind: ListKind, can_be_prefix: bool, name: Name<'_>) -> Option<ListAsked>
     ensures { result ≡ list_after kind can_be_prefix (drop 4 (components name.entry)) }
 {

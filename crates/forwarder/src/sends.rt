@@ -175,8 +175,10 @@ impl Sends {
         self.push_lp(face, token, Some(reason), interest)
     }
 
-    /// Adds a packet in a link packet with a token, a Nack with a reason, or both (NDNLPv2, "Packet
-    /// Format"). If there is neither a token nor a Nack, the packet is sent without a link packet.
+    /// Adds a packet. If there is a token or a Nack reason, the packet is sent in a link packet
+    /// (NDNLPv2, "Packet Format"). The link packet has the token, if there is one, and a Nack with
+    /// the reason, if there is one. Without a token and a reason, the packet is sent without a link
+    /// packet.
     fn push_lp(
         &mut self,
         face: u64,

@@ -32,9 +32,9 @@ pub struct State {
 }
 
 impl State {
-    /// Sets the time to the greater of `now` and `moment`, and removes the in-records, routes and
-    /// wants that have expired. Adds the number of expired routes to the version of the lists. What
-    /// was prepared in the PIT, the tables, the guard and the repository stays prepared.
+    /// Sets the time to the greater of `self.now` and `moment`, and removes the in-records, routes
+    /// and wants that have expired. Adds the number of expired routes to the version of the lists.
+    /// What was prepared in the PIT, the tables, the guard and the repository stays prepared.
     pub fn pass_time(&mut self, moment: u64)
         ensures later { IsLater (state_of self.old) moment (state_of self.new) }
         ensures pit { self.new.pit.prepared ≡ self.old.pit.prepared }
@@ -59,8 +59,8 @@ impl State {
         self.table_number = self.table_number.saturating_add(1);
     }
 
-    /// Returns whether both states have the same time, repository's prefix, open faces, routes,
-    /// strategies, replay guard, stored Data and wants.
+    /// Returns whether two states agree in the time, the repository's prefix, the open faces, the
+    /// routes, the strategies, the replay guard, the stored Data and the wants.
     pub fn has_same_tables(&self, other: &State) -> Result<bool, Memory>
         ensures { IfOk result (λ same. IsTrue same
             → HasSameTables (policy_of self.entry.now) (policy_of other.entry.now)) }
@@ -76,8 +76,8 @@ impl State {
         Ok(are_routes && are_choices)
     }
 
-    /// Returns whether both states have the same time, repository's prefix, open faces, replay
-    /// guard, stored Data and wants.
+    /// Returns whether two states agree in the time, the repository's prefix, the open faces, the
+    /// replay guard, the stored Data and the wants.
     fn has_same_parts(&self, other: &State) -> bool
         ensures { IsTrue result
             → HasSameParts (policy_of self.entry.now) (policy_of other.entry.now) }

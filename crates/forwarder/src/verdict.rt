@@ -32,7 +32,7 @@ pub enum DropReason {
     Idle,
     /// The HopLimit of the Interest is 0.
     HopLimit,
-    /// A name under `/localhost` came from another machine.
+    /// The packet came from another machine, and its name is under `/localhost`.
     Scope,
     /// The Interest loops: an in-record of another face, or an out-record, has the Interest's key
     /// and Nonce, but no in-record of the Interest's own face has them. A Nack with the reason
@@ -40,7 +40,8 @@ pub enum DropReason {
     Loop,
     /// The PIT is full: Interests of 4,096 other keys are pending.
     PitFull,
-    /// This face has no out-record with the Nack's key and Nonce.
+    /// The face that the Nack came on has no out-record with the key and Nonce of the Interest in
+    /// the Nack.
     NoPending,
     /// The list has no segment with the requested number, or its version is not the requested
     /// version.

@@ -3,12 +3,12 @@ use Rattle.std.specs.Prelude.{ℕ}
 
 -- the kinds of blocks in a rule file
 pub data BlockKind : Type 0 where
-  -- the file outside all blocks
+  -- the whole file, whose keys are outside all blocks
   File : BlockKind
   Anchor : BlockKind
   Rule : BlockKind
   Filter : BlockKind
-  -- a checker that has a key locator
+  -- a checker that is not hierarchical; only such a checker may have a key locator
   Customized : BlockKind
   Hierarchical : BlockKind
   Locator : BlockKind
@@ -24,7 +24,7 @@ pub data ValueKind : Type 0 where
   NameWord : ValueKind
   -- the URI of a name
   Uri : ValueKind
-  -- a relation of names
+  -- the relation of one name to another name
   Relation : ValueKind
   Pattern : ValueKind
   -- a template that uses the groups of a pattern

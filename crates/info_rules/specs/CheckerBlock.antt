@@ -39,7 +39,8 @@ is_digest (Ok (Some Asymmetric)) = false
 is_digest (Ok None) = false
 is_digest (Err fault) = false
 
--- the kind of a checker's block; a hierarchical checker has no key locator
+-- the kind of the block of a checker, by whether the checker is hierarchical; the block of a
+-- hierarchical checker has no key locator
 abbrev pub block_of : Bool → BlockKind
 block_of hierarchical = if hierarchical then blocks.Hierarchical else blocks.Customized
 
@@ -86,6 +87,6 @@ checker_of line keys = checker_by line keys
     (value_in BadValue checker_type_in (codes "type") keys)
     (value_in BadValue signature_type_in (codes "sig-type") keys)
 
--- the requirement of a `checker` on a signature
+-- the requirement that a `checker` states on a signature, or the fault that is reported
 unfoldable pub checker_in : Block → Found Checker
 checker_in key = block_in 2 checker_of key

@@ -23,8 +23,9 @@ Unless Fact reason given Rest = ((¬ Fact) × (given ≡ Some reason)) ⊎ (Fact
 abbrev pub ChecksTag : List ℕ → PlainSigned → Option Reason → Type 0
 ChecksTag tag signed given = Unless (signed.signature.value ≡ tag) reasons.Tag given (given ≡ None)
 
--- `given` is the result of these checks: the keys contain one with this name, and the signature
--- value is this key's HMAC of the covered octets; the reasons are `KeyUnknown` and `Tag`
+-- `given` is the result of these checks: `keys` contains a key with this name, otherwise the reason
+-- is `KeyUnknown`; the signature value is this key's HMAC of the covered octets, otherwise the
+-- reason is `Tag`
 abbrev pub ChecksKey : List NamedKey → List Field → PlainSigned → Option Reason → Type 0
 ChecksKey keys name signed given =
     (((key : List ℕ) → IsAmong (name, key) keys → ⊥) × (given ≡ Some reasons.KeyUnknown))

@@ -1,4 +1,4 @@
--- The packets that rules decide.
+-- The packets on which rules make a decision.
 use Rattle.std.specs.Prelude.{⊤}
 use Rattle.ndn_packets.specs.Packet.{PlainFrame, AnInterest, AData, ANack, Idle}
 

@@ -1,4 +1,4 @@
--- The line of the fault, for a text that spells no entries.
+-- The line of the fault of a text that is not in the grammar `TreeGrammar`.
 use Rattle.std.specs.Prelude.{◌≡◌, ◌⊎◌, ◌≤◌, ◌+◌, ℕ, List, [], ◌∷◌, ◌++◌}
 use Rattle.info_rules.specs.Tree.{PlainEntry}
 use Rattle.info_rules.specs.Words.{tokens_in, end_line}

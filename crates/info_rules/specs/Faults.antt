@@ -1,4 +1,4 @@
--- The fault that is reported if there are several.
+-- The fault that is reported for a text or a rule file that has several faults.
 use Rattle.std.specs.Prelude.{◌≡◌, ◌⊎◌, ℕ, List, [], ◌∷◌, Option, None, Some, Bool, false, nat_lt, ◌==◌, ◌&&◌, ◌||◌, if◌then◌else◌}
 use Rattle.std.specs.List.{AllByRecursion}
 use Rattle.info_rules.specs.declared.fault.RulesFault.{RulesFault}
@@ -18,8 +18,8 @@ kind_number Pattern = 8
 kind_number AnyAnchor = 9
 kind_number Memory = 10
 
--- fault `a` is reported before fault `b`: its line is less, or the lines are equal and its kind has
--- a lower rank
+-- fault `a` is reported before fault `b`: the line of `a` is less, or the lines are equal and the
+-- kind of `a` has a lower rank
 abbrev pub sooner : RulesFault → RulesFault → Bool
 sooner a b = nat_lt a.line b.line ||
     (a.line == b.line && nat_lt (kind_number a.kind) (kind_number b.kind))

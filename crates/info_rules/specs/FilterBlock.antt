@@ -14,6 +14,6 @@ unfoldable pub filter_of : ℕ → List Block → Found NameTest
 filter_of line keys = beside (after None (walk_faults Filter keys))
     (needed line (asked_in PacketName line keys))
 
--- the requirement of a `filter` on a packet's name
+-- the requirement that a `filter` states on a packet's name, or the fault that is reported
 unfoldable pub filter_in : Block → Found NameTest
 filter_in key = block_in 2 filter_of key

@@ -13,7 +13,8 @@ abbrev pub Passes : NameTest → List Field → Type 0
 Passes (tests.Related relation given) name = Related relation given name
 Passes (tests.Matching pattern) name = (places : List (ℕ × ℕ)) × Match pattern name places
 
--- the rule is for packets of this kind, and it has no filters or the name passes one of them
+-- the rule is for packets of this kind, and either the rule has no filters, or the name passes one
+-- of the filters
 abbrev pub Applies : PlainRule → Kind → List Field → Type 0
 Applies rule kind name =
     (rule.kind ≡ kind) × ((rule.filters ≡ []) ⊎ Any (λ test. Passes test name) rule.filters)

@@ -19,7 +19,7 @@ both (Ok a) (Err f) = Err f
 both (Err e) (Ok b) = Err e
 both (Err e) (Err f) = Err (sooner_of e f)
 
--- the value that was read if there is no fault, otherwise the fault that is reported
+-- if there is no fault, the value that was read, otherwise the fault that is reported
 abbrev pub beside : {A : Type 0} → Option RulesFault → Found A → Found A
 beside None found = found
 beside (Some e) (Ok a) = Err e

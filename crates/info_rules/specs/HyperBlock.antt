@@ -39,8 +39,8 @@ half_with template_word keys pattern =
     (λ text. ok_of (template_in (groups_of pattern) text)) template_word keys))
 
 -- A pattern, and a template that uses the groups of this pattern, or the fault that is reported.
--- The pattern and the template are each read from the first key with the given word. The result is
--- `None` if one of these two keys is absent.
+-- The pattern is read from the first key that is `pattern_word`, and the template from the first
+-- key that is `template_word`. The result is `None` if one of these two keys is absent.
 unfoldable pub half_in : List ℕ → List ℕ → List Block → Found Half
 half_in pattern_word template_word keys = half_with template_word keys
     (value_in Pattern (λ text. ok_of (pattern_in text)) pattern_word keys)
@@ -81,6 +81,7 @@ hyper_of needed line keys = beside (after None (walk_faults blocks.Hyper keys))
     (beside (missing_unless (not needed || is_whole keys) line)
     (then_made hyper_made (parts_in keys)))
 
--- the value of a `hyper-relation`
+-- the hyper-relation that a key `hyper-relation` states, if all parts of the hyper-relation are
+-- present, or the fault that is reported
 unfoldable pub hyper_in : Bool → Block → Found (Option PlainHyper)
 hyper_in needed key = block_in 4 (hyper_of needed) key

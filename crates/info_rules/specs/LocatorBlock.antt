@@ -33,6 +33,6 @@ locator_of line keys = beside (after None (walk_faults Locator keys))
     (then_made (locator_made line) (both (asked_in KeyName line keys)
     (each (hyper_in (is_hyper_alone keys)) (named (codes "hyper-relation") keys))))
 
--- the requirement of a `key-locator` on a key's name
+-- the requirement that a `key-locator` states on a key's name, or the fault that is reported
 unfoldable pub locator_in : Block → Found LocatorTest
 locator_in key = block_in 3 locator_of key

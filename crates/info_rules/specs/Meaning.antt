@@ -137,8 +137,8 @@ abbrev pub TakesAsymmetric : List Block → Type 0
 TakesAsymmetric keys = HasValue (codes "sig-type") keys (codes "rsa-sha256")
     ⊎ HasValue (codes "sig-type") keys (codes "ecdsa-sha256")
 
--- A checker of `type customized`. In a checker of HMAC, the key locator states the requirement on
--- the key's name. A checker of RSA or ECDSA must have a valid key locator, which has no effect. A
+-- A checker of `type customized`. The key locator of an HMAC checker states the requirement on the
+-- key's name. A checker of RSA or ECDSA must have a valid key locator, which has no effect. A
 -- checker of digests needs no key locator, because a digest has no key. The key locator of a
 -- checker of digests, if present, must be valid, but has no effect.
 abbrev pub AsksAsTold : List Block → Checker → Type 0
@@ -182,8 +182,8 @@ AreOfRule keys rule =
 abbrev pub IsRule : Block → PlainRule → Type 0
 IsRule key rule = OpensBlock key × AreOfRule (blocks_of 1 key.1) rule
 
--- the key is a `trust-anchor`, which adds nothing to the rules: it has one type other than `any`,
--- and its other keys are not checked
+-- the key is a `trust-anchor`, which adds nothing to the rules: its block has exactly one key
+-- `type`, with the value `file`, `dir` or `base64`; the other keys of the block are not checked
 abbrev pub IsAnchor : Block → Type 0
 IsAnchor key =
     OpensBlock key

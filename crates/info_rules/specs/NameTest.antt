@@ -42,7 +42,7 @@ is_form forms.Matching forms.Hyper = false
 is_form forms.Hyper forms.Related = false
 is_form forms.Hyper forms.Matching = false
 
--- `form` differs from `other`, or there is no `other`
+-- the form differs from the other form, or there is no other form (`None`)
 abbrev pub is_other : Option Form → Form → Bool
 is_other None form = true
 is_other (Some other) form = not (is_form other form)
@@ -107,7 +107,7 @@ test_with related None = related_of related.0 related.1
 abbrev pub test_of : Names → Option NameTest
 test_of names = test_with names.0 names.1
 
--- the requirement on a name, which the block must state in exactly one form
+-- the requirement on a name; the block must state this requirement in exactly one form
 unfoldable pub asked_in : Tested → ℕ → List Block → Found (Option NameTest)
 asked_in tested line keys = beside (form_fault tested line keys)
     (beside (result_err (needed line (value_in BadValue name_word_in (codes "type") keys)))

@@ -17,8 +17,8 @@ use Rattle.info_rules.specs.RuleBlock.{rule_in}
 
 -- ---- repeated ids
 
--- the first key `id` in the block of a `rule` key, or `None` if there is none or the key is not a
--- `rule`
+-- the first key `id` in the block of the key, or `None` if the block has no key `id` or the key is
+-- not a `rule`
 unfoldable pub id_key : Block → Option Block
 id_key key = if is_word (codes "rule") key then first_of (named (codes "id") (blocks_of 1 key.1))
     else None
@@ -46,7 +46,7 @@ shared_faults keys = if nat_lt 256 (length (named (codes "rule") keys)) then [] 
 
 -- ---- the file
 
--- the rules of the keys, one for each `rule`, or the fault that is reported
+-- the rules of the keys, one rule for each key `rule`, or the fault that is reported
 unfoldable pub rules_of_keys : List Block → Found (List PlainRule)
 rules_of_keys keys = beside (after None (walk_faults File keys ++ shared_faults keys))
     (beside (result_err (each anchor_in (named (codes "trust-anchor") keys)))

@@ -4,14 +4,14 @@ use Rattle.ndn_tlv.specs.Element.{Field}
 use Rattle.hmac_keys.specs.KeyFile.{NamedKey, IsAmong}
 use Rattle.ndn_packets.specs.Packet.{KeyName, PlainSignature, PlainFrame, AnInterest, AData, ANack, Idle}
 
--- the KeyLocator has the name of a key of the book
+-- the KeyLocator has the name of one of the keys in `keys`
 abbrev pub NamesKey : List NamedKey → PlainSignature → Type 0
 NamesKey keys signature =
     (name : List Field) × (key : List ℕ) × (signature.info.locator ≡ KeyName name)
     × IsAmong (name, key) keys
 
 -- the signature type is DigestSha256, which anybody can compute, or it is HmacWithSha256 and the
--- KeyLocator has the name of a key of the book (NDN Packet Format 0.3, "Signature")
+-- KeyLocator has the name of one of the keys in `keys` (NDN Packet Format 0.3, "Signature")
 abbrev pub NamesSigner : List NamedKey → PlainSignature → Type 0
 NamesSigner keys signature =
     (signature.info.kind ≡ 0) ⊎ ((signature.info.kind ≡ 4) × NamesKey keys signature)

@@ -57,8 +57,8 @@ with_key draft line word =
       });
     }
 
--- the draft after a second or third word on the line of the key `entry`: the second word is the
--- key's value, and a third word is a syntax fault
+-- the draft after one more word on the line of the key of `entry`: if the key has no value yet, the
+-- word is the key's value, otherwise the word is a syntax fault
 abbrev pub with_value : PlainDraft → ℕ → List ℕ → PlainEntry → Option (List ℕ) → Next
 with_value draft line word entry None =
     Ok (record draft { pending = Some (record entry { value = Some (unescaped word) }) })
@@ -104,7 +104,7 @@ with_fitting draft line Close = with_close draft line
 with_fitting draft line Broken = Err (syntax line)
 
 -- the fault of the block that is inside eight others, or `None` if there is no such block, or if
--- this block is on `line`
+-- the opening brace of this block is on `line`
 abbrev pub deep_before : Option ℕ → ℕ → Option RulesFault
 deep_before None line = None
 deep_before (Some deep) line = if deep == line then None else Some (too_deep deep)

@@ -18,8 +18,8 @@ abbrev pub ◌>>=◌ : {A B : Type 0} → Option A → (A → Option B) → Opti
 None >>= f = None
 (Some x) >>= f = f x
 
--- the text is a valid value of this kind; patterns and templates always count as valid here, since
--- an invalid one is reported as another kind of fault
+-- the text is a valid value of this kind; every text counts as a valid pattern or template here,
+-- since an invalid pattern or template is not a `BadValue` fault
 unfoldable pub is_value : ValueKind → List ℕ → Bool
 is_value Id text = is_id text
 is_value PacketKind text = is_some (kind_in text)

@@ -4,7 +4,7 @@ use Rattle.std.specs.List.{count_by}
 use Rattle.std.specs.Option.{option_map}
 
 pub data Token : Type 0 where
-  -- a word, or the text between two quotes, with its backslashes
+  -- a word, or the text between two quotes; backslashes are not removed
   Word : List ℕ → Token
   Open : Token
   Close : Token
@@ -29,9 +29,10 @@ word_token word =
 pub data Mode : Type 0 where
   Between : Mode
   InComment : Mode
-  -- inside a word, after these octets
+  -- inside a word, after these octets of the word
   InWord : List ℕ → Mode
-  -- inside a quoted text, after these octets; the Boolean is true if the last octet is a backslash
+  -- inside a quoted text, after these octets of the quoted text; the Boolean is true if the last
+  -- of these octets is a backslash
   InQuotes : Bool → List ℕ → Mode
 
 -- the state after an octet that is read between tokens, or that ends a word

@@ -28,7 +28,8 @@ pub trait BlockReader {
         ensures { IfOk result (λ found. found ≡ part_of self.now line (keys_of keys.entry)) };
 }
 
-/// Reads the block of `key`. The key must have a block and no value.
+/// Reads the block of `key`. If the key has a value or has no block, the key has the fault
+/// `BadValue`.
 fn read_block<R: BlockReader>(alloc: Global, reader: &R, key: Key<'_>) -> Read<R::Part>
     ensures { IfOk result
         (λ found. found ≡ block_in R.DEPTH (R.part_of reader.now) (key_of key.entry)) }

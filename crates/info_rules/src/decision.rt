@@ -121,8 +121,9 @@ impl Rules {
         None
     }
 
-    /// Decides a packet from its received octets, by the first rule that applies. The name of an
-    /// Interest is used without a parameters digest at its end.
+    /// Decides whether to allow a packet, from the received octets of the packet, by the first rule
+    /// that applies. If the name of an Interest ends with a parameters digest, the rules see the
+    /// name without this digest.
     ///
     /// Memory is needed only if the first rule that applies has a checker whose hyper-relation
     /// expands both the key's name and the packet's name, each to at most 64 components. A packet
@@ -187,14 +188,15 @@ fn greatest(alloc: Global, keys: &KeyBook, checkers: &[Checker], signed: &Signed
     Ok(Some(against.unwrap_or(Reason::KeyLocator)))
 }
 
-/// Law: any two decisions on one packet are equal, if no two keys of the book have the same name.
+/// Law: any two decisions on one packet are equal, if no two keys of the key book have the same
+/// name.
 pub fn decisions_are_unique()
     ensures { (rules : List PlainRule) (keys : List NamedKey) (packet : PlainFrame) (a b : Decision)
         → AreApart keys
         → Decides rules keys packet a → Decides rules keys packet b → a ≡ b }
 {}
 
-/// Law: every Interest and every Data has a decision. If no two keys of the book have the same
+/// Law: every Interest and every Data has a decision. If no two keys of the key book have the same
 /// name, every Interest and every Data has exactly one decision, because decisions are unique.
 pub fn no_packet_is_undecided()
     ensures { (rules : List PlainRule) (keys : List NamedKey) (packet : PlainFrame)
@@ -203,8 +205,8 @@ pub fn no_packet_is_undecided()
 {}
 
 /// Law: an allowed packet has a signature of type DigestSha256, which anybody can compute, or of
-/// type HmacWithSha256. For HmacWithSha256, the KeyLocator has the name of a key of the book. An
-/// allowed Interest also has a SignatureTime.
+/// type HmacWithSha256. For HmacWithSha256, the KeyLocator has the name of a key of the key book.
+/// An allowed Interest also has a SignatureTime.
 pub fn allowed_packets_name_their_signer()
     ensures { (rules : List PlainRule) (keys : List NamedKey) (packet : PlainFrame) (rule : RuleNo)
         → Decides rules keys packet (Decision.Allowed rule) → NamesItsSigner keys packet }

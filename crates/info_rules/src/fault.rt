@@ -6,7 +6,8 @@ ghost use Rattle.info_rules.specs.declared.fault.RulesFaultKind.TheVariants as k
 use std::alloc::{AllocError, AllocFailed};
 use thiserror::Error;
 
-/// The kinds of faults. If one line has several faults, the first kind in this list is reported.
+/// The kinds of faults. If one line has several faults, the fault whose kind comes first in this
+/// list is reported.
 #[derive(Clone, Copy, Debug, PartialEq, Eq, Error)]
 pub enum RulesFaultKind {
     /// A word or a brace where it is not allowed, a quote that is not closed on its line, or a

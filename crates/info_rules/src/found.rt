@@ -58,8 +58,8 @@ pub fn both<A: Drop, B: Drop>(first: Found<A>, second: Found<B>) -> Found<(A, B)
     }
 }
 
-/// Returns the value that was read if there is no fault. If `fault` is present or `read` is a
-/// fault, returns the fault that is reported.
+/// Returns the value in `read`, if there is no fault. If `fault` is present or `read` is a fault,
+/// returns the fault that is reported.
 pub fn beside<A: Drop>(fault: Option<RulesFault>, read: Found<A>) -> Found<A>
     ensures { result ≡ found.beside fault read }
 {
@@ -70,8 +70,8 @@ pub fn beside<A: Drop>(fault: Option<RulesFault>, read: Found<A>) -> Found<A>
     }
 }
 
-/// Returns the value that was read. If the value is absent, returns the fault `Missing` at `line`,
-/// the line of the key that has the block.
+/// Returns the value in `read`. If `read` is a fault, returns this fault. If the value is absent,
+/// returns the fault `Missing` at `line`, the line of the key that has the block.
 pub fn needed<A: Drop>(line: u32, read: Found<Option<A>>) -> Found<A>
     ensures { result ≡ found.needed line read }
 {

@@ -21,7 +21,7 @@ use std::alloc::Global;
 /// The greatest number of groups in a pattern.
 const MAX_GROUPS: u8 = 9;
 
-/// A pattern and a template that uses its groups, if both are present.
+/// A pattern, and a template that uses the groups of this pattern, if both are present.
 type Half = Option<(Pattern, Template)>;
 
 /// Returns the number of groups in the pattern, or the greatest possible number if no pattern was

@@ -17,13 +17,14 @@ use ndn_names::{Component, Name, NameBuf};
 use ndn_tlv::Memory;
 use std::alloc::Global;
 
-/// The value of the component `KEY`, which follows the prefix in a key's name.
+/// The value of the component `KEY`. In the name of a hierarchical key, this component follows the
+/// prefix that must also be a prefix of the packet's name.
 const KEY: &[u8; 3] = b"KEY";
 
 /// The greatest number of components after `KEY` in a key's name. The least number is 1.
 const MAX_AFTER_KEY: usize = 3;
 
-/// Whether a key passes. `Err` means that memory ran out.
+/// Whether a key meets a requirement. `Err` means that memory ran out.
 pub type Passed = Result<bool, Memory>;
 
 /// Returns whether the key called `key` meets the requirement, for a packet called `packet`. Only a
@@ -60,8 +61,8 @@ fn is_hyper_related(alloc: Global, hyper: &HyperRelation, key: Name<'_>, packet:
     Ok(is_related(hyper.relation, made_key.view(), made_packet.view()))
 }
 
-/// Returns the captured groups if the pattern matches the name and the template expands to a name
-/// that is not too long. Allocates no memory.
+/// Returns the groups that the pattern captures in the name, or `None` if the pattern does not
+/// match the name, or if the template expands to a name that is too long. Allocates no memory.
 fn captured(pattern: &Pattern, template: &Template, name: Name<'_>) -> Option<Captures>
     requires { NeedAtMost (length pattern.now.groups) template.now }
     ensures none { IfNone result ((made : List Field)
@@ -78,8 +79,8 @@ fn captured(pattern: &Pattern, template: &Template, name: Name<'_>) -> Option<Ca
     Some(captures)
 }
 
-/// Expands the template with captured groups. The caller has checked that the expanded name is not
-/// too long.
+/// Expands the template with the groups that `captures` gives. The caller has checked that the
+/// expanded name is not too long.
 fn made_of(
     alloc: Global,
     template: &Template,

@@ -74,8 +74,8 @@ fn read_names(alloc: Global, keys: Keys<'_>) -> Read<Names>
     Ok(both(both(name, relation), pattern))
 }
 
-/// Reads the requirement on a name from the keys of a block, which must state it in exactly one
-/// form. `line` is the line of the key that has the block.
+/// Reads the requirement on a name from the keys of a block. The keys must state the requirement in
+/// exactly one form. `line` is the line of the key that has the block.
 #[tactic(auto, unfolding(crate::specs::NameTest::asked_in))]
 pub fn read_asked(alloc: Global, tested: Tested, line: u32, keys: Keys<'_>) -> Read<Asked>
     ensures { IfOk result

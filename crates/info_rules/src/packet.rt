@@ -44,8 +44,8 @@ impl<'a> Packet<'a> {
         }
     }
 
-    /// Returns the name that the rules see: for an Interest, without a parameters digest at its
-    /// end.
+    /// Returns the name that the rules see: the name of the packet. If the name of an Interest ends
+    /// with a parameters digest, the rules see the name without this digest.
     pub(crate) fn name(self) -> Name<'a>
         ensures { components result ≡ (seen_of self.entry).name }
     {

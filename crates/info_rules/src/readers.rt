@@ -42,8 +42,8 @@ pub fn read_value<V: Value>(
     }
 }
 
-/// Reads the template of the first key with the given word, if there is one. `groups` is the number
-/// of groups that the template may use.
+/// Reads the template that is the value of the first key that is `word`. Returns `None` if no key
+/// is `word`. `groups` is the number of groups that the template may use.
 #[tactic(auto, unfolding(crate::specs::Values::value_in))]
 pub fn read_template(
     alloc: Global,
@@ -86,8 +86,8 @@ pub fn read_name_word(keys: Keys<'_>, word: &str) -> Found<Option<()>>
     Err(RulesFaultKind::BadValue.at(key.own.line))
 }
 
-/// Checks the type of a trust anchor, if the block has one. Returns the fault `AnyAnchor` for the
-/// type `any`, and `BadValue` for a type that no trust anchor has.
+/// Checks the type of a trust anchor, if the block has a key `type`. Returns the fault `AnyAnchor`
+/// for the type `any`, and `BadValue` for an unknown type or a missing value.
 #[tactic(auto, unfolding(crate::specs::Values::anchor_value_in))]
 pub fn read_anchor_type(keys: Keys<'_>) -> Found<Option<()>>
     ensures { result ≡ anchor_value_in (keys_of keys.entry) }
@@ -102,7 +102,7 @@ pub fn read_anchor_type(keys: Keys<'_>) -> Found<Option<()>>
     }
 }
 
-/// Reads the value of the first key `id`, if there is one.
+/// Reads the value of the first key `id`. Returns `None` if there is no such key.
 #[tactic(auto, unfolding(crate::specs::Values::value_in))]
 pub fn read_id<'a>(keys: Keys<'a>) -> Found<Option<&'a str>>
     ensures { shown (option_map (λ text. text.now)) result

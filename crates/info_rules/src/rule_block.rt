@@ -39,8 +39,8 @@ fn made_of(
     }
 }
 
-/// Reads the id of a rule and the kind of packets that it applies to, from the keys of its block.
-/// `line` is the line of the key `rule` that has the block.
+/// Reads the id of a rule, and the kind of packets that the rule applies to, from the keys of the
+/// rule's block. `line` is the line of the key `rule` that has the block.
 fn read_head<'a>(alloc: Global, line: u32, keys: Keys<'a>) -> Read<(&'a str, Kind)>
     ensures { IfOk result (λ found. shown (λ head. (head.0.now, head.1)) found
         ≡ head_in line (keys_of keys.entry)) }

@@ -30,12 +30,12 @@ pub struct Form(pub &'static str, pub Takes, pub Times);
 /// A kind of block in a rule file.
 #[derive(Clone, Copy)]
 pub enum Block {
-    /// The file outside all blocks.
+    /// The whole file, whose keys are outside all blocks.
     File,
     Anchor,
     Rule,
     Filter,
-    /// A checker that has a key locator.
+    /// A checker that is not hierarchical. Only such a checker may have a key locator.
     Customized,
     Hierarchical,
     Locator,

@@ -16,7 +16,7 @@ const MAX_DEPTH: usize = 8;
 type Added = Result<(), RulesFault>;
 
 /// Returns the fault of the block that is inside eight others, or `None` if there is no such block,
-/// or if this block is on `line`.
+/// or if the opening brace of this block is on `line`.
 fn deep_before(deep: Option<u32>, line: u32) -> Option<RulesFault>
     ensures { result ≡ read.deep_before deep line }
 {
@@ -173,7 +173,7 @@ impl Draft {
         }
     }
 
-    /// Returns the fault of a text that ends on `line` with this draft, if any.
+    /// Returns the fault, if any, of a text that ends on `line` after the tokens of this draft.
     fn end_fault(&self, line: u32) -> Option<RulesFault>
         ensures { let whole = read.whole_of line (draft_of self.now) in
             MatchOption result (whole ≡ Ok (read.entries_of (draft_of self.now)))
@@ -187,7 +187,7 @@ impl Draft {
         }
     }
 
-    /// Returns the entries of a text that ends on `line`.
+    /// Returns the entries of a text that ends on `line` after the tokens of this draft.
     pub fn finish(self, line: u32) -> Result<Vec<Entry>, RulesFault>
         ensures { let whole = read.whole_of line (draft_of self) in
             MatchResult result (λ entries. whole ≡ Ok (map entry_of entries.items))

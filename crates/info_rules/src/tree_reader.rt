@@ -49,22 +49,24 @@ fn read_tree(alloc: Global, text: &str) -> Result<InfoTree, RulesFault>
 }
 
 impl InfoTree {
-    /// Reads the entries of a rule file. The text has at most 65,536 octets in the validator
-    /// configuration format of ndn-cxx (boost's INFO format without its directives).
+    /// Reads the entries of a rule file. The text must have at most 65,536 octets, and must be in
+    /// the validator configuration format of ndn-cxx (boost's INFO format without directives).
     ///
-    /// A word ends before a space, a tab, a CR, an LF or a semicolon. `{` and `}` are braces if
-    /// they stand alone. A semicolon begins a comment that ends with its line. A word that begins
-    /// with `"` continues to the next `"` on the same line that has no backslash directly before
-    /// it. In words, quoted or not, `\\` means a backslash and `\"` a quote. An entry is a key, at
-    /// most one value on the key's line, and at most one block of entries between braces. The
-    /// opening brace may be on a later line. After an entry, only a comment or the closing brace of
-    /// the enclosing block may follow on the same line.
+    /// An unquoted word ends before a space, a tab, a CR, an LF or a semicolon, or at the end of
+    /// the text. An unquoted word that is only `{` or only `}` is a brace. Outside quotes, a
+    /// semicolon begins a comment that ends with its line. A word that begins with `"` is quoted:
+    /// it ends at the next `"` that has no backslash directly before it. This closing quote must be
+    /// on the same line. In words, quoted or not, `\\` means a backslash and `\"` a quote. An
+    /// entry is a key, at most one value on the key's line, and at most one block of entries
+    /// between braces. The opening brace may be on a later line. After an entry, only a comment or
+    /// the closing brace of the enclosing block may follow on the same line.
     ///
     /// On failure, returns the first fault of the text. A word or a brace where it is not allowed
     /// is `Syntax`, and so is a quote that is not closed on its line. A block that is not closed is
     /// `Syntax` at the line where the text ends. A block inside eight others is `TooDeep`, or
-    /// `Syntax` if the same line also has a `Syntax` fault. A text of more than 65,536 octets has
-    /// the fault `TooLarge`, whatever other faults it has. `Memory` may be returned for any text.
+    /// `Syntax` if the line of its opening brace also has a `Syntax` fault. A text of more than
+    /// 65,536 octets has the fault `TooLarge`, whatever other faults the text has. `Memory` may be
+    /// returned for any text.
     pub fn read(alloc: Global, text: &str) -> Result<InfoTree, RulesFault>
         // The text spells the entries that are returned.
         ensures found { IfOk result (TreeOf text.now) }
@@ -94,9 +96,10 @@ pub fn outlines_keep_blocks()
         ≡ keyed depth nodes }
 {}
 
-/// Law: every fault except `TooLarge` is on a line of the text. The lines before the line of the
-/// fault are a prefix of some text that spells entries. If the line of the fault ends with an LF,
-/// the text up to and including this LF is not a prefix of any text that spells entries.
+/// Law: every fault that `tree_in` returns, except `TooLarge`, is on a line of the text. The lines
+/// before the line of the fault are a prefix of some text that spells entries. If the line of the
+/// fault ends with an LF, the text up to and including this LF is not a prefix of any text that
+/// spells entries.
 pub fn faults_stand_at_their_line()
     ensures { (text : List ℕ) (fault : RulesFault) → tree_in text ≡ Err fault
         → fault.kind ≢ RulesFaultKind.TooLarge → StandsAt text fault.line }

@@ -21,7 +21,7 @@ pub enum ValueKind {
     NameWord,
     /// The URI of a name.
     Uri,
-    /// A relation of names.
+    /// The relation of one name to another name.
     Relation,
     /// A pattern for names.
     Pattern,
@@ -43,8 +43,8 @@ fn stands_for<V: Value>(alloc: Global, text: &str) -> Result<bool, Memory>
 }
 
 impl ValueKind {
-    /// Returns whether the text is a valid value of this kind. Patterns and templates always count
-    /// as valid here, since an invalid one is reported as another kind of fault.
+    /// Returns whether the text is a valid value of this kind. Every text counts as a valid pattern
+    /// or template here, since an invalid pattern or template is not a `BadValue` fault.
     #[tactic(auto, unfolding(crate::specs::Values::is_value))]
     pub fn is_value(self, alloc: Global, text: &str) -> Result<bool, Memory>
         ensures { IfOk result (λ right. right ≡ is_value (value_kind_of self) text.now) }

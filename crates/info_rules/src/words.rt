@@ -9,7 +9,7 @@ ghost use Rattle.info_rules.specs.Shown.{token_of};
 /// A word, a brace that stands alone, or a quoted text.
 #[derive(Clone, Copy)]
 pub enum Token<'a> {
-    /// A word, or the text between two quotes. The backslashes of the word are kept as in the text.
+    /// A word, or the text between two quotes. Backslashes are not removed.
     Word(&'a str),
     Open,
     Close,

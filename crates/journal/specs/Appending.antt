@@ -1,4 +1,4 @@
--- The text that an event appends to the journal.
+-- The text that is appended to the journal for an event.
 use Rattle.std.specs.Prelude.{◌≡◌, ◌⊎◌, ℕ, List, [], ◌∷◌, ◌++◌, Bool, true, false, Option, None, Some, max, ⊤}
 use Rattle.forwarder.specs.Event.{PlainEvent, Send, moment}
 use Rattle.forwarder.specs.Node.{NodeState, IsStep}
@@ -10,9 +10,10 @@ use Rattle.journal.specs.Line.{IsEventOf, entry_text, is_change_entry}
 use Rattle.journal.specs.Journalled.{is_journalled_by, is_journalled_where}
 use Rattle.journal.specs.Text.{IsTextOf}
 
--- A step answers the event and leads from the node `old` to the node `new`. If the event is
--- journalled, `added` is its line. The time in the line is the greater of the time of `old` and the
--- time of the event. If the event is not journalled, `added` is empty.
+-- A step answers the event with `verdict` and `sends`, and leads from the node `old` to the node
+-- `new`. If the event is journalled, `added` is the line of the event. The time in the line is the
+-- greater of the time of `old` and the time of the event. If the event is not journalled, `added`
+-- is empty. `wanted` tells whether the event brings a Data that the repository wants.
 pub record Steps (old : NodeState) (event : PlainEvent) (wanted : Bool) (verdict : Verdict)
     (sends : List Send) (new : NodeState) (added : List ℕ) : Type 0 where
   pub step : IsStep old event (record { verdict = verdict; sends = sends }) new
@@ -21,24 +22,26 @@ pub record Steps (old : NodeState) (event : PlainEvent) (wanted : Bool) (verdict
       (with_moment (max old.policy.now (moment event)) event) [])
       added
 
--- whether the event of the entry is journalled, given whether it brings a wanted Data, and its
--- verdict
+-- whether the event of the entry is journalled; `wanted` tells whether the event brings a Data that
+-- the repository wants, and `verdict` is the verdict on the event
 abbrev pub is_journalled_entry : Entry → Bool → Verdict → Bool
 is_journalled_entry e wanted verdict = is_journalled_where (is_change_entry e) wanted verdict
 
--- the line of the entry if the event is journalled, otherwise nothing
+-- the line of the entry with the time `now` if the event of the entry is journalled, otherwise the
+-- empty text
 abbrev pub added_text : Bool → ℕ → Entry → List ℕ
 added_text true now e = entry_text now e
 added_text false now e = []
 
--- the line of the entry with this time encodes each event that the entry stands for at this time
+-- the line of the entry with the time `time` is a line of a script, and it spells each event that
+-- the entry stands for at that time
 abbrev pub IsLineAt : ℕ → Entry → Type 0
 IsLineAt time e =
     (event : PlainEvent) → IsEventOf time e event → IsTextOf (event ∷ []) (entry_text time e)
 
--- If the event is journalled, its line with this time was appended, and the line spells the event.
--- If the event is not journalled, nothing was appended. Nothing is stated if the old content of the
--- journal is not known.
+-- If the event is journalled, its line with the time `time` was appended, and the line spells the
+-- event. If the event is not journalled, nothing was appended. If the old content of the journal is
+-- not known (None), nothing is stated.
 abbrev pub Journals : Option (List ℕ) → Option (List ℕ) → ℕ → Coming → Verdict → Type 0
 Journals None new time coming verdict = ⊤
 Journals (Some text) new time coming verdict =
@@ -46,8 +49,8 @@ Journals (Some text) new time coming verdict =
     (new ≡ Some (text ++ added_text chosen time coming.entry))
     × (chosen ≡ true → IsLineAt time coming.entry)
 
--- A prefix of the line of the entry was appended to `text`, possibly nothing or the whole line. The
--- line spells the event of the entry.
+-- A prefix of the line of the entry was appended to `text`. The prefix may be empty or the whole
+-- line. The line spells the event of the entry.
 pub record CutsLine (text : List ℕ) (new : Option (List ℕ)) (time : ℕ) (e : Entry) : Type 0 where
   pub front : List ℕ
   pub back : List ℕ
@@ -55,8 +58,9 @@ pub record CutsLine (text : List ℕ) (new : Option (List ℕ)) (time : ℕ) (e 
   pub parts : entry_text time e ≡ front ++ back
   pub grown : new ≡ Some (text ++ front)
 
--- The event is journalled, but only a prefix of its line was appended, possibly nothing or the
--- whole line. Nothing is stated if the old content of the journal is not known.
+-- The event is journalled, but journalling failed: a prefix of the event's line was appended. The
+-- prefix may be empty or the whole line. If the old content of the journal is not known (None),
+-- nothing is stated.
 abbrev pub FailsToJournal : Option (List ℕ) → Option (List ℕ) → ℕ → Coming → Verdict → Type 0
 FailsToJournal None new time coming verdict = ⊤
 FailsToJournal (Some text) new time coming verdict =

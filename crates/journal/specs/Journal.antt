@@ -1,5 +1,5 @@
--- The journal of a node: the events of a run that may change more than the time. The events of the
--- journal alone determine the policy that the run leads to.
+-- The journal of a node: those events of a run that may change more than the time. From the last
+-- time of the run on, the first policy and the events of the journal determine the policy.
 use Rattle.std.specs.Prelude.{◌≡◌, ◌⊎◌, ◌≤◌, ℕ, Bool, true, false, List, [], ◌∷◌, ◌++◌, Option, None, Some, max}
 use Rattle.sha2.specs.Sha256.{sha256}
 use Rattle.ndn_packets.specs.Packet.{PlainFrame, AnInterest, AData, ANack, Idle}
@@ -15,9 +15,9 @@ use Rattle.forwarder.specs.Runs.{Run, Start, Then, IsPolicyOf}
 
 -- ---- the journalled events
 
--- Whether an allowed packet is journalled. An allowed Interest is a command, which is journalled
--- whatever its status. A Data is journalled if the repository wants it. A Nack and a link packet
--- without a packet (`Idle`) are not journalled.
+-- Whether an allowed packet is journalled. An allowed Interest is a command. Every allowed command
+-- is journalled, whatever the status in its reply. A Data is journalled if the repository wants the
+-- Data. A Nack and a link packet without a packet (`Idle`) are not journalled.
 abbrev pub is_journalled_packet : Policy → PlainFrame → Bool
 is_journalled_packet p (AnInterest whole i) = true
 is_journalled_packet p (AData whole d) = is_wanted d.name (sha256 whole) p.held.wants
@@ -31,8 +31,8 @@ is_journalled_as p packet (Allowed rule) = is_journalled_packet p packet
 is_journalled_as p packet (Denied rule reason) = false
 is_journalled_as p packet NoRule = false
 
--- Whether an event without a packet to decide is journalled. True for the opening of a face that
--- can open, the closing of an open face, and new rules.
+-- Whether an event is journalled, if the event brings no packet that the rules decide. Such an
+-- event is journalled if it opens a face that can open, closes an open face, or brings new rules.
 abbrev pub is_journalled_undecided : Policy → PlainEvent → Bool
 is_journalled_undecided p (Packet face now octets) = false
 is_journalled_undecided p (FaceUp face scope now) = can_open p face
@@ -41,16 +41,16 @@ is_journalled_undecided p (Tick now) = false
 is_journalled_undecided p (NewRules rules keys now) = true
 
 -- `chosen` tells whether the event is journalled. `p` is the policy at the time of the event.
--- `Some packet` is the event's packet, which rules decide. With None, the event brings no packet
--- that rules decide.
+-- `Some packet`: the event brings `packet`, which the rules decide. `None`: the event brings no
+-- packet that the rules decide.
 abbrev pub IsChosen : Policy → PlainEvent → Bool → Option PlainFrame → Type 0
 IsChosen p event chosen None = chosen ≡ is_journalled_undecided p event
 IsChosen p event chosen (Some packet) =
     (decision : Decision) × IsDecidedAs p packet decision
     × (chosen ≡ is_journalled_as p packet decision)
 
--- `chosen` tells whether the event is journalled, given the policy before the event. If the keys of
--- the policy have different names, each packet has one decision, so the policy and the event
+-- `chosen` tells whether the event is journalled, where `old` is the policy before the event. If
+-- the keys of `old` have different names, each packet has only one decision, so `old` and the event
 -- determine `chosen`.
 abbrev pub IsJournalled : Policy → PlainEvent → Bool → Type 0
 IsJournalled old event chosen =
@@ -59,7 +59,7 @@ IsJournalled old event chosen =
 
 -- ---- the journal of a run
 
--- the event with another time
+-- the event with its time replaced by `now`
 abbrev pub with_moment : ℕ → PlainEvent → PlainEvent
 with_moment now (Packet face t octets) = Packet face now octets
 with_moment now (FaceUp face scope t) = FaceUp face scope now
@@ -67,19 +67,21 @@ with_moment now (FaceDown face t) = FaceDown face now
 with_moment now (Tick t) = Tick now
 with_moment now (NewRules rules keys t) = NewRules rules keys now
 
--- the journal after an event; the event is appended if it is journalled
+-- the journal after an event: if the event is journalled (`true`), the event is appended
 abbrev pub with_event : Bool → PlainEvent → List PlainEvent → List PlainEvent
 with_event true event journal = journal ++ (event ∷ [])
 with_event false event journal = journal
 
--- The journal after an event, where `was` is the policy before the event. The event is stored with
--- the latest time so far: a clock may be set back, but the times of a journal never decrease.
+-- The journal after an event, where `was` is the policy before the event. A journalled event is
+-- stored with the latest time so far, which is the time of `was` or of the event. So the times in a
+-- journal never decrease, even if a clock is set back.
 abbrev pub IsJournalAfter : Policy → PlainEvent → List PlainEvent → List PlainEvent → Type 0
 IsJournalAfter was event old new =
     (chosen : Bool) × IsJournalled was event chosen
     × (new ≡ with_event chosen (with_moment (max was.now (moment event)) event) old)
 
--- The journal of a run from the policy `first`. The journal does not depend on the answers.
+-- The journal of a run from the policy `first`. The journal does not depend on the answers in the
+-- run.
 abbrev pub IsJournalOf : Policy → Run → List PlainEvent → Type 0
 IsJournalOf first Start journal = journal ≡ []
 IsJournalOf first (Then before event answer) journal =
@@ -93,9 +95,9 @@ abbrev pub events_of : Run → List PlainEvent
 events_of Start = []
 events_of (Then before event answer) = events_of before ++ (event ∷ [])
 
--- From the time `now` on, the two policies are the same. Before `now`, the two policies may differ
--- in their time, in the wants (pending inserts) and routes that expire by `now`, and in the version
--- of the lists, which may not count the expired routes yet.
+-- From the time `now` on, the policies `p` and `q` are the same. Before `now`, `p` and `q` may
+-- differ in their time, in the wants (pending inserts) and routes that expire by `now`, and in the
+-- version of the lists of routes and strategies, which increases when a route expires.
 abbrev pub AreOneFrom : ℕ → Policy → Policy → Type 0
 AreOneFrom now p q = (m : ℕ) → now ≤ m → at_moment p m ≡ at_moment q m
 
@@ -106,9 +108,9 @@ IsBeginningOf part (Then before event answer) =
     (part ≡ Then before event answer) ⊎ IsBeginningOf part before
 
 -- The events `left` are the journal of `part`, a prefix of the run `past`. If `left` begins with
--- the whole journal of some prefix of the run, then that prefix is also a prefix of `part`.
--- `policy` is the policy after `part`. Replaying `left` from the policy `first` leads to a policy
--- that is the same as `policy` from the time of `policy` on.
+-- the whole journal of some prefix of `past`, then that prefix of `past` is also a prefix of
+-- `part`. `policy` is the policy after `part`. Replaying `left` from the policy `first` leads to a
+-- policy that is the same as `policy` from the time of `policy` on.
 pub record KeepsBeginning (first : Policy) (past : Run) (left : List PlainEvent) : Type 0 where
   pub part : Run
   pub policy : Policy

@@ -5,8 +5,9 @@ use Rattle.node_core.specs.Script.{AreLines, joined}
 use Rattle.node_core.specs.Script.Line.{Lacks}
 use Rattle.node_core.specs.Script.Writing.{hex_word}
 
--- The line is the word `rules`, a time and the text `files`, with single spaces between them. In a
--- line of an event, `files` has the octets of the rule file and of the key file in hexadecimal.
+-- The line is the word `rules`, a time (a text without spaces) and the text `files`, with single
+-- spaces between these parts. In a line that spells an event, `files` encodes the octets of the
+-- rule file and of the key file in hexadecimal.
 abbrev pub IsRulesLine : List ℕ → List ℕ → Type 0
 IsRulesLine line files =
     (time : List ℕ) × Lacks 32 time × (line ≡ codes "rules" ++ (32 ∷ (time ++ (32 ∷ files))))
@@ -28,7 +29,7 @@ HasLastFiles text files =
     (lines : List (List ℕ)) × (cut : List ℕ) × AreLines lines × Lacks 10 cut
     × (text ≡ joined lines ++ cut) × HaveLastRules lines files
 
--- none of the lines of the text that end with an LF is a line of new rules
+-- the text has no line of new rules that ends with an LF
 abbrev pub HasNoFiles : List ℕ → Type 0
 HasNoFiles text =
     (lines : List (List ℕ)) × (cut : List ℕ) × AreLines lines × Lacks 10 cut

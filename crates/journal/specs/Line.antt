@@ -12,8 +12,8 @@ use Rattle.node_core.specs.Script.Writing.{hex_word}
 use Rattle.journal.specs.declared.line.Entry.{Entry}
 use Rattle.journal.specs.declared.line.Entry.TheVariants as entry
 
--- The event that an entry stands for at this time. An entry with new rules contains the octets of a
--- rule file and of a key file, which define the rules and keys of the event.
+-- The event that an entry stands for at the time `now`. An entry with new rules contains the octets
+-- of a rule file and of a key file, which define the rules and keys of the event.
 abbrev pub IsEventOf : ℕ → Entry → PlainEvent → Type 0
 IsEventOf now (entry.Packet face octets) event = event ≡ Packet face now octets.now
 IsEventOf now (entry.FaceUp face scope) event = event ≡ FaceUp face scope now
@@ -23,7 +23,7 @@ IsEventOf now (entry.NewRules rules keys) event =
     (r : List PlainRule) × (k : List NamedKey)
     × AreRules rules.now r × AreKeys keys.now k × (event ≡ NewRules r k now)
 
--- the entry's numbers are below 2 ^ 64, and its octets are below 256
+-- the face number in the entry is below 2 ^ 64, and each octet in the entry is below 256
 abbrev pub HasOctets : Entry → Type 0
 HasOctets (entry.Packet face octets) = (face < 2 ^ 64) × AreOctets octets.now
 HasOctets (entry.FaceUp face scope) = face < 2 ^ 64
@@ -31,7 +31,7 @@ HasOctets (entry.FaceDown face) = face < 2 ^ 64
 HasOctets entry.Tick = ⊤
 HasOctets (entry.NewRules rules keys) = AreOctets rules.now × AreOctets keys.now
 
--- the line of the entry with this time, including the LF; hexadecimal is in lower case
+-- the line of the entry with the time `now`, including the LF; hexadecimal digits are in lower case
 abbrev pub entry_text : ℕ → Entry → List ℕ
 entry_text now (entry.Packet face octets) =
     codes "in " ++ (decimal face ++ (codes " " ++ (decimal now ++ (codes " "

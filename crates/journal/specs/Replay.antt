@@ -1,4 +1,4 @@
--- The effect of replaying a journal's text, and the policy that it restores.
+-- The effect of replaying the text of a journal, and the policy that the replay restores.
 use Rattle.std.specs.Prelude.{◌≡◌, ℕ, ◌+◌, Bool, true, false, Option, Some, IfSome, List, [], ◌∷◌, ◌++◌, length, map, take, ⊤}
 use Rattle.std.specs.Io.KnownBytes.{Consumes}
 use Rattle.forwarder.specs.Event.{PlainEvent}
@@ -16,8 +16,8 @@ use Rattle.journal.specs.Journal.{AreOneFrom, IsJournalOf}
 use Rattle.journal.specs.Text.{IsTextOf, Survives}
 
 -- The events of these lines were answered in order and led from the old node to the new node. If
--- the old node agrees with a valid run from a policy at time 0, then this run, extended by the
--- answered events, is valid. The new node agrees with the extended run.
+-- the old node agrees (`Stands`) with a valid run from a policy whose time is 0, then this run,
+-- extended by the answered events, is valid, and the new node agrees with the extended run.
 pub record Plays (lines : List (List ℕ)) (events : List PlainEvent)
     (old new : NodeState) : Type 0 where
   pub are_lines : AreLines lines
@@ -27,9 +27,9 @@ pub record Plays (lines : List (List ℕ)) (events : List PlainEvent)
   pub goes_on : ExtendsRuns old events (map Answered answers) new
 
 -- Everything was read: whole lines, whose events were answered, and then octets without an LF,
--- which were ignored. If the octets of the reader were known, these octets were the whole lines and
--- the ignored octets, and no octets remain. `done` counts the events, the octets of the whole
--- lines, and the ignored octets.
+-- which were ignored. If the unread octets of the reader are known, these unread octets were the
+-- whole lines followed by the ignored octets, and no octet is left. `done` counts the events, the
+-- octets of the whole lines, and the ignored octets.
 pub record Replays (old new : NodeState) (unread left : Option (List ℕ))
     (done : Replayed) : Type 0 where
   pub lines : List (List ℕ)
@@ -42,10 +42,11 @@ pub record Replays (old new : NodeState) (unread left : Option (List ℕ))
   pub whole_is : done.whole ≡ length (joined lines)
   pub cut_is : done.cut ≡ length cut
 
--- A replay stopped with this fault, after the events of all earlier lines were answered. `BadLine`:
--- line `n`, counted from 1, was bad. `Read`: the reader failed. `Memory`: memory ran out for a line
--- or for the step of the line's event, and the cache may have dropped or reordered Data. If the
--- octets of the reader were not known (None), nothing is stated about what was read.
+-- A replay stopped with this fault, after the events of all lines before the fault were answered.
+-- `BadLine`: line `n`, counted from 1, was bad. `Read`: the reader failed, or the journal has too
+-- many lines. `Memory`: memory ran out for a line or for the step of the line's event, and the
+-- cache may have dropped or reordered Data. If the octets of the reader were not known (None),
+-- nothing is stated about what was read.
 abbrev pub StopsReplay : NodeState → NodeState → Option (List ℕ) → Option (List ℕ) → ReplayFault
     → Type 0
 StopsReplay old new unread left (fault.BadLine n) =
@@ -60,11 +61,12 @@ StopsReplay old new unread left fault.Memory =
     × Plays lines events old last × ChangesCacheOnly last new
     × Consumes unread left (joined lines ++ rest)
 
--- What a replay restores, if a crash left the octets `left` of the text of a run's journal. The
--- whole lines of `left` are the journal of a prefix of the run, as `Survives` states. From the last
--- time of this prefix on, the node has the policy of the prefix. The node agrees with a run whose
--- journal's text is exactly the whole lines of `left`. So lines that are appended after the whole
--- lines continue the journal of that run.
+-- What a replay restores if, of the text of a run's journal, a crash left only the octets `left`.
+-- The whole lines of `left` are the text of the journal of a prefix of the run, as `Survives`
+-- states. From the last time of this prefix on, the node after the replay has the policy that the
+-- prefix leads to. The node agrees (`Stands`) with a valid run, called `again`, and the text of the
+-- journal of `again` is exactly the whole lines of `left`. So lines that are appended after the
+-- whole lines continue the journal of `again`.
 pub record Restores (first : Policy) (past : Run) (left : List ℕ) (done : Replayed)
     (new : NodeState) : Type 0 where
   pub survives : Survives first past left
@@ -76,9 +78,9 @@ pub record Restores (first : Policy) (past : Run) (left : List ℕ) (done : Repl
   pub is_journal : IsJournalOf first again survives.events
   pub is_text : IsTextOf survives.events (take done.whole left)
 
--- `Restores` is true for each run whose journal's text begins with `left`, under two conditions. No
--- key book in the run has two keys of the same name. The old node has not handled any event and has
--- the run's first policy, whose time is 0.
+-- `Restores` is true for each run whose journal's text begins with `left`, if two conditions are
+-- met: no key book in the run has two keys of the same name, and the old node has not handled any
+-- event and has the run's first policy, whose time is 0.
 abbrev pub RestoresRuns : NodeState → NodeState → List ℕ → Replayed → Type 0
 RestoresRuns old new left done =
     (first p : Policy) (past : Run) (journal : List PlainEvent) (text lost : List ℕ)
@@ -88,21 +90,22 @@ RestoresRuns old new left done =
 
 -- ---- one line
 
--- replaying this line leads from the old node to the new node; the Bool tells whether the line has
--- an event
+-- replaying this line leads from the old node to the new node; the Bool tells whether the line
+-- spells an event
 abbrev pub PlaysLine : List ℕ → NodeState → NodeState → Bool → Type 0
 PlaysLine line old new true = (event : PlainEvent) × Plays (line ∷ []) (event ∷ []) old new
 PlaysLine line old new false = Plays (line ∷ []) [] old new
 
 -- Why a line was not replayed. `BadLine`, with the number of the line: the line is bad, and the
--- node is unchanged. `Memory`: at most the cache changed.
+-- node is unchanged. `Memory`: memory ran out, and nothing changed except that the cache may have
+-- dropped or reordered Data.
 abbrev pub StopsLine : List ℕ → ℕ → NodeState → NodeState → ReplayFault → Type 0
 StopsLine line number old new (fault.BadLine n) =
     IsBadLine line × (n ≡ number) × (new ≡ old)
 StopsLine line number old new fault.Read = ⊥
 StopsLine line number old new fault.Memory = ChangesCacheOnly old new
 
--- the fault that a read may have: the reader failed, or memory ran out
+-- a fault that reading a line may have: `Read` (the reader failed) or `Memory` (memory ran out)
 abbrev pub IsReadFault : ReplayFault → Type 0
 IsReadFault (fault.BadLine n) = ⊥
 IsReadFault fault.Read = ⊤

@@ -1,4 +1,4 @@
--- The text of a journal: its events as lines of a script, each with its LF.
+-- The text of a journal: for each event, one line of a script with its LF.
 use Rattle.std.specs.Prelude.{◌≡◌, ℕ, List, [], ◌∷◌, ◌++◌}
 use Rattle.forwarder.specs.Event.{PlainEvent}
 use Rattle.forwarder.specs.Policy.{Policy}
@@ -21,8 +21,8 @@ IsCutTextOf events text =
     (whole cut : List ℕ) × (text ≡ whole ++ cut) × IsTextOf events whole × Lacks 10 cut
 
 -- The octets `left` are whole lines and then octets without an LF. The events of these lines are
--- the journal of a prefix of the run `past`, called `part`. If `left` begins with the whole text of
--- the journal of some prefix of the run, then that prefix is also a prefix of `part`.
+-- the journal of a prefix `part` of the run `past`. If `left` begins with the whole text of the
+-- journal of some prefix of `past`, then that prefix of `past` is also a prefix of `part`.
 pub record Survives (first : Policy) (past : Run) (left : List ℕ) : Type 0 where
   pub events : List PlainEvent
   pub are_lines : IsCutTextOf events left

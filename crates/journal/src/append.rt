@@ -12,7 +12,7 @@ use thiserror::Error;
 /// What is needed to journal an event.
 #[derive(Clone, Copy)]
 pub struct Coming<'a> {
-    /// The content of the event's line.
+    /// The content of the event's line, except its time.
     pub entry: Entry<'a>,
     /// Whether the event brings a Data that the repository wants at the event's time.
     pub is_wanted: bool,
@@ -29,8 +29,8 @@ pub enum AppendFault {
     File,
 }
 
-/// Appends the line of an event with this verdict, if the event is journalled. For a journalled
-/// event, the call succeeds only when the line survives a crash. `time` is the latest time of any
+/// If an event with the verdict `verdict` is journalled, appends the event's line, and succeeds
+/// only when the line survives a crash. The time in the line is `time`, the latest time of any
 /// event so far, in milliseconds since 1970.
 pub fn append_event<F: JournalFile>(
     alloc: Global,
@@ -60,7 +60,7 @@ pub fn append_event<F: JournalFile>(
     }
 }
 
-/// Returns whether an event with this verdict is journalled.
+/// Returns whether the event in `coming` is journalled if its verdict is `verdict`.
 fn is_journalled(coming: &Coming<'_>, verdict: &Verdict) -> bool
     ensures { result
         ≡ is_journalled_entry coming.now.entry coming.now.is_wanted (verdict_of verdict.now) }

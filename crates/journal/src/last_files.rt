@@ -9,9 +9,9 @@ use crate::replaying::{ReplayFault, read_line, whole_line};
 use std::alloc::{AllocError, Global};
 use std::io::BufRead;
 
-/// Finds the last whole line of new rules, and returns the text after its time: the octets of the
-/// rule file and of the key file in hexadecimal. Returns `None` if no whole line has new rules. The
-/// octets after the last LF are ignored. The fault is `Read` or `Memory`.
+/// Finds the last whole line of new rules, and returns the text after the time in that line: the
+/// octets of the rule file and of the key file in hexadecimal. Returns `None` if no whole line has
+/// new rules. The octets after the last LF are ignored. The fault is `Read` or `Memory`.
 pub fn last_rules<R: BufRead>(alloc: Global, reader: &mut R) -> Result<Option<Vec<u8>>, ReplayFault>
     ensures { IfOk result (λ last. IfSome (R.remaining reader.old)
         (λ text. MatchOption last (HasNoFiles text) (λ files. HasLastFiles text files.items))) }
@@ -30,8 +30,9 @@ pub fn last_rules<R: BufRead>(alloc: Global, reader: &mut R) -> Result<Option<Ve
     Err(ReplayFault::Read)
 }
 
-/// Returns whether the last whole line of new rules in a journal has these octets of a rule file
-/// and of a key file. The fault is `Read` or `Memory`.
+/// Returns whether the last whole line of new rules in a journal has the octets `rules` of a rule
+/// file and the octets `keys` of a key file. Returns `false` if no whole line has new rules. The
+/// fault is `Read` or `Memory`.
 pub fn are_last_rules<R: BufRead>(
     alloc: Global,
     reader: &mut R,
@@ -50,7 +51,8 @@ pub fn are_last_rules<R: BufRead>(
     }
 }
 
-/// Returns the text after the time in a line of new rules with these two files.
+/// Returns the text after the time in a line of new rules, if `rules` are the octets of the rule
+/// file and `keys` are the octets of the key file.
 fn text_of_files(alloc: Global, rules: &[u8], keys: &[u8]) -> Result<String, AllocError>
     ensures { IfOk result (λ text. string_bytes text ≡ files_text rules.now keys.now) }
 {
@@ -59,7 +61,7 @@ fn text_of_files(alloc: Global, rules: &[u8], keys: &[u8]) -> Result<String, All
     format!(in alloc; "{rules} {keys}")
 }
 
-/// Returns a copy of octets.
+/// Returns a copy of `octets`.
 fn copy_of(alloc: Global, octets: &[u8]) -> Result<Vec<u8>, ReplayFault>
     ensures { IfOk result (λ copy. copy.items ≡ octets.now) }
 {
@@ -69,7 +71,8 @@ fn copy_of(alloc: Global, octets: &[u8]) -> Result<Vec<u8>, ReplayFault>
     }
 }
 
-/// Returns the text after the time of a line of new rules, or `None` for any other line.
+/// If the line is a line of new rules, returns the text after the time in the line. Returns `None`
+/// for any other line.
 fn files_of(line: &[u8]) -> Option<&[u8]>
     ensures found { IfSome result (λ files. IsRulesLine line.now files.now) }
     ensures none { IfNone result ((files : List ℕ) → IsRulesLine line.now files → ⊥) }
@@ -82,7 +85,8 @@ fn files_of(line: &[u8]) -> Option<&[u8]>
     Some(files)
 }
 
-/// Splits the text at the first space. Returns the octets before the space and those after it.
+/// Splits the text at its first space. Returns the octets before that space and the octets after
+/// it, or `None` if the text has no space.
 fn cut_at_space(text: &[u8]) -> Option<(&[u8], &[u8])>
     ensures found { IfSome result
         (λ parts. (text.now ≡ parts.0.now ++ (32 ∷ parts.1.now)) × Lacks 32 parts.0.now) }

@@ -14,9 +14,9 @@ ghost use Rattle.journal.specs.Appending.{Steps};
 ghost use Rattle.journal.specs.Text.{IsCutTextOf, IsTextOf, Survives};
 ghost use Rattle.journal.specs.Journal.{AreOneFrom, IsJournalled, IsJournalOf, KeepsBeginning, events_of, with_event, with_moment};
 
-/// Law: if the keys of a policy have different names, the policy and the next event determine
-/// whether the event is journalled, and an event that is not journalled only advances the policy's
-/// time.
+/// Law: suppose that the keys of a policy have different names. Then the policy and the next event
+/// determine whether the event is journalled. If the event is not journalled, its only effect on
+/// the policy is that time advances (`at_moment`).
 pub fn other_events_bring_their_moments()
     ensures decided { (old : Policy) (event : PlainEvent) (a b : Bool) → AreApart old.keys
         → IsJournalled old event a → IsJournalled old event b → a ≡ b }
@@ -48,7 +48,7 @@ pub fn journals_grow_by_steps()
     ensures text { (journal added : List PlainEvent) (text more : List ℕ) → IsTextOf journal text
         → IsTextOf added more → IsTextOf (journal ++ added) (text ++ more) }
     // The text of a run's journal, followed by the text that a step appends, is the text of the
-    // journal of the run with this step.
+    // journal of the run extended by this step.
     ensures both { (first : Policy) (past : Run) (old new : NodeState) (event : PlainEvent)
         (verdict : Verdict) (sends : List Send) (journal : List PlainEvent) (text added : List ℕ)
         → Stands first past old → IsJournalOf first past journal → IsTextOf journal text
@@ -92,8 +92,9 @@ pub fn journals_keep_policy()
 
 /// Law: if the first event of a run brings new rules and keys, the policy after the run does not
 /// depend on the rules and keys before this event. The replay of a journal that begins with new
-/// rules therefore does not depend on the rules and keys that the node was created with. The
-/// repository's prefix must be that of the node that wrote the journal.
+/// rules therefore does not depend on the rules and keys that the node was created with. The node
+/// that replays the journal must have the same repository prefix as the node that wrote the
+/// journal.
 pub fn rules_at_the_start_are_the_first()
     ensures { (first q : Policy) (r rules : List PlainRule) (k keys : List NamedKey) (now : ℕ)
         (again : Run) (rest : List PlainEvent) → events_of again ≡ NewRules rules keys now ∷ rest
@@ -101,17 +102,18 @@ pub fn rules_at_the_start_are_the_first()
 {}
 
 /// Law: if a crash leaves only the first events of a run's journal, these events are the journal of
-/// a prefix `part` of the run and lead to the policy of `part`. Each prefix of the run whose whole
-/// journal is left is also a prefix of `part`. The keys of each key book in the run must have
-/// different names.
+/// a prefix `part` of the run. From the last time of `part` on, a replay of these events leads to
+/// the policy after `part`. If the whole journal of a prefix of the run is left, that prefix of the
+/// run is also a prefix of `part`. The keys of each key book in the run must have different names.
 pub fn crashes_leave_a_beginning()
     ensures { (first p : Policy) (past : Run) (journal left lost : List PlainEvent)
         → KeysAreApart first past → IsPolicyOf first past p → IsJournalOf first past journal
         → journal ≡ left ++ lost → KeepsBeginning first past left }
 {}
 
-/// Law: a text that a crash may leave of a journal can be read in only one way: its whole lines are
-/// read as a script.
+/// Law: let a text be the lines of some events and then octets without an LF, as a crash may leave
+/// the text of a journal. Read as a script, the whole lines of the text spell exactly these events,
+/// and no other list of events.
 pub fn journal_texts_have_one_reading()
     ensures script { (text : List ℕ) (events : List PlainEvent) → IsCutTextOf events text
         → IsScriptSoFar text events }
@@ -120,9 +122,9 @@ pub fn journal_texts_have_one_reading()
 {}
 
 /// Law: if a crash leaves a prefix of the text of a run's journal, the whole lines that are left
-/// are the journal of a prefix of the run. The keys of each key book in the run must have different
-/// names. If `synced` of a `JournalFile` is `None`, as for a file of the operating system, the
-/// content after a crash is not specified.
+/// spell the journal of a prefix of the run. The keys of each key book in the run must have
+/// different names. If `synced` of a `JournalFile` is `None`, as for a file of the operating
+/// system, the content after a crash is not specified.
 pub fn journals_survive_crashes()
     ensures { (first p : Policy) (past : Run) (journal : List PlainEvent) (text left lost : List ℕ)
         → KeysAreApart first past → IsPolicyOf first past p → IsJournalOf first past journal

@@ -26,7 +26,7 @@ pub enum Entry<'a> {
     /// Time passed.
     Tick,
     /// The octets of a rule file and of a key file, whose rules and keys replace those in force.
-    /// Keys are secrets, and the line contains them.
+    /// Keys are secrets, and the line contains the octets of the key file.
     NewRules { rules: &'a [u8], keys: &'a [u8] },
 }
 
@@ -40,7 +40,7 @@ pub enum LineFault {
     Memory,
 }
 
-/// Returns the journal's line for an entry at the time `now`, with its LF.
+/// Returns the journal's line for an entry with the time `now`, including the LF.
 pub fn line_of(alloc: Global, now: u64, entry: &Entry<'_>) -> Result<String, LineFault>
     ensures text { IfOk result (λ line. string_bytes line ≡ entry_text now entry.now) }
     // The line is a line of a script, and it spells the event of the entry at the time `now`.
@@ -58,7 +58,8 @@ pub fn line_of(alloc: Global, now: u64, entry: &Entry<'_>) -> Result<String, Lin
     Ok(line)
 }
 
-/// Returns the line of an entry with its LF, even if the line is too long.
+/// Returns the line of an entry with the time `now`, including the LF, even if the line has more
+/// than 20,000 octets.
 fn text_of(alloc: Global, now: u64, entry: &Entry<'_>) -> Result<String, AllocError>
     ensures text { IfOk result (λ line. string_bytes line ≡ entry_text now entry.now) }
     ensures octets { OnOk result (HasOctets entry.now) }
@@ -82,7 +83,7 @@ fn text_of(alloc: Global, now: u64, entry: &Entry<'_>) -> Result<String, AllocEr
     }
 }
 
-/// Returns octets in hexadecimal, or a dash for no octets.
+/// Returns the octets in lower-case hexadecimal, or a dash if there are no octets.
 pub(crate) fn hex_word(alloc: Global, octets: &[u8]) -> Result<String, AllocError>
     ensures word { IfOk result (λ word. string_bytes word ≡ hex_word_of octets.now) }
     ensures octets { AreOctets octets.now }

@@ -23,7 +23,8 @@ pub struct Replayed {
     pub cut: u64,
 }
 
-/// Why a journal was not replayed to its end. The node has handled the events of all earlier lines.
+/// Why a journal was not replayed to its end. The node has handled the events of all lines before
+/// the fault.
 #[derive(Clone, Copy, Debug, PartialEq, Eq, Error)]
 pub enum ReplayFault {
     /// The line with this number, counted from 1, is not a line of a script.
@@ -38,7 +39,7 @@ pub enum ReplayFault {
 }
 
 /// Replays the events in the whole lines of a journal on a node. The octets after the last LF,
-/// which a crash may leave, are only counted.
+/// which a crash may leave, are counted but not replayed.
 ///
 /// Each line is read completely before it is parsed, and takes at least as much memory as it has
 /// octets.
@@ -93,7 +94,7 @@ pub(crate) fn read_line<R: BufRead>(reader: &mut R, octets: &mut Vec<u8>) -> Res
     }
 }
 
-/// Returns the line without its LF, or `None` if it has no LF.
+/// Returns the line `octets` without its LF, or `None` if `octets` has no LF.
 pub(crate) fn whole_line(octets: &[u8]) -> Option<&[u8]>
     requires { StopsAt octets.now 10 }
     ensures found { IfSome result (λ line. (octets.now ≡ ended line.now) × Lacks 10 line.now) }
@@ -104,8 +105,8 @@ pub(crate) fn whole_line(octets: &[u8]) -> Option<&[u8]>
 }
 
 #[tactic(auto, using(crate::proofs::Replays::plays_step, crate::proofs::Replays::plays_skipped))]
-/// Handles the event of a line on a node, if the line has an event, and returns whether the line
-/// has one. `number` is the number of the line in the journal.
+/// If a line spells an event, handles the event on a node. Returns whether the line spells an
+/// event. `number` is the number of the line in the journal.
 fn play_line(
     alloc: Global,
     node: &mut Node,

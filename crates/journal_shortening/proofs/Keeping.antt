@@ -5,8 +5,9 @@ use Rattle.std.proofs.lemmas.List.{append-nil}
 use Rattle.node_core.specs.Script.Line.{Lacks}
 use Rattle.journal_shortening.specs.Needed.{KeepsLines, kept_line}
 
--- the loop invariant: `text`, followed by the lines of the remaining text `rest` that the flags
--- from index `i` on keep, is `old` followed by all lines of the journal that the flags keep
+-- The loop invariant. Let `more` be those lines of the remaining text `rest` that the flags from
+-- index `i` on keep. Then `text` followed by `more` is `old` followed by all lines of the journal
+-- that the flags keep.
 abbrev pub SoFar : List Bool → List ℕ → List ℕ → ℕ → List ℕ → List ℕ → Type 0
 SoFar flags journal old i rest text =
     (more : List ℕ) → KeepsLines (drop i flags) rest more
@@ -34,7 +35,7 @@ so_far_line flags journal old i rest text line after new flag s lt f r lacks n m
     let all = s (kept_line flag line ++ more) (subst (λ (fs : List Bool). KeepsLines fs rest (kept_line flag line ++ more)) (sym cons) here) in
     (all.0, all.1, ap (λ (t : List ℕ). t ++ more) n ∙ append_assoc text (kept_line flag line) more ∙ all.2)
 
--- if no whole line remains, all lines that the flags keep were appended
+-- if `rest` has no whole line, then `Done` is true
 pub done_early : (flags : List Bool) (journal old : List ℕ) (i : ℕ) (rest text : List ℕ)
     → SoFar flags journal old i rest text → i < length flags → Lacks 10 rest
     → Done flags journal old text
@@ -44,7 +45,7 @@ done_early flags journal old i rest text s lt lacks =
     let all = s [] (subst (λ (fs : List Bool). KeepsLines fs rest []) (sym cons) here) in
     (all.0, all.1, sym (append-nil text) ∙ all.2)
 
--- if no flag remains, all lines that the flags keep were appended
+-- if no flag remains, then `Done` is true
 pub done : (flags : List Bool) (journal old : List ℕ) (i : ℕ) (rest text : List ℕ)
     → SoFar flags journal old i rest text → i ≡ length flags → Done flags journal old text
 done flags journal old i rest text s e =

@@ -6,7 +6,7 @@ use Rattle.journal.specs.LastFiles.{HasLastFiles, HasNoFiles}
 use Rattle.journal.specs.Replay.{Replays}
 use Rattle.journal.specs.declared.replaying.Replayed.{Replayed}
 
--- Replaying the whole lines of these octets leads from the old node to the new node.
+-- Replaying the whole lines of `octets` leads from the node `old` to the node `new`.
 abbrev pub IsReplayed : List ℕ → NodeState → NodeState → Type 0
 IsReplayed octets old new =
     (left : Option (List ℕ)) × (done : Replayed) × Replays old new (Some octets) left done
@@ -19,8 +19,9 @@ HaveSameTables text old new other_text other_old other_new =
     IsReplayed text old new × IsReplayed other_text other_old other_new
     × HasSameTables new.policy other_new.policy
 
--- The last lines of new rules in two journals have the same files, or neither journal has such a
--- line.
+-- The last line of new rules in `text` and the last line of new rules in `other` have the same text
+-- (the rules and keys) after the time, or neither journal has a line of new rules. Only whole lines
+-- count.
 abbrev pub HaveSameLastRules : List ℕ → List ℕ → Type 0
 HaveSameLastRules text other =
     ((files : List ℕ) × HasLastFiles text files × HasLastFiles other files)

@@ -5,18 +5,18 @@ use Rattle.node_core.specs.Script.Line.{Lacks}
 use Rattle.journal.specs.Line.{entry_text}
 use Rattle.journal.specs.declared.line.Entry.TheVariants as entry
 
--- the line `tick` with this time, with its LF
+-- the line `tick` with the time `moment`, followed by an LF
 abbrev pub tick_text : ℕ → List ℕ
 tick_text moment = entry_text moment entry.Tick
 
--- the line with its LF if the flag is true, otherwise nothing
+-- the line followed by an LF if the flag is true, otherwise nothing
 abbrev pub kept_line : Bool → List ℕ → List ℕ
 kept_line true line = ended line
 kept_line false line = []
 
--- `kept` consists of the lines of the text whose flags are true, in order and with their LFs. The
--- first flag belongs to the first line. Lines after the last flag and octets after the last LF are
--- left out.
+-- `kept` consists of those lines of `text` that have a flag `true`, in order and each with its LF.
+-- The first flag belongs to the first line, the second flag to the second line, and so on. Lines
+-- without a flag are left out. Octets after the last LF are left out.
 abbrev pub KeepsLines : List Bool → List ℕ → List ℕ → Type 0
 KeepsLines [] text kept = kept ≡ []
 KeepsLines (flag ∷ flags) text kept =
@@ -24,8 +24,8 @@ KeepsLines (flag ∷ flags) text kept =
     ⊎ ((line rest more : List ℕ) × Lacks 10 line × (text ≡ ended line ++ rest)
     × KeepsLines flags rest more × (kept ≡ kept_line flag line ++ more))
 
--- the lines of the journal whose flags are true were appended, and then the line `tick` with this
--- time
+-- those lines of the journal that have a flag `true` were appended, and then the line `tick` with
+-- the time `moment`
 abbrev pub PutsNeeded : List ℕ → List Bool → ℕ → List ℕ → List ℕ → Type 0
 PutsNeeded journal flags moment old new =
     (lines : List ℕ) × KeepsLines flags journal lines

@@ -8,8 +8,8 @@ use Rattle.forwarder.specs.declared.node.NodeParts.{NodeParts}
 use Rattle.journal_shortening.specs.Comparing.{HaveSameLastRules, HaveSameTables}
 use Rattle.journal_shortening.specs.Needed.{PutsNeeded}
 
--- the parts of a node whose repository has this prefix, with the rules of an empty file and without
--- keys
+-- the parts of a node whose repository has this prefix, with the rules of an empty rule file and
+-- without keys
 pub record AreEmptyParts (repo : List Field) (parts : NodeParts) : Type 0 where
   pub are_rules : AreRules [] parts.rules
   pub no_keys : parts.keys ≡ []
@@ -41,13 +41,14 @@ pub record AgreeOnEmptyNodes (repo : List Field) (text other : List ℕ) : Type 
   pub other_is_empty : IsEmptyNode repo other_first
   pub tables : HaveSameTables text first last other other_first other_last
 
--- `text` has some lines of `journal`, in the same order, and then a line `tick`
+-- `text` consists of some lines of `journal`, in the same order, and then a line `tick`
 abbrev pub KeepsSomeLines : List ℕ → List ℕ → Type 0
 KeepsSomeLines journal text =
     (flags : List Bool) × (moment : ℕ) × PutsNeeded journal flags moment [] text
 
--- `text` has some lines of `journal` and then a line `tick`. `text` is shorter than `journal`,
--- restores the same tables, and has the same last rules and keys.
+-- `text` consists of some lines of `journal` and then a line `tick`. `text` is shorter than
+-- `journal`, restores on an empty node the same tables as `journal`, and has the same last rules
+-- and keys as `journal`.
 pub record Shortens (repo : List Field) (journal text : List ℕ) : Type 0 where
   pub lines : KeepsSomeLines journal text
   pub shorter : length text < length journal

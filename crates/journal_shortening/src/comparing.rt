@@ -11,7 +11,7 @@ use std::alloc::Global;
 /// a part of the journals may have been replayed.
 ///
 /// The tables are everything in a node's policy except the rules, the keys and the version of the
-/// lists.
+/// lists of routes and strategies.
 pub fn restores_same_tables(
     alloc: Global,
     a: &mut Node,
@@ -41,9 +41,10 @@ fn play_all(alloc: Global, node: &mut Node, journal: &[u8]) -> Result<(), Shorte
     }
 }
 
-/// Returns whether the last whole lines of new rules in two journals have the same rules and keys,
-/// octet by octet. Also returns `true` if neither journal has a whole line of new rules. The fault
-/// is `TooLong` or `Memory`.
+/// Compares the last whole line of new rules in the journal `old` with the last whole line of new
+/// rules in the journal `new`. Returns `true` if these two lines have the same rules and keys,
+/// octet by octet, or if neither journal has a whole line of new rules. The fault is `TooLong` or
+/// `Memory`.
 pub fn have_same_last_rules(alloc: Global, old: &[u8], new: &[u8]) -> Result<bool, ShortenFault>
     ensures { IfOk result (λ same. IsTrue same → HaveSameLastRules old.now new.now) }
 {

@@ -5,7 +5,8 @@ use thiserror::Error;
 /// Why a journal was not shortened. Lines are counted from 1.
 #[derive(Clone, Copy, Debug, PartialEq, Eq, Error)]
 pub enum ShortenFault {
-    /// The line with this number is not a line of a script.
+    /// The line with this number is not in the format of a script, which is the format of a
+    /// journal.
     #[error("line {0} of the journal is a bad line")]
     BadLine(u64),
     /// The packet in the line with this number is not allowed, or is neither a command nor a Data

@@ -22,10 +22,10 @@ pub struct Needed {
 
 /// Replays the whole lines of a journal on a node that has not handled any event, and surveys the
 /// lines (`Survey`). Returns the lines that, according to the survey, are needed to restore the
-/// same tables.
+/// tables that the whole journal restores.
 ///
-/// No contract states that these lines restore the same tables. `restores_same_tables` compares the
-/// tables that two journals restore.
+/// No contract states that the returned lines alone restore these tables. The function
+/// `restores_same_tables` compares the tables that two journals restore.
 pub fn needed_lines(
     alloc: Global,
     node: &mut Node,
@@ -39,8 +39,8 @@ pub fn needed_lines(
     }
 }
 
-/// Returns the lines that, according to the survey, are needed to restore the tables at the time
-/// `now`.
+/// Returns the lines that, according to the survey, are needed to restore the tables as they are at
+/// the time `now`.
 fn needed_by(survey: &mut Survey, now: u64) -> Result<Needed, ShortenFault> {
     survey.links.sort_unstable();
     let mut reach = Reach::new(survey.alloc, survey.count)?;
@@ -66,7 +66,7 @@ pub fn put_needed(out: &mut Vec<u8>, journal: &[u8], needed: &Needed) -> Result<
     Ok(())
 }
 
-/// Appends a line `tick` with this time and its LF.
+/// Appends a line `tick` with the time `moment`, and then an LF.
 fn put_tick(text: &mut Vec<u8>, moment: u64) -> Result<(), Memory>
     ensures { OnOk result (text.new.items ≡ text.old.items ++ tick_text moment) }
 {
@@ -77,7 +77,9 @@ fn put_tick(text: &mut Vec<u8>, moment: u64) -> Result<(), Memory>
     Ok(())
 }
 
-/// Appends the needed lines of a journal, each with its LF. Lines after the last flag are left out.
+/// Appends the needed lines of a journal, each with its LF. The first flag in `needed` belongs to
+/// the first line, the second flag to the second line, and so on. Lines without a flag are left
+/// out.
 fn put_lines(text: &mut Vec<u8>, journal: &[u8], needed: &[bool]) -> Result<(), Memory>
     ensures { OnOk result ((lines : List ℕ) × KeepsLines needed.now journal.now lines
         × (text.new.items ≡ text.old.items ++ lines)) }

@@ -15,9 +15,9 @@ pub enum Change {
     Down(u64),
     /// Rules and keys were replaced.
     Rules,
-    /// A command on this face was allowed, and has this status.
+    /// A command that arrived on this face was allowed, and has this status.
     Command(u64, u16),
-    /// A Data on this face was stored in the repository.
+    /// A Data that arrived on this face was stored in the repository.
     Stored(u64),
     /// The event was a packet that a node does not journal: it was neither an allowed command nor
     /// an allowed Data that the repository wanted.
@@ -31,7 +31,7 @@ pub struct Seen {
     pub now: u64,
 }
 
-/// Buffers for handling the events of lines.
+/// Buffers for handling the events in the lines of a journal.
 #[derive(Drop)]
 pub struct Desk {
     alloc: Global,
@@ -73,7 +73,7 @@ fn change_by(change: Change, verdict: Verdict, is_wanted: bool) -> Change {
     }
 }
 
-/// Replays the whole lines of a journal on a node, and surveys them.
+/// Replays the whole lines of a journal on a node, and adds to the survey what each line did.
 pub fn survey_lines(
     node: &mut Node,
     journal: &[u8],
@@ -106,8 +106,8 @@ fn survey_line(
     }
 }
 
-/// Handles the event of a line on a node, and returns what the event did, or `None` if the line has
-/// no event.
+/// Lets a node handle the event of a line. Returns what the event changed, or `None` if the line
+/// has no event.
 fn play(
     node: &mut Node,
     text: &[u8],
@@ -122,7 +122,8 @@ fn play(
     }
 }
 
-/// Handles an event on a node. The octets of a packet are left in the desk.
+/// Lets a node handle an event, and returns what the event changed. If the event is a packet, its
+/// octets are left in the desk.
 fn play_event(
     node: &mut Node,
     event: OwnedEvent,

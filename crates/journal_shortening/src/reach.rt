@@ -1,10 +1,11 @@
 use ndn_tlv::Memory;
 use std::alloc::Global;
 
-/// The lines that are known to be needed. Lines are counted from 0.
+/// The lines that are known to be needed. Lines are counted from 0. A link is a pair of lines: the
+/// first line of the pair needs the second.
 #[derive(Drop)]
 pub struct Reach {
-    /// Whether each line is needed.
+    /// For each line, whether it is known to be needed.
     needed: Vec<bool>,
     /// The needed lines whose links have not been followed.
     open: Vec<u32>,
@@ -47,8 +48,7 @@ impl Reach {
         Ok(())
     }
 
-    /// Marks the lines that this line needs. The links are pairs of a line and a line that it
-    /// needs, in ascending order.
+    /// Marks the lines that `line` needs according to `links`. The links are in ascending order.
     fn follow(&mut self, links: &[(u32, u32)], line: u32) -> Result<(), Memory> {
         let start = links.partition_point(|link| link.0 < line);
         for link in links.iter().skip(start) {
@@ -60,8 +60,8 @@ impl Reach {
         Ok(())
     }
 
-    /// Marks all lines that a marked line needs, directly or through other lines. The lines in
-    /// `floors` need all lines before them. The links and the floors are in ascending order.
+    /// Marks all lines that a marked line needs, directly or through other lines. Each line in
+    /// `floors` needs all lines before it. `links` and `floors` are in ascending order.
     pub fn close(&mut self, links: &[(u32, u32)], floors: &[u32]) -> Result<(), Memory> {
         for _ in 0..self.needed.len() {
             let Some(line) = self.open.pop() else {

@@ -37,8 +37,8 @@ impl Survey {
         }
     }
 
-    /// Notes that an insert is waiting for its Data. If there is a want with the same name and
-    /// CanBePrefix, the insert ends that want.
+    /// Notes that an insert is waiting for its Data. If there already is a want with the same name
+    /// and CanBePrefix, the insert ends that want.
     fn note_want(&mut self, at: Place, asked: &Asked<'_>) -> Result<(), Memory> {
         self.end_want(at.line, asked)?;
         let name = NameBuf::from_name(self.alloc, asked.name)?;
@@ -65,8 +65,8 @@ impl Survey {
 
     /// Notes that stored objects answered an insert. The line of the insert needs the line of the
     /// first object that answers the insert, because the insert would wait for a Data if no object
-    /// answered. If no object that answers is known, the line of the insert needs all lines before
-    /// it.
+    /// answered. If the survey knows no object that answers the insert, the line of the insert
+    /// needs all lines before it.
     fn note_answered(&mut self, line: u32, asked: &Asked<'_>) -> Result<(), Memory> {
         let start = key_of(self.alloc, Kind::Object, &[], asked.name.as_octets())?;
         match self.first_object(start, asked) {
@@ -75,8 +75,9 @@ impl Survey {
         }
     }
 
-    /// Returns the line of the first stored object that answers the command, among the keys from
-    /// `start` on.
+    /// Looks only at the objects whose keys are `start` or greater. Returns the line that stored
+    /// the first of these objects that answers the command, or `None` if none of these objects
+    /// answers the command.
     fn first_object(&self, start: Vec<u8>, asked: &Asked<'_>) -> Option<u32> {
         for (key, writer) in self.writers.range(start..) {
             let name = full_name_in(key)?;
@@ -90,16 +91,16 @@ impl Survey {
         None
     }
 
-    /// Notes that a delete removed the objects that answer it, and that it ended the want with the
-    /// same name and CanBePrefix, if there was one.
+    /// Notes that a delete removed the objects that answer the delete. If there was a want with the
+    /// same name and CanBePrefix, also notes that the delete ended this want.
     fn note_delete(&mut self, line: u32, asked: &Asked<'_>) -> Result<(), Memory> {
         self.end_want(line, asked)?;
         let start = key_of(self.alloc, Kind::Object, &[], asked.name.as_octets())?;
         self.end_objects(line, start, asked)
     }
 
-    /// Notes that a line removed the objects that answer its command, among the keys from `start`
-    /// on.
+    /// Notes that the line `line` removed the objects that answer the command of this line. Looks
+    /// only at the objects whose keys are `start` or greater.
     fn end_objects(&mut self, line: u32, start: Vec<u8>, asked: &Asked<'_>) -> Result<(), Memory> {
         for (key, writer) in self.writers.range_mut(start..) {
             let Some(name) = full_name_in(key) else {
@@ -118,7 +119,8 @@ impl Survey {
     }
 
     /// Notes that a wanted Data was stored, and that this Data ended all wants that it answers. The
-    /// line of the Data needs the lines of these wants, and these lines need the line of the Data.
+    /// line of the Data needs the line of each of these wants, and the line of each of these wants
+    /// needs the line of the Data.
     pub fn note_object(&mut self, line: u32, data: &Data<'_>) -> Result<(), Memory> {
         for want in &self.wants {
             if data.answers(want.name.view(), want.can_be_prefix) {
@@ -133,9 +135,9 @@ impl Survey {
     }
 }
 
-/// Returns the command to the repository that a name encodes, or `None` if the name encodes no
-/// command. The name is the prefix of the repository, the verb, the parameters and the digest of
-/// the parameters.
+/// Reads a name as the name of a command to the repository. Returns `None` if the name is not the
+/// name of such a command. The name of a command consists of the prefix of the repository, the
+/// verb, the parameters and the digest of the parameters.
 fn asked_by(name: Name<'_>) -> Option<Asked<'_>> {
     let start = name.len().checked_sub(3)?;
     command_in(name.prefix(start), name)

@@ -20,15 +20,15 @@ const CACHE: u32 = 1;
 pub struct ShorterJournal {
     /// The octets of the shorter journal.
     pub text: Vec<u8>,
-    /// The number of whole lines of the longer journal.
+    /// The number of whole lines of the original journal.
     pub lines: usize,
-    /// The number of lines of the longer journal that are kept.
+    /// The number of lines of the original journal that the shorter journal keeps.
     pub kept: usize,
 }
 
-/// Returns the shorter journal of a node whose repository has the prefix `repo`. Returns `None` if
-/// leaving out lines would not make the journal shorter, or if the shorter journal would not
-/// restore the same tables, rules and keys. Octets after the last LF are left out.
+/// Shortens the journal of a node whose repository has the prefix `repo`. Returns `None` if leaving
+/// out lines would not make the journal shorter, or if the shorter journal would not restore the
+/// same tables, rules and keys. Octets after the last LF are left out.
 pub fn shortened(
     alloc: Global,
     repo: &NameBuf,
@@ -70,13 +70,15 @@ fn restores_same(
 // Each of the next three functions makes a node, lends it to one call, and returns the result of
 // this call, so that the node is dropped in only one place.
 
-/// Returns the lines of a journal that an empty node needs to restore the same tables.
+/// Returns which lines of a journal are needed to restore, on an empty node, the tables that the
+/// whole journal restores.
 fn needed_of(alloc: Global, repo: &NameBuf, journal: &[u8]) -> Result<Needed, ShortenFault> {
     let mut node = empty_node(alloc, repo)?;
     needed_lines(alloc, &mut node, journal)
 }
 
-/// Returns whether two journals restore the same tables on two empty nodes.
+/// Returns whether two journals, each replayed on an empty node of its own, restore the same
+/// tables.
 fn restores_same_on_empty(
     alloc: Global,
     repo: &NameBuf,
@@ -105,8 +107,8 @@ fn restores_same_on(
     restores_same_tables(alloc, node, &mut other, old, new)
 }
 
-/// Returns an empty node: it has handled no event, and has no rules and no keys. The rules and keys
-/// of a journal are in its lines.
+/// Returns an empty node: it has handled no event, and has no rules and no keys. The node gets its
+/// rules and keys when the lines of a journal are replayed.
 fn empty_node(alloc: Global, repo: &NameBuf) -> Result<Node, ShortenFault>
     ensures { IfOk result (λ node. IsEmptyNode repo.now node) }
 {

@@ -1,4 +1,4 @@
-//! The keys of subjects. A subject is what a line may set or remove.
+//! The keys of subjects. A subject is what a line of a journal may set or remove, such as a route.
 
 use mgmt_core::{Action, Command};
 use ndn_packets::{DIGEST_SHA256, Data, FullName, Locator, Signature};
@@ -8,9 +8,9 @@ use std::alloc::Global;
 /// A kind of subject. The number of the kind is the first octet of the subject's key.
 #[derive(Clone, Copy, Debug, PartialEq, Eq)]
 pub enum Kind {
-    /// The greatest time of a signer.
+    /// The greatest SignatureTime of a signer's commands.
     Signer = 1,
-    /// The greatest sequence number of a signer.
+    /// The greatest SignatureSeqNum of a signer's commands.
     Numbered = 2,
     /// The next hop of a name on a face.
     Hop = 3,
@@ -39,7 +39,8 @@ pub fn key_of(
     Ok(key)
 }
 
-/// Returns the key of the next hop or the route that a command on this face is about.
+/// Returns the key of the next hop or the route that a command sets or removes. `face` is the face
+/// of the next hop or route.
 pub fn route_key(alloc: Global, command: &Command<'_>, face: u64) -> Result<Vec<u8>, Memory> {
     let name = command.name.as_octets();
     match command.action {

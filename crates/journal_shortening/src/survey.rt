@@ -18,7 +18,7 @@ pub struct Place {
     pub now: u64,
 }
 
-/// A want of the repository, and the line of its last insert.
+/// A want (a pending insert) of the repository, and the line of this insert.
 #[derive(Drop)]
 pub struct Want {
     pub name: NameBuf,
@@ -38,13 +38,13 @@ pub struct Survey {
     pub count: u32,
     /// The line of the rules and keys in force.
     pub rules: Option<u32>,
-    /// The line that opened each open face.
+    /// For each open face, the line that opened the face.
     pub ups: BTreeMap<u64, u32>,
-    /// The last line that set or removed each subject, by the subject's key.
+    /// For the key of each subject, the last line that set or removed the subject.
     pub writers: BTreeMap<Vec<u8>, Writer>,
     /// The wants (pending inserts) that no line has ended. Some of these wants may have expired.
     pub wants: Vec<Want>,
-    /// Pairs of a line and a line that it needs.
+    /// Pairs of lines. The first line of each pair needs the second.
     pub links: Vec<(u32, u32)>,
     /// The lines that need all lines before them, in ascending order.
     pub floors: Vec<u32>,
@@ -176,8 +176,9 @@ impl Survey {
     }
 
     /// Notes that this line has the last command of its signer among the lines that were replayed
-    /// so far. The node allows a command only if its time, and its sequence number if there is one,
-    /// are greater than in all earlier allowed commands of the signer.
+    /// so far. The node allows a command with a SignatureTime only if this time is greater than in
+    /// all earlier allowed commands of the signer. The same holds for the SignatureSeqNum, if the
+    /// command has one.
     fn note_signer(&mut self, line: u32, signature: &Signature<'_>) -> Result<(), Memory> {
         if signature.time.is_none() {
             return Ok(());
@@ -211,7 +212,8 @@ impl Survey {
 
     /// Marks the lines that are needed even if no other line needs them: the line of the last
     /// rules, the lines that opened the open faces, the lines of wants that have not expired at the
-    /// time `now`, and the line that set each subject that exists at this time.
+    /// time `now`, and, for each subject that exists at the time `now`, the last line that set the
+    /// subject.
     pub fn mark_roots(&self, now: u64, reach: &mut Reach) -> Result<(), Memory> {
         if let Some(rules) = self.rules {
             reach.mark(rules)?;
@@ -228,7 +230,7 @@ impl Survey {
         Ok(())
     }
 
-    /// Marks the line that set each subject that exists at the time `now`.
+    /// For each subject that exists at the time `now`, marks the last line that set the subject.
     fn mark_writers(&self, now: u64, reach: &mut Reach) -> Result<(), Memory> {
         for (_, writer) in &self.writers {
             if self.has_effect(now, writer.effect) {

@@ -27,8 +27,8 @@ impl Survey {
         self.write(key, line, effect)
     }
 
-    /// Notes that a command set or removed a next hop or a route. The line of the command needs the
-    /// line that opened the face, if the face is open.
+    /// Notes that a command set or removed a next hop or a route. If the face of the next hop or
+    /// route is open, the line of the command needs the line that opened this face.
     fn note_route(&mut self, at: Place, command: &Command<'_>) -> Result<(), Memory> {
         let face = if command.face == 0 {
             at.face
@@ -41,7 +41,8 @@ impl Survey {
         self.write(key, at.line, effect)
     }
 
-    /// Returns what a command at the time `now` did to a next hop or a route on a face.
+    /// Returns what a command at the time `now` did to the next hop or the route with the face
+    /// `face`.
     fn route_effect(&self, now: u64, command: &Command<'_>, face: u64) -> Effect {
         let Some(up) = self.up_of(face) else {
             return Effect::Removed;

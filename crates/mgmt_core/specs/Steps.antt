@@ -40,7 +40,7 @@ set_status name (Some strategy) choices =
     if is_full choices name then TABLE_FULL else
     OK)
 
--- the first fields of a reply: Name, FaceId and Origin
+-- the first fields of a reply: Name, then FaceId and Origin if the command takes them
 abbrev pub about_fields : PlainCommand → ℕ → List Field
 about_fields c face =
     (NAME, octets_of c.name)

@@ -114,8 +114,8 @@ AllAreUp routes up = (face : ℕ) → LeadsTo routes face → has_face face up �
 
 -- ---- the effects of commands
 
--- the routes after a command that came from `face` takes effect at `now`; only `fib` and `rib`
--- commands change the routes
+-- the routes as they are after the command `c`, which came from `face`, takes effect at `now`; only
+-- `fib` and `rib` commands change the routes
 abbrev pub routes_after : PlainCommand → ℕ → ℕ → Routes → Routes
 routes_after c face now routes =
     elim c.action [

@@ -27,7 +27,7 @@ kept_of from text =
       segment = take SEGMENT_LEN (drop from text);
     }
 
--- the state after the octets `more` are written in the state `k`
+-- the state that follows the state `k` when the octets `more` are appended to the text
 abbrev pub with_more : Kept → List ℕ → Kept
 with_more k more =
     record {
@@ -49,7 +49,8 @@ abbrev pub choice_octets : List ℕ → StrategyId → List ℕ
 choice_octets name strategy =
     element (ENTRY, octets ((NAME, name) ∷ (STRATEGY, strategy_value strategy) ∷ []))
 
--- the state after an entry with this encoded name and these next hops is written in the state `k`
+-- the state that follows the state `k` when an entry with this encoded name and these next hops is
+-- appended to the text
 abbrev pub with_route : Kept → List ℕ → List Hop → Kept
 with_route k name hops = with_more k (route_octets name hops)
 

@@ -30,8 +30,8 @@ abbrev pub given : {X : Type 0} → PlainCommand → ℕ → Option X → Option
 given c kind x = if takes kind (row_of c.action) then x else None
 
 -- The fields of a reply to a command that came from `face`. The reply has the Name, and each other
--- field that the command takes and that has a value. Its FaceId is the face that the command
--- applies to.
+-- field that the command takes and that has a value. The FaceId in the reply is the face that the
+-- command applies to.
 abbrev pub reply_fields : PlainCommand → ℕ → List Field
 reply_fields c face =
     (NAME, octets_of c.name)
@@ -47,7 +47,7 @@ reply_fields c face =
 abbrev pub reply_body : PlainCommand → ℕ → List ℕ
 reply_body c face = element (CONTROL_PARAMETERS, octets (reply_fields c face))
 
--- the body of a reply with this status, which is empty unless the status is 200
+-- the body of a reply with this status; the body is empty unless the status is 200
 abbrev pub body_after : PlainCommand → ℕ → ℕ → List ℕ
 body_after c face status = if status == OK then reply_body c face else []
 

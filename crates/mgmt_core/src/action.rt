@@ -10,13 +10,15 @@ use ndn_packets::types::NAME;
 /// Management", "Content Store Management").
 #[derive(Clone, Copy, Debug, PartialEq, Eq)]
 pub enum Action {
-    /// `fib/add-nexthop`: adds a next hop on a face, or sets the cost of the next hop.
+    /// `fib/add-nexthop`: adds a next hop on a face to a name or, if the name already has a next
+    /// hop on this face, sets the cost of this next hop.
     AddNexthop,
-    /// `fib/remove-nexthop`: removes the next hop on a face.
+    /// `fib/remove-nexthop`: removes from a name the next hop on a face.
     RemoveNexthop,
-    /// `rib/register`: registers a route with a face and an origin, or replaces that route.
+    /// `rib/register`: registers a route, or replaces the route with the same name, face and
+    /// origin.
     Register,
-    /// `rib/unregister`: removes the route with a face and an origin.
+    /// `rib/unregister`: removes the route with the command's name, face and origin.
     Unregister,
     /// `strategy-choice/set`: sets the strategy for a name.
     SetStrategy,

@@ -33,7 +33,7 @@ pub struct Command<'a> {
     /// The flags of the route: 1 is child-inherit and 2 is capture. The value is 1 if no flags are
     /// given.
     pub flags: u64,
-    /// The lifetime of the route in milliseconds. Without it, the route does not expire.
+    /// The lifetime of the route in milliseconds. Without a lifetime, the route does not expire.
     pub expires: Option<u64>,
     /// The name of the strategy, if it is given.
     pub strategy: Option<Name<'a>>,
@@ -46,10 +46,11 @@ impl<'a> Command<'a> {
     /// Reads the name of a command, `/localhost/nfd/MODULE/VERB/PARAMETERS`. A
     /// ParametersSha256DigestComponent may follow.
     ///
-    /// If this is not the name of a valid command, returns the first status that applies, in this
-    /// order: 400 if there are fewer than four components before the digest; 501 if the command
-    /// does not exist or the name does not begin with `/localhost/nfd`; 400 if there are not
-    /// exactly five components before the digest, or the parameters are not valid for the command.
+    /// If `name` is not the name of a valid command, returns the first status that applies, in this
+    /// order: 400 if the name has fewer than four components, not counting the digest; 501 if the
+    /// command does not exist or the name does not begin with `/localhost/nfd`; 400 if the name
+    /// does not have exactly five components, not counting the digest, or the parameters are not
+    /// valid for the command.
     pub fn read(name: Name<'a>) -> Result<Command<'a>, u16>
         ensures { on_result (λ c. Ok (asked c)) Err result ≡ command_at (components name.entry) }
     {
@@ -105,7 +106,8 @@ fn action_at(name: Name<'_>) -> Option<Action>
 }
 
 #[tactic(auto, unfolding(crate::specs::Reading::parameters_at))]
-/// Returns the command whose parameters are in the fifth component of the name.
+/// Returns the command with this action and the parameters in the fifth component of the name, or
+/// `None` if this component does not contain valid parameters.
 fn command_in<'a>(action: Action, name: Name<'a>) -> Option<Command<'a>>
     ensures { option_map asked result ≡ parameters_at action (components name.entry) }
 {

@@ -19,8 +19,8 @@ use crate::types::{FACE_NOT_OPEN, OK, PREFIX_TOO_LONG, TABLE_FULL, UNKNOWN_STRAT
 use ndn_tlv::Memory;
 use pit_fib::{Faces, Fib, MAX_DEPTH, StrategyTable};
 
-/// Applies a command that came from `face` to the tables. `now` is in milliseconds since 1970. Each
-/// face that has a next hop or a route must be in `up`.
+/// Applies to the tables a command that came from `face`. `now` is in milliseconds since 1970. `up`
+/// contains the faces that are up. Each face that has a next hop or a route must be in `up`.
 ///
 /// Returns the first status that applies, in this order:
 /// - 414 if the name has more than 32 components (`fib/add-nexthop`, `rib/register`,
@@ -30,14 +30,15 @@ use pit_fib::{Faces, Fib, MAX_DEPTH, StrategyTable};
 /// - 503 if the name is new and the table already has 4,096 names (`fib/add-nexthop`,
 ///   `rib/register`, `strategy-choice/set`), or the route is new and the table already has 16,384
 ///   routes (`rib/register`);
-/// - 200 if none of these statuses applies. All other commands, such as `rib/unregister`, always
-///   return 200.
+/// - 200 if none of these statuses applies. Commands that this list does not name, such as
+///   `rib/unregister`, always have status 200.
 ///
 /// Only a command with status 200 changes a table. If memory runs out, `Memory` is returned and no
 /// table changes. Memory can run out only for a command that has status 200 and was not prepared.
 ///
-/// If the command gives a lifetime, the registered route expires after this lifetime, at `u64::MAX`
-/// at the latest. A registered route replaces the route with the same name, face and origin.
+/// If `rib/register` gives a lifetime, the registered route expires at the end of this lifetime, or
+/// at the time `u64::MAX` if that is earlier. A registered route replaces the route with the same
+/// name, face and origin.
 pub fn apply(
     tables: &mut Tables,
     command: &Command<'_>,
@@ -166,7 +167,8 @@ fn set_status(choices: &StrategyTable, command: &Command<'_>) -> u16
     OK
 }
 
-/// Adds a next hop on this face, or sets its cost. Precondition: the command is not refused.
+/// Adds a next hop on this face, or sets the cost of the next hop on this face. Precondition: the
+/// command is not refused.
 fn add_nexthop(fib: &mut Fib, command: &Command<'_>, face: u64) -> Result<(), Memory>
     requires room { HasRoomFor fib.old.table face }
     requires taken { refusal fib.old.table (components command.now.name) ≡ None }

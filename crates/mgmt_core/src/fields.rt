@@ -27,8 +27,9 @@ fn is_field(kind: u32) -> bool
     }
 }
 
-/// Returns whether the octets are well-formed TLV elements, and the action takes all command
-/// parameter fields among them. Elements of other types are ignored.
+/// Returns whether the octets are a sequence of well-formed TLV elements, and the action takes each
+/// element whose type is the type of a command parameter field. Elements of other types are
+/// ignored.
 pub fn are_fields(octets: &[u8], action: Action) -> bool
     ensures { result ≡ list_all (fits (row_of action)) (elements_of octets.now) }
 {

@@ -54,8 +54,8 @@ pub fn replies_are_bounded()
     ensures whole { (c : PlainCommand) (face status : ℕ) (text : List ℕ)
         → text_of status ≡ Some text
         → length (response status text (body_after c face status)) ≤ reply_limit c }
-    // The bound on every reply, whatever its text and body are. For example, the reply to a command
-    // that no rule allows has a text of its own.
+    // This bound holds for every text and body. For example, the text of the reply to a command
+    // that no access rule allows is not one of the texts that `text_of` gives.
     ensures any { (status : ℕ) (text body : List ℕ)
         → length (response status text body) ≤ length text + length body + 30 }
 {}

@@ -23,7 +23,7 @@ use std::mem;
 
 /// The greatest number of octets in the body of a reply, not counting the octets of the command's
 /// name. The counted octets are the headers and the fields after the name. A reply to
-/// `rib/register` has the most of them.
+/// `rib/register` can have the most counted octets.
 pub const BODY_EXTRA: usize = 70;
 
 /// The greatest number of octets in a whole reply, not counting the octets of the command's name.
@@ -33,7 +33,8 @@ pub const REPLY_EXTRA: usize = 116;
 const HEADER_LEN: usize = 10;
 
 impl Command<'_> {
-    /// Returns the greatest length of a reply to the command in octets, for every status and face.
+    /// Returns an upper bound of the length of a reply to the command, in octets, for every status
+    /// and face.
     pub fn reply_limit(&self) -> usize
         ensures { result ≡ reply_limit (asked self.now) }
     {
@@ -63,7 +64,7 @@ impl Command<'_> {
         strategy_named(self.strategy?)
     }
 
-    /// Returns `number` if the command takes a field of type `kind`.
+    /// Returns `number` if the command takes a field of type `kind`, otherwise `None`.
     fn given_number(&self, kind: u32, number: Option<u64>) -> Option<u64>
         ensures { result ≡ given (asked self.now) kind number }
     {
@@ -74,7 +75,8 @@ impl Command<'_> {
         }
     }
 
-    /// Returns the strategy if the command takes a Strategy field.
+    /// Returns the strategy that the command's Strategy field names, if the command takes this
+    /// field.
     fn given_strategy(&self) -> Option<StrategyId>
         ensures { result ≡ given (asked self.now) STRATEGY (strategy_asked (asked self.now)) }
     {
@@ -97,8 +99,8 @@ impl Command<'_> {
         self.put_given(out)
     }
 
-    /// Appends the Name, the FaceId and the Origin of the reply. If memory runs out, some octets of
-    /// these fields may be appended.
+    /// Appends the Name of the reply and, if the command takes them, the FaceId and the Origin. If
+    /// memory runs out, some octets of these fields may be appended.
     fn put_about(&self, out: &mut Vec<u8>, face: u64) -> Result<(), Memory>
         ensures ok { OnOk result
             (out.new.items ≡ out.old.items ++ octets (about_fields (asked self.now) face)) }

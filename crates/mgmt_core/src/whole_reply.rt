@@ -34,7 +34,7 @@ pub fn put_response(out: &mut Vec<u8>, status: u16, text: &str, body: &[u8]) -> 
     ensures ok { OnOk result
         (out.new.items ≡ out.old.items ++ response status text.now body.now) }
     ensures err { OnErr result (out.new.items ≡ out.old.items) }
-    // If the spare capacity is enough, memory does not run out.
+    // If the spare capacity of `out` is enough for the reply, memory does not run out.
     ensures room { vec_len out.old + length (response status text.now body.now)
         ≤ vec_capacity out.old → IsOk result }
     ensures capacity { vec_capacity out.old ≤ vec_capacity out.new }

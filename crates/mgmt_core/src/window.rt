@@ -47,8 +47,8 @@ impl Window {
         }
     }
 
-    /// Appends octets to the text. Returns `Memory` if memory runs out or the text would have 2^64
-    /// octets or more.
+    /// Appends the octets `more` to the text. Returns `Memory` if memory runs out or the text would
+    /// have 2^64 octets or more.
     fn put(&mut self, more: &[u8]) -> Result<(), Memory>
         ensures { OnOk result (self.new ≡ with_more self.old more.now) }
     {

@@ -1,7 +1,8 @@
-//! Puts a million names into a map. Removes each name after 64 further names were put in, and the
-//! last 64 names at the end. Prints the greatest number of names that the map had after a removal,
-//! and how many names remain. By the map's invariant, each node of the map has a value or a child,
-//! so a map without names has no node.
+//! Puts a million names into a map. Removes each name after 64 further names were put in, and
+//! finally removes the last 64 names. Prints the greatest number of names that the map had after a
+//! removal, and how many names remain. By the map's invariant, each node of the map has a value or
+//! a child, except the node of a prepared name. So a map with no names and no prepared name has no
+//! node.
 #![tactic(auto)]
 
 use name_trie::NameMap;
@@ -17,8 +18,8 @@ const NAMES: u64 = 1_000_000;
 /// The number of names that stay in the map: the names that were put in last.
 const STANDING: u64 = 64;
 
-/// Returns the name for a number. The names of 4,096 consecutive numbers have the same first
-/// component.
+/// Returns the name for a number. The first component is `number / 4096`, and the second component
+/// is `number % 4096`, each in 8 octets.
 fn name_of(alloc: Global, number: u64) -> Result<NameBuf, Memory> {
     let mut name = NameBuf::new(alloc);
     for part in [number / 4096, number % 4096] {
@@ -28,8 +29,8 @@ fn name_of(alloc: Global, number: u64) -> Result<NameBuf, Memory> {
     Ok(name)
 }
 
-/// Puts a name into the map, and removes the name that was put in `STANDING` names earlier. Returns
-/// the number of names in the map after the removal.
+/// Puts the name for `number` into the map, and removes the name for `number - STANDING`, if that
+/// is not negative. Returns the number of names in the map after the removal.
 fn put_and_remove(alloc: Global, names: &mut NameMap<u64>, number: u64) -> Result<usize, Memory> {
     let name = name_of(alloc, number)?;
     if names.len() < usize::MAX {

@@ -112,7 +112,7 @@ abbrev pub IsInterestAnswer : InterestJob → List NamedKey → List ℕ → Typ
 IsInterestAnswer job book text =
     (packet : List ℕ) × IsInterestPacket job book packet × (text ≡ hex_line packet)
 
--- the line with the Interest, inside a link packet if there is a PIT token
+-- the line with the Interest; if there is a PIT token, the Interest is inside a link packet
 abbrev pub IsLinkAnswer : LinkJob → List NamedKey → List ℕ → Type 0
 IsLinkAnswer job book text =
     (packet : List ℕ) × IsInterestPacket job.interest book packet
@@ -155,8 +155,8 @@ with_file (Some path) book = Some book
 abbrev pub keys_given : ExplainJob → List NamedKey → Option (List NamedKey)
 keys_given job book = with_file job.keys book
 
--- the explanation of a packet that is given; nothing for packets on standard input, which are
--- explained as they are read
+-- the explanation of the packet that is given as an argument; an empty text if no packet is given,
+-- since packets on standard input are explained while they are read
 abbrev pub IsPacketExplained : Option (List NamedKey) → Option (List ℕ) → List ℕ → Type 0
 IsPacketExplained keys None text = text ≡ []
 IsPacketExplained keys (Some octets) text = IsExplained keys octets text

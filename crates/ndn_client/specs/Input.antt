@@ -6,7 +6,7 @@ use Rattle.ndn_jobs.specs.declared.fault.ToolFault.TheVariants.{Usage, Memory}
 use Rattle.ndn_client.specs.declared.fault.Fault.{Fault}
 use Rattle.ndn_client.specs.declared.fault.Fault.TheVariants.{Input, Tool}
 
--- a text without the LF at its end
+-- the text without its last octet if this octet is an LF, otherwise the whole text
 abbrev pub without_lf : List ℕ → List ℕ
 without_lf text =
     on_option (λ o. if o == 10 then take (length text - 1) text else text) text

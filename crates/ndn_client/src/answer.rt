@@ -37,8 +37,8 @@ pub fn text_of(alloc: Global, job: &Job, book: &KeyBook) -> Result<Vec<u8>, Tool
     }
 }
 
-/// Returns the line with an Interest, in a link packet if there is a PIT token (NDNLPv2, "PIT
-/// Token").
+/// Returns the line with an Interest. If there is a PIT token, the Interest is inside a link packet
+/// (NDNLPv2, "PIT Token").
 fn link_text(alloc: Global, job: &LinkJob, book: &KeyBook) -> Result<Vec<u8>, ToolFault>
     ensures { MatchResult result
         (λ text. IsLinkAnswer job.now book.now text.items)
@@ -123,7 +123,7 @@ pub fn command_packet(alloc: Global, job: &CommandJob, book: &KeyBook) -> Result
     match command_name(alloc, &job.name, &job.parameters) {
         Ok(name) => named_command(alloc, job, &name, book),
         Err(fault) => {
-            // A missing key is reported before a name that is too long.
+            // If the key is missing as well, the fault is `NoKey`, not the fault of the name.
             data_sign(&job.stamp.key.key, book)?;
             Err(ToolFault::from(fault))
         }
@@ -244,7 +244,7 @@ fn framed_of(octets: &[u8]) -> Result<Framed<'_>, ToolFault>
     }
 }
 
-/// Returns how an Interest is signed: with its key, or not at all.
+/// Returns how an Interest is signed: with the key named `key`, or not at all if no key is named.
 fn interest_sign<'a>(
     key: &'a Option<NameBuf>,
     book: &'a KeyBook,
@@ -257,7 +257,8 @@ fn interest_sign<'a>(
     }
 }
 
-/// Returns how a Data or a command is signed: with its key, or with DigestSha256.
+/// Returns how a Data or a command is signed: with the key named `key`, or with DigestSha256 if no
+/// key is named.
 fn data_sign<'a>(key: &'a Option<NameBuf>, book: &'a KeyBook) -> Result<Sign<'a>, ToolFault>
     ensures { MatchResult result (SignsData key.now book.now) (IsNoKey key.now book.now) }
 {

@@ -20,7 +20,7 @@ pub enum Fault {
     NotText,
     /// The key file has a fault, or memory ran out for its keys.
     Keys(KeyFault),
-    /// The file has more octets than a key file may have.
+    /// The key file has more octets than are allowed.
     LargeKeys,
     /// The key file cannot be read.
     Unread {
@@ -43,7 +43,7 @@ pub enum Fault {
         /// The port on 127.0.0.1.
         port: u16,
     },
-    /// The packet of `send`, which is sent as it was given, got no answer.
+    /// The packet of the subcommand `send`, which is sent unchanged, got no answer.
     Silent(Silence),
     /// A request was sent, but it was not carried out.
     NotDone(Failure),
@@ -56,8 +56,8 @@ impl Fault {
     /// Returns the exit status. For `Tool`, the exit status is that of the job's fault. For any
     /// other fault, the exit status is 1 if no key file is named, the content of the key file has a
     /// fault, or a request was not done. The exit status is 2 if an argument is not UTF-8. The exit
-    /// status is 3 if reading, writing or sending failed, memory ran out, or no answer came to the
-    /// packet of `send`.
+    /// status is 3 if reading, writing, sending or binding a port failed, memory ran out, or no
+    /// answer came to the packet of `send`.
     pub fn exit_status(&self) -> u8
         ensures { result ≡ status_of self.now }
     {

@@ -13,8 +13,8 @@ use std::alloc::Global;
 use std::io;
 use std::io::{BufRead, Read};
 
-/// The greatest length of a packet on standard input, in octets: the 65,507 octets of a UDP
-/// datagram in hexadecimal, and an LF.
+/// The greatest length of standard input with one packet, in octets: 131,014 hexadecimal digits for
+/// the 65,507 octets that a UDP datagram can carry, and an LF.
 const MAX_PACKET_INPUT: u32 = 131_015;
 
 /// The greatest length of a line of standard input, in octets, including its LF. In the answers of
@@ -38,8 +38,8 @@ pub fn read_packet_input<R: Read + Drop>(alloc: Global, reader: R) -> Result<Str
     }
 }
 
-/// Reads the next line of standard input, including its LF. At the end of the input the text is
-/// empty. A line of more than 131,072 octets, including its LF, is refused.
+/// Reads the next line of standard input, including its LF. At the end of the input, returns an
+/// empty text. A line of more than 131,072 octets, including its LF, is refused.
 pub fn read_input_line<R: BufRead>(alloc: Global, reader: &mut R) -> Result<String, Fault>
     ensures bound { IfOk result (λ line. string_len line ≤ 131072) }
     // This clause states the result if the octets of the reader are known.

@@ -13,8 +13,7 @@ use std::alloc::Global;
 use std::io;
 use std::io::{ErrorKind, Read};
 
-/// Reads the keys of a key file. If the file is not UTF-8, the fault is a bad line with the number
-/// 0.
+/// Reads the keys of a key file. If the octets are not UTF-8, the fault is `BadLine(0)`.
 pub fn read_book(alloc: Global, octets: &[u8]) -> Result<KeyBook, Fault>
     ensures { MatchResult result (AreKeys octets.now) (IsFileFault octets.now) }
 {

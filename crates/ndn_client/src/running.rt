@@ -67,7 +67,8 @@ fn input_of<R: AllocGlobal + Input>(rt: &R) -> Result<BufReader<R::Reader>, Faul
     BufReader::new(rt.alloc(), rt.reader()).map_err(|_| Fault::Tool(ToolFault::Memory))
 }
 
-/// Runs the job with each line of standard input, before the next line is read.
+/// Runs the job once for each line of standard input. Each line is handled before the next line is
+/// read.
 fn run_lines<R, I: BufRead>(rt: &R, job: &Job, book: &KeyBook, input: &mut I) -> Result<(), Fault>
 where
     R: Clock + AllocGlobal + Eprint + Net + Print,
@@ -82,7 +83,8 @@ where
     Ok(())
 }
 
-/// Runs the job with the text of standard input.
+/// Runs the job. `input` is what the job reads: the text of standard input, one line of standard
+/// input, or an empty text.
 fn run_plan<R>(rt: &R, job: &Job, book: &KeyBook, input: &str) -> Result<(), Fault>
 where
     R: Clock + AllocGlobal + Eprint + Net + Print,
@@ -138,9 +140,9 @@ fn asked_job<R: Clock + Env + AllocGlobal>(rt: &R) -> Result<Job, Fault> {
     Ok(parse_words(rt.alloc(), now, arguments.as_slice())?)
 }
 
-/// Waits for the answer to the last request on this socket. Returns `None` if the next request is
-/// to be sent. If the exchange is over, prints the answer and returns the outcome. A datagram that
-/// does not answer the request is reported on standard error.
+/// Waits on this socket for the answer to the request that was sent last. Returns `None` if the
+/// next request is to be sent. If the exchange is over, prints the answer and returns the outcome.
+/// A datagram that does not answer the request is reported on standard error.
 fn next_answer<R: Clock + AllocGlobal + Eprint + Print>(
     rt: &R,
     socket: &UdpSocket,
@@ -201,7 +203,7 @@ fn send(socket: &UdpSocket, packet: &[u8]) -> Result<(), Fault> {
 }
 
 /// Receives one datagram and returns its length in octets. Fails if no datagram arrives within
-/// `ANSWER_SECONDS` of `start`.
+/// `ANSWER_SECONDS` seconds after `start`.
 fn receive<R: Clock>(
     rt: &R,
     socket: &UdpSocket,
@@ -232,8 +234,8 @@ fn arguments_of<R: Env + AllocGlobal>(rt: &R) -> Result<Vec<String>, Fault> {
     }
 }
 
-/// Returns the time of the clock in milliseconds since 1970. Returns `Clock` if the clock cannot be
-/// read or shows a time before 1970.
+/// Returns the time of the clock in milliseconds since 1970. Returns the fault `Clock` if the clock
+/// cannot be read, its time is before 1970, or the number of milliseconds is 2^64 or more.
 fn milliseconds<R: Clock>(rt: &R) -> Result<u64, Fault> {
     let Ok(time) = SystemTime::now(rt) else {
         return Err(Fault::Clock);
@@ -244,11 +246,11 @@ fn milliseconds<R: Clock>(rt: &R) -> Result<u64, Fault> {
     }
 }
 
-/// Returns the keys of the key file that the job names, or no keys if it names no file.
+/// Returns the keys of the key file that the job names, or no keys if the job names no key file.
 ///
 /// # Errors
 ///
-/// Why the file cannot be opened or read, or what is wrong with its content.
+/// The fault says why the key file cannot be opened or read, or what is wrong with its content.
 pub fn book_of<R: AllocGlobal + Files>(rt: &R, job: &Job) -> Result<KeyBook, Fault> {
     let Some(path) = job.key_file() else {
         return Ok(KeyBook::new(rt.alloc()));

@@ -214,8 +214,8 @@ subcommand_named word =
     if bytes_eq word (codes "peek") then Some Peek else
     None)))))))))))
 
--- the command of the program: it has a version and requires a subcommand, it shows its help without
--- arguments, and no subcommand is named `help`
+-- The command of the program. It has a version and requires a subcommand. If there are no
+-- arguments, the help is shown. No subcommand is named `help`.
 unfoldable pub tool : App
 tool = record {
   top = record (new_shape (codes "ndn_tool")) {

@@ -1,5 +1,5 @@
--- The texts of peers are read one after another. The texts of peers spell at most one list of
--- endpoints.
+-- The texts that name the peers on a command line are read one after another. These texts spell at
+-- most one list of endpoints.
 use Rattle.std.proofs.Common.{◌≡◌, ◌≢◌, ℕ, ◌+◌, ◌<◌, ◌≤◌, List, [], ◌∷◌, ◌++◌, length, true, false, refl, sym, ap, subst, ◌∙◌, arith, below_more, length-append}
 use Rattle.std.specs.Prelude.{AllPairs, Option, None, Some, slice_index_or}
 use Rattle.std.specs.declared.net.socket_addr.SocketAddr.{SocketAddr}
@@ -18,14 +18,14 @@ some_item : (endpoints : List SocketAddr) → 0 < length endpoints → SocketAdd
 some_item [] some = absurd (omega (arith, some))
 some_item (endpoint ∷ endpoints) some = endpoint
 
--- the first `i` texts spell `endpoints`, which all differ
+-- the first `i` texts spell `endpoints` in order, and no two of these endpoints are equal
 pub record SoFar (texts : List (List ℕ)) (i : ℕ) (endpoints : List SocketAddr) : Type 0 where
   pub many : length endpoints ≡ i
   pub spelled : (k : ℕ) (d : SocketAddr) → k < i → IsEndpoint (slice_index_or texts k []) (slice_index_or endpoints k d)
   pub different : AllPairs (λ a b. a ≢ b) endpoints
 
--- if all texts together spell `endpoints`, which all differ, and there are at most `MAX_FACES`
--- texts, then `endpoints` is the valid list of endpoints for the texts
+-- if all texts together spell `endpoints` in order, no two of these endpoints are equal, and there
+-- are at most `MAX_FACES` texts, then `AreEndpoints` is true
 pub all_spelled : (texts : List (List ℕ)) (endpoints : List SocketAddr) → SoFar texts (length texts) endpoints → length texts ≤ MAX_FACES → AreEndpoints texts endpoints
 all_spelled texts endpoints so few = record {
   many = so.many;
@@ -54,8 +54,9 @@ pub same_endpoint : (text : Option (List ℕ)) (a b : SocketAddr) → Has text I
 same_endpoint None a b first second = absurd first
 same_endpoint (Some text) a b first second = one_endpoint text a b first second
 
--- Let the texts spell the list `a` and the list `b`, and `text` spell the endpoint `n` and the
--- endpoint `m`. If `a` may be the peers of `n`, then `b` may be the peers of `m`.
+-- Let the texts spell the list `a` and also the list `b`. Let `text` spell the endpoint `n` and
+-- also the endpoint `m`. If a node that listens on `n` may have the peers `a`, then a node that
+-- listens on `m` may have the peers `b`.
 pub same_suit : (texts : List (List ℕ)) (text : Option (List ℕ)) (a b held : List SocketAddr) (n m : SocketAddr) → AreEndpoints texts a → AreEndpoints texts b → held ≡ b → Has text IsEndpoint n
     → Has text IsEndpoint m → MayBePeersOf n a → MayBePeersOf m held
 same_suit texts text a b held n m first second holds heard spelled may =
@@ -71,8 +72,8 @@ module _ (texts : List (List ℕ)) (i : ℕ) (text : List ℕ) (is : (d : List �
   pub endpoint_at : (endpoints : List SocketAddr) → AreEndpoints texts endpoints → (e : SocketAddr) × IsEndpoint text e
   endpoint_at endpoints are = let d = some_item endpoints (omega (arith, are.many, inside)) in (slice_index_or endpoints i d, subst (λ t. IsEndpoint t (slice_index_or endpoints i d)) (is []) (spelled_at texts endpoints are i d inside))
 
-  -- If `text` spells the endpoint `e`, and one of the `i` texts before it also spells `e`, then
-  -- the texts do not spell a valid list of endpoints.
+  -- If `text` spells the endpoint `e`, and one of the first `i` texts also spells `e`, then the
+  -- texts do not spell a valid list of endpoints.
   pub twice : (e : SocketAddr) (so_far : List SocketAddr) → SoFar texts i so_far → IsEndpoint text e
       → (k : ℕ) × (k < length so_far) × ((d : SocketAddr) → (socket.ghosts).eq (slice_index_or so_far k d) e ≡ true)
       → (endpoints : List SocketAddr) → AreEndpoints texts endpoints → ⊥

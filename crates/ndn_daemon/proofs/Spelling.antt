@@ -60,7 +60,7 @@ module _ {A B : Type 0} (Part : A → Type 0) (Whole : B → Type 0) (part : (y 
   wrong_in_memory fault.Unreceived h = h
   wrong_in_memory (fault.Journal why) h = h
 
--- if a text spells no value, then a fault `BadValue` is a correct fault for it
+-- if a text spells no value, then every fault `BadValue` is correct for this text
 
 pub bad_value_wrong : {A : Type 0} (Spell : A → Type 0) → ((x : A) → Spell x → ⊥) → (why : Fault) → IsBadValue why → IsWrong Spell why
 bad_value_wrong Spell none (fault.CommandLine error) h = h

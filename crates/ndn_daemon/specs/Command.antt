@@ -32,7 +32,8 @@ IsRequest name rows (Udp node options) =
 IsRequest name rows (Shorten options) =
     (name ≡ codes "journal") × IsShorteningOptions rows options
 
--- the request asks for help, or it runs a subcommand with its options
+-- the request asks for the help or the version, or it is the request of some subcommand with some
+-- options
 abbrev pub IsAsked : Request → Type 0
 IsAsked (Help error) = ⊤
 IsAsked (RunScript node) =
@@ -50,7 +51,7 @@ IsFaultOfWords (BadValue place wanted) = ⊤
 IsFaultOfWords (Script Memory) = ⊤
 IsFaultOfWords why = ⊥
 
--- if the request is for a node on a port, it has at most 64 peers
+-- if the request is for a node on a port, this node has at most 64 peers
 abbrev pub HasFewPeers : Request → Type 0
 HasFewPeers (Help error) = ⊤
 HasFewPeers (RunScript node) = ⊤

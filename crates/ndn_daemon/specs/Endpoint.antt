@@ -16,8 +16,8 @@ abbrev pub IsLocalhost : SocketAddr → Type 0
 IsLocalhost endpoint =
     MatchIp (socket_ip endpoint) (λ ip. ipv4_octets ip ≡ 127 ∷ 0 ∷ 0 ∷ 1 ∷ []) (λ ip. ⊥)
 
--- The text spells an endpoint: an address with a port, or a port alone. A port alone means that
--- port of 127.0.0.1. Port 0 is not allowed.
+-- The text spells an endpoint: an address with a port, or a port alone. A port alone stands for
+-- this port of the address 127.0.0.1. Port 0 is not allowed.
 abbrev pub IsEndpoint : List ℕ → SocketAddr → Type 0
 IsEndpoint text endpoint =
     (IsPort text (socket_port endpoint) × IsLocalhost endpoint)

@@ -12,19 +12,19 @@ use Rattle.ndn_log.specs.declared.entry.Came.TheVariants.{Packet, Opened, Closed
 abbrev pub is_left_out : Bool → Came → Result Verdict Memory → Bool
 is_left_out shows_all came outcome = not shows_all && is_plain came outcome
 
--- either the line with this time and these words was appended, or nothing was
+-- either a line with this time and these words was appended, or nothing was appended
 abbrev pub MayLog : List ℕ → List ℕ → ℕ → List ℕ → Type 0
 MayLog old new moment words = IsLogged old new moment words ⊎ (new ≡ old)
 
--- The number of closed faces that have no line in the log, after this event. `count` is this number
--- before the event. If `left_out` is true, the event is left out of the log.
+-- The number of closed faces that are not yet reported in the log, after this event. `count` is the
+-- number before the event. If `left_out` is true, the log leaves out the event.
 abbrev pub closed_with : Bool → Came → ℕ → ℕ
 closed_with true (Closed face) count = one_more count
 closed_with left_out came count = count
 
--- Either the count was not 0, a line with these words was appended, and the count is 0 afterwards;
--- or nothing was appended, and the count is unchanged. `count` is the count before, and `left` is
--- the count afterwards.
+-- One of two cases is true. In the first case, the count was not 0, a line with these words was
+-- appended, and the count is 0 afterwards. In the second case, nothing was appended, and the count
+-- is unchanged. `count` is the count before, and `left` is the count afterwards.
 abbrev pub SaysCount : List ℕ → List ℕ → ℕ → List ℕ → ℕ → ℕ → Type 0
 SaysCount old new moment words count left =
     ((0 < count) × IsLogged old new moment words × (left ≡ 0)) ⊎ ((new ≡ old) × (left ≡ count))

@@ -10,12 +10,12 @@ use Rattle.node_core.specs.declared.script.RunFault.TheVariants.{Memory}
 use Rattle.ndn_daemon.specs.declared.fault.Fault.{Fault}
 use Rattle.ndn_daemon.specs.declared.fault.Fault.TheVariants.{Rules, Keys, LargeKeys, Unread, Script}
 
--- the fault is one of a rule file with these octets, or reports that memory ran out
+-- the fault is a fault of a rule file with these octets, or it reports that memory ran out
 abbrev pub IsRuleFault : List ℕ → Fault → Type 0
 IsRuleFault octets (Rules why) = IsFaultOfRules octets why
 IsRuleFault octets why = ⊥
 
--- the fault is one of a key file with these octets, or reports that memory ran out
+-- the fault is a fault of a key file with these octets, or it reports that memory ran out
 abbrev pub IsKeyFault : List ℕ → Fault → Type 0
 IsKeyFault octets (Keys why) = IsFaultOfOctets octets why
 IsKeyFault octets why = ⊥
@@ -33,8 +33,8 @@ abbrev pub HasCause : ErrorKind → Fault → Type 0
 HasCause kind (Unread file path cause) = cause ≡ kind
 HasCause kind why = ⊤
 
--- the fault of a rule file: it has more than 65,536 octets, or its octets have a fault, or it
--- cannot be read, or memory ran out
+-- the fault of a rule file: the file has more than 65,536 octets, or the octets of the file have a
+-- fault, or the file cannot be read, or memory ran out
 abbrev pub IsRuleFileFault : List ℕ → List ℕ → Fault → Type 0
 IsRuleFileFault path octets why =
     ((65536 < length octets) × (why ≡ Rules (record { line = 0; kind = TooLarge })))
@@ -45,8 +45,8 @@ IsRuleFileFault path octets why =
 abbrev pub AreKeysOfFile : List ℕ → List NamedKey → Type 0
 AreKeysOfFile octets keys = (length octets ≤ MAX_KEY_FILE) × AreKeys octets keys
 
--- the fault of a key file: it has more than 8,388,608 octets, or its octets have a fault, or it
--- cannot be read, or memory ran out
+-- the fault of a key file: the file has more than 8,388,608 octets, or the octets of the file have
+-- a fault, or the file cannot be read, or memory ran out
 abbrev pub IsKeyFileFault : List ℕ → List ℕ → Fault → Type 0
 IsKeyFileFault path octets why =
     ((MAX_KEY_FILE < length octets) × (why ≡ LargeKeys))

@@ -31,7 +31,8 @@ turn_text number rules Refused sends =
 turn_text number rules Unwritten sends = []
 turn_text number rules End sends = []
 
--- `events` events had outcomes, and `text` is the text that a script prints for them
+-- a number `events` of events arrived and had outcomes, and `text` is the text that a script prints
+-- for these outcomes
 pub record Tells (old new : NodeState) (before after : Shown) (events : ℕ) (text : List ℕ)
     : Type 0 where
   pub refused : ℕ

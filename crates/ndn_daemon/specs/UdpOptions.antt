@@ -20,12 +20,12 @@ values_or_none (Some values) = values
 abbrev pub values_at : List Row → List ℕ → List (List ℕ)
 values_at rows id = values_or_none (all_of id rows)
 
--- the value that the parser gives a flag
+-- the value that the parser gives to a flag
 abbrev pub flag_at : List Row → List ℕ → Option (List ℕ)
 flag_at rows id = one_of id rows
 
--- `b` is true if the parser gives the flag the value "true", and false if the parser gives it the
--- value "false" or no value
+-- `b` is true if the parser gives the value "true" to the flag, and false if the parser gives the
+-- value "false" or no value to the flag
 abbrev pub IsFlag : Option (List ℕ) → Bool → Type 0
 IsFlag said b =
     (said ≡ Some (codes "true") → b ≡ true)
@@ -74,10 +74,10 @@ pub record IsUdpOptions (rows : List Row) (options : UdpOptions) : Type 0 where
   pub journal : MayBePath (value_at rows (codes "journal")) options.journal
   pub quiet : IsFlag (flag_at rows (codes "quiet")) options.quiet
 
--- The ports for these options, where `told` is the time that their clock returned most recently. No
--- peer's face is opened yet, and the faces of other endpoints close after the idle time. Endpoints
--- that are not peers are accepted exactly if `--open` is given or the address to listen on is a
--- loopback address.
+-- The ports for these options. `told` is the time that the clock of the ports returned most
+-- recently. No peer's face is opened yet, and the faces of other endpoints close after the idle
+-- time. Endpoints that are not peers are accepted exactly if `--open` is given or the address to
+-- listen on is a loopback address.
 pub record ArePortsOf (options : UdpOptions) (told : ℕ) (ports : UdpState) : Type 0 where
   pub is_open : IsTrue ports.accepts_strangers ↔ (IsTrue options.«open» ⊎ IsLoopback options.listen)
   pub is : ports ≡ record (closes_after (options.idle * 1000)

@@ -38,7 +38,8 @@ impl<'a> DiskJournal<'a> {
         }
     }
 
-    /// Opens and locks an existing journal at this path, to be read and replaced.
+    /// Opens and locks an existing journal at this path, so that the journal can be read and
+    /// replaced.
     pub fn open_existing<R: AllocGlobal + Files<File = File>>(
         rt: &R,
         path: &'a str,
@@ -69,7 +70,7 @@ impl<'a> DiskJournal<'a> {
         match put_in_place(rt, &beside, self.path, octets) {
             Ok(()) => Ok(()),
             Err(_) => {
-                // The file beside the journal is removed, since it may contain keys.
+                // The file at the path `beside` is removed, since this file may contain keys.
                 let _removed = fs::remove_file(rt, &beside);
                 Err(Fault::Journal(JournalFault::Unshortened))
             }

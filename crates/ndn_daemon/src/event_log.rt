@@ -25,7 +25,7 @@ const COUNT_MILLISECONDS: u64 = 60_000;
 
 /// A destination for the lines of a log.
 pub trait LogSink: Drop {
-    // The lines that the sink was given, or `None` if they are not known.
+    // The lines that were given to the sink, or `None` if these lines are not known.
     ghost given: { Self → Option (List ℕ) };
 
     /// Writes whole lines. Lines that cannot be written are lost without a fault.
@@ -79,7 +79,8 @@ pub struct EventLog<S: LogSink> {
 }
 
 impl<S: LogSink> EventLog<S> {
-    /// Returns a log without lines. If `shows_all` is not set, the log leaves out plain events.
+    /// Returns a log without lines. If `shows_all` is false, the log leaves out plain events
+    /// (`ndn_log::is_plain`).
     pub fn new(alloc: Global, sink: S, shows_all: bool) -> EventLog<S>
         ensures text { result.text.items ≡ [] }
         ensures later { result.later.items ≡ [] }

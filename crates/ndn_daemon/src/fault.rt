@@ -16,7 +16,7 @@ pub enum Fault {
     CommandLine(clap::Error),
     /// The value of an option is not allowed.
     BadValue {
-        /// The option, as written on the command line.
+        /// The option, such as `--cache`, or the name `PEERS` of the argument for peers.
         place: &'static str,
         /// The values that are allowed.
         wanted: &'static str,
@@ -38,7 +38,8 @@ pub enum Fault {
     Keys(KeyFault),
     /// The key file has more octets than allowed.
     LargeKeys,
-    /// The script could not be run to its end, or a node could not be created.
+    /// The script could not be run to its end, a node could not be created, standard output could
+    /// not be written, or memory ran out.
     Script(RunFault),
     /// This address and port cannot be bound.
     Unbound {
@@ -56,14 +57,15 @@ pub enum Fault {
 pub enum JournalFault {
     /// Another program holds the lock of the journal, or has just replaced the journal.
     Locked,
-    /// The line with this number, counted from 1, is not a line of a script.
+    /// The line with this number, counted from 1, is not in the format of a script, which is the
+    /// format of a journal.
     BadLine(u64),
     /// An event cannot be written to the journal.
     Unwritten,
     /// The rule file and the key file together are too long for one line of the journal.
     LongRules,
     /// A node whose repository has the given prefix does not write the line with this number,
-    /// counted from 1.
+    /// counted from 1, to its journal.
     NotJournalled(u64),
     /// The journal has too many lines to be shortened.
     ManyLines,

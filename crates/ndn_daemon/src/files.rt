@@ -57,7 +57,7 @@ pub fn read_rule_file<R: Read + Drop>(
 }
 
 /// Reads an open key file, and returns its keys and its octets. `path` is the path of the file. A
-/// file of more than `MAX_KEY_FILE` octets is too large, whatever its content.
+/// file of more than `MAX_KEY_FILE` octets has the fault `LargeKeys`, whatever its content.
 pub fn read_key_file<R: Read + Drop>(
     alloc: Global,
     path: &str,
@@ -102,7 +102,7 @@ pub fn unread_journal(alloc: Global, path: &str, error: &io::Error) -> Fault
     unread(alloc, "journal", path, error.kind())
 }
 
-/// Returns the fault of a file that cannot be opened or read for this reason.
+/// Returns the fault of a file that cannot be opened or read. `kind` is the cause.
 fn unread(alloc: Global, file: &'static str, path: &str, kind: ErrorKind) -> Fault
     ensures file { IsUnread file.now path.now result }
     ensures cause { HasCause kind result }

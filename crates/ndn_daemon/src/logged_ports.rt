@@ -60,8 +60,8 @@ enum Seen {
 pub struct LoggedPorts<P: Ports + HasEndpoints + Drop, S: LogSink> {
     ports: P,
     log: EventLog<S>,
-    // `seen` is the last arrival until its outcome is logged. `moment` is the time of the last
-    // arrival.
+    // `seen` holds the last arrival until the outcome of this arrival is logged. `moment` is the
+    // time of the last arrival.
     seen: Option<Seen>,
     moment: u64,
     // `opened` is the face of the last `FaceUp` arrival, and `endpoint` is the endpoint of that

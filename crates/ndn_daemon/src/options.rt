@@ -12,7 +12,7 @@ use std::alloc::Global;
 /// The options of a node.
 #[derive(Debug, Drop)]
 pub struct Options {
-    /// The path of the rule file. Without a rule file, nothing is allowed.
+    /// The path of the rule file. Without a rule file, no command and no Data is allowed.
     pub rules: Option<String>,
     /// The path of the key file. Without a key file, there are no keys.
     pub keys: Option<String>,
@@ -65,7 +65,7 @@ pub fn value<'a>(found: &ArgMatches<'a>, id: &str) -> Option<&'a str>
     found.get_str(id)
 }
 
-/// Returns a copy of the path, if one is given.
+/// Returns a copy of the path, or `None` if no path is given.
 pub fn path_of(alloc: Global, path: Option<&str>) -> Result<Option<String>, Fault>
     ensures { ReadsInMemory (MayBePath (option_map (λ path. path.now) path.entry)) result }
 {
@@ -105,7 +105,7 @@ fn repo_of(alloc: Global, uri: &str) -> Result<NameBuf, Fault>
 fn cache_of(digits: &str) -> Result<u32, Fault>
     ensures { Reads (IsCapacity digits.now) result }
 {
-    // `parse` would accept a sign.
+    // `parse` would accept a plus sign before the digits.
     if !digits.starts_with('+')
         && let Ok(capacity) = digits.parse::<u32>()
     {

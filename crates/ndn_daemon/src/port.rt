@@ -57,7 +57,8 @@ impl<'a, R: Clock> MachineClock<'a, R> {
 impl<'a, R: Clock> Moments for MachineClock<'a, R> {
     ghost last = { λ clock. clock.last };
 
-    // If the clock cannot be read, the last time is returned again.
+    // If the clock gives no time, the time of the last successful reading is returned again, or 0
+    // if no reading was successful.
     fn now(&mut self) -> u64 {
         if let Some(now) = milliseconds(self.rt) {
             self.last = now;
@@ -76,7 +77,7 @@ fn milliseconds<R: Clock>(rt: &R) -> Option<u64> {
 
 /// Runs a node on its port for the requested number of turns. The answers are written to standard
 /// output unless the node is quiet. The log, if there is one, is written to standard error. The
-/// node's rules and keys are replaced whenever their source has new ones. Invalid `parts` are
+/// node's rules and keys are replaced whenever `source` has new rules and keys. Invalid `parts` are
 /// reported before the port is bound. With a journal, the node starts with the state that the
 /// journal restores, and with the source's rules and keys. The source's rules and keys are
 /// journalled if they differ from the last rules and keys in the journal.
@@ -206,8 +207,8 @@ fn restart_of<R: AllocGlobal + Eprint, J: StoredJournal, S: RuleSource>(
     })
 }
 
-/// Reports on standard error that a crash cut the last line short to `cut` octets, and that the
-/// line is removed. Reports nothing if `cut` is 0.
+/// Reports on standard error that a crash cut the last line of the journal short to `cut` octets,
+/// and that this line is removed. Reports nothing if `cut` is 0.
 fn report_cut<R: Eprint>(rt: &R, cut: u64) {
     if cut > 0 {
         // The line is already removed, so a failure to write to standard error is ignored.
@@ -539,7 +540,7 @@ fn put_turn(
         (text.new.items ≡ text.old.items ++ turn_text number rules.now turn.now outbox.now) }
     ensures err { OnErr result (text.new.items ≡ text.old.items) }
     ensures fault { IfErr result (λ fault. fault ≡ Fault.Script RunFault.Memory) }
-    // If the spare capacity is enough, memory does not run out.
+    // If the spare capacity of `text` is enough, memory does not run out.
     ensures room { vec_len text.old + length (turn_text number rules.now turn.now outbox.now)
         ≤ vec_capacity text.old → IsOk result }
 {

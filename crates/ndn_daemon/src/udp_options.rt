@@ -16,7 +16,7 @@ use std::net::{IpAddr, Ipv4Addr, SocketAddr};
 pub enum LogLevel {
     /// No events.
     None,
-    /// All events except plain ones, as `ndn_log::is_plain` defines them.
+    /// All events except plain events (`ndn_log::is_plain`).
     Events,
     /// Every event.
     All,
@@ -252,7 +252,7 @@ fn log_of(level: Option<&str>) -> Result<LogLevel, Fault>
     }
 }
 
-/// Reads an address and a port. A port alone means that port of 127.0.0.1.
+/// Reads an address and a port. A port alone stands for this port of the address 127.0.0.1.
 fn endpoint_of(place: &'static str, text: &str) -> Result<SocketAddr, Fault>
     ensures { Reads (IsEndpoint text.now) result }
 {
@@ -272,7 +272,7 @@ fn endpoint_of(place: &'static str, text: &str) -> Result<SocketAddr, Fault>
 fn port_of(digits: &str) -> Option<u16>
     ensures { MatchOption result ((n : ℕ) → IsPort digits.now n → ⊥) (IsPort digits.now) }
 {
-    // `parse` would accept a sign.
+    // `parse` would accept a plus sign before the digits.
     if !digits.starts_with('+')
         && let Ok(port) = digits.parse::<u16>()
         && port > 0

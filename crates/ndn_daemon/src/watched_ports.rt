@@ -92,7 +92,8 @@ impl<P: Ports + Drop, S: RuleSource> WatchedPorts<P, S> {
         Some(Arrival::FaceDown { face, now })
     }
 
-    /// Returns new rules and keys, if the source may be checked again at `now` and has new ones.
+    /// Returns new rules and keys, if the source may be checked again at `now` and has new rules
+    /// and keys.
     fn renewed(&mut self, now: u64) -> Option<Renewal>
         ensures { self.new.ports ≡ self.old.ports }
     {
@@ -115,8 +116,8 @@ impl<P: Ports + Drop, S: RuleSource> WatchedPorts<P, S> {
         self.held = Some(arrival);
     }
 
-    /// Returns new rules and keys, if the source has them, and stores the arrival for the next
-    /// turn. If the source has nothing new, returns the arrival.
+    /// If the source has new rules and keys, returns them and stores the arrival for the next turn.
+    /// Otherwise returns the arrival.
     fn renewed_first(&mut self, arrival: Arrival, buffer: &[u8]) -> Arrival
         requires { LiesWithin (length buffer.now) arrival }
         ensures ports { self.new.ports ≡ self.old.ports }
@@ -212,7 +213,7 @@ impl<P: Ports + HasEndpoints + Drop, S: RuleSource> HasEndpoints for WatchedPort
     }
 }
 
-/// Returns the time of an arrival, or `None` at the end.
+/// Returns the time of an arrival, or `None` for the arrival `End`.
 pub fn moment_of(arrival: &Arrival) -> Option<u64> {
     match arrival {
         Arrival::End => None,

@@ -53,8 +53,8 @@ pub record AreLabels (l : Labels) (texts : Texts) : Type 0 where
 
 -- ---- entries
 
--- the short name of the strategy with this URI: the last component of the URI for the two
--- strategies of this profile, and the whole URI for any other strategy
+-- the short name of the strategy with this URI: the last component of the URI for the strategies
+-- best-route and multicast, and the whole URI for any other strategy
 abbrev pub short_strategy : List ℕ → List ℕ
 short_strategy uri =
     if bytes_eq uri (codes "/localhost/nfd/strategy/best-route") then codes "best-route" else (

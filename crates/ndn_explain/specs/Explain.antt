@@ -52,7 +52,7 @@ content_lines None = []
 content_lines (Some content) =
     reply_lines content ++ (dataset_lines Lines content ++ text_lines content)
 
--- the lines for the segment number and the Content of a Data, given its octets
+-- the lines for the segment number and the Content of the Data `d`, whose octets are `whole`
 abbrev pub data_meaning : List ℕ → PlainData → List ℕ
 data_meaning whole d = segment_lines d.name whole ++ content_lines d.content
 
@@ -70,8 +70,8 @@ reason_word reason =
     if reason == DUPLICATE then codes " Duplicate" else (
     if reason == NO_ROUTE then codes " NoRoute" else []))
 
--- the lines of `show`; for a Nack, the name of the reason, if it has one, follows the number of the
--- reason
+-- the lines of `show`; for a Nack, the number of the reason is followed by the name of the reason,
+-- if the reason has a name
 abbrev pub named_frame_lines : PlainFrame → List ℕ
 named_frame_lines (AnInterest whole i) = frame_lines (AnInterest whole i)
 named_frame_lines (AData whole d) = frame_lines (AData whole d)

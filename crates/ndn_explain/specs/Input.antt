@@ -44,8 +44,9 @@ IsExplainedPacket keys octets said =
     × (said ≡ named_line (codes "malformed") (packet_name why)))
 
 -- The text `said` that is printed for the line `text`. `head` is the text before the hexadecimal
--- digits of the line. If the digits encode at least one octet, `said` is `head` as a line, and then
--- the explanation of the octets. Otherwise `said` is the line itself, or nothing for an empty line.
+-- digits of the line. If the digits encode at least one octet, `said` consists of `head` as a line
+-- of its own, unless `head` is empty, followed by the explanation of the octets. Otherwise `said`
+-- is the line itself, or nothing for an empty line.
 abbrev pub IsExplainedPart : Option (List NamedKey) → List ℕ → List ℕ
     → Result (List ℕ) FromHexError → List ℕ → Type 0
 IsExplainedPart keys text head (Err why) said = said ≡ repeated text

@@ -46,8 +46,8 @@ words_of_flags true false = codes "child-inherit"
 words_of_flags false true = codes "capture"
 words_of_flags true true = codes "child-inherit capture"
 
--- the words for the flags of a route: the value 1 is child-inherit, the value 2 is capture, and
--- other bits have no effect
+-- the words for the flags of a route: the bit of value 1 is child-inherit, the bit of value 2 is
+-- capture, and other bits have no effect
 abbrev pub flags_word : ℕ → List ℕ
 flags_word flags = words_of_flags (flags % 2 == 1) (flags / 2 % 2 == 1)
 
@@ -77,7 +77,7 @@ hop_lines es =
     field_line (codes "face") Number FACE_ID es
     ++ field_line (codes "cost") Number COST es
 
--- the lines of a registered route
+-- the lines of the fields that only a registered route has: origin, flags and expiration period
 abbrev pub route_lines : Elements → List ℕ
 route_lines es =
     field_line (codes "origin") Number ORIGIN es

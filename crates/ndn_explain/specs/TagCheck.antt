@@ -46,13 +46,13 @@ IsKindCheck s book octets check =
     × IsLocatorCheck s.info.locator book s.value octets check)
     ⊎ ((s.info.kind ≢ DIGEST_SHA256) × (s.info.kind ≢ HMAC_WITH_SHA256) × (check ≡ Unchecked)))
 
--- the result of checking a signature over the covered octets, which is `Unchecked` if there are no
--- covered octets
+-- the result of checking a signature over the covered octets; the result is `Unchecked` if there
+-- are no covered octets
 abbrev pub IsPartsCheck : PlainSignature → List NamedKey → Option (List ℕ) → TagCheck → Type 0
 IsPartsCheck s book None check = check ≡ Unchecked
 IsPartsCheck s book (Some octets) check = IsKindCheck s book octets check
 
--- the octets that a packet's signature covers, or `None` if it covers none
+-- the octets that a packet's signature covers, or `None` if the signature covers no octets
 abbrev pub AreCovered : PlainFrame → Option (List ℕ) → Type 0
 AreCovered packet None = (first second : List ℕ) → Covered packet first second → ⊥
 AreCovered packet (Some octets) =

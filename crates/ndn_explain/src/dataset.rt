@@ -31,9 +31,9 @@ struct Labels {
     strategy: &'static str,
 }
 
-/// Appends the lines of all entries in a Content, or nothing if the Content has no entries. Octets
-/// from the first malformed element on are ignored. On `Memory`, some of the lines may have been
-/// appended.
+/// Appends the lines of all entries in a Content, or nothing if the Content has no entries. The
+/// first malformed element and all octets after it are ignored. On `Memory`, some of the lines may
+/// have been appended.
 pub fn put_entries(
     alloc: Global,
     text: &mut Vec<u8>,
@@ -108,8 +108,8 @@ fn put_choice(
     Ok(())
 }
 
-/// Returns the word `best-route` or `multicast` for the URI of that strategy, or the unchanged URI
-/// of any other strategy.
+/// Returns the last component of the URI for the strategies `best-route` and `multicast`, and the
+/// unchanged URI for any other strategy.
 fn short_strategy(uri: &[u8]) -> &[u8]
     ensures { result.now ≡ short_strategy uri.now }
 {

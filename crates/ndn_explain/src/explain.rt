@@ -22,7 +22,7 @@ use ndn_tlv::Memory;
 use std::alloc::Global;
 use std::io::Write;
 
-/// Checks the signature of a packet, if it is signed and keys are given.
+/// Checks the signature of a packet, if the packet is signed and keys are given.
 pub fn check_of(frame: &Frame<'_>, keys: Option<&KeyBook>) -> Option<TagCheck>
     ensures { MayBeChecked (plain_frame frame.now) (option_map (λ b. b.now) keys.entry) result }
 {
@@ -145,7 +145,8 @@ fn put_data_meaning(alloc: Global, text: &mut Vec<u8>, packet: &Data<'_>) -> Res
     }
 }
 
-/// Appends the lines of a Content that is a reply, the entries of a dataset, or a text.
+/// Appends the lines of a Content: those of a reply, of the entries of a dataset, or of a text.
+/// Appends nothing for any other Content.
 pub fn put_content(alloc: Global, text: &mut Vec<u8>, content: &[u8]) -> Result<(), Memory>
     ensures { OnOk result (text.new.items
         ≡ text.old.items ++ content_lines (Some content.now)) }

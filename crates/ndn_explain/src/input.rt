@@ -18,8 +18,8 @@ use std::alloc::Global;
 /// Explains a text line by line and appends the result. A packet is replaced by its explanation,
 /// and the text before the packet becomes a separate line. A line without a packet stays as it is,
 /// and empty lines are omitted. A packet is one or more octets in hexadecimal, either alone on a
-/// line or after the last space of a line that begins with `>`. The packet's signature is checked
-/// if there are keys. On `Memory`, some of the lines may have been appended.
+/// line or after the last space of a line that begins with `>`. The signature of each packet is
+/// checked if there are keys. On `Memory`, some of the lines may have been appended.
 pub fn put_input(
     alloc: Global,
     text: &mut Vec<u8>,

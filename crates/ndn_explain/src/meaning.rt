@@ -54,7 +54,8 @@ pub fn put_command(alloc: Global, text: &mut Vec<u8>, name: Name<'_>) -> Result<
     put_fields(alloc, text, fields)
 }
 
-/// Returns the fields of a command with this name, or `None` if the name is not that of a command.
+/// Returns the fields in the parameters of a command with this name, or `None` if the name is not
+/// that of a command.
 pub fn parameters_in<'a>(name: Name<'a>) -> Option<&'a [u8]>
     ensures { option_map (λ v. v.now) result ≡ parameters_in (components name.entry) }
 {
@@ -163,7 +164,7 @@ fn put_fields(alloc: Global, text: &mut Vec<u8>, fields: &[u8]) -> Result<(), Me
     put_wanted(alloc, text, fields)
 }
 
-/// Appends the lines of a next hop.
+/// Appends the lines of the face and the cost, if these fields are present.
 fn put_hop(alloc: Global, text: &mut Vec<u8>, fields: &[u8]) -> Result<(), Memory>
     ensures { OnOk result (text.new.items ≡ text.old.items ++ hop_lines (elements_of fields.now)) }
 {
@@ -171,7 +172,8 @@ fn put_hop(alloc: Global, text: &mut Vec<u8>, fields: &[u8]) -> Result<(), Memor
     put_field(alloc, text, "cost", Form::Number, fields, COST)
 }
 
-/// Appends the lines of a registered route.
+/// Appends the lines of the fields that only a registered route has, if they are present: origin,
+/// flags and expiration period.
 fn put_route(alloc: Global, text: &mut Vec<u8>, fields: &[u8]) -> Result<(), Memory>
     ensures { OnOk result (text.new.items
         ≡ text.old.items ++ route_lines (elements_of fields.now)) }
@@ -188,8 +190,8 @@ fn put_route(alloc: Global, text: &mut Vec<u8>, fields: &[u8]) -> Result<(), Mem
     )
 }
 
-/// Appends the lines of the fields that only a repository's command has: CanBePrefix and
-/// InterestLifetime.
+/// Appends the lines of the fields that only a repository's command has, if they are present:
+/// CanBePrefix and InterestLifetime.
 fn put_wanted(alloc: Global, text: &mut Vec<u8>, fields: &[u8]) -> Result<(), Memory>
     ensures { OnOk result (text.new.items
         ≡ text.old.items ++ wanted_lines (elements_of fields.now)) }

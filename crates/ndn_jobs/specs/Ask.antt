@@ -15,7 +15,7 @@ use Rattle.ndn_jobs.specs.Options.{value_at, flag_at, Has, MayHave, HasOr, IsFla
 use Rattle.ndn_jobs.specs.Nonce.{nonce_of}
 
 -- an Interest without a hop limit, parameters or a signature; if no Nonce is given, the Nonce is
--- computed from the time and the words
+-- computed from the time and the words of the command line
 pub record IsPlainInterest (now : ℕ) (words : List ℕ) (rows : List Row) (i : InterestJob)
     : Type 0 where
   pub nonce : HasOr (nonce_of now words) (value_at rows (codes "nonce")) IsNonce i.nonce

@@ -8,7 +8,8 @@ use Rattle.ndn_jobs.specs.declared.fault.Usage.TheVariants.{CommandLine, BadValu
 use Rattle.ndn_jobs.specs.declared.fault.ToolFault.{ToolFault}
 use Rattle.ndn_jobs.specs.declared.fault.ToolFault.TheVariants as tool
 
--- the fault of a packet that cannot be written: it has a bad name or is too long, or memory ran out
+-- the fault if a packet cannot be written, because the packet has a bad name, the packet is too
+-- long, or memory ran out
 abbrev pub fault_of_write : WriteFault → ToolFault
 fault_of_write BadName = tool.Write BadName
 fault_of_write TooLong = tool.Write TooLong
@@ -28,7 +29,8 @@ tool_status tool.Memory = 3
 abbrev pub out_of_memory : List ℕ
 out_of_memory = codes "error: out of memory\n"
 
--- the message for a bad value; the message for any other wrong command line is the parser's
+-- the message for a bad value; None for any other wrong command line, since the parser makes the
+-- message
 abbrev pub usage_text : Usage → Option (List ℕ)
 usage_text (CommandLine error) = None
 usage_text (BadValue place wanted) =

@@ -41,7 +41,8 @@ pub record AreRepositoryParameters (rows : List Row) (p : Parameters) : Type 0 w
   pub can_be_prefix : IsFlag (flag_at rows (codes "can-be-prefix")) p.can_be_prefix
   pub lifetime : MayHave (value_at rows (codes "lifetime")) IsNumber p.lifetime
 
--- the command that the options of `repo` ask for, at this time and with these words
+-- the command that the options of `repo` ask for, at the time `now`; `words` are the words of the
+-- command line
 pub record IsRepositoryJob (now : ℕ) (words : List ℕ) (rows : List Row) (job : CommandJob)
     : Type 0 where
   pub name : IsRepositoryName rows job.name

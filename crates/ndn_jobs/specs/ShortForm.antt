@@ -21,7 +21,7 @@ use Rattle.ndn_jobs.specs.Nonce.{nonce_of}
 abbrev pub words_are : List ℕ → List ℕ → List ℕ → List ℕ → Bool
 words_are subcommand verb first second = bytes_eq subcommand first && bytes_eq verb second
 
--- whether the subcommand and the verb name the action
+-- whether the subcommand and the verb stand for the action
 abbrev pub is_named : List ℕ → List ℕ → Action → Bool
 is_named subcommand verb AddNexthop = words_are subcommand verb (codes "route") (codes "add")
 is_named subcommand verb RemoveNexthop = words_are subcommand verb (codes "route") (codes "remove")
@@ -36,7 +36,7 @@ is_named subcommand verb EraseCache = words_are subcommand verb (codes "cache") 
 abbrev pub action_of : List ℕ → List ℕ → Option Action
 action_of subcommand verb = find (is_named subcommand verb) actions
 
--- the verb of the subcommand names this action
+-- the subcommand and the verb stand for this action
 abbrev pub IsVerb : List ℕ → List ℕ → Action → Type 0
 IsVerb subcommand verb action = action_of subcommand verb ≡ Some action
 
@@ -56,7 +56,7 @@ fits_route action rows =
     && may_give action EXPIRATION_PERIOD (value_at rows (codes "expires"))
 
 -- whether the options suit the verb: the verb allows all options that are given, and all options
--- that it requires are given
+-- that the verb requires are given
 abbrev pub fits : Action → List Row → Bool
 fits AddNexthop rows = fits_route AddNexthop rows
 fits RemoveNexthop rows = fits_route RemoveNexthop rows
@@ -81,7 +81,7 @@ pub record AreShortParameters (rows : List Row) (p : Parameters) : Type 0 where
   pub lifetime : p.lifetime ≡ None
 
 -- the stamp of a short form: if no time is given, the time is `now`; if no Nonce is given, the
--- Nonce is computed from the time and the words
+-- Nonce is computed from the time and the words of the command line
 pub record IsShortStamp (now : ℕ) (words : List ℕ) (rows : List Row) (stamp : Stamp)
     : Type 0 where
   pub time : HasOr now (value_at rows (codes "time")) IsNumber stamp.time

@@ -40,8 +40,9 @@ impl ToolFault {
     ghost use Rattle.std.specs.Prelude.{◌≡◌};
     ghost use Rattle.ndn_jobs.specs.Fault.{tool_status};
 
-    /// Returns the exit status: 1 for a missing key, a packet that cannot be written or octets that
-    /// are not a packet, 2 for a wrong command line or a wrong standard input, 3 if memory ran out.
+    /// Returns the exit status. The status is 1 for a missing key, a packet that cannot be written,
+    /// or octets that are not a packet. The status is 2 for a wrong command line or a wrong
+    /// standard input. The status is 3 if memory ran out.
     pub fn exit_status(&self) -> u8
         ensures { result ≡ tool_status self.now }
     {

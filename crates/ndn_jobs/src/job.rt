@@ -48,7 +48,7 @@ pub enum Job {
 pub struct Ports {
     /// The port that the packet is sent to. `None` means that the packet is printed.
     pub to: Option<u16>,
-    /// The port that the packet is sent from. `None` means that a new port is used.
+    /// The port that the packet is sent from. `None` means that the system chooses a port.
     pub from: Option<u16>,
 }
 
@@ -83,7 +83,7 @@ pub struct InterestJob {
     pub key: KeyChoice,
 }
 
-/// An Interest to write, and the PIT token that goes with it.
+/// An Interest to write, and its PIT token, if one is given.
 #[derive(Drop)]
 pub struct LinkJob {
     pub interest: InterestJob,
@@ -153,7 +153,7 @@ pub struct SendJob {
     pub packet: Option<Vec<u8>>,
     /// The port of 127.0.0.1 that the packet is sent to.
     pub to: u16,
-    /// The port that the packet is sent from. `None` means that a new port is used.
+    /// The port that the packet is sent from. `None` means that the system chooses a port.
     pub from: Option<u16>,
 }
 
@@ -256,9 +256,9 @@ impl CommandJob {
         })
     }
 
-    /// Returns the command that a short form asks for: the subcommand with this name and these
-    /// options. If no time is given, the time is `now`. If no Nonce is given, the Nonce is computed
-    /// from the time and the words.
+    /// Returns the command that a short form asks for. The short form is the subcommand with this
+    /// name and these options. If no time is given, the time is `now`. If no Nonce is given, the
+    /// Nonce is computed from the time and the words of the command line.
     pub fn read_short(
         alloc: Global,
         subcommand: &str,
@@ -274,7 +274,8 @@ impl CommandJob {
     }
 
     /// Returns the command that the options of `repo` ask for. If no time is given, the time is
-    /// `now`. If no Nonce is given, the Nonce is computed from the time and the words.
+    /// `now`. If no Nonce is given, the Nonce is computed from the time and the words of the
+    /// command line.
     pub fn read_repository(
         alloc: Global,
         options: &ArgMatches<'_>,
@@ -411,8 +412,9 @@ impl Ports {
     ghost use Rattle.ndn_jobs.specs.Value.{Reads};
     ghost use Rattle.ndn_jobs.specs.Options.{rows_in, value_at, IsPorts};
 
-    /// Returns the ports that the options `id` and `from` spell. The option `from` is refused
-    /// without the option `id`.
+    /// Returns the ports that the options spell. The option with the id `id` spells the port to
+    /// send to, and the option `from` spells the port to send from. The option `from` is refused if
+    /// the option for the port to send to is not given.
     fn read(options: &ArgMatches<'_>, id: &'static str) -> Result<Ports, ToolFault>
         ensures { Reads (IsPorts (value_at (rows_in options.now) id.now)
             (value_at (rows_in options.now) (codes "from"))) result }
@@ -433,7 +435,8 @@ impl AskJob {
     ghost use Rattle.ndn_jobs.specs.Ask.{IsListJob, IsPeekJob};
 
     /// Returns the job of the verb `list`: an Interest for the list of the subcommand with this
-    /// name. If the Nonce is not given, the Nonce is computed from the time and the words.
+    /// name. If no Nonce is given, the Nonce is computed from the time and the words of the command
+    /// line.
     pub fn read_list(
         alloc: Global,
         subcommand: &str,
@@ -475,7 +478,8 @@ impl AskJob {
     }
 
     /// Returns what the options of `peek` ask for: the Interest, what is printed of the answer, and
-    /// the ports. If the Nonce is not given, it is computed from the time and the words.
+    /// the ports. If no Nonce is given, the Nonce is computed from the time and the words of the
+    /// command line.
     pub fn read_peek(
         alloc: Global,
         options: &ArgMatches<'_>,

@@ -30,7 +30,7 @@ fn put_spaced(text: &mut Vec<u8>, word: &str) -> Result<(), AllocError>
 }
 
 /// Returns the given Nonce. If no Nonce is given, returns a Nonce that is computed from the time
-/// and the words.
+/// and the words of the command line.
 pub fn nonce_or(
     alloc: Global,
     given: Option<[u8; 4]>,

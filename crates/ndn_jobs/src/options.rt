@@ -181,7 +181,7 @@ pub fn name(
 }
 
 /// Returns the name of the strategy that an option spells, if the option is given. The option's
-/// value is a URI, `best-route` or `multicast`.
+/// value is a URI, or the word `best-route` or `multicast`.
 pub fn strategy(
     alloc: Global,
     options: &ArgMatches<'_>,

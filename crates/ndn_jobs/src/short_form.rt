@@ -12,7 +12,7 @@ use crate::options;
 use clap::ArgMatches;
 use mgmt_core::Action;
 
-/// Returns the action that a subcommand and the verb in its options name.
+/// Returns the action that the subcommand and the verb in the options stand for.
 pub fn action_in(subcommand: &str, options: &ArgMatches<'_>) -> Result<Action, ToolFault>
     ensures { Reads
         (Has (value_at (rows_in options.now) (codes "VERB")) (IsVerb subcommand.now)) result }
@@ -33,7 +33,7 @@ fn verbs_of(subcommand: &str) -> &'static str {
     }
 }
 
-/// Returns whether the subcommand and the verb name the action.
+/// Returns whether the subcommand and the verb stand for the action.
 fn is_named(action: Action, subcommand: &str, verb: &str) -> bool
     ensures { result ≡ is_named subcommand.now verb.now action }
 {
@@ -48,7 +48,8 @@ fn is_named(action: Action, subcommand: &str, verb: &str) -> bool
     }
 }
 
-/// Returns the action that the subcommand and the verb name, or `None` if they name none.
+/// Returns the action that the subcommand and the verb stand for, or `None` if there is no such
+/// action.
 fn action_of(subcommand: &str, verb: &str) -> Option<Action>
     ensures { result ≡ action_of subcommand.now verb.now }
 {

@@ -19,9 +19,9 @@ abbrev pub scope_word : code_scope.Scope → List ℕ
 scope_word Local = codes "local"
 scope_word Far = codes "far"
 
--- The words for what happened on a face: the face, its endpoint if known, and then the packet in
--- `frame`, the opening or the closing. The words for an event without a face: `tick` or
--- `rules replaced`.
+-- The words for what happened. For an event on a face, these are the face, its endpoint if known,
+-- and then either the packet in `frame` or the words that the face opens or closes. For an event
+-- without a face, the words are `tick` or `rules replaced`.
 abbrev pub came_words : Option SocketAddr → Option PlainFrame → Came → List ℕ
 came_words endpoint frame (Packet face octets) =
     face_words face endpoint ++ (codes " " ++ packet_words frame)

@@ -40,7 +40,8 @@ signature_in (Some (AData whole d)) = Some d.signature
 signature_in (Some (ANack reason whole i)) = i.signature
 signature_in (Some Idle) = None
 
--- the name in a KeyLocator, or None if it contains no name (NDN Packet Format 0.3, "KeyLocator")
+-- the name in a KeyLocator, or None if the KeyLocator contains no name (NDN Packet Format 0.3,
+-- "KeyLocator")
 abbrev pub named_by : PlainLocator → Option (List Field)
 named_by Missing = None
 named_by (KeyName name) = Some name

@@ -12,8 +12,9 @@ IsDateText nanosecond text =
     (shown : DateTime) × (civil_nanos shown ≡ nanosecond)
     × (text ≡ datetime_text false 84 (Some 3) shown ++ codes "Z")
 
--- The text of a time in milliseconds since 1970 is its date and time in UTC. A time after
--- 9999-12-30T22:00:00.999Z is shown as the number of milliseconds in decimal digits.
+-- `text` is the text for the time `moment`, in milliseconds since 1970. Up to
+-- 9999-12-30T22:00:00.999Z, `text` is the date and time in UTC. After that time, `text` is `moment`
+-- in decimal digits.
 pub record IsTimeText (moment : ℕ) (text : List ℕ) : Type 0 where
   pub dated : moment ≤ LAST_DATED → IsDateText (pos moment *ℤ pos 1_000_000) text
   pub undated : LAST_DATED < moment → text ≡ decimal moment

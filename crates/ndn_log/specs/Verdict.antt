@@ -34,8 +34,8 @@ abbrev pub denial_words : List PlainRule → ℕ → Reason → List ℕ
 denial_words rules rule reason =
     codes "denied by rule " ++ (id_of rules rule ++ (codes ", " ++ reason_name reason))
 
--- The words for a verdict. Rules are shown by their ids. The words for a denial end with the key
--- name in the packet's KeyLocator, if there is one.
+-- The words for a verdict. Rules are shown by their ids. The words for a denial end with the name
+-- of the key in the packet's KeyLocator, if the KeyLocator contains a name.
 abbrev pub verdict_words : List PlainRule → Option PlainFrame → Verdict → List ℕ
 verdict_words rules frame Passed = codes "passed"
 verdict_words rules frame (Allowed rule status) =

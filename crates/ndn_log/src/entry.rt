@@ -33,7 +33,7 @@ pub struct Entry<'a> {
 }
 
 /// Returns whether the event is plain: it does not bring new rules, and its verdict is `Passed` or
-/// `DataAllowed`. A log that does not show all events leaves out plain ones.
+/// `DataAllowed`. A log that does not show all events leaves out plain events.
 pub fn is_plain(entry: &Entry<'_>, outcome: &Result<Verdict, Memory>) -> bool
     ensures { result ≡ is_plain entry.now.came outcome.now }
 {

@@ -17,8 +17,9 @@ use ndn_tlv::Memory;
 use std::alloc::Global;
 
 /// Appends the line of an event: its time, the face with its endpoint, what happened, the packet's
-/// name, the verdict, and the octets of a dropped packet. The verdict shows a rule by its id in
-/// `rules`, the rules in force. If memory runs out, nothing is appended.
+/// name, and the verdict. For a dropped packet, the line also has the number of octets and the
+/// first 32 octets. The verdict shows a rule by its id in `rules`, the rules in force. If memory
+/// runs out, nothing is appended.
 pub fn put_event(
     alloc: Global,
     text: &mut Vec<u8>,
@@ -53,8 +54,8 @@ fn event_words(
     Ok(words)
 }
 
-/// Appends the octets of a dropped packet. Appends nothing for other events. If memory runs out,
-/// some of the text may be appended.
+/// Appends a comma, the number of octets and the first 32 octets, if the event is a dropped packet.
+/// Otherwise appends nothing. If memory runs out, some of the text may be appended.
 fn put_end(
     alloc: Global,
     text: &mut Vec<u8>,

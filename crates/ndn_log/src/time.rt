@@ -14,7 +14,8 @@ const LAST_DATED: u64 = 253_402_207_200_999;
 
 /// Appends a time. `moment` is in milliseconds since 1970. The time is in UTC with three digits of
 /// the fraction of a second (RFC 3339, "Internet Date/Time Format"). A time after `LAST_DATED` is
-/// appended as a number. If memory runs out, some of the text may be appended.
+/// appended as the number `moment` in decimal digits. If memory runs out, some of the text may be
+/// appended.
 pub fn put_time(text: &mut Vec<u8>, moment: u64) -> Result<(), Memory>
     ensures { OnOk result (IsTimePut moment text.old.items text.new.items) }
 {

@@ -31,8 +31,8 @@ pub fn put_outcome(
     }
 }
 
-/// Appends a comma and the octets of a dropped packet. Appends nothing for other packets. If memory
-/// runs out, some of the text may be appended.
+/// Appends a comma, the number of octets and the first 32 octets, if the packet was dropped.
+/// Otherwise appends nothing. If memory runs out, some of the text may be appended.
 pub fn put_dropped(
     alloc: Global,
     text: &mut Vec<u8>,

@@ -9,7 +9,7 @@ use std::alloc::Global;
 use std::io::Write;
 use std::net::SocketAddr;
 
-/// The greatest number of octets of a packet that a log line shows.
+/// A log line shows at most this many octets of a packet.
 const SHOWN_OCTETS: usize = 32;
 
 /// The length in octets to which a longer packet is truncated: one octet more than a frame may

@@ -71,7 +71,7 @@ fn udp<R: AllocGlobal + Clock + Eprint + Files<File = File> + Net + Print>(
 }
 
 /// Reads the rule file and the key file that the options name. Returns the parts of a node that has
-/// the rules and keys of these files. Also returns the files.
+/// the rules and keys of these files. Also returns these two files, as `RuleFiles`.
 fn parts_of<R: AllocGlobal + Files>(
     rt: &R,
     options: Options,

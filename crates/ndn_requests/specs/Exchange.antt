@@ -89,8 +89,9 @@ IsStepped true old list segment nonce d new progress =
 IsStepped false old list segment nonce d new progress =
     IsDone (table list (old.contents.items ++ unwrap_or d.content [])) (Ok tt) progress
 
--- The effect of a Data, given the number of its segment and the number of the last segment. The
--- Data advances the exchange; if the numbers are None, the Data is ignored.
+-- The effect of a Data, given the number of its segment and the number of the last segment. If the
+-- numbers are given, the Data advances the exchange. If they are not given (None), the Data is
+-- ignored.
 abbrev pub IsPlaced : Option (ℕ × ℕ) → Exchange → NodeList → List ℕ → PlainData → Exchange
     → Progress → Type 0
 IsPlaced None old list nonce d new progress = (new ≡ old) × (progress ≡ Ignored)
@@ -150,8 +151,8 @@ IsTakenBy view old book datagram new progress =
 abbrev pub IsTaken : Exchange → List NamedKey → List ℕ → Exchange → Progress → Type 0
 IsTaken old book datagram new progress = IsTakenBy old.view old book datagram new progress
 
--- the reason is `Memory`; or the frame is a Data, and for this reason the Interest for another
--- segment of the Data's list cannot be written
+-- `why` is `Memory`; or the frame is a Data, and `why` is the fault of writing the Interest for
+-- another segment of the Data's list
 abbrev pub IsNextRefusal : WriteFault → Result PlainFrame PacketFault → Type 0
 IsNextRefusal Memory frame = ⊤
 IsNextRefusal why (Ok (AData whole d)) =

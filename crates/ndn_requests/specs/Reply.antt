@@ -24,7 +24,7 @@ use Rattle.ndn_requests.specs.declared.fault.Silence.TheVariants.{Closed, Far, L
 use Rattle.ndn_requests.specs.declared.fault.Failure.{Failure}
 use Rattle.ndn_requests.specs.declared.fault.Failure.TheVariants.{Refused, NoStatus, Nack}
 
--- the outcome of a request: the request was done, or the reason why not
+-- the outcome of a request: the request was done, or the reason why it was not done
 abbrev pub Outcome : Type 0
 Outcome = Result Unit Failure
 
@@ -184,10 +184,10 @@ is_local (Ok (ANack reason whole i)) = false
 is_local (Ok Idle) = false
 is_local (Err why) = false
 
--- Why no answer came to a request that was sent from the port `from`, or from a new port if `from`
--- is absent. If `is_closed` is true, the reason is `Closed`: no program listens on the destination
--- port. Otherwise the reason is `Far` if `from` is absent and the request's name is under
--- `/localhost`, and `Late` in any other case.
+-- Why no answer came to a request that was sent from the port `from`, or from a port that the
+-- system chose if `from` is absent. If `is_closed` is true, the reason is `Closed`: no program
+-- listens on the destination port. Otherwise the reason is `Far` if `from` is absent and the
+-- request's name is under `/localhost`, and `Late` in any other case.
 abbrev pub silence_of : List ℕ → Option ℕ → Bool → Silence
 silence_of request from is_closed =
     if is_closed then Closed else (

@@ -38,7 +38,7 @@ pub struct Exchange {
     pub request: Vec<u8>,
     /// The port of 127.0.0.1 that the packet is sent to.
     pub to: u16,
-    /// The port that the packet is sent from. `None` means that a new port is used.
+    /// The port that the packet is sent from. `None` means that the system chooses a port.
     pub from: Option<u16>,
     /// What is printed of the answer.
     pub view: View,
@@ -57,7 +57,7 @@ pub enum Progress {
     Done(Vec<u8>, Outcome),
 }
 
-/// Which segment a request asks for, and the request's Nonce.
+/// Whether a request asks for the first segment of a list, and the request's Nonce.
 #[derive(Clone, Copy)]
 struct Turn {
     /// Whether the request asks for the first segment, whatever the version of the list.
@@ -192,7 +192,7 @@ impl Exchange {
     }
 
     /// Handles a segment: prepares the request for the next segment, or returns the table of all
-    /// segments if this is the last one.
+    /// segments if this segment is the last.
     fn take_place(
         &mut self,
         alloc: Global,
@@ -248,8 +248,8 @@ fn content_in(datagram: &[u8]) -> &[u8]
     }
 }
 
-/// Returns which segment the request asks for, and the request's Nonce, or `None` if the request is
-/// not an Interest.
+/// Returns whether the request asks for the first segment of a list, and the request's Nonce.
+/// Returns `None` if the request is not an Interest.
 fn turn_of(request: &[u8]) -> Option<Turn>
     ensures { result ≡ turn_of (frame_at request.now) }
 {

@@ -6,8 +6,8 @@ use std::fmt;
 pub enum Silence {
     /// No program listens on the port.
     Closed,
-    /// The name is under `/localhost`, and the packet was sent from a new port. A node accepts such
-    /// names only from its Local peers.
+    /// The name is under `/localhost`, and the packet was sent from a port that the system chose. A
+    /// node accepts such names only from its Local peers.
     Far,
     /// A program listens, but no answer came in time.
     Late,

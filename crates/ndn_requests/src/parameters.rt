@@ -31,7 +31,7 @@ pub struct Parameters {
     pub origin: Option<u64>,
     /// The cost of a next hop or route.
     pub cost: Option<u64>,
-    /// The flags of a route: 1 is child-inherit and 2 is capture.
+    /// The flags of a route: the bit of value 1 is child-inherit, the bit of value 2 is capture.
     pub flags: Option<u64>,
     /// The ExpirationPeriod of a route, in milliseconds.
     pub expires: Option<u64>,

@@ -27,7 +27,7 @@ pub type Outcome = Result<(), Failure>;
 /// Returns the outcome of a request, given a received datagram, or `None` if the datagram does not
 /// answer the request.
 ///
-/// A Nack of the request's Interest is an answer. If the request is not a command, the request is
+/// A Nack for the request's Interest is an answer. If the request is not a command, the request is
 /// done when a Data answers the Interest. If the request is a command, a Data of any length is an
 /// answer if the Data is exactly the reply that a node writes. A Data with the command's name is
 /// also an answer if its signature is right, by DigestSha256 or by a key of the book. A command is
@@ -276,9 +276,9 @@ fn put_reply(
     }
 }
 
-/// Returns why no answer came to a request that was sent from the port `from`, or from a new port
-/// if `from` is absent. `is_closed` is true if no program listens on the request's destination
-/// port.
+/// Returns why no answer came to a request that was sent from the port `from`, or from a port that
+/// the system chose if `from` is absent. `is_closed` is true if no program listens on the request's
+/// destination port.
 pub fn silence_of(request: &[u8], from: Option<u16>, is_closed: bool) -> Silence
     ensures { result ≡ silence_of request.now from is_closed }
 {

@@ -1,4 +1,4 @@
-//! Tests of the node's public calls. Most of them are dialogues of events and answers.
+//! Tests of the node's public calls. Most of these tests are dialogues of events and answers.
 #![tactic(auto)]
 
 #[cfg(test)]

@@ -15,15 +15,16 @@ abbrev pub AreRules : List ℕ → List PlainRule → Type 0
 AreRules octets rules =
     IsUtf8 octets × ((entries : List PlainEntry) × TreeOf octets entries × IsRuleFile entries rules)
 
--- the octets are the text of entries, and `why` is the first fault of the entries or reports that
--- memory ran out
+-- the octets are the text of some entries, and `why` is either the first fault of these entries or
+-- the report that memory ran out
 abbrev pub IsFaultOfEntries : List ℕ → RulesFault → Type 0
 IsFaultOfEntries octets why =
     (entries : List PlainEntry) × TreeOf octets entries
     × ((rules_in entries ≡ Err why) ⊎ (why ≡ memory_fault))
 
--- `why` is a fault of reading the octets as a rule file: a Syntax fault at line 0 if the octets are
--- not UTF-8; otherwise a fault of the text or of its entries, or a report that memory ran out
+-- `why` is a fault of reading the octets as a rule file. If the octets are not UTF-8, `why` is a
+-- `Syntax` fault at line 0. Otherwise `why` is a fault of the text, a fault of the entries in the
+-- text, or the report that memory ran out.
 abbrev pub IsFaultOfRules : List ℕ → RulesFault → Type 0
 IsFaultOfRules octets why =
     (IsUtf8 octets × (IsTreeFaultOf (tree_in octets) why ⊎ IsFaultOfEntries octets why))

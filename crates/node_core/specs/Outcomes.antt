@@ -17,9 +17,10 @@ pub data Outcome : Type 0 where
 abbrev pub IsEvent : PlainEvent → Type 0
 IsEvent event = BringsOctets event × BringsKeysApart event
 
--- The event is valid and has this outcome. `Answered`: a step with this answer leads from the node
--- `old` to the node `new`. `NoMemory`: the event needs memory, and nothing changed except that the
--- cache may have dropped or reordered Data.
+-- The event is valid (`IsEvent`) and has this outcome. `Answered`: a step with this answer leads
+-- from the node `old` to the node `new`. `NoMemory`: memory ran out for the event, which is
+-- possible only for an event that needs memory. Nothing changed except that the cache may have
+-- dropped or reordered Data.
 abbrev pub IsOutcome : NodeState → PlainEvent → Outcome → NodeState → Type 0
 IsOutcome old event (Answered answer) new = IsEvent event × IsStep old event answer new
 IsOutcome old event NoMemory new =
@@ -43,8 +44,8 @@ run_from past (event ∷ events) (Answered answer ∷ outcomes) =
     run_from (Then past event answer) events outcomes
 run_from past (event ∷ events) (NoMemory ∷ outcomes) = run_from past events outcomes
 
--- If the old node agrees with a valid run from a policy at time 0, then this run, extended by the
--- answered events, is valid. The new node agrees with the extended run.
+-- If the old node agrees (`Stands`) with a valid run from a policy whose time is 0, then this run,
+-- extended by the answered events, is valid, and the new node agrees with the extended run.
 abbrev pub ExtendsRuns : NodeState → List PlainEvent → List Outcome → NodeState → Type 0
 ExtendsRuns old events outcomes new =
     (first : Policy) (past : Run) → first.now ≡ 0 → IsRun first past → Stands first past old

@@ -1,4 +1,4 @@
--- Scripts: the events that a text spells, their answers, and the text that is written.
+-- Scripts: the events that the lines of a text spell, and the text of the answers to these events.
 use Rattle.std.specs.Prelude.{◌≡◌, ℕ, ◌+◌, ◌⊎◌, List, [], ◌∷◌, ◌++◌, length}
 use Rattle.std.specs.List.{AllByRecursion, flat_map}
 use Rattle.forwarder.specs.Event.{PlainEvent}
@@ -50,8 +50,8 @@ BeginsWithEvents text events =
     (lines : List (List ℕ)) × (rest : List ℕ) × BeginsWithLines text lines rest
     × SpellEvents lines events
 
--- the lines of the text that end with an LF spell these events; octets without an LF may follow
--- them
+-- the whole lines of the text, each with its LF, spell these events; octets without an LF may
+-- follow the whole lines
 abbrev pub IsScriptSoFar : List ℕ → List PlainEvent → Type 0
 IsScriptSoFar text events =
     (lines : List (List ℕ)) × (rest : List ℕ)
@@ -64,9 +64,9 @@ IsBadAt text n events =
     × BeginsWithLines text lines (ended line ++ rest) × Lacks 10 line × (n ≡ length lines + 1)
     × SpellEvents lines events × IsBadLine line
 
--- The text of the outcomes of these events, which the node `first` handles in order. Memory may run
--- out for some of the events. The answered events form a valid run, and the node after the events
--- agrees with this run.
+-- `text` is the text of the outcomes of these events, which the node `first` handles in order.
+-- Memory may run out for some of the events. The answered events form a valid run, and the node
+-- after the events agrees (`Stands`) with this run.
 pub record IsTextOfRun (first : NodeState) (events : List PlainEvent) (text : List ℕ) : Type 0 where
   pub outcomes : List Outcome
   pub last : NodeState

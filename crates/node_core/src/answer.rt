@@ -14,9 +14,10 @@ use info_rules::{Kind, Reason, RuleNo, Rules};
 use itoa::Buffer;
 use ndn_tlv::Memory;
 
-/// Appends the text of an answer: a line with the event's number and its verdict, and one line for
-/// each packet that is sent. If `outcome` is an error, the line has `memory` in place of a verdict.
-/// A rule is printed as its id. If memory runs out for the text, nothing is appended.
+/// Appends the text of an answer: a line with the number of the event and the verdict on the event,
+/// and one line for each packet that is sent. If `outcome` is an error, the line of the event has
+/// `memory` in place of a verdict. A rule is printed as its id. If memory runs out for the text,
+/// nothing is appended.
 pub fn put_answer(
     text: &mut Vec<u8>,
     number: u64,
@@ -27,7 +28,7 @@ pub fn put_answer(
     ensures ok { OnOk result (text.new.items ≡ text.old.items
         ++ lines_text number (result_text rules.now outcome.now) outbox.now) }
     ensures err { OnErr result (text.new.items ≡ text.old.items) }
-    // If the spare capacity is enough, memory does not run out.
+    // If the spare capacity of `text` is enough for the octets to append, memory does not run out.
     ensures room { vec_len text.old
         + length (lines_text number (result_text rules.now outcome.now) outbox.now)
         ≤ vec_capacity text.old → IsOk result }
@@ -41,9 +42,9 @@ pub fn put_answer(
     done
 }
 
-/// Appends the line of an answered event: its number and its verdict, in the format of scripts. A
-/// rule is printed as its id, or as nothing if `rules` has no rule with the number in the verdict.
-/// If memory runs out, nothing is appended.
+/// Appends the line of an answered event, as `run_script` writes it: the number of the event and
+/// the verdict on the event. A rule is printed as its id, or as nothing if `rules` has no rule with
+/// the number in the verdict. If memory runs out, nothing is appended.
 pub fn put_verdict(
     text: &mut Vec<u8>,
     number: u64,
@@ -53,7 +54,7 @@ pub fn put_verdict(
     ensures ok { OnOk result (text.new.items ≡ text.old.items
         ++ numbered_line number (verdict_text rules.now (verdict_of verdict.now))) }
     ensures err { OnErr result (text.new.items ≡ text.old.items) }
-    // If the spare capacity is enough, memory does not run out.
+    // If the spare capacity of `text` is enough for the octets to append, memory does not run out.
     ensures room { vec_len text.old
         + length (numbered_line number (verdict_text rules.now (verdict_of verdict.now)))
         ≤ vec_capacity text.old → IsOk result }
@@ -67,13 +68,13 @@ pub fn put_verdict(
     done
 }
 
-/// Appends the line of an event for which memory ran out, in the format of scripts. If memory runs
-/// out again, nothing is appended.
+/// Appends the line of an event for which memory ran out, as `run_script` writes it. If memory runs
+/// out for the line too, nothing is appended.
 pub fn put_refused(text: &mut Vec<u8>, number: u64) -> Result<(), Memory>
     ensures ok { OnOk result
         (text.new.items ≡ text.old.items ++ numbered_line number (codes "memory")) }
     ensures err { OnErr result (text.new.items ≡ text.old.items) }
-    // If the spare capacity is enough, memory does not run out.
+    // If the spare capacity of `text` is enough for the octets to append, memory does not run out.
     ensures room { vec_len text.old + length (numbered_line number (codes "memory"))
         ≤ vec_capacity text.old → IsOk result }
     ensures capacity { vec_capacity text.old ≤ vec_capacity text.new }
@@ -86,12 +87,12 @@ pub fn put_refused(text: &mut Vec<u8>, number: u64) -> Result<(), Memory>
     done
 }
 
-/// Appends one line for each packet that is sent, in the format of scripts: the face, and the
+/// Appends one line for each packet that is sent, as `run_script` writes it: `>`, the face, and the
 /// octets in hexadecimal or a dash for no octets. If memory runs out, nothing is appended.
 pub fn put_sends(text: &mut Vec<u8>, outbox: &Outbox) -> Result<(), Memory>
     ensures ok { OnOk result (text.new.items ≡ text.old.items ++ flat_map send_text outbox.now) }
     ensures err { OnErr result (text.new.items ≡ text.old.items) }
-    // If the spare capacity is enough, memory does not run out.
+    // If the spare capacity of `text` is enough for the octets to append, memory does not run out.
     ensures room { vec_len text.old + length (flat_map send_text outbox.now)
         ≤ vec_capacity text.old → IsOk result }
     ensures capacity { vec_capacity text.old ≤ vec_capacity text.new }
@@ -104,7 +105,8 @@ pub fn put_sends(text: &mut Vec<u8>, outbox: &Outbox) -> Result<(), Memory>
     done
 }
 
-/// Appends the text of an answer. If memory runs out, some octets of the text may be appended.
+/// Appends the text of an answer. If memory runs out, some octets of the text may have been
+/// appended.
 fn put_parts(
     text: &mut Vec<u8>,
     number: u64,
@@ -119,7 +121,8 @@ fn put_parts(
     put_send_lines(text, outbox)
 }
 
-/// Appends the line of an event. If memory runs out, some octets of the line may be appended.
+/// Appends the line of an event. If memory runs out, some octets of the line may have been
+/// appended.
 fn put_outcome(
     text: &mut Vec<u8>,
     number: u64,
@@ -135,7 +138,7 @@ fn put_outcome(
     }
 }
 
-/// Appends the line of an answered event. If memory runs out, some octets of the line may be
+/// Appends the line of an answered event. If memory runs out, some octets of the line may have been
 /// appended.
 fn put_line(text: &mut Vec<u8>, number: u64, verdict: Verdict, rules: &Rules) -> Result<(), Memory>
     ensures { Puts text.old text.new result
@@ -147,8 +150,8 @@ fn put_line(text: &mut Vec<u8>, number: u64, verdict: Verdict, rules: &Rules) ->
     put_word(text, b"\n")
 }
 
-/// Appends the line of an event for which memory ran out. If memory runs out again, some octets of
-/// the line may be appended.
+/// Appends the line of an event for which memory ran out. If memory runs out for the line too, some
+/// octets of the line may have been appended.
 fn put_refused_line(text: &mut Vec<u8>, number: u64) -> Result<(), Memory>
     ensures { Puts text.old text.new result (numbered_line number (codes "memory")) }
 {
@@ -157,7 +160,7 @@ fn put_refused_line(text: &mut Vec<u8>, number: u64) -> Result<(), Memory>
 }
 
 /// Appends one line for each packet that is sent. If memory runs out, some octets of the lines may
-/// be appended.
+/// have been appended.
 fn put_send_lines(text: &mut Vec<u8>, outbox: &Outbox) -> Result<(), Memory>
     ensures { Puts text.old text.new result (flat_map send_text outbox.now) }
 {
@@ -169,8 +172,8 @@ fn put_send_lines(text: &mut Vec<u8>, outbox: &Outbox) -> Result<(), Memory>
     Ok(())
 }
 
-/// Appends the line of one packet that is sent. If memory runs out, some octets of the line may be
-/// appended.
+/// Appends the line of one packet that is sent. If memory runs out, some octets of the line may
+/// have been appended.
 fn put_send(text: &mut Vec<u8>, face: u64, octets: &[u8]) -> Result<(), Memory>
     ensures { Puts text.old text.new result (send_text (face, octets.now)) }
 {
@@ -202,7 +205,7 @@ fn put_digits(text: &mut Vec<u8>, octets: &[u8]) -> Result<(), Memory>
     Ok(())
 }
 
-/// Fills `digits` with the two hexadecimal digits of each octet.
+/// Fills `digits` with the two hexadecimal digits of each octet of `octets`.
 fn fill_digits(digits: &mut [u8], octets: &[u8])
     requires { length digits.old ≡ 2 * length octets.now }
     ensures { digits.new ≡ encode_lower octets.now }
@@ -235,7 +238,8 @@ fn put_number(text: &mut Vec<u8>, number: u64) -> Result<(), Memory>
     put_word(text, buffer.format(number).as_bytes())
 }
 
-/// Appends the verdict on an event. If memory runs out, some octets of the verdict may be appended.
+/// Appends the text of the verdict on an event. If memory runs out, some octets of the text may
+/// have been appended.
 fn put_verdict_text(text: &mut Vec<u8>, rules: &Rules, verdict: Verdict) -> Result<(), Memory>
     ensures { Puts text.old text.new result (verdict_text rules.now (verdict_of verdict)) }
 {
@@ -305,7 +309,7 @@ fn kind_name(kind: Kind) -> &'static [u8]
 }
 
 /// Appends two words, one directly after the other. If memory runs out, some octets of the words
-/// may be appended.
+/// may have been appended.
 fn put_words(text: &mut Vec<u8>, first: &[u8], second: &[u8]) -> Result<(), Memory>
     ensures { Puts text.old text.new result (first.now ++ second.now) }
 {

@@ -29,15 +29,15 @@ pub enum RunFault {
     /// script.
     #[error("the script cannot be read")]
     Read,
-    /// The writer failed, accepted no octets, or was called 4,294,967,295 times for the answers to
-    /// the octets of one read.
+    /// The writer failed, accepted no octets, or was called 4,294,967,295 times for the answers
+    /// that are written after one read.
     #[error("the answers cannot be written")]
     Write,
     /// The node could not be created. Nothing was read or written.
     #[error("{0}")]
     Node(NodeFault),
-    /// Memory ran out for the read buffer, for a line with its rules and keys, or for the text of
-    /// an answer.
+    /// Memory ran out for the read buffer, for a line or the rules and keys in the line, or for the
+    /// text of an answer.
     #[error("out of memory")]
     Memory,
 }
@@ -46,13 +46,15 @@ pub enum RunFault {
 /// end within the octets of one read are written before the next read.
 ///
 /// A line is `up FACE local|far MOMENT`, `down FACE MOMENT`, `tick MOMENT`, `in FACE MOMENT HEX` or
-/// `rules MOMENT HEX HEX`. Words are separated by single spaces, numbers are decimal without
-/// leading zeros, and `-` stands for no octets. A line has at most 20,000 octets, not counting its
-/// LF. A line ends with an LF or at the end of the input. The two HEX words of `rules` are the
-/// octets of a rule file and of a key file. Empty lines and lines that begin with `#` are skipped.
-/// If memory runs out for an event, the answer to the event has `memory` in place of a verdict. An
-/// event for which memory runs out has no effect, except that the cache may have dropped or
-/// reordered Data.
+/// `rules MOMENT HEX HEX`. FACE is the number of a face, MOMENT is a time in milliseconds since
+/// 1970, and HEX stands for octets in hexadecimal, where `-` stands for no octets. Words are
+/// separated by single spaces. Numbers are decimal, below 2 ^ 64 and without leading zeros. A line
+/// has at most 20,000 octets, not counting its LF. A line ends with an LF or at the end of the
+/// input. The HEX of `in` has the octets that arrive on the face. The two HEX words of `rules` have
+/// the octets of a rule file and of a key file. Empty lines and lines that begin with `#` are
+/// skipped. If memory runs out for an event, the answer to the event has `memory` in place of a
+/// verdict. An event for which memory runs out has no effect, except that the cache may have
+/// dropped or reordered Data.
 pub fn run_script<R: Read, W: Write>(
     alloc: Global,
     reader: &mut R,

@@ -1,5 +1,6 @@
--- Clients: endpoints whose faces were opened by their own datagrams, with the times of their last
--- datagrams. Durations are in milliseconds, and times in milliseconds since 1970.
+-- Clients: endpoints that got their faces by sending a datagram. For each client, the time of the
+-- last datagram from the client is stored. Durations are in milliseconds, and times in milliseconds
+-- since 1970.
 use Rattle.std.specs.Prelude.{◌≡◌, ℕ, ◌+◌, ◌<◌, ◌≤◌, ◌⊎◌, List, All, position, slice_get, slice_set, take, Option, None, Some, ⊤}
 use Rattle.std.specs.declared.net.socket_addr.SocketAddr.{SocketAddr}
 use Rattle.node_ports.specs.declared.clients.Client.{Client}
@@ -12,11 +13,11 @@ pub record ClientsState : Type 0 where
   -- the idle time after which a face closes, or None if no face closes
   pub idle : Option ℕ
 
--- the last datagram of the client arrived at least `time` before `now`
+-- the last datagram from the client arrived at least `time` milliseconds before `now`
 abbrev pub IsSilent : ℕ → ℕ → Client → Type 0
 IsSilent time now client = client.heard + time ≤ now
 
--- an idle time is set, and the last datagram of the client arrived at least that time before `now`
+-- an idle time is set, and the client has been silent (`IsSilent`) for at least the idle time
 abbrev pub IsIdle : Option ℕ → ℕ → Client → Type 0
 IsIdle None now client = ⊥
 IsIdle (Some idle) now client = IsSilent idle now client

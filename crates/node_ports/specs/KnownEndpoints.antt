@@ -61,8 +61,8 @@ OpensNew before after endpoint now face =
       refused = None;
     })
 
--- No face opens for the endpoint, but the endpoint gets the face number `face`. All endpoints
--- without a face get the same face number until a face opens.
+-- The endpoint gets the face number `face`, but is not stored as a client. All endpoints that are
+-- not stored get the same face number until a face opens for a new client.
 abbrev pub OpensNone : KnownEndpoints → KnownEndpoints → ℕ → Type 0
 OpensNone before after face =
     (face ≡ unwrap_or before.refused before.next)
@@ -80,21 +80,20 @@ abbrev pub NoneIsIdle : KnownEndpoints → ℕ → Type 0
 NoneIsIdle before now =
     All (λ client. IsIdle before.clients.idle now client → ⊥) before.clients.rows
 
--- no client has been silent long enough (`GivesWay`) for its face to close to make room for an
--- endpoint without a face
+-- no client gives way (`GivesWay`): no face may close to make room for an endpoint without a face
 abbrev pub NoneGivesWay : KnownEndpoints → ℕ → Type 0
 NoneGivesWay before now =
     All (λ client. GivesWay before.clients.idle now client → ⊥) before.clients.rows
 
 -- What is done with a datagram from `endpoint`. If a client is idle, the face of the client that
--- has been silent longest closes, whatever the endpoint. If a client is idle, and the endpoint is
+-- has been silent longest closes, whatever `endpoint` is. If a client is idle, and the endpoint is
 -- another client that is not idle, the time of the last datagram from the endpoint becomes `now`.
 -- If no client is idle and the endpoint has a face, the datagram arrives on this face. If no client
 -- is idle, the endpoint has no face, and fewer than 64 endpoints are known, a face opens for the
 -- endpoint. If no client is idle, the endpoint has no face, 64 endpoints are known, and the client
 -- that has been silent longest gives way (`GivesWay`), then the face of this client closes. If no
 -- client is idle, the endpoint has no face, 64 endpoints are known, and no client gives way, then
--- no face closes and no face opens.
+-- no face closes, and the endpoint gets a face number but is not stored (`OpensNone`).
 abbrev pub Meets : KnownEndpoints → KnownEndpoints → SocketAddr → ℕ → Met → Type 0
 Meets before after endpoint now (Face face) =
     NoneIsIdle before now × Knows before after endpoint now face

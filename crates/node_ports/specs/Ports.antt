@@ -13,7 +13,8 @@ LiesWithin size (code.FaceDown face now) = ⊤
 LiesWithin size (code.Tick now) = ⊤
 LiesWithin size (code.NewRules renewal now) = ⊤
 
--- the event of the arrival, if there is one, with the octets of the buffer
+-- the event of the arrival, or None for `End`; the octets of a packet are the first `len` octets of
+-- the buffer
 abbrev pub arrived : Arrival → List ℕ → Option PlainEvent
 arrived code.End buffer = None
 arrived (code.Packet face now len) buffer = Some (Packet face now (take len buffer))
@@ -22,7 +23,7 @@ arrived (code.FaceDown face now) buffer = Some (FaceDown face now)
 arrived (code.Tick now) buffer = Some (Tick now)
 arrived (code.NewRules renewal now) buffer = Some (NewRules renewal.rules renewal.keys now)
 
--- the event; if the event brings a packet, the packet is truncated to this size
+-- the event; if the event brings a packet, the packet is truncated to `size` octets
 abbrev pub cut_to : ℕ → PlainEvent → PlainEvent
 cut_to size (Packet face now octets) = Packet face now (take size octets)
 cut_to size (FaceUp face scope now) = FaceUp face scope now
@@ -30,8 +31,9 @@ cut_to size (FaceDown face now) = FaceDown face now
 cut_to size (Tick now) = Tick now
 cut_to size (NewRules rules keys now) = NewRules rules keys now
 
--- `event` is the first of the events to come, with its packet truncated to this size, or None if no
--- event was to come. If the events to come are not known, nothing is stated about `event`.
+-- `event` is the first of the events to come, with its packet truncated to `size` octets, or None
+-- if no event was to come. The other events are still to come. If the events to come are not known,
+-- nothing is stated about `event`.
 abbrev pub Gives : Option (List PlainEvent) → Option (List PlainEvent) → ℕ → Option PlainEvent
     → Type 0
 Gives None new size event = new ≡ None
@@ -48,6 +50,6 @@ Takes (Some old) new sends = new ≡ Some (old ++ sends)
 abbrev pub count_of : ℕ → ℕ
 count_of n = min n (2 ^ 64 - 1)
 
--- the count plus 1, at most the greatest u64
+-- `n` plus 1, but at most the greatest u64
 abbrev pub one_more : ℕ → ℕ
 one_more n = count_of (n + 1)

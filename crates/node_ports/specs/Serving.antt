@@ -34,9 +34,9 @@ abbrev pub HasEnded : Option (List PlainEvent) → Type 0
 HasEnded None = ⊤
 HasEnded (Some events) = events ≡ []
 
--- `events` were the first of the events to come, each with its packet truncated to this size, and
--- the others are still to come. If the events to come are not known, nothing is stated about
--- `events`.
+-- `events` were the first of the events to come, zero or more of them, each with its packet
+-- truncated to `size` octets. The other events are still to come. If the events to come are not
+-- known, nothing is stated about `events`.
 abbrev pub GivesAll : Option (List PlainEvent) → Option (List PlainEvent) → ℕ → List PlainEvent
     → Type 0
 GivesAll None new size events = new ≡ None
@@ -51,7 +51,7 @@ AreSendsTaken (sent ∷ sends) failed taken =
     ((rest : List Send) × (taken ≡ sent ∷ rest) × AreSendsTaken sends failed rest)
     ⊎ ((fewer : ℕ) × (failed ≡ fewer + 1) × AreSendsTaken sends fewer taken)
 
--- the count of failures after n further failures, at most the greatest u64
+-- the count of failures after this number of further failures, at most the greatest u64
 abbrev pub count_after : ℕ → ℕ → ℕ
 count_after count zero = count
 count_after count (suc n) = one_more (count_after count n)
@@ -70,8 +70,9 @@ refused_count [] = 0
 refused_count (Answered answer ∷ outcomes) = refused_count outcomes
 refused_count (NoMemory ∷ outcomes) = refused_count outcomes + 1
 
--- if the old node agrees with a valid run from a policy at time 0, and `before` is the text of this
--- run's journal, then `after` is the text of the journal of the run extended by the answered events
+-- if the old node agrees (`Stands`) with a valid run from a policy whose time is 0, and `before` is
+-- the text of this run's journal, then `after` is the text of the journal of this run extended by
+-- the answered events
 abbrev pub KeepsJournal : NodeState → Option (List ℕ) → List PlainEvent → List Outcome
     → Option (List ℕ) → Type 0
 KeepsJournal old before events outcomes after =
@@ -97,8 +98,8 @@ pub record Handles (old new : NodeState) (before after : Shown) (done_as : Outco
   pub journal : KeepsJournal old before.journal (event ∷ []) (done_as ∷ []) after.journal
   pub failures : after.failures ≡ count_after before.failures failed
 
--- If the old node agrees with a run, and `before` is the text of this run's journal, then `after`
--- is `before`, possibly followed by a prefix of this event's line.
+-- If the old node agrees (`Stands`) with a run, and `before` is the text of this run's journal,
+-- then `after` is `before`, possibly followed by a prefix of this event's line.
 abbrev pub HasFront : NodeState → Option (List ℕ) → PlainEvent → Answer → Option (List ℕ) → Type 0
 HasFront old before event answer after =
     (first : Policy) (past : Run) (journal : List PlainEvent) (text : List ℕ)
@@ -149,8 +150,8 @@ IsTurn old new before after sends turn.End =
     EndsNext before after × (new ≡ old) × (sends ≡ [])
 
 -- `events` events arrived, memory ran out for `refused` of them, and `failed` sends failed. If the
--- old node agrees with a valid run from a policy at time 0, then this run extended by the answered
--- events is valid, and the new node agrees with the extended run.
+-- old node agrees (`Stands`) with a valid run from a policy whose time is 0, then this run,
+-- extended by the answered events, is valid, and the new node agrees with the extended run.
 pub record Serves (old new : NodeState) (before after : Shown)
     (events refused failed : ℕ) : Type 0 where
   pub arrivals : List PlainEvent
@@ -167,7 +168,7 @@ pub record Serves (old new : NodeState) (before after : Shown)
   pub refused_is : refused ≡ refused_count outcomes
 
 -- If the port did not reach its end, each turn had an event. If the port reached its end, there
--- were fewer events than turns. If the port reached its end and the events to come are known, no
+-- were fewer events than `turns`. If the port reached its end and the events to come are known, no
 -- event is still to come.
 abbrev pub EndsAfter : ℕ → Bool → ℕ → Option (List PlainEvent) → Type 0
 EndsAfter turns false events coming = events ≡ turns

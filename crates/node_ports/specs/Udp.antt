@@ -82,7 +82,8 @@ waiting_at face (Some datagram) = waiting_for face datagram.endpoint datagram.fa
 abbrev pub HasOpened : UdpState → Type 0
 HasOpened before = before.opened ≡ length before.known.peers
 
--- the face of the next peer opens; it is Local for the first `local` peers and Far for the others
+-- the face of the next peer opens; the faces of the first `local` peers are Local, and the faces of
+-- the other peers are Far
 abbrev pub OpensPeer : UdpState → UdpState → Arrival → Type 0
 OpensPeer before after (FaceUp face scope now) =
     (before.opened < length before.known.peers) × (face ≡ before.opened + 1)
@@ -153,8 +154,8 @@ Brings before after endpoint datagram buffer (NewRules renewal now) = ⊥
 abbrev pub Listens : UdpState → Type 0
 Listens before = HasOpened before × (before.waiting ≡ None)
 
--- datagrams from this endpoint are accepted: it is a peer, or endpoints that are not peers are
--- accepted too
+-- datagrams from this endpoint are accepted: the endpoint is a peer, or datagrams from endpoints
+-- that are not peers are accepted too
 abbrev pub IsAccepted : UdpState → SocketAddr → Type 0
 IsAccepted before endpoint =
     (before.accepts_strangers ≡ true) ⊎ (position (is_at endpoint) before.known.peers ≢ None)

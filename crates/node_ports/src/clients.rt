@@ -1,4 +1,4 @@
-//! Clients: endpoints whose faces were opened by their own datagrams.
+//! Clients: endpoints that got their faces by sending a datagram.
 ghost use Rattle.std.specs.Prelude.{◌≡◌, ◌∷◌, ◌++◌, [], ◌+◌, ◌<◌, ◌≤◌, ◌==◌, ◌↔◌, All, length, List, slice_get, slice_set, remove, position, find, option_map, IfSome, IsTrue, Some, None, true, false};
 ghost use Rattle.node_ports.specs.Clients.{GivesWay, Hears, HearsInTime, IsIdle, IsNoClient, IsSilent, IsSilentLongest};
 ghost use Rattle.node_ports.specs.Endpoints.{is_at};
@@ -10,11 +10,11 @@ use forwarder::MAX_FACES;
 use std::marker::Model;
 use std::net::SocketAddr;
 
-/// How long a face must be idle, in milliseconds, before it may close to make room for an endpoint
-/// without a face.
+/// How long a client must have been silent (no datagram from it has arrived), in milliseconds,
+/// before its face may close to make room for an endpoint without a face.
 pub const GIVE_WAY_MILLISECONDS: u64 = 10_000;
 
-/// An endpoint whose face was opened by its own datagram.
+/// An endpoint that got its face by sending a datagram.
 #[derive(Clone, Copy)]
 pub struct Client {
     /// The address and port of the endpoint.
@@ -38,8 +38,9 @@ impl Default for Client {
 
 /// The clients, at most 64, in the order of their faces.
 ///
-/// If an idle time is set, a face that is idle for that time may close, and a face that is idle for
-/// `GIVE_WAY_MILLISECONDS` may close to make room for an endpoint without a face.
+/// If an idle time is set, the face of a client that has been silent for that time may close. If an
+/// idle time is set, the face of a client that has been silent for `GIVE_WAY_MILLISECONDS` may
+/// close to make room for an endpoint without a face.
 #[derive(Drop)]
 pub struct Clients {
     rows: ArrayVec<Client, MAX_FACES>,
@@ -143,7 +144,7 @@ impl Clients {
         }
     }
 
-    /// Returns whether the client at index `place` is idle.
+    /// Returns whether the client at index `place` is idle at the time `now`.
     fn is_idle_at(&self, place: usize, now: u64) -> bool
         requires { place < length self.now.rows }
         ensures yes { result ≡ true → (client : Client)
@@ -166,7 +167,8 @@ impl Clients {
         self.rows.as_slice()[place].face
     }
 
-    /// Returns the index of the first client with this endpoint, or `None` if there is none.
+    /// Returns the index of the first client with this endpoint, or `None` if no client has this
+    /// endpoint.
     fn place_of(&self, endpoint: SocketAddr) -> Option<usize>
         ensures first { result ≡ position (λ client. is_at endpoint client.endpoint) self.now.rows }
         ensures within { IfSome result (λ place. place < length self.now.rows) }

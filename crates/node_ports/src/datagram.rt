@@ -8,15 +8,15 @@ use std::time::Duration;
 /// How long to wait for an answer, in seconds.
 pub const ANSWER_SECONDS: u64 = 4;
 
-/// Sends the octets in one datagram to port `to` of 127.0.0.1. The new socket receives only from
-/// port `to`.
+/// Sends the octets in one datagram from a new socket to port `to` of 127.0.0.1. Returns the
+/// socket, which receives only datagrams from port `to`.
 pub fn send_one(rt: &impl Net, to: u16, octets: &[u8]) -> Result<UdpSocket, PortFault> {
     send_from(rt, 0, to, octets)
 }
 
-/// Sends the octets in one datagram from port `from` to port `to` of 127.0.0.1. The new socket
-/// receives only from port `to`. If `from` is 0, the system chooses a port. Fails if the socket
-/// cannot be bound or connected, or does not accept all octets.
+/// Sends the octets in one datagram from a new socket at port `from` to port `to` of 127.0.0.1.
+/// Returns the socket, which receives only datagrams from port `to`. If `from` is 0, the system
+/// chooses a port. Fails if the socket cannot be bound or connected, or does not accept all octets.
 pub fn send_from(rt: &impl Net, from: u16, to: u16, octets: &[u8]) -> Result<UdpSocket, PortFault> {
     let Ok(socket) = UdpSocket::bind(rt, (Ipv4Addr::LOCALHOST, from)) else {
         return Err(PortFault::Failed);

@@ -11,8 +11,8 @@ use info_rules::Rules;
 use journal::{Coming, JournalFile, append_event};
 use std::alloc::Global;
 
-/// Ports with a journal in a file, which return the same arrivals and accept the same packets as
-/// the underlying ports. The line of a journalled event is in the file before any of the event's
+/// Ports with a journal in a file. They return the same arrivals and accept the same packets as the
+/// underlying ports. The line of a journalled event is in the file before any of the event's
 /// packets is sent.
 #[derive(Drop)]
 pub struct JournalledPorts<P: Ports + Drop, F: JournalFile + Drop> {
@@ -22,7 +22,7 @@ pub struct JournalledPorts<P: Ports + Drop, F: JournalFile + Drop> {
 }
 
 impl<P: Ports + Drop, F: JournalFile + Drop> JournalledPorts<P, F> {
-    /// Returns the ports with the journal in `file`.
+    /// Returns `ports` with a journal in `file`.
     pub fn new(alloc: Global, ports: P, file: F) -> JournalledPorts<P, F>
         ensures ports { result.ports ≡ ports }
         ensures file { result.file ≡ file }

@@ -12,7 +12,7 @@ use std::net::SocketAddr;
 /// What to do with a datagram from an endpoint.
 #[derive(Clone, Copy)]
 pub enum Met {
-    /// The endpoint has this face.
+    /// The endpoint has the face with this number, and the datagram arrives on this face.
     Face(u64),
     /// The endpoint has no face. A face with this number is opened for the endpoint, and the
     /// datagram arrives on that face. If 64 endpoints are already known, the endpoint is not
@@ -22,8 +22,8 @@ pub enum Met {
     Closing(u64),
 }
 
-/// The endpoints that have faces: the peers, which have the faces from 1 on, and the clients. The
-/// number of an opened face is never used for another face.
+/// The endpoints that have faces: the peers, which have the faces 1, 2 and so on, and the clients.
+/// The number of an opened face is never used for another face.
 #[derive(Drop)]
 pub struct KnownEndpoints {
     pub peers: Peers,
@@ -36,7 +36,7 @@ pub struct KnownEndpoints {
 }
 
 impl KnownEndpoints {
-    /// Returns the endpoints of the peers, at most 64, without clients.
+    /// Returns the known endpoints with these peers, at most 64, and without clients.
     pub fn new(peers: &[SocketAddr]) -> KnownEndpoints
         requires { length peers.now ≤ MAX_FACES }
         ensures { result ≡ record {
@@ -100,8 +100,8 @@ impl KnownEndpoints {
         }
     }
 
-    /// Returns the face of the endpoint, if it has one. If the endpoint is a client, sets the time
-    /// of its last datagram to `now`.
+    /// Returns the face of the endpoint, or `None` if the endpoint has no face. If the endpoint is
+    /// a client, sets the time of its last datagram to `now`.
     fn hear(&mut self, endpoint: SocketAddr, now: u64) -> Option<u64>
         ensures known { IfSome result (Knows self.old self.new endpoint now) }
         ensures none { result ≡ None → IsNewcomer self.old endpoint × (self.new ≡ self.old) }
@@ -136,7 +136,7 @@ impl KnownEndpoints {
         face
     }
 
-    /// Returns the face number for an endpoint that gets no face.
+    /// Returns the face number for an endpoint that is not stored.
     fn refuse(&mut self) -> u64
         ensures { OpensNone self.old self.new result }
     {

@@ -65,7 +65,7 @@ impl Model for MemoryPorts {
 }
 
 impl MemoryPorts {
-    /// Returns ports whose arrivals are these events. No call has been told to fail.
+    /// Returns ports whose arrivals are `arrivals`. No call is told to fail.
     pub fn new(alloc: Global, arrivals: Vec<OwnedArrival>) -> MemoryPorts
         ensures { result ≡ record {
           events = map plain_arrival arrivals.items;
@@ -85,7 +85,7 @@ impl MemoryPorts {
     }
 
     /// Makes the `k`th call of `next` fail, counted from 1 for the first call after this one. If
-    /// `k` is 0, no call of `next` fails.
+    /// `k` is 0, no call of `next` is told to fail.
     pub fn fail_next(&mut self, k: u64)
         ensures { self.new ≡ record self.old { next_told = k } }
     {
@@ -93,7 +93,7 @@ impl MemoryPorts {
     }
 
     /// Makes the `k`th call of `send` fail, counted from 1 for the first call after this one. If
-    /// `k` is 0, no call is told to fail.
+    /// `k` is 0, no call of `send` is told to fail.
     pub fn fail_send(&mut self, k: u64)
         ensures { self.new ≡ record self.old { send_told = k } }
     {
@@ -133,7 +133,7 @@ impl Ports for MemoryPorts {
         ensures works { OnOk result (self.new.failed ≡ self.old.failed) }
         ensures failed { OnErr result ((Some self.new.events ≡ Some self.old.events)
             × (self.new.failed ≡ one_more self.old.failed)) }
-        // The call fails if and only if it is told to.
+        // The call fails if and only if it is told to fail.
         ensures told { IsErr result ↔ (self.old.next_told ≡ 1) }
         ensures nearer { self.new.next_told ≡ self.old.next_told - 1 }
         ensures send_told { self.new.send_told ≡ self.old.send_told }
@@ -168,7 +168,7 @@ impl Ports for MemoryPorts {
         ensures works { OnOk result (self.new.failed ≡ self.old.failed) }
         ensures failed { OnErr result ((Some self.new.sent ≡ Some self.old.sent)
             × (self.new.failed ≡ one_more self.old.failed)) }
-        // The call fails if it is told to, and otherwise only if memory runs out.
+        // The call fails if it is told to fail. Otherwise it fails only if memory runs out.
         ensures told { self.old.send_told ≡ 1 → IsErr result }
         ensures nearer { self.new.send_told ≡ self.old.send_told - 1 }
         ensures next_told { self.new.next_told ≡ self.old.next_told }
@@ -197,8 +197,8 @@ fn is_told(told: &mut u64) -> bool
     now
 }
 
-// Returns the arrival for an event. Copies as many octets of the event's packet as fit to the start
-// of the buffer.
+// Returns the arrival for an event. Copies the octets of the event's packet, except those that do
+// not fit, to the start of the buffer.
 fn put_event(event: OwnedArrival, buffer: &mut [u8]) -> Arrival
     ensures fits { LiesWithin (length buffer.new) result }
     ensures event { arrived result buffer.new

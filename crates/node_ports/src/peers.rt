@@ -62,7 +62,8 @@ impl Peers {
         self.as_slice().get(i).copied()
     }
 
-    /// Returns the index of the first endpoint that equals `endpoint`, or `None` if none does.
+    /// Returns the index of the first endpoint that equals `endpoint`, or `None` if no endpoint
+    /// equals it.
     pub fn place_of(&self, endpoint: SocketAddr) -> Option<usize>
         ensures first { result ≡ position (is_at endpoint) self.now }
         ensures small { IfSome result (λ place. place < MAX_FACES) }

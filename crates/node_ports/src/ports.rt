@@ -17,7 +17,8 @@ use thiserror::Error;
 /// still too long after it is truncated, and the node drops it.
 pub const FRAME_ROOM: usize = MAX_FRAME + 1;
 
-/// Law: a buffer has room for 9,001 octets, one more than the longest packet that a node accepts.
+/// Law: `FRAME_ROOM` is 9,001, one more than the length in octets of the longest packet that a node
+/// accepts.
 pub fn frame_room_is_as_promised()
     ensures { FRAME_ROOM ≡ 9001 }
 {}
@@ -27,7 +28,7 @@ pub fn frame_room_is_as_promised()
 pub enum Arrival {
     /// There are no more arrivals.
     End,
-    /// Octets arrived on a face: the first `len` of the buffer.
+    /// Octets arrived on a face: the first `len` octets of the buffer.
     Packet { face: u64, now: u64, len: usize },
     /// A face was opened.
     FaceUp { face: u64, scope: Scope, now: u64 },
@@ -135,7 +136,8 @@ pub trait Ports {
         ensures { result ≡ failures self.now };
 }
 
-// Copies as many octets as fit to the start of the buffer, and returns their number.
+// Copies the octets, except those that do not fit, to the start of the buffer. Returns the number
+// of copied octets.
 pub fn put_front(octets: &[u8], buffer: &mut [u8]) -> usize
     ensures len { result ≡ min (length octets.now) (length buffer.new) }
     ensures front { take result buffer.new ≡ take (length buffer.new) octets.now }

@@ -56,9 +56,10 @@ pub struct Served {
 /// ends.
 ///
 /// A failed send is counted and does not prevent other sends. An event for which memory runs out is
-/// counted, and has no other effect, except that the cache may have dropped or reordered Data. Only
-/// the first 9,001 octets of a longer packet are read, and the node drops the packet as too long.
-/// If the port fails to give the next arrival, all earlier events remain handled.
+/// counted, and has no other effect, except that the cache may have dropped or reordered Data. If a
+/// packet is longer than 9,001 octets, only its first 9,001 octets are read, and the node drops the
+/// packet as too long. If the port fails to give the next arrival, all earlier events remain
+/// handled.
 pub fn serve<P: Ports>(
     alloc: Global,
     node: &mut Node,
@@ -141,8 +142,8 @@ pub fn serve_turn<P: Ports>(
     serve_turn_in(node, ports, &mut [0; FRAME_ROOM], outbox)
 }
 
-/// Does the same as `serve_turn` with a buffer of the caller, so that many turns can use one
-/// buffer. The initial content of the buffer has no effect.
+/// Does the same as `serve_turn`, but with a buffer that the caller provides, so that many turns
+/// can use one buffer. The initial content of the buffer has no effect.
 pub fn serve_turn_in<P: Ports>(
     node: &mut Node,
     ports: &mut P,

@@ -39,8 +39,8 @@ pub trait Moments: Drop {
 /// does not open a face for an endpoint that is not stored. The number of an opened face is never
 /// used for another face. The ports never return `End`.
 ///
-/// After `close_after`, idle faces close. A peer's face never closes. After `ignore_strangers`,
-/// only datagrams from peers are accepted.
+/// After a call of `close_after`, the faces of idle clients close. A peer's face never closes.
+/// After a call of `ignore_strangers`, only datagrams from peers are accepted.
 #[derive(Drop)]
 pub struct UdpPorts<M: Moments> {
     socket: UdpSocket,
@@ -54,7 +54,7 @@ pub struct UdpPorts<M: Moments> {
     waiting: Option<Waiting>,
     octets: [u8; FRAME_ROOM],
     len: usize,
-    // Whether receiving ends after `SOON_MILLISECONDS`. If `is_brief` is not set, receiving waits
+    // Whether receiving ends after `SOON_MILLISECONDS`. If `is_brief` is false, receiving waits
     // until a datagram arrives.
     is_brief: bool,
     accepts_strangers: bool,
@@ -119,10 +119,11 @@ impl<M: Moments> UdpPorts<M> {
 
     /// Binds the endpoint `listen`. The peers' faces are opened in the first turns: the first
     /// `local` faces are Local, the others Far. One socket and no heap memory are used. There are
-    /// at most 64 peers, all of the address family of `listen`. If an endpoint is given twice, only
-    /// its first face gets its datagrams. No face closes, and datagrams from endpoints that are not
-    /// peers are accepted. A Local peer may send commands, so it should have a loopback address.
-    /// Fails if the endpoint cannot be bound.
+    /// at most 64 peers, all of the address family of `listen`. If an endpoint is twice in `peers`,
+    /// only the first of its two faces gets its datagrams. No face closes until `close_after` is
+    /// called. Datagrams from endpoints that are not peers are accepted until `ignore_strangers` is
+    /// called. A Local peer may send commands, so such a peer should have a loopback address. Fails
+    /// if the endpoint `listen` cannot be bound.
     pub fn bind_at(
         rt: &impl Net,
         listen: SocketAddr,
@@ -157,9 +158,9 @@ impl<M: Moments> UdpPorts<M> {
     /// client that has been silent longest closes, provided that this client has been silent for at
     /// least 10,000 milliseconds.
     ///
-    /// A face closes when a datagram from any endpoint has arrived, before that datagram is
-    /// handled. At most one face closes in each turn. If a face was opened for a datagram in the
-    /// turn before, that datagram is handled first.
+    /// A face closes only when a datagram has arrived from some endpoint. The face closes before
+    /// that datagram is handled. At most one face closes in each turn. If the turn before opened a
+    /// face for a datagram, that datagram arrives on the new face before any face closes.
     pub fn close_after(&mut self, idle: u64)
         ensures { self.new ≡ closes_after idle self.old }
     {
@@ -236,8 +237,8 @@ impl<M: Moments> UdpPorts<M> {
         self.moments.now()
     }
 
-    /// Returns the arrival of the waiting datagram on its face. Copies the datagram to the start of
-    /// the buffer. Octets that do not fit are dropped.
+    /// Returns the arrival of the waiting datagram on the face `face`. Copies the datagram to the
+    /// start of the buffer. Octets that do not fit are dropped.
     fn give_waiting(&mut self, endpoint: SocketAddr, face: u64, buffer: &mut [u8]) -> Arrival
         requires opened { HasOpened self.old }
         requires waiting { (octets : List ℕ) × (self.old.waiting
@@ -287,7 +288,7 @@ impl<M: Moments> UdpPorts<M> {
         self.waiting = Some(Waiting { endpoint, face });
     }
 
-    /// Opens the face of the first peer that has no face yet.
+    /// Opens the face of the first peer whose face is not yet opened.
     fn open(&mut self) -> Arrival
         requires { self.old.opened < length self.old.known.peers }
         ensures { OpensPeer self.old self.new result }
@@ -351,9 +352,9 @@ impl<M: Moments> UdpPorts<M> {
     }
 
     /// Receives a datagram and returns its arrival, or `None` if the socket gives no datagram or
-    /// its waiting time cannot be set. A datagram from an endpoint that is not accepted is counted.
-    /// After a counted datagram, returns `None` if `is_brief` is set. If `is_brief` is not set,
-    /// receives the next datagram after a counted datagram. Precondition: all peers' faces are
+    /// the socket's waiting time cannot be set. A datagram from an endpoint that is not accepted is
+    /// dropped and counted. After a counted datagram, returns `None` if `is_brief` is true, and
+    /// receives the next datagram if `is_brief` is false. Precondition: all peers' faces are
     /// opened, and no datagram waits for the next turn.
     fn receive(&mut self, buffer: &mut [u8], is_brief: bool) -> Option<Arrival>
         requires { Listens self.old }
@@ -387,7 +388,7 @@ impl<M: Moments> UdpPorts<M> {
     }
 
     /// Returns the next arrival: the opening of a peer's face, a waiting datagram, or a datagram
-    /// that is received now. Returns `None` if `receive` does.
+    /// that is received now. Returns `None` if `receive` returns `None`.
     fn take(&mut self, buffer: &mut [u8], is_brief: bool) -> Option<Arrival>
         ensures fits { IfSome result (LiesWithin (length buffer.new)) }
         ensures gives { IfSome result (UdpGives self.old self.new buffer.new) }
@@ -473,7 +474,7 @@ impl<M: Moments> Ports for UdpPorts<M> {
     }
 }
 
-/// Returns the opening of a Far face, for an endpoint that is not a peer.
+/// Returns the arrival that opens a Far face, which is for an endpoint that is not a peer.
 fn far_face(face: u64, now: u64) -> Arrival
     ensures { result ≡ Arrival.FaceUp face Scope.Far now }
 {

@@ -16,11 +16,11 @@ use Rattle.ndn_packets.specs.declared.data.Data.{Data}
 abbrev pub Objects : Type 0
 Objects = FinMap name_cmp (List ℕ)
 
--- a stored Data: its full name and its octets
+-- the object (stored Data) for the Data `d`: the full name and the octets of `d`
 abbrev pub object_of : Data → List Field × List ℕ
 object_of d = (full_name (components d.name) (sha256 d.whole.now), d.whole.now)
 
--- the octets are a Data, and `full` is its full name
+-- `octets` is an encoded Data, and `full` is the full name of this Data
 pub record IsObject (full : List Field) (octets : List ℕ) : Type 0 where
   pub packet : PlainData
   pub read : IsData octets packet
@@ -48,21 +48,21 @@ is_digest_alone [] = true
 is_digest_alone (c ∷ []) = c.0 == IMPLICIT_SHA256_DIGEST
 is_digest_alone (c ∷ (d ∷ cs)) = false
 
--- Whether the Data with this full name answers an Interest with this name and CanBePrefix. The name
--- must be a prefix of the full name. Without CanBePrefix, only an implicit digest or nothing may
--- follow this prefix in the full name.
+-- Whether the Data with this full name answers an Interest with this name and this CanBePrefix
+-- flag. The name must be a prefix of the full name. Without CanBePrefix, only an implicit digest or
+-- nothing may follow this prefix in the full name.
 abbrev pub full_name_answers : List Field → Bool → List Field → Bool
 full_name_answers name can_be_prefix full =
     begins_with name full && (can_be_prefix || is_digest_alone (drop (length name) full))
 
--- the objects of the list that answer an Interest with this name and CanBePrefix, in the order of
--- the list
+-- the objects of the list that answer an Interest with this name and this CanBePrefix flag, in the
+-- order of the list
 abbrev pub answering : List Field → Bool → List (List Field × List ℕ)
     → List (List Field × List ℕ)
 answering name can_be_prefix rows =
     filter (λ o. full_name_answers name can_be_prefix o.0) rows
 
--- the number of objects that answer an Interest with this name and CanBePrefix
+-- the number of objects that answer an Interest with this name and this CanBePrefix flag
 abbrev pub number_answering : List Field → Bool → Objects → ℕ
 number_answering name can_be_prefix objects =
     length (answering name can_be_prefix (entries objects))
@@ -72,11 +72,11 @@ first_octets [] = None
 first_octets (o ∷ os) = Some o.1
 
 -- the octets of the object with the least full name among those that answer an Interest with this
--- name and CanBePrefix; None if no object answers
+-- name and this CanBePrefix flag; None if no object answers
 abbrev pub served : List Field → Bool → Objects → Option (List ℕ)
 served name can_be_prefix objects = first_octets (answering name can_be_prefix (entries objects))
 
--- the objects that do not answer an Interest with this name and CanBePrefix
+-- the objects that do not answer an Interest with this name and this CanBePrefix flag
 abbrev pub without_answering : List Field → Bool → Objects → Objects
 without_answering name can_be_prefix objects =
     kept (λ o. not (full_name_answers name can_be_prefix o.0)) objects

@@ -19,7 +19,7 @@ use Rattle.repo_core.specs.declared.types.TheConstants.{DEFAULT_LIFETIME}
 use Rattle.repo_core.specs.Commands.{verb_named}
 
 -- a command with its parameters; it applies to the Data that answer an Interest with this name and
--- CanBePrefix
+-- this CanBePrefix flag
 pub record RepoCommand : Type 0 where
   pub verb : Verb
   pub name : List Field
@@ -41,7 +41,7 @@ abbrev pub can_be_read : Result Field TlvFault → Bool
 can_be_read (Ok e) = true
 can_be_read (Err fault) = false
 
--- the name in the Name field, or None if there is none or it cannot be decoded
+-- the name in the Name field, or None if there is no Name field or its value cannot be decoded
 abbrev pub name_in : Elements → Option (List Field)
 name_in es = first_of NAME es >>= name_of
 

@@ -83,8 +83,8 @@ reply_to s None = record { status = BAD_PARAMETERS; count = 0; fetch = None }
 reply_to s (Some c) = reply_with s c (repo_status_of s c)
 
 -- the state after an insert: an insert with status 100 adds a want (a pending insert), or sets the
--- deadline of the want with the same name and CanBePrefix; an insert with another status changes
--- nothing
+-- deadline of the want with the same name and CanBePrefix flag; an insert with another status
+-- changes nothing
 abbrev pub after_insert : RepoCommand → ℕ → Held → Held
 after_insert c now s =
     if repo_status_of s c == PENDING then record s {

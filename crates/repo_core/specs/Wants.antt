@@ -37,7 +37,8 @@ want_cmp-antisymmetric x y e =
 abbrev pub want_code : Coded WantKey
 want_code = coded× name_code coded_bool
 
--- a map from wants to their deadlines, in milliseconds since 1970
+-- a map from the names and CanBePrefix flags of wants to the deadlines of the wants, in
+-- milliseconds since 1970
 abbrev pub Wants : Type 0
 Wants = FinMap want_cmp ℕ
 

@@ -1,4 +1,5 @@
-//! Laws on the definitions that contracts use. These functions do nothing at run time.
+//! Laws on the definitions that contracts use. Each law is a function that does nothing at run
+//! time.
 
 ghost use Rattle.std.specs.Prelude.{◌≡◌, ◌↔◌, ◌+◌, ◌≤◌, ◌++◌, ◌∷◌, [], ℕ, List, Bool, Option, Some, IsSome, length, true};
 ghost use Rattle.std.specs.FinMap as map;
@@ -54,8 +55,8 @@ pub fn repo_statuses_have_texts()
 pub fn repo_replies_are_bounded()
     ensures known { (status count : ℕ) (text : List ℕ) → repo_text_of status ≡ Some text
         → length (repo_response status text count) ≤ MAX_REPLY_LEN }
-    // The bound on every reply, whatever its text is. For example, the reply to a command that no
-    // rule allows has a text of its own.
+    // This bound holds for every text. For example, the text of the reply to a command that no
+    // access rule allows is not one of the texts that `repo_text_of` gives.
     ensures any { (status count : ℕ) (text : List ℕ)
         → length (repo_response status text count) ≤ length text + 40 }
 {}

@@ -13,8 +13,8 @@ use ndn_tlv::Memory;
 use std::alloc::Global;
 use std::marker::Model;
 
-/// A stored Data. In contracts, it is the pair of its full name and its octets. An object is one
-/// pointer, so a list of objects can be shifted quickly.
+/// A stored Data. In contracts, an object is the pair of the full name and the octets of the Data.
+/// At run time, an object is one pointer, so a list of objects can be shifted quickly.
 #[derive(Drop)]
 pub struct Object {
     stored: Box<Stored>,
@@ -45,7 +45,8 @@ impl Model for Object {
 }
 
 impl Object {
-    /// Copies a Data. The implicit digest is computed here, once.
+    /// Creates an object with a copy of the Data `packet`. The implicit digest is computed once, in
+    /// this function.
     pub fn new(alloc: Global, packet: &Data<'_>) -> Result<Object, Memory>
         ensures { IfOk result (λ o. o ≡ object_of packet.now) }
     {
@@ -115,7 +116,7 @@ impl Object {
         self.stored.full_name.is_named(name)
     }
 
-    /// Returns whether the Data answers an Interest with this name and CanBePrefix.
+    /// Returns whether the Data answers an Interest with this name and this CanBePrefix flag.
     pub fn answers(&self, name: Name<'_>, can_be_prefix: bool) -> bool
         ensures { result ≡ full_name_answers (components name.entry) can_be_prefix self.now.0 }
     {
@@ -128,7 +129,7 @@ impl Object {
 
     /// Returns whether `name` is a prefix of the full name. Without CanBePrefix, the component
     /// after this prefix, if there is one, must also have a type less than 2. Only objects for
-    /// which `is_near` is true can answer an Interest with this name and CanBePrefix.
+    /// which `is_near` is true can answer an Interest with this name and this CanBePrefix flag.
     pub fn is_near(&self, name: Name<'_>, can_be_prefix: bool) -> bool
         ensures { result ≡ is_near (components name.entry) can_be_prefix self.now.0 }
     {

@@ -66,7 +66,8 @@ impl Objects {
         are_same(&self.rows, &other.rows)
     }
 
-    /// Returns the number of objects that answer an Interest with this name and CanBePrefix.
+    /// Returns the number of objects that answer an Interest with this name and this CanBePrefix
+    /// flag.
     pub fn number(&self, name: Name<'_>, can_be_prefix: bool) -> usize
         ensures { result ≡ number_answering (components name.entry) can_be_prefix self.now.table }
     {
@@ -77,8 +78,8 @@ impl Objects {
         )
     }
 
-    /// Returns the octets of the object that answers an Interest with this name and CanBePrefix. If
-    /// several objects answer, the object with the least full name is chosen.
+    /// Returns the octets of the object that answers an Interest with this name and this
+    /// CanBePrefix flag. If several objects answer, the object with the least full name is chosen.
     pub fn served(&self, name: Name<'_>, can_be_prefix: bool) -> Option<&[u8]>
         ensures { option_map (λ o. o.now) result
             ≡ served (components name.entry) can_be_prefix self.now.table }
@@ -90,7 +91,7 @@ impl Objects {
         )
     }
 
-    /// Removes the objects that answer an Interest with this name and CanBePrefix.
+    /// Removes the objects that answer an Interest with this name and this CanBePrefix flag.
     pub fn remove(&mut self, name: Name<'_>, can_be_prefix: bool)
         ensures table { self.new.table
             ≡ without_answering (components name.entry) can_be_prefix self.old.table }
@@ -147,8 +148,8 @@ fn has_at(objects: &[Object], at: usize, octets: &[u8]) -> bool
     }
 }
 
-/// Returns a slice with all objects that answer an Interest with this name and CanBePrefix. In the
-/// slice, objects that pass `is_near` come before all other objects.
+/// Returns a slice with all objects that answer an Interest with this name and this CanBePrefix
+/// flag. In the slice, objects that pass `is_near` come before all other objects.
 fn candidates<'a>(objects: &'a [Object], name: Name<'_>, can_be_prefix: bool) -> &'a [Object]
     requires { T (map.is_sorted name_cmp objects.now) }
     ensures same { answering (components name.entry) can_be_prefix result.now
@@ -161,8 +162,8 @@ fn candidates<'a>(objects: &'a [Object], name: Name<'_>, can_be_prefix: bool) ->
     rest
 }
 
-/// Returns the number of objects in the slice that answer an Interest with this name and
-/// CanBePrefix.
+/// Returns the number of objects in the slice that answer an Interest with this name and this
+/// CanBePrefix flag.
 fn count_of(objects: &[Object], name: Name<'_>, can_be_prefix: bool) -> usize
     requires { IsPartitionedBy (λ o. is_near (components name) can_be_prefix o.0) objects.now }
     ensures { result ≡ length (answering (components name.entry) can_be_prefix objects.now) }
@@ -180,7 +181,7 @@ fn count_of(objects: &[Object], name: Name<'_>, can_be_prefix: bool) -> usize
 }
 
 /// Returns the octets of the first object in the slice that answers an Interest with this name and
-/// CanBePrefix.
+/// this CanBePrefix flag.
 fn first_of<'a>(objects: &'a [Object], name: Name<'_>, can_be_prefix: bool) -> Option<&'a [u8]>
     requires { IsPartitionedBy (λ o. is_near (components name) can_be_prefix o.0) objects.now }
     ensures { option_map (λ o. o.now) result

@@ -68,7 +68,7 @@ pub fn put_repo_reply(out: &mut Vec<u8>, status: u16, text: &str, count: u64) ->
     ensures ok { OnOk result
         (out.new.items ≡ out.old.items ++ repo_response status text.now count) }
     ensures err { OnErr result (out.new.items ≡ out.old.items) }
-    // If the spare capacity is enough, memory does not run out.
+    // If the spare capacity of `out` is enough for the reply, memory does not run out.
     ensures room { vec_len out.old + length (repo_response status text.now count)
         ≤ vec_capacity out.old → IsOk result }
     ensures capacity { vec_capacity out.old ≤ vec_capacity out.new }

@@ -96,7 +96,7 @@ impl Repo {
     }
 
     /// Returns the verb of a name that begins with the repository's prefix and a verb. The name of
-    /// every command begins with both.
+    /// every command begins with the prefix and a verb.
     pub fn verb_of(&self, name: Name<'_>) -> Option<Verb>
         ensures { result ≡ verb_at self.now.start (components name.entry) }
     {
@@ -107,13 +107,13 @@ impl Repo {
     /// digest of the Interest's parameters. `now` is in milliseconds since 1970.
     ///
     /// An object (a stored Data) matches a command if the object answers an Interest with the
-    /// command's name and CanBePrefix. The equal want is the want (pending insert) with the
-    /// command's name and CanBePrefix, if there is one. An insert is answered 200 with the number
-    /// of matching objects if at least one object matches. If no object matches, the insert renews
-    /// the equal want. If no object matches and there is no equal want, the insert adds a want. An
-    /// insert that renews or adds a want is answered 100. An insert is answered 503 if it would
-    /// have to add a want and the limits leave no room for the want. A want expires at the end of
-    /// its lifetime. A delete removes the matching objects and the equal want. The delete is
+    /// command's name and CanBePrefix flag. The equal want is the want (pending insert) with the
+    /// command's name and CanBePrefix flag, if there is one. An insert is answered 200 with the
+    /// number of matching objects if at least one object matches. If no object matches, the insert
+    /// renews the equal want. If no object matches and there is no equal want, the insert adds a
+    /// want. An insert that renews or adds a want is answered 100. An insert is answered 503 if it
+    /// would have to add a want and the limits leave no room for the want. A want expires at the
+    /// end of its lifetime. A delete removes the matching objects and the equal want. The delete is
     /// answered 200 with the number of removed objects if it removed an object or a want, and 404
     /// if it removed neither. A check is answered 200 with the number of matching objects if at
     /// least one object matches. If no object matches, the check is answered 100 if there is an
@@ -122,7 +122,7 @@ impl Repo {
     ///
     /// Only an insert can return `Memory`. An insert that returns `Memory` leaves the objects and
     /// wants unchanged. Every insert ends the preparation that `prepare_command` or `prepare_offer`
-    /// made; other commands do not.
+    /// made; other commands do not end the preparation.
     pub fn command(&mut self, name: Name<'_>, now: u64) -> Result<RepoReply, Memory>
         ensures reply { IfOk result (λ r.
             r ≡ reply_to self.old.held (repo_command_at self.old.start (components name.entry))) }
@@ -158,9 +158,10 @@ impl Repo {
 
     /// Offers a Data to the repository, and returns whether the Data was wanted. A wanted Data is
     /// added, or replaces the object with the same full name. All wants that the Data answers are
-    /// removed. An offer of a wanted Data ends the preparation, even if the offer returns `Memory`.
-    /// `Memory` is returned only for a wanted Data, and leaves the objects and wants unchanged. A
-    /// Data that is not wanted changes nothing.
+    /// removed. An offer of a wanted Data ends the preparation that `prepare_command` or
+    /// `prepare_offer` made, even if the offer returns `Memory`. Only the offer of a wanted Data
+    /// can return `Memory`. An offer that returns `Memory` leaves the objects and wants unchanged.
+    /// A Data that is not wanted changes nothing.
     pub fn offer(&mut self, packet: &Data<'_>) -> Result<bool, Memory>
         ensures filled { IfOk result (λ filled. filled ≡ is_wanted (components packet.now.name)
             (sha256 packet.now.whole.now) self.old.held.wants) }
@@ -218,8 +219,8 @@ impl Repo {
         self.objects.served(interest.name, interest.can_be_prefix)
     }
 
-    /// Removes the wants whose deadline is at most `now`, in milliseconds since 1970. The
-    /// preparation is unchanged.
+    /// Removes the wants whose deadline is at most `now`, in milliseconds since 1970. A preparation
+    /// that `prepare_command` or `prepare_offer` made remains valid.
     pub fn expire(&mut self, now: u64)
         ensures { self.new ≡ record self.old {
           held = record self.old.held {
@@ -230,8 +231,8 @@ impl Repo {
         self.wants.expire(now);
     }
 
-    /// Returns the number of objects and wants. The clauses `limits` and `objects` of the contract
-    /// are true of every repository.
+    /// Returns the number of objects plus the number of wants. The clauses `limits` and `objects`
+    /// of the contract are true of every repository.
     pub fn held_len(&self) -> usize
         ensures exact { result ≡ map.len self.now.held.objects + map.len self.now.held.wants }
         ensures limits { IsWithinLimits self.now.held }
@@ -257,10 +258,11 @@ impl Repo {
         self.objects.is_same(&other.objects) && self.wants.is_same(&other.wants)
     }
 
-    /// Prepares the command with this name, including its reply. The prepared command cannot run
-    /// out of memory. The preparation ends with the next insert, the next offer of a wanted Data,
-    /// or the next call that prepares a command or an offer, even if that call fails. Deletes and
-    /// the expiry of wants do not end the preparation. Only an insert needs memory.
+    /// Prepares the command with this name: allocates the memory that `command` needs for the
+    /// command and for the returned `RepoReply`. The prepared command cannot run out of memory. The
+    /// preparation ends with the next insert, the next offer of a wanted Data, or the next call
+    /// that prepares a command or an offer, even if that call fails. Deletes and the expiry of
+    /// wants do not end the preparation. Only an insert needs memory.
     pub fn prepare_command(&mut self, name: Name<'_>) -> Result<(), Memory>
         ensures held { self.new.held ≡ self.old.held }
         ensures start { self.new.start ≡ self.old.start }

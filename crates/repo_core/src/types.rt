@@ -13,8 +13,8 @@ pub const NOT_FOUND: u16 = 404;
 
 pub const FULL: u16 = 503;
 
-/// The lifetime of a want in milliseconds if the command gives no lifetime (NDN Packet Format 0.3,
-/// "Interest Packet", InterestLifetime).
+/// The default lifetime of a want in milliseconds, for a command that gives no lifetime (NDN Packet
+/// Format 0.3, "Interest Packet", InterestLifetime).
 pub const DEFAULT_LIFETIME: u64 = 4000;
 
 /// Law: the status codes of the repository's replies are 100, 200, 400, 404 and 503, and the

@@ -8,10 +8,10 @@ pub enum Verb {
     /// Requests nothing if a matching Data is stored already.
     Insert,
     /// `delete`: removes the stored Data that match the command, and the want with the command's
-    /// name and CanBePrefix.
+    /// name and CanBePrefix flag.
     Delete,
     /// `check`: counts the stored Data that match the command. If no stored Data matches, reports
-    /// whether there is a want with the command's name and CanBePrefix.
+    /// whether there is a want with the command's name and CanBePrefix flag.
     Check,
 }
 

@@ -15,7 +15,7 @@ use std::alloc::Global;
 use std::cmp::Ordering;
 use std::marker::Model;
 
-/// A want: its name, its CanBePrefix, and its deadline in milliseconds since 1970.
+/// A want: its name, its CanBePrefix flag, and its deadline in milliseconds since 1970.
 type Row = ((NameBuf, bool), u64);
 
 /// The wants (pending inserts) of a repository, by name and CanBePrefix.
@@ -60,7 +60,7 @@ impl Wants {
         self.rows.len()
     }
 
-    /// Returns whether there is a want with this name and CanBePrefix.
+    /// Returns whether there is a want with this name and this CanBePrefix flag.
     pub fn contains(&self, name: Name<'_>, can_be_prefix: bool) -> bool
         ensures { result ≡ map.contains_key self.now (components name.entry, can_be_prefix) }
     {
@@ -68,8 +68,9 @@ impl Wants {
         has_at(&self.rows, at, name, can_be_prefix)
     }
 
-    /// Sets the deadline of the want with this name and CanBePrefix. Adds the want if it is new.
-    /// Precondition: there are fewer than 64 wants, or the want is not new.
+    /// Sets the deadline of the want with this name and this CanBePrefix flag. If there is no such
+    /// want, adds a want. Precondition: there are fewer than 64 wants, or there is already a want
+    /// with this name and this CanBePrefix flag.
     pub fn put(&mut self, name: NameBuf, can_be_prefix: bool, deadline: u64)
         requires { (map.contains_key self.old (name, can_be_prefix) ≡ true)
             ⊎ (map.len self.old < MAX_WANTS) }
@@ -83,7 +84,7 @@ impl Wants {
         }
     }
 
-    /// Removes the want with this name and CanBePrefix, if there is such a want.
+    /// Removes the want with this name and this CanBePrefix flag, if there is such a want.
     pub fn remove(&mut self, name: Name<'_>, can_be_prefix: bool)
         ensures { self.new ≡ map.remove self.old (components name.entry, can_be_prefix) }
     {
@@ -169,7 +170,7 @@ fn is_same_want(want: &Row, other: &Row) -> bool
     want.1 == other.1
 }
 
-/// Compares the key of a want with the key that consists of this name and CanBePrefix.
+/// Compares the key of a want with the key that consists of this name and this CanBePrefix flag.
 fn order_of(row: &Row, name: Name<'_>, can_be_prefix: bool) -> Ordering
     ensures { result ≡ want_cmp row.now.0 (components name.entry, can_be_prefix) }
 {
@@ -180,7 +181,8 @@ fn order_of(row: &Row, name: Name<'_>, can_be_prefix: bool) -> Ordering
         .then(row.0.1.cmp(&can_be_prefix))
 }
 
-/// Returns the index of the first want whose key is not less than this name and CanBePrefix.
+/// Returns the index of the first want whose key is not less than this name and this CanBePrefix
+/// flag.
 fn place_of(rows: &[Row], name: Name<'_>, can_be_prefix: bool) -> usize
     requires { T (map.is_sorted want_cmp rows.now) }
     ensures { IsPlace want_cmp (components name.entry, can_be_prefix) rows.now result }
@@ -188,7 +190,7 @@ fn place_of(rows: &[Row], name: Name<'_>, can_be_prefix: bool) -> usize
     rows.partition_point(|row| order_of(row, name, can_be_prefix).is_lt())
 }
 
-/// Returns whether the want at index `at` has this name and CanBePrefix.
+/// Returns whether the want at index `at` has this name and this CanBePrefix flag.
 fn has_at(rows: &[Row], at: usize, name: Name<'_>, can_be_prefix: bool) -> bool
     ensures { IsTrue result ↔ HasAt (components name.entry, can_be_prefix) rows.now at }
 {

@@ -30,8 +30,8 @@ fn number_in(text: &str) -> Option<Option<u64>> {
     Some(Some(text.parse().ok()?))
 }
 
-/// Records a command, which is given as its signer, time and number. For `prepare SIGNER`, only
-/// prepares the recording of a command of this signer.
+/// Records the command `SIGNER TIME NUMBER`. For `prepare SIGNER`, prepares the recording of a
+/// command of this signer, and records nothing.
 fn record(alloc: Global, guard: &mut Guard, command: &str) -> Option<()> {
     let (signer, rest) = command.split_once(' ')?;
     if signer == "prepare" {
@@ -55,7 +55,7 @@ fn is_fresh(alloc: Global, guard: &Guard, command: &str) -> Option<bool> {
     Some(guard.check(signer_of(&key), time, number, now))
 }
 
-/// Shows `fresh` if the command after `? ` is fresh once the commands before `? ` are recorded, and
+/// Records the commands before `? `. Then shows `fresh` if the command after `? ` is fresh, and
 /// `no` otherwise.
 fn freshness(alloc: Global, row: &str) -> Option<String> {
     let (past, command) = row.split_once("? ")?;
@@ -73,14 +73,14 @@ fn is_fresh_after(alloc: Global, past: &str, command: &str) -> Option<bool> {
     is_fresh(alloc, &guard, command)
 }
 
-/// Returns the guard in which these commands were recorded.
+/// Returns a new guard in which the commands `past` are recorded.
 fn guard_of(alloc: Global, past: &str) -> Option<Guard> {
     let mut guard = Guard::new(alloc);
     record_all(alloc, &mut guard, past)?;
     Some(guard)
 }
 
-/// Records these commands.
+/// Records the commands `past`, which are separated by `, `.
 fn record_all(alloc: Global, guard: &mut Guard, past: &str) -> Option<()> {
     for recorded in past.split_terminator(", ") {
         record(alloc, guard, recorded.trim())?;
@@ -88,14 +88,16 @@ fn record_all(alloc: Global, guard: &mut Guard, past: &str) -> Option<()> {
     Some(())
 }
 
-/// Shows whether two guards, each given by its commands, have the same times and numbers.
+/// Shows `true` if two guards have the same times and numbers, and `false` otherwise. Each guard is
+/// given by the commands that it records.
 fn sameness(alloc: Global, row: &str) -> Option<String> {
     let (past, other) = row.split_once("; ")?;
     let is_same = are_same(alloc, past, other)?;
     format!(in alloc; "{is_same}").ok()
 }
 
-/// Returns whether two guards, each given by its commands, have the same times and numbers.
+/// Returns whether two guards have the same times and numbers. Each guard is given by the commands
+/// that it records.
 fn are_same(alloc: Global, past: &str, other: &str) -> Option<bool> {
     let guard = guard_of(alloc, past)?;
     let other = guard_of(alloc, other)?;
@@ -131,7 +133,7 @@ prepare digest, ? digest 0 - 0 -> fresh
     check_rows(&rt, rt.alloc(), rows, freshness);
 }
 
-/// After a preparation for a signer, a recording for this signer records its command.
+/// After a preparation for a signer, a command of this signer can be recorded.
 #[test]
 fn prepared_calls_have_their_effect(rt: HostRuntime) {
     let rows = "
@@ -148,8 +150,8 @@ prepare digest, digest 0 0, ? /k 0 0 0 -> fresh
     check_rows(&rt, rt.alloc(), rows, freshness);
 }
 
-/// After a preparation for one signer, a recording for another signer records its command, and so
-/// does a later recording for the first signer.
+/// After a preparation for one signer, a command of another signer can be recorded. Afterwards, a
+/// command of the first signer can be recorded as well.
 #[test]
 fn calls_of_others_after_a_preparation(rt: HostRuntime) {
     let rows = "
@@ -166,8 +168,8 @@ prepare /k, /l 0 0, /k 0 0, ? /l 0 1 0 -> no
     check_rows(&rt, rt.alloc(), rows, freshness);
 }
 
-/// After preparations for two signers, a recording for either signer records the command of this
-/// signer only.
+/// After preparations for two signers, a command of either signer can be recorded. This records
+/// nothing for the other signer.
 #[test]
 fn recordings_after_two_preparations(rt: HostRuntime) {
     let rows = "
@@ -202,9 +204,9 @@ fn refused_memory_for_records(rt: HostRuntime) {
 }
 
 /// Returns whether a recording for a new signer leaves earlier records unchanged, even if the
-/// recording runs out of memory. The recording may run out of memory because another signer's
-/// recording used up the preparation. Returns `None` if memory runs out before the recording for
-/// the new signer.
+/// recording runs out of memory. The command of the new signer must then be fresh exactly if it was
+/// not recorded. The recording may run out of memory because another signer's recording used up the
+/// preparation. Returns `None` if memory runs out before the recording for the new signer.
 fn leaves_earlier_records(alloc: Global) -> Option<bool> {
     let first = key_in(alloc, "/k")?;
     let second = key_in(alloc, "/l")?;

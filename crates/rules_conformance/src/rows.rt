@@ -1,11 +1,11 @@
-//! Helpers for tests that are written as rows. A wrong row ends the test.
+//! Helpers for tests that are written as rows. A wrong row makes the test fail.
 
 use std::alloc::Global;
 use std::process::Abort;
 use test_support::first_misshown;
 
-/// Fails at the first row whose input gives a text other than the expected one. Also fails if there
-/// are no rows.
+/// Fails at the first row whose input gives a text other than the expected text. Also fails if
+/// there are no rows.
 pub fn check_rows(
     rt: &impl Abort,
     alloc: Global,
@@ -18,7 +18,7 @@ pub fn check_rows(
     assert!(rt; wrong.is_none(), "{wrong:?}");
 }
 
-/// Fails the test with the line number `wrong`, unless it is 0.
+/// Fails the test and reports the line number `wrong`, unless `wrong` is 0.
 pub fn assert_right(rt: &impl Abort, wrong: usize) {
     assert!(rt; wrong == 0, "the row on line {wrong} is refused");
 }

@@ -1,5 +1,5 @@
 -- If each face of a table is below 63 or is the greatest face number, the table has room for one
--- more such face.
+-- more face that is below 63 or is the greatest face number.
 use Rattle.std.proofs.Common.{◌≡◌, ◌⊎◌, inl, inr, ℕ, suc, ◌+◌, ◌-◌, ◌^◌, ◌<◌, ◌≤◌, Bool, true, false, not, cond, List, [], ◌∷◌, length, refl, sym, ap, subst, ◌∙◌, arith, eqb}
 use Rattle.std.proofs.lemmas.Bool.Decides.{nat_tests}
 use Rattle.std.proofs.lemmas.Cmp.{nat_cmp_total}
@@ -89,8 +89,8 @@ same_key : (k key : RouteKey) → eq_by_cmp route_cmp k key ≡ true → k ≡ k
 same_key k key e = route_cmp-antisymmetric k key (equal (route_cmp k key) e)
 
 -- Each lemma of this module is about a lookup in an empty map, or in a map after an insertion, a
--- removal or a change of its values. The lemma proves `A` if the lookup finds a value. The premises
--- of the lemma prove `A` for each case in which the lookup can find a value.
+-- removal or a change of its values. The lemma concludes `A` from the premise that the lookup finds
+-- a value. Its other premises give `A` for each case in which the lookup can find a value.
 module _ {X A : Type 0} where
   none_there : (o : Option X) → o ≡ None → IsSome o → A
   none_there o e some = absurd cc

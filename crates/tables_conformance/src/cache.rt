@@ -17,7 +17,7 @@ fn data_in(alloc: Global, words: &str) -> Option<Vec<u8>> {
     data_of(alloc, name, content, Some(freshness.parse().ok()?))
 }
 
-/// Puts a Data into the store, and returns whether it is cached. `words` are the Data's name,
+/// Puts a Data into the store, and returns whether the Data is cached. `words` are the Data's name,
 /// Content, FreshnessPeriod and time of arrival.
 fn put(alloc: Global, store: &mut Store, words: &str) -> Option<bool> {
     let (data, arrival) = words.rsplit_once(' ')?;
@@ -73,7 +73,7 @@ fn erase(alloc: Global, store: &mut Store, words: &str) -> Option<u64> {
 
 /// Runs the calls of a row on a store with the row's capacity. Returns the results of the calls,
 /// and then the number of cached Data and the capacity, such as `(1 of 8)`. Returns `BadCapacity`
-/// if no store has this capacity.
+/// if a store cannot have this capacity.
 fn answers(alloc: Global, row: &str) -> Option<String> {
     let (capacity, calls) = row.split_once(": ")?;
     match Store::new(alloc, capacity.parse().ok()?) {
@@ -82,14 +82,16 @@ fn answers(alloc: Global, row: &str) -> Option<String> {
     }
 }
 
-/// Returns the results of calls, and then the number of cached Data and the capacity.
+/// Runs the calls. Returns the results of the calls, and then the number of cached Data and the
+/// capacity.
 fn answers_of(alloc: Global, store: &mut Store, calls: &str) -> Option<String> {
     let mut shown = String::new(alloc);
     put_answers(alloc, &mut shown, store, calls)?;
     Some(shown)
 }
 
-/// Appends the results of calls, and then the number of cached Data and the capacity.
+/// Runs the calls. Appends the results of the calls, and then the number of cached Data and the
+/// capacity.
 fn put_answers(alloc: Global, shown: &mut String, store: &mut Store, calls: &str) -> Option<()> {
     for call in calls.split_terminator(", ") {
         put_answer(alloc, shown, store, call)?;
@@ -97,8 +99,8 @@ fn put_answers(alloc: Global, shown: &mut String, store: &mut Store, calls: &str
     write!(shown, "({} of {})", store.len(), store.capacity()).ok()
 }
 
-/// Runs `put`, `find` or `erase`, and appends the result of `find` or `erase` and a space. Returns
-/// `None` if a Data that is put is not cached.
+/// Runs a call of `put`, `find` or `erase`. For `find` and `erase`, appends the result and a space.
+/// For `put`, returns `None` if the Data is not cached.
 fn put_answer(alloc: Global, shown: &mut String, store: &mut Store, call: &str) -> Option<()> {
     let (verb, words) = call.split_once(' ')?;
     match verb {
@@ -145,8 +147,9 @@ fn store_capacities(rt: HostRuntime) {
     check_rows(&rt, rt.alloc(), rows, answers);
 }
 
-/// A full store evicts the least recently used Data, but evicts nothing if a Data replaces a Data
-/// with the same full name.
+/// When a Data is put into a full store, the least recently used Data is evicted. If the store has
+/// a Data with the same full name as the new Data, the new Data replaces that Data, and no Data is
+/// evicted.
 #[test]
 fn eviction_order(rt: HostRuntime) {
     let rows = "
@@ -184,7 +187,7 @@ fn cache_freshness(rt: HostRuntime) {
     check_rows(&rt, rt.alloc(), rows, answers);
 }
 
-/// A lookup with MustBeFresh skips the names whose Data are not fresh.
+/// A lookup with MustBeFresh skips the Data that are not fresh.
 #[test]
 fn the_least_name_that_is_fresh(rt: HostRuntime) {
     let rows = "
@@ -193,8 +196,8 @@ fn the_least_name_that_is_fresh(rt: HostRuntime) {
     check_rows(&rt, rt.alloc(), rows, answers);
 }
 
-/// With ample memory, each Data that is put is cached, and a lookup finds the Data with the least
-/// full name among the Data that answer.
+/// With ample memory, each Data that is put is cached. Among the Data that answer an Interest, a
+/// lookup finds the Data with the least full name.
 #[test]
 fn cache_kept(rt: HostRuntime) {
     let rows = "
@@ -221,7 +224,8 @@ fn cached_data_by_full_name(rt: HostRuntime) {
     check_rows(&rt, rt.alloc(), rows, answers);
 }
 
-/// Puts a Data with the name `/other/N`, where N is `number`, and returns whether it is cached.
+/// Puts a Data with the name `/other/N`, where N is `number`, and returns whether the Data is
+/// cached.
 fn put_other(alloc: Global, store: &mut Store, number: u32) -> Option<bool> {
     let uri = format!(in alloc; "/other/{number}").ok()?;
     let packet = data_of(alloc, &uri, "01", None)?;
@@ -244,7 +248,8 @@ fn found<'a>(store: &'a mut Store, name: Name<'_>) -> Option<&'a [u8]> {
     store.find(key_of(name, ""), 0)
 }
 
-/// Returns whether the Data `/big` is cached, and is found among 1,000 other Data.
+/// Puts `packet`, which is the Data `/big`, and 1,000 other Data. Returns whether all of them are
+/// cached and `/big` is then found.
 fn is_kept_among_others(alloc: Global, store: &mut Store, packet: &[u8]) -> Option<bool> {
     if !put_packet(store, packet, 0)? || !put_others(alloc, store, 1000)? {
         return Some(false);
@@ -268,7 +273,7 @@ fn greatest_data_among_others(rt: HostRuntime) {
     assert!(rt; is_greatest_kept(rt.alloc()) == Some(true));
 }
 
-/// Replaces the second component of the Data's name by a number of four octets. The name must be
+/// Replaces the second component of the Data's name by `number` in four octets. The name must be
 /// `/n` followed by a component of four octets.
 fn put_number(packet: &mut [u8], number: u32) {
     for (octet, digit) in packet.iter_mut().skip(9).zip(number.to_be_bytes()) {
@@ -276,8 +281,8 @@ fn put_number(packet: &mut [u8], number: u32) {
     }
 }
 
-/// Returns whether the lookup of a name finds the Data in the packet. Returns `None` if the lookup
-/// takes no comparison, or more than `most` comparisons.
+/// Returns whether the lookup of a name finds the Data that `packet` encodes. Returns `None` if the
+/// lookup takes no comparison, or more than `most` comparisons.
 fn is_found_within(store: &mut Store, name: Name<'_>, packet: &[u8], most: u64) -> Option<bool> {
     let mut counted = 0;
     let found = store.find_counted(key_of(name, ""), 0, &mut counted);
@@ -295,7 +300,7 @@ fn is_held(store: &mut Store, packet: &[u8], most: u64) -> Option<bool> {
 }
 
 /// Puts a Data for each number from 0 to `last` into a store, and returns whether all of them are
-/// cached. Afterwards, the packet is the Data with the last number.
+/// cached. Afterwards, `packet` encodes the Data with the number `last`.
 fn put_numbers(store: &mut Store, packet: &mut [u8], last: u32) -> Option<bool> {
     for number in 0..=last {
         put_number(packet, number);
@@ -306,8 +311,8 @@ fn put_numbers(store: &mut Store, packet: &mut [u8], last: u32) -> Option<bool> 
     Some(true)
 }
 
-/// Returns whether the Data in the packet is cached, and the Data with the number 0 is not. Sets
-/// the number in the packet to 0.
+/// Returns whether the Data that `packet` encodes is cached, and the Data with the number 0 is not
+/// cached. Afterwards, `packet` encodes the Data with the number 0.
 fn holds_the_last(store: &mut Store, packet: &mut [u8], most: u64) -> Option<bool> {
     let last = is_held(store, packet, most)?;
     put_number(packet, 0);
@@ -349,15 +354,16 @@ fn greatest_cache(rt: HostRuntime) {
     assert!(rt; is_first_gone(rt.alloc(), 65_536, 17) == Some(true));
 }
 
-/// Returns whether the Data `/A` is found exactly if it was cached.
+/// Puts the Data `/A` into the store. Returns true if the Data is cached and found, or is neither
+/// cached nor found.
 fn is_found_if_kept(alloc: Global, store: &mut Store, packet: &[u8]) -> Option<bool> {
     let was_kept = put_packet(store, packet, 0)?;
     let name = NameBuf::from_uri(alloc, "/A").ok()?;
     Some(found(store, name.view()).is_some() == was_kept)
 }
 
-/// Returns whether a Data is found exactly if it was cached. A Data is not cached if memory runs
-/// out.
+/// Returns what `is_found_if_kept` returns for a new store. If memory runs out, the Data is not
+/// cached.
 fn is_found_where_kept(alloc: Global) -> Option<bool> {
     let packet = data_of(alloc, "/A", "01", Some(0))?;
     let mut store = Store::new(alloc, 2).ok()?;

@@ -133,7 +133,7 @@ impl Table {
     }
 }
 
-/// The numbers after a key in a call. Numbers that are missing in the call are 0.
+/// The numbers after the key in a call. If a call has fewer than four numbers, the others are 0.
 #[derive(Clone, Copy)]
 struct Numbers {
     face: u64,
@@ -149,7 +149,7 @@ fn number_in(text: &str) -> Option<(u64, &str)> {
     Some((number.parse().ok()?, rest))
 }
 
-/// Reads up to four numbers.
+/// Reads up to four numbers. The numbers that `text` lacks are 0.
 fn numbers_in(text: &str) -> Option<Numbers> {
     let (face, rest) = number_in(text)?;
     let (first, rest) = number_in(rest)?;
@@ -168,7 +168,7 @@ fn nonce_of(number: u64) -> Option<[u8; 4]> {
     Some(u32::try_from(number).ok()?.to_be_bytes())
 }
 
-/// Appends faces.
+/// Appends `faces` and the numbers of the faces, as in `faces 2 3`.
 fn put_faces(text: &mut String, faces: &Faces) -> Option<()> {
     text.push_str("faces").ok()?;
     for i in 0..faces.len() {
@@ -178,7 +178,8 @@ fn put_faces(text: &mut String, faces: &Faces) -> Option<()> {
     Some(())
 }
 
-/// Appends faces, each with the moment at which it was last used.
+/// Appends `used` and the faces, each with the moment at which the face was last used, as in
+/// `used 2@5`.
 fn put_used(text: &mut String, used: &Used) -> Option<()> {
     text.push_str("used").ok()?;
     for i in 0..used.len() {
@@ -215,7 +216,7 @@ fn empty_data(alloc: Global, name: Name<'_>) -> Option<Vec<u8>> {
     Some(packet)
 }
 
-/// Returns a Data with the name of this URI and an empty Content.
+/// Returns a Data with an empty Content and the name that `uri` spells.
 fn data_at(alloc: Global, uri: &str) -> Option<Vec<u8>> {
     let name = NameBuf::from_uri(alloc, uri).ok()?;
     empty_data(alloc, name.view())
@@ -229,7 +230,7 @@ fn faces_answered(table: &mut Table, packet: &[u8]) -> Option<Faces> {
     }
 }
 
-/// Appends the answer to `data`, `askers` or `token_for` for a Data.
+/// Runs the call `data`, `askers` or `token_for` for a Data, and appends the answer.
 fn put_of_data(
     alloc: Global,
     text: &mut String,
@@ -246,7 +247,8 @@ fn put_of_data(
     }
 }
 
-/// Appends the answer to `data`, `askers` or `token_for` for the packet of a Data.
+/// Runs the call `data`, `askers` or `token_for` for the Data that `packet` encodes, and appends
+/// the answer.
 fn put_of_packet(
     alloc: Global,
     text: &mut String,
@@ -261,8 +263,9 @@ fn put_of_packet(
     }
 }
 
-/// Appends the answer to a call for an empty Data of a name: `data NAME` and `askers NAME` give
-/// faces, and `token_for NAME FACE` gives the token that the face gets with the Data.
+/// Runs a call for a Data with the given name and an empty Content, and appends the answer. The
+/// answer to `data NAME` and to `askers NAME` is a list of faces. The answer to
+/// `token_for NAME FACE` is the token that the face gets with the Data.
 fn put_of_name(
     alloc: Global,
     text: &mut String,
@@ -299,7 +302,7 @@ fn is_sent(table: &mut Table, key: Key<'_>, numbers: Numbers) -> Option<bool> {
     Some(table.sent(key, numbers.face, numbers.first, nonce, numbers.third))
 }
 
-/// Runs one of these calls, which name a key, and returns its answer, true or false:
+/// Runs one of the following calls, which name a key, and returns the answer, true or false:
 /// `ask KEY FACE NONCE DEADLINE`, `token KEY FACE TOKEN DEADLINE` for an Interest with a PIT token
 /// of one octet, `sent KEY ASKER FACE NONCE NOW`, `loops KEY FACE NONCE`, or `prepare KEY OCTETS`.
 fn is_so(table: &mut Table, call: &str, key: Key<'_>, numbers: Numbers) -> Option<bool> {
@@ -480,7 +483,7 @@ fn remove_numbered(alloc: Global, table: &mut Table, number: u16) -> Option<()> 
 }
 
 /// Runs many rounds, and returns whether each Interest is recorded. Each round records an Interest
-/// under one of 4,096 keys, and removes the key that was used 64 rounds earlier.
+/// under one of 4,096 keys, and removes the Interest that was recorded 64 rounds earlier.
 fn runs_rounds(alloc: Global, table: &mut Table) -> Option<bool> {
     for round in 0..ROUNDS {
         let number = u16::try_from(round % 4096).ok()?;
@@ -492,8 +495,8 @@ fn runs_rounds(alloc: Global, table: &mut Table) -> Option<bool> {
     Some(true)
 }
 
-/// Returns whether a table has 64 keys after many rounds, and is empty after the deadline of the
-/// Interests.
+/// Runs many rounds. Returns whether the table then has 64 keys, and is empty after the deadline of
+/// the Interests.
 fn ends_empty(alloc: Global, table: &mut Table, _key: Key<'_>, _other: Key<'_>) -> Option<bool> {
     let runs = runs_rounds(alloc, table)?;
     let stood = table.pit.len();
@@ -501,7 +504,8 @@ fn ends_empty(alloc: Global, table: &mut Table, _key: Key<'_>, _other: Key<'_>) 
     Some(runs && stood == 64 && table.pit.is_empty())
 }
 
-/// Returns whether an Interest that came from 64 faces can be sent to 64 faces.
+/// Records Interests of 64 faces under the key. Returns whether an Interest under the key can then
+/// be sent to 64 faces.
 fn sends_to_64_faces(table: &mut Table, key: Key<'_>) -> bool {
     for face in 0..64 {
         table.ask(key, face, [0; 4], 9);
@@ -562,7 +566,7 @@ fn records_of_64_faces(rt: HostRuntime) {
 
 /// Returns whether a prepared Interest is recorded and sent on, even if other Interests were
 /// removed after the preparation. A preparation that is refused must leave the records unchanged.
-/// If the Interest under `other` is refused first, the table must be empty.
+/// If the first Interest, which is under `other`, is refused, the table must be empty.
 fn keeps_what_is_prepared(
     _alloc: Global,
     table: &mut Table,

@@ -25,8 +25,9 @@ fn set_field(route: &mut Route, setting: &str) -> Option<()> {
     Some(())
 }
 
-/// Reads a face and its settings, such as `2 cost=5 origin=1 flags=2 until=1000`. By default the
-/// cost and the origin are 0, the flags are 1, and the route never expires.
+/// Reads the face of a route and the settings of the route, such as
+/// `2 cost=5 origin=1 flags=2 until=1000`. By default the cost and the origin are 0, the flags are
+/// 1, and the route never expires.
 fn route_in(words: &str) -> Option<Route> {
     let (face, settings) = words.split_once(' ').unwrap_or((words, ""));
     let mut route = Route::new(face.parse().ok()?, 0);
@@ -36,7 +37,8 @@ fn route_in(words: &str) -> Option<Route> {
     Some(route)
 }
 
-/// Runs `add`, `register`, `remove` or `unregister` for a name, with a face and its settings.
+/// Runs `add`, `register`, `remove` or `unregister` for the name `name`, with the face and the
+/// settings in `route`.
 fn change(routes: &mut RouteTable, call: &str, name: Name<'_>, route: Route) -> Option<()> {
     match call {
         "add" => routes.add(name, route.face, route.cost).ok()?,
@@ -106,7 +108,8 @@ fn put_longest(alloc: Global, text: &mut String, fib: &Fib, uri: &str) -> Option
     put_hops_or_none(text, &fib.longest(name.view()))
 }
 
-/// Runs `add`, `register`, `remove` or `unregister`, each with a name, a face and its settings.
+/// Runs `add`, `register`, `remove` or `unregister`. `words` are a name, a face and settings such
+/// as `cost=5`.
 fn change_named(alloc: Global, routes: &mut RouteTable, call: &str, words: &str) -> Option<()> {
     let (uri, words) = words.split_once(' ').unwrap_or((words, "0"));
     let route = route_in(words)?;
@@ -129,7 +132,7 @@ fn put_answer(alloc: Global, text: &mut String, routes: &mut RouteTable, call: &
     }
 }
 
-/// Runs calls that are separated by `, `, and appends their answers.
+/// Runs calls that are separated by `, `, and appends the answers to the calls.
 fn put_answers(
     alloc: Global,
     text: &mut String,
@@ -161,22 +164,24 @@ fn run(alloc: Global, routes: &mut RouteTable, calls: &str) -> Option<()> {
     put_answers(alloc, &mut text, routes, calls)
 }
 
-/// Returns whether a table has the next hops and routes of another table, which is given by its
-/// calls.
+/// Returns whether a table has the same next hops and routes as an empty table has after the calls
+/// `calls`.
 fn has_routes_after(alloc: Global, fib: &Fib, calls: &str) -> Option<bool> {
     let mut other = RouteTable::new(alloc);
     run(alloc, &mut other, calls)?;
     fib.has_same_routes(alloc, other.read()).ok()
 }
 
-/// Returns whether two tables, each given by its calls, have the same next hops and routes.
+/// Returns whether two tables have the same next hops and routes. Each table is given by calls that
+/// run on an empty table.
 fn are_same(alloc: Global, calls: &str, others: &str) -> Option<bool> {
     let mut routes = RouteTable::new(alloc);
     run(alloc, &mut routes, calls)?;
     has_routes_after(alloc, routes.read(), others)
 }
 
-/// Shows whether two tables, each given by its calls, have the same next hops and routes.
+/// Shows `true` if two tables have the same next hops and routes, and `false` otherwise. Each table
+/// is given by calls that run on an empty table.
 fn sameness(alloc: Global, row: &str) -> Option<String> {
     let (calls, others) = row.split_once("; ")?;
     let is_same = are_same(alloc, calls, others)?;
@@ -240,8 +245,8 @@ register / 2 cost=1, register /A 2 cost=9 until=5, register /A/B 3, of /A/B, lis
 register /A 2 cost=1 until=5, register /A 2 cost=9 origin=1, of /A, list 5, expire 5, of /A -> 2@1; /A 2@9; 1; 2@9
 ";
 
-/// A route that has expired no longer changes the effective next hops of its name and of longer
-/// names.
+/// A route that has expired has no effect any more on the effective next hops of its name and of
+/// longer names.
 #[test]
 fn what_ends_with_a_route(rt: HostRuntime) {
     check_rows(&rt, rt.alloc(), WHAT_ENDS_WITH_A_ROUTE, answers);
@@ -264,7 +269,7 @@ register /A 2 cost=4, register /A 2 cost=9 origin=1, of /A, due 9 -> 2@4; 0
 ";
 
 /// A route that is registered again replaces the cost, the flags and the deadline of the old route.
-/// A route with another origin replaces nothing.
+/// A route with the same name and face, but with another origin, does not replace the old route.
 #[test]
 fn the_last_registration_counts(rt: HostRuntime) {
     check_rows(&rt, rt.alloc(), THE_LAST_REGISTRATION_COUNTS, answers);
@@ -287,8 +292,8 @@ register /A 2, remove /A 2, of /A -> 2@0
 add /A 2, unregister /A 2, of /A -> 2@0
 ";
 
-/// A removal removes the given next hop or route. An entry that then has no next hop and no route
-/// is removed as well.
+/// A removal removes the given next hop or route. If the name's entry then has no next hop and no
+/// route, the entry is removed as well.
 #[test]
 fn what_removals_leave(rt: HostRuntime) {
     check_rows(&rt, rt.alloc(), WHAT_REMOVALS_LEAVE, answers);

@@ -1,5 +1,5 @@
-//! Tables of routes whose faces are below 63 or the greatest face number. Such a table does not
-//! exceed its limit of 64 faces.
+//! Tables of routes. Each face of such a table is below 63 or is the greatest face number.
+//! Therefore the table does not exceed its limit of 64 faces.
 
 ghost use Rattle.std.specs.Prelude.{◌≡◌, ◌<◌, ◌-◌, ◌^◌, ◌⊎◌};
 
@@ -9,8 +9,8 @@ use pit_fib::*;
 use std::alloc::Global;
 use std::marker::Model;
 
-/// A table of next hops and registered routes, whose faces are below 63 or the greatest face
-/// number.
+/// A table of next hops and registered routes. Each of their faces is below 63 or is the greatest
+/// face number.
 #[derive(Drop)]
 pub struct RouteTable {
     fib: Fib,

@@ -1,11 +1,11 @@
-//! Tests that consist of rows: a wrong row ends the test.
+//! Helpers for tests that are written as rows. A wrong row makes the test fail.
 
 use std::alloc::Global;
 use std::process::Abort;
 use test_support::first_misshown;
 
-/// Fails at the first row whose input gives a text other than the expected one, and also if there
-/// is no row.
+/// Fails at the first row whose input gives a text other than the expected text. Also fails if
+/// there are no rows.
 pub fn check_rows(
     rt: &impl Abort,
     alloc: Global,

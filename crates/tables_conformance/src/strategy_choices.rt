@@ -10,8 +10,8 @@ use pit_fib::{Faces, Fib, Hops, Used};
 use std::alloc::Global;
 use strategies::*;
 
-/// A third strategy, which sends only to the first eligible next hop, however recently that next
-/// hop was used.
+/// A strategy besides best-route and multicast. The strategy sends only to the first eligible next
+/// hop, even if that next hop was used recently.
 struct First;
 
 impl Strategy for First {
@@ -35,7 +35,7 @@ impl Strategy for First {
     }
 }
 
-/// Reads a face and a number for it, such as `2@5`.
+/// Reads a face and a number that belongs to the face, such as `2@5`.
 fn number_at(text: &str) -> Option<(u64, u64)> {
     let (face, number) = text.split_once('@')?;
     Some((face.parse().ok()?, number.parse().ok()?))
@@ -47,8 +47,8 @@ fn root_hops(alloc: Global, fib: &Fib) -> Hops {
     fib.longest(root.view())
 }
 
-/// Returns the next hops of the name `/` in a table with these next hops. Face 2 is marked as
-/// Local.
+/// Returns the next hops of the name `/` in a table with the next hops in `routes`. Face 2 is
+/// marked as Local.
 fn hops_in(alloc: Global, routes: &str) -> Option<Hops> {
     let routes = routes_in(alloc, routes)?;
     let mut hops = root_hops(alloc, routes.read());
@@ -68,8 +68,9 @@ fn used_in(text: &str) -> Option<Used> {
     Some(used)
 }
 
-/// Reads three words about an Interest: the face that it came from or `-`, then `localhost`, `zero`
-/// or `-`, and then the present moment.
+/// Reads three words about an Interest. The first word is the face from which the Interest came, or
+/// `-`. The second word is `localhost` for an Interest under /localhost, `zero` for an Interest
+/// whose HopLimit has become 0, or `-`. The third word is the present moment.
 fn ask_in(text: &str) -> Option<Ask> {
     let (asker, rest) = text.split_once(' ')?;
     let (bound, now) = rest.split_once(' ')?;
@@ -81,7 +82,7 @@ fn ask_in(text: &str) -> Option<Ask> {
     })
 }
 
-/// Appends faces.
+/// Appends the numbers of the faces, such as ` 2 3`.
 fn put_faces(text: &mut String, faces: &Faces) -> Option<()> {
     for i in 0..faces.len() {
         let face = faces.get(i)?;
@@ -122,7 +123,8 @@ fn choice(alloc: Global, row: &str) -> Option<String> {
 }
 
 /// A strategy chooses only eligible next hops. A next hop is not eligible if the Interest came from
-/// its face, or if only Local faces may get the Interest and the face is not Local.
+/// the next hop's face. If only Local faces may get the Interest, a next hop whose face is not
+/// Local is not eligible either.
 #[test]
 fn only_eligible_hops_are_chosen(rt: HostRuntime) {
     let rows = "
@@ -138,7 +140,8 @@ all: / 2 5, / 3 0; 3 - 1000; -> send 2
     check_rows(&rt, rt.alloc(), rows, choice);
 }
 
-/// Without an eligible hop the result is `no route`, whether there are other hops or not.
+/// If no next hop is eligible, the result is `no route`. The result is the same if there is no next
+/// hop at all.
 #[test]
 fn no_route_without_an_eligible_hop(rt: HostRuntime) {
     let rows = "
@@ -183,8 +186,8 @@ all: / 2 5, / 3 0; - - 1009; 7@1000 -> send 2 3
 }
 
 /// Best-route chooses the next hop that was last used the earliest. If several next hops were not
-/// used, or were last used at the same moment, the next hop with the least cost is chosen. If they
-/// have the same cost, the next hop with the least face is chosen.
+/// used, or were last used at the same moment, the next hop with the least cost is chosen. If
+/// several of these next hops have the least cost, the next hop with the least face is chosen.
 #[test]
 fn best_route_takes_the_least_hop(rt: HostRuntime) {
     let rows = "

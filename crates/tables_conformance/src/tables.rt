@@ -15,7 +15,7 @@ fn add_hop(alloc: Global, routes: &mut RouteTable, hop: &str) -> Option<()> {
     routes.add(name.view(), face, cost).ok()
 }
 
-/// Adds next hops, which are separated by `, `.
+/// Adds the next hops in `text`, which are separated by `, `.
 fn add_hops(alloc: Global, routes: &mut RouteTable, text: &str) -> Option<()> {
     for hop in text.split_terminator(", ") {
         add_hop(alloc, routes, hop)?;
@@ -184,7 +184,8 @@ fn strategy_shown(strategy: StrategyId) -> &'static str {
     }
 }
 
-/// Runs a call. For example, `/A multicast` sets the strategy of `/A`, and `/A -` removes it.
+/// Runs a call. For example, `/A multicast` sets the strategy of `/A`, and `/A -` removes the
+/// strategy of `/A`.
 fn set_strategy(alloc: Global, table: &mut StrategyTable, call: &str) -> Option<()> {
     let (uri, strategy) = call.split_once(' ')?;
     let name = NameBuf::from_uri(alloc, uri).ok()?;
@@ -206,7 +207,7 @@ fn set_strategies(alloc: Global, table: &mut StrategyTable, calls: &str) -> Opti
 }
 
 /// Returns the table of strategies after the calls in `text`. For example, the call `/A multicast`
-/// sets the strategy of `/A`, and `/A -` removes it.
+/// sets the strategy of `/A`, and `/A -` removes the strategy of `/A`.
 fn strategies_in(alloc: Global, text: &str) -> Option<StrategyTable> {
     let mut table = StrategyTable::new(alloc);
     set_strategies(alloc, &mut table, text)?;
@@ -313,19 +314,21 @@ fn strategies_in_canonical_order(rt: HostRuntime) {
     check_rows(&rt, rt.alloc(), rows, strategy);
 }
 
-/// Returns whether a table has the same strategies as another table, which is given by its calls.
+/// Returns whether a table has the same strategies as a new table has after the calls `calls`.
 fn has_choices(alloc: Global, table: &StrategyTable, calls: &str) -> Option<bool> {
     let other = strategies_in(alloc, calls)?;
     table.has_same_choices(alloc, &other).ok()
 }
 
-/// Returns whether two tables of strategies, each given by its calls, are the same.
+/// Returns whether two tables of strategies are the same. Each table is given by calls that run on
+/// a new table.
 fn are_same(alloc: Global, calls: &str, others: &str) -> Option<bool> {
     let table = strategies_in(alloc, calls)?;
     has_choices(alloc, &table, others)
 }
 
-/// Shows whether two tables of strategies, each given by its calls, are the same.
+/// Shows `true` if two tables of strategies are the same, and `false` otherwise. Each table is
+/// given by calls that run on a new table.
 fn same_choices(alloc: Global, row: &str) -> Option<String> {
     let (calls, others) = row.split_once("; ")?;
     let is_same = are_same(alloc, calls, others)?;
@@ -353,20 +356,20 @@ pub fn deep_name(alloc: Global, depth: usize) -> Option<NameBuf> {
     Some(name)
 }
 
-/// Returns whether adding a next hop of a name to an empty table has this result.
+/// Returns whether adding a next hop of a name to an empty table has the result `answer`.
 fn routes_answer(alloc: Global, name: Name<'_>, answer: Result<(), TableFault>) -> bool {
     let mut routes = RouteTable::new(alloc);
     routes.add(name, 1, 0) == answer
 }
 
-/// Returns whether setting the strategy of a name in a new table has this result.
+/// Returns whether setting the strategy of a name in a new table has the result `answer`.
 fn strategies_answer(alloc: Global, name: Name<'_>, answer: Result<(), TableFault>) -> bool {
     let mut strategies = StrategyTable::new(alloc);
     strategies.set(name, StrategyId::Multicast) == answer
 }
 
-/// Returns whether adding a next hop of a name of `depth` components, and setting a strategy of
-/// this name, have this result.
+/// Returns whether both adding a next hop and setting a strategy, for a name of `depth` components,
+/// have the result `answer`.
 fn both_answer(alloc: Global, depth: usize, answer: Result<(), TableFault>) -> Option<bool> {
     let name = deep_name(alloc, depth)?;
     let is_added = routes_answer(alloc, name.view(), answer);
@@ -415,7 +418,7 @@ fn deep_lookup(rt: HostRuntime) {
     assert!(rt; is_deep_found(rt.alloc()) == Some(true));
 }
 
-/// Returns a name of one component, which is this number in two octets.
+/// Returns a name of one component. The component is `number` in two octets.
 pub fn numbered(alloc: Global, number: u16) -> Option<NameBuf> {
     let mut name = NameBuf::new(alloc);
     name.append(8, &number.to_be_bytes()).ok()?;
@@ -448,7 +451,7 @@ pub fn add_deep(alloc: Global, routes: &mut RouteTable) -> Option<Result<(), Tab
     Some(routes.add(name.view(), 1, 0))
 }
 
-/// Returns whether 4,096 names with next hops fit into a table, inserted with the greatest name
+/// Returns whether 4,096 names with next hops fit into a table if the greatest name is inserted
 /// first. The table must then refuse a further name and a name of 33 components, but accept a new
 /// cost of a known next hop.
 fn takes_4096_routes(alloc: Global, routes: &mut RouteTable) -> Option<bool> {
@@ -487,7 +490,8 @@ fn set_deep(
     Some(table.set(name.view(), StrategyId::Multicast))
 }
 
-/// Sets another strategy for the name with the number 7, and returns whether it is accepted.
+/// Sets another strategy for the name with the number 7, and returns whether the table accepts the
+/// strategy.
 fn takes_known(alloc: Global, table: &mut StrategyTable) -> Option<bool> {
     let name = numbered(alloc, 7)?;
     Some(table.set(name.view(), StrategyId::BestRoute).is_ok())
@@ -626,7 +630,8 @@ fn is_strategy_prepared(alloc: Global, name: Name<'_>) -> bool {
     strategies.prepare(name).is_ok()
 }
 
-/// Returns whether calls can be prepared in a table of next hops and in a table of strategies.
+/// Returns whether an `add` can be prepared in a table of next hops, and a `set` in a table of
+/// strategies.
 fn are_prepared(alloc: Global) -> Option<bool> {
     let name = numbered(alloc, 1)?;
     let is_hop = is_hop_prepared(alloc, name.view());

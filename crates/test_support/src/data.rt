@@ -31,8 +31,8 @@ fn written_data<'a>(
     Some(out)
 }
 
-/// Returns the Content of a Data in hexadecimal, or `none` if `packet` is `None`. Returns `None` if
-/// the packet is not a Data with a Content.
+/// Returns in hexadecimal the Content of the Data that `packet` encodes. Returns the text `none` if
+/// `packet` is `None`. Returns `None` if the packet is not a Data with a Content.
 pub fn content_shown(alloc: Global, packet: Option<&[u8]>) -> Option<String> {
     let Some(packet) = packet else {
         return String::from_str(alloc, "none").ok();

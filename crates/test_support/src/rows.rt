@@ -1,4 +1,5 @@
-//! Helpers for tests whose cases are the rows of a text. Lines that begin with `#` are comments.
+//! Helpers for tests whose cases are written as rows, one on each line of a text. Lines that begin
+//! with `#` are comments.
 
 use std::alloc::Global;
 
@@ -16,9 +17,9 @@ pub fn octets(alloc: Global, text: &str) -> Option<Vec<u8>> {
     Some(octets)
 }
 
-/// Returns the number of the first line, counted from 1, that `is_right` refuses, or 0 if it
-/// refuses none. A line that is empty or begins with `#` is not a row. For a text without rows,
-/// returns 1.
+/// Returns the number of the first row, counted in lines from 1, for which `is_right` returns
+/// false, or 0 if `is_right` returns true for all rows. A line that is empty or begins with `#` is
+/// not a row. For a text without rows, returns 1.
 pub fn first_wrong<F: Fn(Global, &str) -> bool>(alloc: Global, rows: &str, is_right: F) -> usize
     requires { F.IsAlwaysCallable is_right }
 {

@@ -65,7 +65,7 @@ rule
 }
 ";
 
-/// The key file of the tests. Each key is the text `key`.
+/// The key file of the tests. The octets of each key are the text `key` in ASCII.
 pub const KEYS: &str = r"/ops/KEY/1 6b6579
 /archive/KEY/1 6b6579
 /lab/roof/KEY/7 6b6579

@@ -104,13 +104,14 @@ fn is_packet(alloc: Global, octets: &[u8], input: &str) -> bool {
 }
 
 /// Returns the HopLimit of an Interest, and its octets after the HopLimit is set to 6. If
-/// `hop_limit_mut` finds no HopLimit, returns the HopLimit that `read_frame` finds, or `None`.
+/// `hop_limit_mut` finds no HopLimit, returns the HopLimit that `read_frame` finds, or the text
+/// `None` if `read_frame` finds no HopLimit either.
 fn lent(alloc: Global, input: &str) -> Option<String> {
     let mut octets = packet(alloc, input)?;
     lent_or_kept(alloc, &mut octets, input)
 }
 
-/// Returns what `lent` returns for the row `input`, whose packet has these octets.
+/// Returns what `lent` returns for the row `input`. `octets` are the packet that this row gives.
 fn lent_or_kept(alloc: Global, octets: &mut [u8], input: &str) -> Option<String> {
     let limit = hop_limit_of(octets);
     if lends(octets) {
@@ -142,8 +143,8 @@ const DATA: &str = "060f0703080141150178 16031b0100 1700";
 
 /// Shows whether `DATA` answers an Interest with this name, first without CanBePrefix and then with
 /// CanBePrefix. Then shows whether `Data::answers_with`, called with the digest of `DATA`, returns
-/// the same two results as `Data::answers`. Finally shows `digest` if the name asks for a digest,
-/// and `name` otherwise.
+/// the same two results as `Data::answers`. Finally shows `digest` if `Data::asked_digest` finds an
+/// implicit digest in the name, and `name` otherwise.
 fn answers(alloc: Global, input: &str) -> Option<String> {
     let asked = NameBuf::from_uri(alloc, input).ok()?;
     let octets = octets(alloc, DATA)?;
@@ -176,7 +177,7 @@ fn digest(alloc: Global, input: &str) -> Option<String> {
     hex::encode(alloc, digest.as_slice()).ok()
 }
 
-/// The implicit digest of `DATA` is its SHA-256, as computed by another program.
+/// The implicit digest of `DATA` equals the SHA-256 of `DATA` that another program computed.
 #[test]
 fn implicit_digest(rt: HostRuntime) {
     let rows = "

@@ -29,9 +29,9 @@ fn with_token(alloc: Global, reason: &str) -> Option<String> {
     hex::encode(alloc, &out).ok()
 }
 
-/// Calls `wrap` for an output of two octets and an Interest. With a token, the Interest is wrapped
-/// in a link packet with this token. Without a token, the Interest stays as it is. Returns whether
-/// the output is then `wanted`.
+/// Calls `wrap` for an Interest that follows two other octets in an output. With a token, the
+/// Interest is wrapped in a link packet with this token. Without a token, the Interest stays as it
+/// is. Returns whether the output is `wanted` afterwards.
 fn wraps(alloc: Global, token: Option<&[u8]>, wanted: &[u8]) -> bool
     requires { IfSome token (λ t. IsToken t.now) }
 {
@@ -82,8 +82,8 @@ fn header_fields(rt: HostRuntime) {
     check_rows(&rt, rt.alloc(), rows, outcome);
 }
 
-/// A link packet is refused if its FragIndex is not 0 or its FragCount is above 1. A FragIndex or
-/// FragCount that is not a NonNegativeInteger is a `BadField`.
+/// A link packet is refused if its FragIndex is not 0 or its FragCount is above 1. The fault is
+/// `BadField` if the FragIndex or the FragCount is not a NonNegativeInteger.
 #[test]
 fn only_whole_packets_are_read(rt: HostRuntime) {
     let rows = "

@@ -143,8 +143,9 @@ fn digests_without_parameters(rt: HostRuntime) {
     check_rows(&rt, rt.alloc(), rows, outcome);
 }
 
-/// An Interest with ApplicationParameters is read if its name has the parameters digest, even
-/// between two other components. A signature without ApplicationParameters is ignored.
+/// An Interest with ApplicationParameters is read if its name has the correct parameters digest.
+/// This digest may be between two other components. A signature without ApplicationParameters is
+/// ignored.
 #[test]
 fn parameters_of_interests(rt: HostRuntime) {
     let rows = "
@@ -497,7 +498,8 @@ fn packet_size_limit(rt: HostRuntime) {
     check_rows(&rt, rt.alloc(), rows, lengths);
 }
 
-/// Returns the order of the keys of two Interests.
+/// Returns the order of the keys of two Interests. A key consists of the name, CanBePrefix and
+/// MustBeFresh.
 fn keys(alloc: Global, input: &str) -> Option<String> {
     let (one, other) = input.split_once(' ')?;
     let one = packet(alloc, one)?;

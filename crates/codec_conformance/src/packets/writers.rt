@@ -8,9 +8,10 @@ use std::alloc::Global;
 use std::test::*;
 use test_support::octets;
 
-/// Returns the octets that a writer appended to an output with the octet 9, or the writer's fault.
-/// If the writer failed but appended octets, returns a text that says so. If a writer without a
-/// fault appended more than 1,000 octets, returns their number and the outcome of reading them.
+/// Returns the octets that a writer appended to `out`, which held only the octet 9 before, or the
+/// writer's fault. If the writer failed but appended octets, returns a text that says so. If a
+/// writer without a fault appended more than 1,000 octets, returns their number and the outcome of
+/// reading them.
 fn appended(alloc: Global, fault: Option<&str>, out: &[u8]) -> Option<String> {
     let written = out.strip_prefix(&[9])?;
     match fault {
@@ -130,7 +131,7 @@ fn data(alloc: Global, input: &str) -> Option<String> {
     data_in(alloc, columns.as_slice())
 }
 
-/// Returns what is written for a reply with the name in these octets, or the fault.
+/// Returns what is written for a reply with this name and this Content, or the fault.
 fn written_reply(alloc: Global, name: &[u8], content: &[u8]) -> Option<String> {
     let name = Name::read(name).ok()?;
     let mut out = vec![in alloc; 9].ok()?;
@@ -191,7 +192,7 @@ fn refused_interests(rt: HostRuntime) {
     check_rows(&rt, rt.alloc(), rows, interest);
 }
 
-/// Writing a management command that is signed with an HMAC key gives the same octets as another
+/// A management command that is signed with an HMAC key is written as the octets that another
 /// program computed.
 #[test]
 fn command_signed_by_a_key(rt: HostRuntime) {
@@ -318,8 +319,8 @@ fn put_both(out: &mut Vec<u8>, name: Name<'_>) -> Option<()> {
     data.write(out).ok()
 }
 
-/// Appends an Interest, a Data, a reply and a Nack to an empty output. Returns the output's length
-/// and capacity if it begins with `PLAIN` and ends with `NACK`.
+/// Appends an Interest, a Data, a reply and a Nack to an empty output. Returns the length and the
+/// capacity of the output, if the output begins with `PLAIN` and ends with `NACK`.
 fn fill(out: &mut Vec<u8>) -> Option<(usize, usize)> {
     let name = Name::read(b"\x08\x01A").ok()?;
     put_both(out, name)?;

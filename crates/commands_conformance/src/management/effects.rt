@@ -236,7 +236,7 @@ fn answer(alloc: Global, station: &mut Station, call: &str) -> Option<String> {
     }
 }
 
-/// Returns the answers to calls that are separated by `, `.
+/// Returns the answers of a new station to calls that are separated by `, `.
 pub fn answers(alloc: Global, row: &str) -> Option<String> {
     shown_on_station(alloc, row, answers_of)
 }
@@ -301,7 +301,7 @@ add 68080703080141690102, add 680807030801416a0105, remove 68050703080141, route
     check_rows(&rt, rt.alloc(), rows, answers);
 }
 
-/// Next hops are ordered by cost and then by face. Names are in canonical order.
+/// A dataset lists names in canonical order, and the next hops of a name by cost and then by face.
 #[test]
 fn lists_are_in_order(rt: HostRuntime) {
     let rows = "
@@ -420,8 +420,9 @@ fn hops_at(alloc: Global, station: &Station, number: u16) -> Option<usize> {
     Some(station.hops(name.view()))
 }
 
-/// Returns whether a full table refuses a new name but accepts another next hop for a known name. A
-/// name that is too long and a face that is not up are reported before the full table.
+/// Returns whether a full table refuses a new name but accepts another next hop for a known name.
+/// Even a full table must answer a name that is too long with status 414, and a face that is not up
+/// with status 410.
 fn refuses_one_name_more(alloc: Global, station: &mut Station) -> Option<bool> {
     Some(
         added_deep(alloc, station)? == 414
@@ -474,7 +475,8 @@ fn has_last_segment(alloc: Global, station: &Station, len: usize, last: u64) -> 
 
 /// Sets the strategies of 4,095 names. The name `/` has a strategy from the start, so the table is
 /// then full. Returns whether the 4,095 names are accepted, a further name is refused, and a name
-/// that has a strategy is accepted. An unknown strategy is reported before the full table.
+/// that has a strategy is accepted. Even the full table must answer an unknown strategy with status
+/// 404.
 fn refuses_one_strategy_more(
     alloc: Global,
     station: &mut Station,
@@ -510,7 +512,8 @@ fn set_at(alloc: Global, station: &mut Station, number: u16, strategy: &NameBuf)
     Some(set(station, &name, strategy))
 }
 
-/// Sets a strategy that does not exist for the name with the number 4096, and returns the status.
+/// For the name with the number 4096, tries to set a strategy that does not exist. Returns the
+/// status.
 fn set_unknown(alloc: Global, station: &mut Station) -> Option<u16> {
     let unknown = numbered(alloc, 1)?;
     set_at(alloc, station, 4096, &unknown)
@@ -547,8 +550,8 @@ fn list_of_4096_routes(rt: HostRuntime) {
     assert!(rt; played(rt.alloc(), lists_4096_routes) == Some(true));
 }
 
-/// Adds a route so that the dataset has `len` octets. Returns whether the last segment of the
-/// dataset has the number `last` and has `last_len` octets.
+/// Adds a route so that the dataset has `len` octets. Returns whether the dataset has this length,
+/// and its last segment has the number `last` and has `last_len` octets.
 fn is_cut(
     alloc: Global,
     station: &mut Station,
@@ -611,12 +614,13 @@ fn lists_in_segments(rt: HostRuntime) {
     assert!(rt; played(rt.alloc(), has_two_segments) == Some(true));
 }
 
-/// A signed add-nexthop command for `/A` to face 2, with the time 1000000. The key is `6b6579` with
-/// the name `/ops/KEY/1`.
+/// A signed add-nexthop command for `/A` to face 2, with the time 1000000. The key has the name
+/// `/ops/KEY/1` and the octets `6b6579`.
 const ADD_NEXTHOP: &str =
     "0598075008096c6f63616c686f737408036e66640803666962080b6164642d6e657874686f70080a680807030801416901020220b3efe71974da9dc26e88d0c074c8f0ff34ea85c38b109d9e9c6400b87694f2f20a040102030424002c1a1b01041c0f070d08036f707308034b45590801312804000f42402e20d113cf38056af9bbbec876471f4b51934978ef69345464b05cb762148eaa5dbb";
 
-/// A segment of the dataset of routes, version 2, with one route for `/A` to face 7.
+/// The Data for the first segment of a dataset of routes. The dataset has version 2 and one route,
+/// for `/A` to face 7.
 const LIST_OF_ONE_ROUTE: &str =
     "0666072108096c6f63616c686f737408036e6664080366696208046c6973743601023201001409190203e81a03320100150f800d070308014181066901076a010016031b010017201b52e55cb80faba7d19cc92444e95d0d6409f1ae0cec3b48ddc33107b7684694";
 
@@ -654,7 +658,7 @@ fn segment_packet<'a>(
     Some(packet)
 }
 
-/// Returns the Data for the first segment of the dataset.
+/// Returns the Data for the first segment of the dataset of routes.
 fn first_segment(alloc: Global, station: &Station) -> Option<Vec<u8>> {
     let (segment, last) = station.segment(alloc, false, 0)?;
     let name = NameBuf::from_uri(alloc, "/localhost/nfd/fib/list/v=2/seg=0").ok()?;
@@ -680,7 +684,8 @@ fn packet_of_one_route(alloc: Global) -> Option<Vec<u8>> {
     first_packet(alloc, &mut station)
 }
 
-/// Adds a route for `/A` to face 7, and returns the Data for the first segment of the dataset.
+/// Adds a route for `/A` to face 7, and returns the Data for the first segment of the dataset of
+/// routes.
 fn first_packet(alloc: Global, station: &mut Station) -> Option<Vec<u8>> {
     add_route_to_7(alloc, station)?;
     first_segment(alloc, station)
@@ -696,9 +701,9 @@ fn a_segment_in_a_packet(rt: HostRuntime) {
     assert!(rt; writes_the_segment(rt.alloc()) == Some(true));
 }
 
-/// Prepares a command. If the preparation fails, returns whether the name still has no next hop. If
-/// the preparation succeeds, returns whether the prepared command adds a next hop, without running
-/// out of memory.
+/// Prepares a command that adds a next hop for a name. If the preparation fails, returns whether
+/// the name still has no next hop. If the preparation succeeds, applies the command, and returns
+/// whether the name then has the next hop.
 fn applies_what_is_prepared(alloc: Global, station: &mut Station) -> Option<bool> {
     let name = numbered(alloc, 1)?;
     Some(keeps_its_promise(station, &name))

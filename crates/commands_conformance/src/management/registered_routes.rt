@@ -68,12 +68,13 @@ fn fields_that_routes_need_and_take(rt: HostRuntime) {
     check_rows(&rt, rt.alloc(), rows, route_shown);
 }
 
-/// Returns the whole reply to a command from face 9, while the faces 2 and 9 are up.
+/// Applies a command from face 9, while the faces 2 and 9 are up. Returns the whole reply in
+/// hexadecimal.
 fn reply_shown(alloc: Global, row: &str) -> Option<String> {
     shown_on_station(alloc, row, reply_on)
 }
 
-/// Returns the whole reply to a command on this station.
+/// Applies a command on `station`, and returns the whole reply in hexadecimal.
 fn reply_on(alloc: Global, station: &mut Station, row: &str) -> Option<String> {
     let name = name_in(alloc, row)?;
     let applied = station.apply_named(name.view())?;
@@ -95,8 +96,8 @@ fn replies_of_routes(rt: HostRuntime) {
     check_rows(&rt, rt.alloc(), rows, reply_shown);
 }
 
-/// A name of 33 components is reported before a face that is not up. A removal has status 200 even
-/// if the name has 33 components and the face is not up.
+/// The registration of a name of 33 components has status 414, even if the face is not up. A
+/// removal has status 200 even if the name has 33 components and the face is not up.
 #[test]
 fn routes_that_are_refused(rt: HostRuntime) {
     let rows = "
@@ -116,8 +117,8 @@ register 680b07030801416901026a0105, register 680e07060801410801426901096c0100, 
     check_rows(&rt, rt.alloc(), rows, answers);
 }
 
-/// Routes with an expiration period of 1,000 milliseconds, of 0 and of the greatest number, and a
-/// route without this period.
+/// Routes with an expiration period of 1,000 milliseconds, of 0 milliseconds and of the greatest
+/// u64 of milliseconds, and a route without an expiration period.
 #[test]
 fn routes_end(rt: HostRuntime) {
     let rows = "
@@ -129,7 +130,7 @@ register 68080703080141690102, at 18446744073709551615, routes -> 200 6811070308
     check_rows(&rt, rt.alloc(), rows, answers);
 }
 
-/// A second registration replaces the cost and the period, or removes the period.
+/// A second registration of a route replaces the cost, and sets or removes the expiration period.
 #[test]
 fn a_second_route_replaces_the_first(rt: HostRuntime) {
     let rows = "

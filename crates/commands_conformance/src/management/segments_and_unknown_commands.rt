@@ -6,7 +6,8 @@ use crate::rows::check_rows;
 use mgmt_core::segment_of;
 use std::alloc::Global;
 
-/// Names without a module or a verb, with a digest and without one, are refused with status 400.
+/// Names without a module or without a verb are refused with status 400, whether they end with a
+/// digest or not.
 #[test]
 fn names_without_a_verb(rt: HostRuntime) {
     let rows = "

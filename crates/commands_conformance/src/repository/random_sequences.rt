@@ -49,14 +49,14 @@ fn written(alloc: Global, name: usize, uri: &str, content: &str) -> Option<Made>
     })
 }
 
-/// Returns two Data for each name.
+/// Returns two Data for each name in `NAMES`.
 fn all_made(alloc: Global) -> Option<Vec<Made>> {
     let mut all = Vec::new(alloc);
     put_all(alloc, &mut all)?;
     Some(all)
 }
 
-/// Appends two Data for each name.
+/// Appends two Data for each name in `NAMES`.
 fn put_all(alloc: Global, all: &mut Vec<Made>) -> Option<()> {
     for (name, uri) in NAMES.iter().enumerate() {
         put_made(alloc, all, name, uri, "01")?;
@@ -77,12 +77,13 @@ fn put_made(
     all.push(made).ok()
 }
 
-/// Returns whether a Data answers an Interest with this name and CanBePrefix.
+/// Returns whether a Data answers an Interest with this name and this value of CanBePrefix.
 fn answers(made: &Made, name: usize, can_be_prefix: bool) -> bool {
     made.name == name || (can_be_prefix && begins(name, made.name))
 }
 
-/// Returns the number of objects that answer an Interest with this name and CanBePrefix.
+/// Returns the number of objects that answer an Interest with this name and this value of
+/// CanBePrefix.
 fn number(all: &[Made], plain: &Plain, name: usize, can_be_prefix: bool) -> Option<u64> {
     let mut count: u64 = 0;
     for place in &plain.objects {
@@ -92,8 +93,8 @@ fn number(all: &[Made], plain: &Plain, name: usize, can_be_prefix: bool) -> Opti
     Some(count)
 }
 
-/// Returns the object with the least full name among those that answer an Interest with this name
-/// and CanBePrefix, or `Some(None)` if none answers.
+/// Considers the objects that answer an Interest with this name and this value of CanBePrefix.
+/// Returns the object with the least full name, or `Some(None)` if no object answers.
 fn least<'a>(
     all: &'a [Made],
     plain: &Plain,
@@ -120,7 +121,7 @@ fn has_want(plain: &Plain, name: usize, can_be_prefix: bool) -> bool {
     plain.wants.iter().any(|want| want.name == name && want.can_be_prefix == can_be_prefix)
 }
 
-/// Removes the want with this name and CanBePrefix.
+/// Removes the want with this name and this value of CanBePrefix.
 fn forget_want(plain: &mut Plain, name: usize, can_be_prefix: bool) {
     plain.wants.retain(|want| want.name != name || want.can_be_prefix != can_be_prefix);
 }
@@ -147,7 +148,7 @@ fn expected(all: &[Made], plain: &mut Plain, verb: &str, asked: Wanted) -> Optio
     Some((100, 0))
 }
 
-/// Returns the text of an Interest: the name, `*` for CanBePrefix, and a further mark.
+/// Returns the text of an Interest: the name, a `*` if the Interest has CanBePrefix, and `mark`.
 fn asked_text(alloc: Global, name: usize, can_be_prefix: bool, mark: &str) -> Option<String> {
     let uri = NAMES.get(name)?;
     let star = if can_be_prefix { "*" } else { "" };

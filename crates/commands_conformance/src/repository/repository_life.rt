@@ -31,7 +31,7 @@ insert /A 0, insert /A* 0, insert /B 0, offer /A 01, offer /A 02, check /A 0, de
     check_rows(&rt, rt.alloc(), rows, answers);
 }
 
-/// Each object that answers is counted and deleted.
+/// A check and a delete count each object that answers. The delete also removes these objects.
 #[test]
 fn each_object_that_answers_is_counted(rt: HostRuntime) {
     let rows = "
@@ -58,8 +58,9 @@ insert /A/2 0, offer /A/2 02, insert /A/1 0, offer /A/1 01, serve /A, serve /A*,
     check_rows(&rt, rt.alloc(), rows, answers);
 }
 
-/// Full names in wants and Interests. An independent program computed the digests of /A: d995..
-/// with the Content 01, and 39ca.. with the Content 02.
+/// Full names in wants and Interests. An independent program computed the digests of two Data with
+/// the name `/A`: d995.. is the digest for the Content 01, and 39ca.. is the digest for the Content
+/// 02.
 #[test]
 fn full_names_in_wants_and_interests(rt: HostRuntime) {
     let rows = "

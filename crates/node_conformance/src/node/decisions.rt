@@ -1,6 +1,6 @@
 use super::{replies, replies_under};
 
-/// A rule for Data under `/A`, which comes before the rule for all Data.
+/// Two rules: the first rule is for Data under `/A`, and the second rule is for all Data.
 const STRICT: &str = r"
 rule
 {
@@ -62,8 +62,8 @@ in 1 1000000 D_A
 3 no-rule data
 ";
 
-/// Without rules, the verdict on each command and on each Data is `no-rule`. The node replies to
-/// the command.
+/// Without rules, the verdict on each command and on each Data is `no-rule`. Nevertheless, the node
+/// replies to the command.
 #[test]
 fn without_rules(rt: HostRuntime) {
     replies_under(&rt, "", 1, WITHOUT_RULES);
@@ -123,9 +123,8 @@ in 1 1240002 TOO_FAR_AHEAD
 > 1 REPLAY_AHEAD
 ";
 
-/// The time of a signer's first command may be at most two minutes ahead of the node's time. A
-/// command whose time differs from the node's time by two minutes and a millisecond, in either
-/// direction, is denied.
+/// The time of a signer's first command may be at most two minutes ahead of the node's time. The
+/// command is denied if its time is two minutes and a millisecond before or after the node's time.
 #[test]
 fn first_times(rt: HostRuntime) {
     replies(&rt, FIRST_TIMES);

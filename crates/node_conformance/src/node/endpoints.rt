@@ -1,5 +1,5 @@
 //! Tests that show which endpoints get a face, and from which endpoints datagrams are ignored. An
-//! endpoint is an address and a port.
+//! endpoint is an address and a port. A stranger is an endpoint that is not a peer.
 
 use super::udp::{
     Moving, bound_socket, brings_face, brings_packet, free_port, hears_octets, moving_ports, opens,
@@ -68,7 +68,7 @@ fn knows(rt: &impl Net, peer: &UdpSocket) -> Option<bool> {
     serves_peer(&mut ports, listen, peer)
 }
 
-/// Returns whether a peer at another loopback address has a face from the start.
+/// Returns what `knows` returns for a peer at 127.0.0.2.
 fn knows_peer(rt: &impl Net) -> Option<bool> {
     knows(rt, &bound_elsewhere(rt, 0)?)
 }

@@ -32,7 +32,8 @@ fn parts_at(alloc: Global, prefix: &str, cache: u32) -> Option<NodeParts> {
     })
 }
 
-/// Makes a node of these parts and drops it. Returns `Ok(())` or the fault.
+/// Makes a node with this repository's prefix and this cache's capacity, and drops the node.
+/// Returns `Ok(())` or the fault.
 fn made_at(alloc: Global, prefix: &str, cache: u32) -> Option<Result<(), NodeFault>> {
     Some(Node::new(alloc, parts_at(alloc, prefix, cache)?).map(drop))
 }
@@ -65,7 +66,7 @@ fn opens(node: &mut Node, outbox: &mut Outbox) -> bool {
     node.step(up, outbox).is_ok()
 }
 
-/// Returns whether an Interest on face 1 is passed.
+/// Returns whether the verdict on an Interest on face 1 is `Passed`.
 fn passes(node: &mut Node, outbox: &mut Outbox, octets: &[u8]) -> bool {
     let interest = Event::Packet {
         face: 1,
@@ -92,8 +93,8 @@ fn sends_in_order(node: &mut Node, outbox: &mut Outbox, interest: &[u8], nack: &
     was_empty && passed && ended && outbox.is_empty()
 }
 
-/// Returns what `sends_in_order` returns for an Interest without a route, and the Nack that answers
-/// it.
+/// Returns what `sends_in_order` returns for an Interest without a route and for the Nack that
+/// answers this Interest.
 fn sends_nack_in_order(alloc: Global, node: &mut Node) -> bool {
     let interest = octets_of(alloc, "INTEREST");
     let nack = octets_of(alloc, "NO_ROUTE");

@@ -156,7 +156,8 @@ SET_MULTICAST_OF_32 64e862200102030405060708090a0b0c0d0e0f101112131415161718191a
 MULTICAST_SET_OF_32 64fd010462200102030405060708090a0b0c0d0e0f101112131415161718191a1b1c1d1e1f2050e006de077a08096c6f63616c686f737408036e6664080f73747261746567792d63686f69636508037365740830682e07030801416b27072508096c6f63616c686f737408036e66640808737472617465677908096d756c7469636173740220e857d04ae31ee26b5f9055ca39a51e4dfe32769b6f98f0a2673f93e44a212aee153965376601c867024f4b682e07030801416b27072508096c6f63616c686f737408036e66640808737472617465677908096d756c74696361737416031b0100172058d504ea63fe17fe29d2a95e0402f95c32431325a35d665508126275ab30220e
 ";
 
-/// Returns the hexadecimal of the packet that a word stands for, or else the word itself.
+/// Returns the hexadecimal of the packet that a word stands for. If the word stands for no packet,
+/// returns the word itself.
 pub fn hexadecimal_of(word: &str) -> &str {
     for row in PACKETS.lines() {
         if let Some((name, hexadecimal)) = row.split_once(' ')
@@ -168,8 +169,8 @@ pub fn hexadecimal_of(word: &str) -> &str {
     word
 }
 
-/// Returns the octets that a word of the dialogues stands for, or no octets if the word stands for
-/// none.
+/// Returns the octets that a word of the dialogues stands for, or an empty vector if the word does
+/// not stand for octets.
 pub fn octets_of(alloc: Global, word: &str) -> Vec<u8> {
     hex::decode(alloc, hexadecimal_of(word)).unwrap_or(Vec::new(alloc))
 }

@@ -15,8 +15,8 @@ in 1 1000000 ODD
 5 dropped Malformed CriticalUnknown
 ";
 
-/// An Interest with an unknown element is forwarded if the element's type is 240, which is even,
-/// and dropped if it is 241, which is odd.
+/// An Interest with an unknown element is forwarded if the element's type is 240, which is even.
+/// The Interest is dropped if the element's type is 241, which is odd.
 #[test]
 fn unknown_elements(rt: HostRuntime) {
     replies(&rt, UNKNOWN_ELEMENTS);

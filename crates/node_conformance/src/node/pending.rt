@@ -159,8 +159,8 @@ in 3 1001002 BACK_2
 ";
 
 /// A Nack from the only next hop is sent back once, even if the Interest was forwarded twice. A
-/// further Nack is dropped. If the Interest was forwarded to two next hops, a Nack with the least
-/// reason is sent back when both next hops have sent a Nack.
+/// further Nack is dropped. If the Interest was forwarded to two next hops, a Nack with the smaller
+/// of the two reasons is sent back when both next hops have sent a Nack.
 #[test]
 fn nacks(rt: HostRuntime) {
     replies(&rt, NACKS);

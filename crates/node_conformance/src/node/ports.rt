@@ -35,7 +35,7 @@ fn packet_of(alloc: Global, word: &str) -> Option<Vec<u8>> {
     hex::decode(alloc, if word == "-" { "" } else { word }).ok()
 }
 
-/// Returns the number at index `i` of a line.
+/// Returns the number that the word at index `i` of a line gives.
 fn number(line: &str, i: usize) -> Option<u64> {
     word(line, i).parse::<u64>().ok()
 }
@@ -184,7 +184,7 @@ fn put_turn<P: Ports>(
 }
 
 /// Appends the text that is printed for a node's turns at a port. Stops after 999 turns, or at the
-/// first turn that answers no event.
+/// first turn for which `put_turn` returns false.
 fn put_turns<P: Ports>(alloc: Global, node: &mut Node, ports: &mut P, text: &mut Vec<u8>) {
     for number in 1..1000 {
         if !put_turn(node, ports, &mut Outbox::new(alloc), number, text) {
@@ -193,7 +193,8 @@ fn put_turns<P: Ports>(alloc: Global, node: &mut Node, ports: &mut P, text: &mut
     }
 }
 
-/// Returns whether a node that gets the events of a dialogue at a port prints this text.
+/// Gives a node the events of a dialogue at a port. Returns whether the text that is printed for
+/// the node's turns is `wanted`.
 pub fn prints(alloc: Global, node: &mut Node, dialogue: &str, wanted: &str) -> Option<bool> {
     let mut ports = ports_of(alloc, dialogue)?;
     let mut text = Vec::new(alloc);

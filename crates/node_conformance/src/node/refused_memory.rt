@@ -1,4 +1,4 @@
-//! Tests that also pass if any one allocation fails, as under `rt try --test --fail-alloc N`.
+//! Tests that also pass if any single allocation fails, as under `rt try --test --fail-alloc N`.
 
 use super::pending::{LOOPS_AND_RETRIES, NACKS};
 use super::ports::{FIRST_PATH, event_of, on_node, ports_of, word};

@@ -1,5 +1,5 @@
 //! Routes that are registered, and how they expire. The packets and the answers in these dialogues
-//! were computed from the formats by a generator of test packets.
+//! were computed by a generator of test packets from the formats of the packets.
 
 use super::replies;
 
@@ -134,9 +134,10 @@ in 1 1001000 LIST
 > 1 ROUTES_3
 ";
 
-/// A replayed command, or a register command with a wrong tag, does not extend any route, and does
-/// not increase the version of the list of routes. The unknown command `rib/list` increases the
-/// version, since the rules allow it.
+/// Two register commands are denied: a replayed command, and a command with a wrong tag. These two
+/// commands do not extend any route, and do not increase the version of the list of routes. The
+/// command `rib/list`, which the node does not know, increases the version, since the rules allow
+/// this command.
 #[test]
 fn denied_registers_change_nothing(rt: HostRuntime) {
     replies(&rt, REFUSED_COMMANDS);

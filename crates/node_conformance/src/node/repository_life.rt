@@ -1,5 +1,5 @@
-//! Tests of what the repository requests, stores and serves. The capacity of the cache makes no
-//! difference.
+//! Tests of what the repository requests, stores and serves. The answers are the same for a cache
+//! of one Data and for a cache of 1,000 Data.
 
 use super::replies_under;
 use std::process::Abort;
@@ -100,7 +100,8 @@ in 1 1001203 CHECK_B_AGAIN
 > 1 B_STORED
 ";
 
-/// A cached Data is not stored until it comes again while the repository wants it.
+/// The repository does not store a cached Data until this Data comes again while the repository
+/// wants it.
 #[test]
 fn the_cache_fills_no_want(rt: HostRuntime) {
     replies_with_each_cache(&rt, THE_CACHE_FILLS_NO_WANT);

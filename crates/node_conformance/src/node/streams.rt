@@ -106,7 +106,8 @@ pub fn end_in(alloc: Global, script: &str, output: &mut Room) -> Option<Result<(
 }
 
 /// Returns whether `end` and `written` are right for an output that accepts `left` octets. If the
-/// answers are longer, only their first `left` octets may be written, and writing must fail.
+/// answers are longer, exactly their first `left` octets must be written, and then writing must
+/// fail.
 fn is_end(end: Option<Result<(), RunFault>>, written: &[u8], left: usize, answers: &[u8]) -> bool {
     let (wanted, len) = if left < answers.len() {
         (Err(RunFault::Write), left)
@@ -117,7 +118,8 @@ fn is_end(end: Option<Result<(), RunFault>>, written: &[u8], left: usize, answer
 }
 
 /// Returns whether the answers to a script are written to an output that accepts `left` octets. If
-/// the answers are longer, only their first `left` octets must be written, and writing must fail.
+/// the answers are longer, exactly their first `left` octets must be written, and then writing must
+/// fail.
 fn writes(alloc: Global, script: &str, size: usize, left: usize, answers: &[u8]) -> bool {
     let held = Vec::new(alloc);
     let mut output = Room { held, size, left };

@@ -1,5 +1,5 @@
 //! PIT tokens: a packet that is sent back to a face has the token of the Interest that it answers,
-//! and a packet that is forwarded has none.
+//! and a packet that is forwarded has no token.
 
 use super::replies;
 

@@ -80,7 +80,7 @@ pub fn moving_ports(rt: &impl Net, listen: u16) -> Option<UdpPorts<Moving>> {
     UdpPorts::bind(rt, listen, &[], 0, Moving { last: 0 }).ok()
 }
 
-/// Returns ports without peers, with a clock that shows this moment.
+/// Returns ports without peers, with a clock that shows the moment in the cell `moment`.
 fn handed_ports<'a>(
     rt: &impl Net,
     listen: u16,
@@ -90,7 +90,7 @@ fn handed_ports<'a>(
 }
 
 /// Returns ports with one peer, whose face is Local if `local` is 1. The clock of the ports shows
-/// this moment.
+/// the moment in the cell `moment`.
 fn handed_ports_of<'a>(
     rt: &impl Net,
     listen: u16,
@@ -101,13 +101,15 @@ fn handed_ports_of<'a>(
     UdpPorts::bind(rt, listen, &[peer], local, Handed { moment, last: 0 }).ok()
 }
 
-/// Returns a new socket that has sent the packet that a word stands for to a port.
+/// Sends a packet to a port from a new socket, and returns the socket. `word` stands for the
+/// packet.
 fn client_of(rt: &(impl AllocGlobal + Net), to: u16, word: &str) -> Option<UdpSocket> {
     let octets = octets_of(rt.alloc(), word);
     send_one(rt, to, octets.as_slice()).ok()
 }
 
-/// Returns whether the packet that a word stands for is sent from a socket to a port.
+/// Sends a packet from a socket to a port, and returns whether the send succeeds. `word` stands for
+/// the packet.
 fn sends(alloc: Global, socket: &UdpSocket, port: u16, word: &str) -> bool {
     let octets = octets_of(alloc, word);
     socket
@@ -115,7 +117,7 @@ fn sends(alloc: Global, socket: &UdpSocket, port: u16, word: &str) -> bool {
         .is_ok()
 }
 
-/// Returns whether the next packet that a socket receives is the one that a word stands for.
+/// Returns whether the next packet that a socket receives is the packet that `word` stands for.
 fn hears(alloc: Global, socket: &UdpSocket, word: &str) -> bool {
     let octets = octets_of(alloc, word);
     hears_octets(socket, octets.as_slice())
@@ -166,8 +168,8 @@ fn udp_first_path(rt: HostRuntime) {
     assert!(rt; comes_back(&rt) == Some(true));
 }
 
-/// Returns whether a command, an Interest and a Data pass through a node between an operator and a
-/// producer.
+/// Returns whether a node answers the command of an operator, forwards the operator's Interest to a
+/// producer, and sends the producer's Data back to the operator.
 fn go_through(
     alloc: Global,
     node: &mut Node,
@@ -355,7 +357,7 @@ fn udp_too_long(rt: HostRuntime) {
     assert!(rt; is_too_long(&rt) == Some(true));
 }
 
-/// Returns whether a send to a face that belongs to no port fails, and is counted.
+/// Returns whether a send to face 1 fails and is counted as a failure, if no face is open.
 fn counts_failures(rt: &impl Net) -> Option<bool> {
     let listen = free_port(rt)?;
     let mut ports = still_ports(rt, listen)?;
@@ -462,7 +464,7 @@ fn client_of_two_addresses(rt: &impl Net, to: u16) -> Option<UdpSocket> {
 }
 
 /// Returns whether a datagram to another address of this machine is not received, while a datagram
-/// to 127.0.0.1 is.
+/// to 127.0.0.1 is received.
 fn hears_loopback_alone(rt: &impl Net) -> Option<bool> {
     let listen = free_port(rt)?;
     let mut ports = moving_ports(rt, listen)?;
@@ -663,7 +665,8 @@ fn connected(rt: &impl Net, to: u16) -> Option<UdpSocket> {
     Some(socket)
 }
 
-/// Returns ports whose peers are the ports 1 to 63, with a clock that shows this moment.
+/// Returns ports whose peers are the ports 1 to 63, with a clock that shows the moment in the cell
+/// `moment`.
 fn almost_full_ports<'a>(
     rt: &(impl AllocGlobal + Net),
     listen: u16,
@@ -704,8 +707,8 @@ fn udp_gives_way(rt: HostRuntime) {
     assert!(rt; is_room_made(&rt, &Cell::new(0)) == Some(true));
 }
 
-/// Returns whether an Interest goes to a producer while the producer's face is open, and comes back
-/// as a Nack once that face has closed.
+/// Returns whether an Interest goes to a producer while the producer's face is open. Once this face
+/// has closed, the same Interest must come back as a Nack.
 fn goes_until_closed(
     alloc: Global,
     node: &mut Node,

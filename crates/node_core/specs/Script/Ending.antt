@@ -37,9 +37,10 @@ Ends first unread left held holds =
 
 -- What was written before the fault. If the octets of the reader or of the writer are not known
 -- (None), nothing is stated about these octets. `BadLine`: the answers to the lines before the
--- first bad line were written. `Read`: the answers to the whole lines that were read were written.
--- `Write` and `Memory`: a prefix of the answers to the lines at the beginning of the script was
--- written. `Node`: nothing was read or written.
+-- first bad line were written. `Read`: for all whole lines among the octets that were read, the
+-- answers were written. `Write` and `Memory`: for some lines at the beginning of the script, zero
+-- or more of them, a prefix of the text of the answers to these lines was written. `Node`: nothing
+-- was read or written.
 abbrev pub Stops : NodeState → RunFault → Option (List ℕ) → Option (List ℕ) → Option (List ℕ)
     → Option (List ℕ) → Type 0
 Stops first (fault.BadLine n) unread left held holds =

@@ -37,7 +37,7 @@ SpellsRules rules word = (octets : List ℕ) × HexSpells octets word × AreRule
 abbrev pub SpellsKeys : List NamedKey → List ℕ → Type 0
 SpellsKeys keys word = (octets : List ℕ) × HexSpells octets word × AreKeys octets keys
 
--- the face number and the moment in a line are below 2^64
+-- the face number and the time in a line are below 2 ^ 64
 abbrev pub AreNumbers : ℕ → ℕ → Type 0
 AreNumbers face now = (face < 2 ^ 64) × (now < 2 ^ 64)
 

@@ -13,7 +13,7 @@ use Rattle.node_core.specs.declared.script.player.Player.{Player}
 use Rattle.node_core.specs.declared.script.RunFault.{RunFault}
 use Rattle.node_core.specs.declared.script.RunFault.TheVariants as fault
 
--- the state of a run: the node, and the numbers of lines and events that were handled
+-- the state of running a script: the node, and the numbers of lines and events that were handled
 pub record Place : Type 0 where
   pub node : NodeState
   pub lines : ℕ
@@ -28,8 +28,8 @@ pub record IsNew (node : NodeState) : Type 0 where
   pub now : node.policy.now ≡ 0
   pub stands : Stands node.policy Start node
 
--- the state of a run before its first line: the node is new (`IsNew`), and no lines or events are
--- counted
+-- the state of running a script before the first line: the node is new (`IsNew`), and no lines or
+-- events are counted
 pub record IsStart (place : Place) : Type 0 where
   pub node : IsNew place.node
   pub lines : place.lines ≡ 0
@@ -43,12 +43,12 @@ HasRoom place n = (place.lines + n < 2 ^ 64) × (place.events + n < 2 ^ 64)
 abbrev pub IsNear : Place → ℕ → Place → Type 0
 IsNear from n to = (to.lines ≤ from.lines + n) × (to.events ≤ from.events + n)
 
--- the text is an unfinished line of at most 20,000 octets
+-- the text is an unfinished line: it has no LF and at most 20,000 octets
 abbrev pub IsPending : List ℕ → Type 0
 IsPending line = Lacks 10 line × (length line ≤ 20000)
 
 -- Handling the event leads from the state `from` to the state `to`, which counts one more event and
--- the same lines. `text` is the text of the outcome, with the number of the event.
+-- the same number of lines. `text` is the text of the outcome, with the number of the event.
 pub record PlaysEvent (event : PlainEvent) (from to : Place) (text : List ℕ) : Type 0 where
   pub done_as : Outcome
   pub handled : IsOutcome from.node event done_as to.node
@@ -57,8 +57,8 @@ pub record PlaysEvent (event : PlainEvent) (from to : Place) (text : List ℕ) :
   pub events : to.events ≡ from.events + 1
 
 -- Running the lines leads from the state `from` to the state `to`, which also counts these lines
--- and their events. `text` is the text of the outcomes. The number of the first event is one more
--- than `from.events`.
+-- and their events. `text` is the text of the outcomes. The first of these events has the number
+-- `from.events + 1`.
 pub record Plays (lines : List (List ℕ)) (from to : Place) (text : List ℕ) : Type 0 where
   pub events : List PlainEvent
   pub outcomes : List Outcome
@@ -111,7 +111,8 @@ TurnsBad stream lines = (more : List ℕ) → (line rest : List ℕ)
 -- The possible faults of handling the octets `stream` in the state `from`. The octets of the writer
 -- are `held` before and `holds` afterwards. If they are not known (None), nothing is stated about
 -- what was written. `BadLine`: the answers to the lines before the bad line were written. `Write`
--- and `Memory`: a prefix of the answers to the lines at the beginning of `stream` was written.
+-- and `Memory`: for some lines at the beginning of `stream`, zero or more of them, a prefix of the
+-- text of the answers to these lines was written.
 abbrev pub FeedStops : RunFault → List ℕ → Place → Option (List ℕ) → Option (List ℕ) → Type 0
 FeedStops (fault.BadLine n) stream from held holds =
     (lines : List (List ℕ)) × (to : Place) × (text : List ℕ) × Plays lines from to text

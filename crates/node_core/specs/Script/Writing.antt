@@ -33,7 +33,7 @@ abbrev pub kind_name : Kind → List ℕ
 kind_name kinds.Data = codes "data"
 kind_name kinds.Interest = codes "interest"
 
--- the text of a verdict; rules are printed as their ids
+-- the text of a verdict; a rule is printed as its id
 abbrev pub verdict_text : List PlainRule → Verdict → List ℕ
 verdict_text rules Passed = codes "passed"
 verdict_text rules (Allowed rule status) =
@@ -70,9 +70,9 @@ outcome_text rules number (Answered answer) =
     lines_text number (verdict_text rules answer.verdict) answer.sends
 outcome_text rules number NoMemory = lines_text number (codes "memory") []
 
--- The text of the answers to events, numbered from `number` on, if these rules are in force
--- before the first event. The id in the line of an event is that of a rule that was in force
--- before the event.
+-- The text of the answers to events, if `rules` are in force before the first event. The first
+-- event has the number `number`. The id in the line of an event is the id of a rule that was in
+-- force before the event.
 abbrev pub outcomes_text : List PlainRule → ℕ → List PlainEvent → List Outcome → List ℕ
 outcomes_text rules number [] outcomes = []
 outcomes_text rules number (event ∷ events) [] = []

@@ -49,7 +49,7 @@ impl Player {
         }
     }
 
-    /// Runs a script from its start to the end of the reader.
+    /// Runs a script from its start to the end of the input.
     pub fn run<R: Read, W: Write>(&mut self, reader: &mut R, writer: &mut W) -> Result<(), RunFault>
         requires { IsStart (place_of self.old) }
         ensures done { OnOk result
@@ -66,8 +66,7 @@ impl Player {
         self.play(chunk.as_mut_slice(), reader, writer)
     }
 
-    // Runs a script from its start to the end of the reader, with `chunk` as the buffer for
-    // reading.
+    // Runs a script from its start to the end of the input, with `chunk` as the buffer for reading.
     fn play<R: Read, W: Write>(
         &mut self,
         chunk: &mut [u8],
@@ -137,7 +136,7 @@ impl Player {
         put_all(writer, self.text.as_slice())
     }
 
-    // Handles the lines that end in the chunk and appends their answers to the text. Leaves the
+    // Handles the lines that end in the chunk and appends their answers to `self.text`. Leaves the
     // octets of the unfinished line in `line`.
     fn gather(&mut self, line: &mut Vec<u8>, chunk: &[u8]) -> Result<(), RunFault>
         requires room { HasRoom (place_of self.old) (length chunk.now + 1) }
@@ -161,8 +160,8 @@ impl Player {
         self.add(line, rest)
     }
 
-    // Appends octets to the unfinished line. The fault is `BadLine` if the line would have more
-    // than 20,000 octets, or `Memory`.
+    // Appends octets to the unfinished line. If the line would have more than 20,000 octets, the
+    // fault is `BadLine`. If memory runs out, the fault is `Memory`.
     fn add(&self, line: &mut Vec<u8>, octets: &[u8]) -> Result<(), RunFault>
         requires room { HasRoom (place_of self.now) 1 }
         requires short { length line.old.items ≤ 20000 }
@@ -177,7 +176,8 @@ impl Player {
         line.extend_from_slice(octets).map_err(|_| RunFault::Memory)
     }
 
-    // Handles the line that ends with `octets`, and appends its answer to the text.
+    // Handles the line that consists of `line` followed by `octets`, and appends the answer to
+    // `self.text`. Then leaves `line` empty.
     fn end_line(&mut self, line: &mut Vec<u8>, octets: &[u8]) -> Result<(), RunFault>
         requires room { HasRoom (place_of self.old) 1 }
         requires pending { IsPending line.old.items }
@@ -201,7 +201,7 @@ impl Player {
         Ok(())
     }
 
-    // Handles a line, and appends its answer to the text.
+    // Handles a line, and appends the answer to `self.text`.
     fn answer_line(&mut self, line: &[u8]) -> Result<(), RunFault>
         requires room { HasRoom (place_of self.old) 1 }
         requires whole { Lacks 10 line.now }
@@ -225,7 +225,7 @@ impl Player {
         Ok(())
     }
 
-    // Passes the event to the node, and appends the node's answer to the text.
+    // Passes the event to the node, and appends the node's answer to `self.text`.
     fn answer(&mut self, event: OwnedEvent) -> Result<(), RunFault>
         requires room { HasRoom (place_of self.old) 1 }
         ensures handled { OnOk result ((text : List ℕ)

@@ -35,7 +35,7 @@ fn an_equal_time_or_number_is_not_new(rt: HostRuntime) {
     check_rows(&rt, rt.alloc(), rows, freshness);
 }
 
-/// Recording a command without a number leaves the recorded number unchanged.
+/// A command without a number leaves the number recorded for its signer unchanged.
 #[test]
 fn a_command_without_a_number_forgets_no_number(rt: HostRuntime) {
     let rows = "
@@ -46,8 +46,8 @@ fn a_command_without_a_number_forgets_no_number(rt: HostRuntime) {
     check_rows(&rt, rt.alloc(), rows, freshness);
 }
 
-/// The first sequence number is recorded even if earlier commands of the signer had none. Zero is a
-/// sequence number like any other.
+/// A signer's first sequence number is recorded even if earlier commands of the signer had no
+/// number. Zero is a sequence number like any other.
 #[test]
 fn a_number_after_none_counts(rt: HostRuntime) {
     let rows = "

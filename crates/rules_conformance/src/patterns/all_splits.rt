@@ -92,7 +92,7 @@ fn next_sample(alloc: Global, numbers: &mut Numbers) -> Option<Sample> {
     Some(sample)
 }
 
-/// Spells the next pattern in an empty sample.
+/// Puts the text, the atoms and the group of the next pattern into the empty sample `sample`.
 fn spell_next(numbers: &mut Numbers, sample: &mut Sample) -> Option<()> {
     let written = numbers.below(5);
     let first = numbers.below(5);
@@ -113,7 +113,7 @@ fn spell_next(numbers: &mut Numbers, sample: &mut Sample) -> Option<()> {
 }
 
 impl Sample {
-    /// Puts this anchor at one end of the pattern, or leaves the anchor out. Without the anchor,
+    /// Appends the anchor to the pattern or leaves it out, chosen at random. Without the anchor,
     /// the atom with this number is an implied atom, which matches any components.
     fn put_end(&mut self, numbers: &mut Numbers, number: usize, anchor: &str) -> Option<()> {
         if numbers.below(2) == 0 {
@@ -152,7 +152,7 @@ impl Sample {
     }
 }
 
-/// Returns up to four letters.
+/// Returns up to four random letters.
 fn next_letters(alloc: Global, numbers: &mut Numbers) -> Option<Vec<u8>> {
     let mut letters = Vec::new(alloc);
     for _ in 0..numbers.below(5) {
@@ -179,9 +179,9 @@ impl Spelled {
     }
 }
 
-/// Returns the list of counts that splits the letters among the atoms and is lexicographically
-/// greatest. Tries the counts of the first atom from the greatest to the least, and takes the first
-/// count for which the other atoms have a split.
+/// Returns the lexicographically greatest list of counts that splits the letters among the atoms,
+/// or `None` if there is no split. Tries the counts of the first atom from the greatest to the
+/// least, and takes the first count for which the other atoms have a split.
 fn greatest_split(atoms: &[Spelled], letters: &[u8]) -> Option<[usize; ATOMS]> {
     let Some((atom, others)) = atoms.split_first() else {
         return letters.is_empty().then_some([0; ATOMS]);
@@ -246,8 +246,8 @@ fn next_agreed(alloc: Global, numbers: &mut Numbers) -> Option<bool> {
     agreed(alloc, text.as_str(), &atoms, group, &letters)
 }
 
-/// Returns how many of 3000 samples match, or the number of the first sample on which the simple
-/// program disagrees.
+/// Returns how many of 3000 random patterns match a random name. If the simple program disagrees on
+/// a pattern, returns the number of the first such pattern.
 fn matches_of_3000(alloc: Global) -> Result<u32, u32> {
     let mut numbers = Numbers(2014);
     let mut matched = 0u32;

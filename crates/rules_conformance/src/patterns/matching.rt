@@ -8,15 +8,15 @@ use ndn_names::{Name, NameBuf};
 use std::alloc::Global;
 use test_support::first_wrong;
 
-/// Shows the groups from group 0 on. Each group is shown as the index of its first component and
-/// the index after its last component, as in `0-5 0-3 4-5`.
+/// Shows the captured groups, beginning with group 0. Each group is shown as the index of its first
+/// component and the index after its last component, as in `0-5 0-3 4-5`.
 fn shown(alloc: Global, captures: &Captures) -> Option<String> {
     let mut shown = String::new(alloc);
     put_groups(&mut shown, captures)?;
     Some(shown)
 }
 
-/// Appends the groups from group 0 on.
+/// Appends the captured groups, beginning with group 0.
 fn put_groups(shown: &mut String, captures: &Captures) -> Option<()> {
     for i in 0..12 {
         if let Some((start, end)) = captures.group(i) {
@@ -34,8 +34,8 @@ fn pattern_and_name(alloc: Global, front: &str) -> Option<(Pattern, NameBuf)> {
     Some((pattern, NameBuf::from_uri(alloc, name).ok()?))
 }
 
-/// Returns whether the match has the groups in `wanted`, or whether there is no match if `wanted`
-/// is `no match`.
+/// Returns whether the match has the groups in `wanted`. If `wanted` is `no match`, returns whether
+/// there is no match.
 fn has_groups(alloc: Global, pattern: &Pattern, name: Name<'_>, wanted: &str) -> bool {
     match pattern.matches(name) {
         Some(captures) => shown(alloc, &captures).is_some_and(|groups| groups.as_str() == wanted),
@@ -54,7 +54,8 @@ fn is_matched_so(alloc: Global, row: &str) -> bool {
     }
 }
 
-/// Returns whether the match adds `wanted` steps to a counter, both from 0 and from a large number.
+/// Returns whether the match adds `wanted` to the counter of steps, both if the counter is 0 before
+/// and if it is a large number before.
 fn has_steps(pattern: &Pattern, name: Name<'_>, wanted: &str) -> bool {
     let many = u64::MAX - 1_000_000;
     let mut steps = 0;
@@ -285,7 +286,7 @@ const EXAMPLES: &str = r"
 ^[^<a>]$ at /b → 0-1
 ";
 
-/// The patterns of further examples in `docs/RULES.md` match as that page says.
+/// Patterns from examples in `docs/RULES.md` match as that page says.
 #[test]
 fn examples_for_operators(rt: HostRuntime) {
     assert_right(&rt, first_wrong(rt.alloc(), EXAMPLES, is_matched_so));
@@ -295,8 +296,8 @@ fn examples_for_operators(rt: HostRuntime) {
 const EACH_PART: &str =
     "(<>*)[<KEY><%41><seg=5>][^<b>]{1,3}(<params-sha256=0000000000000000000000000000000000000000000000000000000000000000>)";
 
-/// Returns whether the pattern is read, has two groups, and does not match the empty name. Running
-/// out of memory is also accepted.
+/// Returns whether the pattern is read, has two groups, and does not match the empty name. Also
+/// returns true if memory runs out.
 fn is_read_unless_memory(alloc: Global) -> bool {
     match Pattern::read(alloc, EACH_PART) {
         Ok(pattern) => {

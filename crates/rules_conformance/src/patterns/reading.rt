@@ -12,7 +12,8 @@ pub fn is_read_so(alloc: Global, row: &str) -> bool {
     })
 }
 
-/// Returns the number of groups in the pattern of a text, or the fault of the text.
+/// Returns the number of groups in the pattern `text`, as in `2 groups`, or the fault of `text`, as
+/// in `Inner(0)`.
 fn reading_of(alloc: Global, text: &str) -> Option<String> {
     match Pattern::read(alloc, text) {
         Ok(pattern) => format!(in alloc; "{} groups", pattern.groups()).ok(),
@@ -20,7 +21,7 @@ fn reading_of(alloc: Global, text: &str) -> Option<String> {
     }
 }
 
-/// Returns whether the fault is reported in these words.
+/// Returns whether `words` are the message of the fault.
 fn is_reported_as(alloc: Global, fault: PatternFault, words: &str) -> bool {
     fault
         .to_string(alloc)
@@ -266,7 +267,8 @@ const INNER: &str = r"
 <a|>{2} → Inner(0)
 ";
 
-/// A component that contains one of the signs `( ) [ ] { } * + ? ^ $ \ |` has the fault `Inner`.
+/// In a pattern, a component that contains one of the signs `( ) [ ] { } * + ? ^ $ \ |` has the
+/// fault `Inner`.
 #[test]
 fn inner(rt: HostRuntime) {
     assert_right(&rt, first_wrong(rt.alloc(), INNER, is_read_so));

@@ -6,7 +6,7 @@ use ndn_names::{Name, NameBuf, NameFault};
 use std::alloc::Global;
 use test_support::first_wrong;
 
-/// Expands a template with the components of a name that the pattern captures. Returns the
+/// Expands a template with the components that the pattern captures from `name`. Returns the
 /// template's fault if the template is not valid. Returns `None` if the pattern does not match, or
 /// if `is_too_long` disagrees with the expansion.
 fn expanded(
@@ -36,7 +36,7 @@ fn made(alloc: Global, pattern: &str, name: &str, template: &str) -> Option<Stri
     made_at(alloc, &pattern, template, name.view())
 }
 
-/// Returns what `made` returns, for the pattern and the name that were read.
+/// Returns what `made` returns, for the pattern and the name that `made` has read.
 fn made_at(alloc: Global, pattern: &Pattern, template: &str, name: Name<'_>) -> Option<String> {
     match expanded(alloc, pattern, template, name).ok()?? {
         Ok(made) => made.to_uri(alloc).ok(),
@@ -60,7 +60,7 @@ pub fn is_made_so(alloc: Global, row: &str) -> bool {
 }
 
 /// Returns whether a row `TEMPLATE for GROUPS → FAULT` or `TEMPLATE for GROUPS → a template` is
-/// correct.
+/// correct. `GROUPS` is the number of groups that the template may use.
 fn is_template_so(alloc: Global, row: &str) -> bool {
     let Some((front, wanted)) = row.split_once(" → ") else {
         return false;
@@ -144,8 +144,8 @@ fn long_expansions(rt: HostRuntime) {
     assert_right(&rt, first_wrong(rt.alloc(), LONG_EXPANSIONS, is_made_so));
 }
 
-/// Returns whether a template expands to a name of five components, if the pattern `<KEY>` is
-/// matched with the name /A/KEY. Running out of memory is also accepted.
+/// Matches the pattern `<KEY>` with the name /A/KEY, and returns whether a template then expands to
+/// a name of five components. Also returns true if memory runs out.
 fn is_made_unless_memory(alloc: Global) -> bool {
     let pattern = match Pattern::read(alloc, "<KEY>") {
         Ok(pattern) => pattern,

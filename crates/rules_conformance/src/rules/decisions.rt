@@ -9,14 +9,16 @@ use ndn_packets::{DataWriter, Frame, InterestWriter, Sign, read_frame};
 use std::alloc::Global;
 use test_support::{KEYS, first_wrong, typed};
 
-/// Returns the octets of a Data, or of a signed Interest with the time 1.
+/// Returns the octets of a Data if `kind` is `data`, or of a signed Interest with the SignatureTime
+/// 1 if `kind` is `interest`.
 fn written<'a>(alloc: Global, kind: &str, name: Name<'a>, sign: Sign<'a>) -> Option<Vec<u8>> {
     let mut octets = Vec::new(alloc);
     put_packet(&mut octets, kind, name, sign)?;
     Some(octets)
 }
 
-/// Appends a Data, or a signed Interest with the time 1.
+/// Appends a Data if `kind` is `data`, or a signed Interest with the SignatureTime 1 if `kind` is
+/// `interest`.
 fn put_packet<'a>(octets: &mut Vec<u8>, kind: &str, name: Name<'a>, sign: Sign<'a>) -> Option<()> {
     match kind {
         "data" => put_data(octets, name, sign),
@@ -37,7 +39,7 @@ fn put_data<'a>(octets: &mut Vec<u8>, name: Name<'a>, sign: Sign<'a>) -> Option<
     writer.write(octets).ok()
 }
 
-/// Appends a signed Interest with the time 1.
+/// Appends a signed Interest with the SignatureTime 1.
 fn put_interest<'a>(octets: &mut Vec<u8>, name: Name<'a>, sign: Sign<'a>) -> Option<()> {
     let writer = InterestWriter {
         name,
@@ -58,8 +60,9 @@ fn sign_by<'a>(name: Name<'a>, key: &'a [u8]) -> Sign<'a> {
     Sign::Hmac { name, key }
 }
 
-/// Returns the octets of a packet. The packet is given as `octets 0605..`, or as its kind, its
-/// name, and either `by digest` or `by` with the name of a key and the text of the key's octets.
+/// Returns the octets of a packet. The packet is given as `octets 0605..`, as
+/// `KIND NAME by digest`, or as `KIND NAME by KEYNAME TEXT`. The octets of `TEXT` are the octets of
+/// the key.
 fn octets_of(alloc: Global, packet: &str) -> Option<Vec<u8>> {
     let (kind, rest) = packet.split_once(' ')?;
     if kind == "octets" {
@@ -80,7 +83,7 @@ fn signed_octets(alloc: Global, kind: &str, name: Name<'_>, signer: &str) -> Opt
     written(alloc, kind, name, sign_by(key_name.view(), key.as_bytes()))
 }
 
-/// Returns the packet in a frame, if it is an Interest or a Data.
+/// Returns the Interest or the Data in a frame, or `None` if the frame has neither.
 fn packet_of<'a>(frame: &'a Frame<'a>) -> Option<Packet<'a>> {
     match frame {
         Frame::Interest(interest) => Some(Packet::Interest(interest)),
@@ -98,8 +101,8 @@ fn decided(alloc: Global, rules: &Rules, keys: &str, octets: &[u8]) -> Option<De
 }
 
 /// Returns the decision of a rule file on a packet, as `allowed 0`, `denied 0 Tag` or `no rule`. If
-/// `packet` is `any` with a kind and a name, returns the first rule that applies to them, as
-/// `rule 0` or `no rule`. Returns `None` if an input is not valid.
+/// `packet` is `any KIND NAME`, returns the first rule that applies to packets of this kind and
+/// name, as `rule 0` or `no rule`. Returns `None` if an input is not valid.
 pub fn told_of(alloc: Global, file: &str, keys: &str, packet: &str) -> Option<String> {
     let rules = typed_rules(alloc, file)?;
     match packet.strip_prefix("any ") {
@@ -108,7 +111,8 @@ pub fn told_of(alloc: Global, file: &str, keys: &str, packet: &str) -> Option<St
     }
 }
 
-/// Returns the rules of a file, in which symbols stand for other characters.
+/// Reads the rules of a file after replacing its symbols by the characters that the symbols stand
+/// for.
 fn typed_rules(alloc: Global, file: &str) -> Option<Rules> {
     let text = typed(alloc, file)?;
     rules_of(alloc, text.as_str()).ok()
@@ -130,7 +134,8 @@ fn decision_shown(alloc: Global, decision: Decision) -> Option<String> {
     }
 }
 
-/// Returns the first rule that applies to a kind and a name.
+/// Returns the first rule that applies to packets of the kind and name in `named`, as `rule 0` or
+/// `no rule`.
 fn told_first(alloc: Global, rules: &Rules, named: &str) -> Option<String> {
     let (kind, name) = named.split_once(' ')?;
     let kind = match kind {
@@ -142,7 +147,7 @@ fn told_first(alloc: Global, rules: &Rules, named: &str) -> Option<String> {
     rule_shown(alloc, rules.first_match(kind, name.view()))
 }
 
-/// Shows the number of a rule, if there is one.
+/// Shows the number of the rule, as in `rule 0`, or `no rule` if `rule` is `None`.
 fn rule_shown(alloc: Global, rule: Option<RuleNo>) -> Option<String> {
     match rule {
         Some(rule) => format!(in alloc; "rule {}", rule.0).ok(),
@@ -159,7 +164,7 @@ fn is_decided_so(alloc: Global, file: &str, row: &str) -> bool {
     told_of(alloc, file, KEYS, packet).is_some_and(|told| told.as_str() == wanted)
 }
 
-/// Returns the line of the first wrong row under a rule file, or 0 if no row is wrong.
+/// Returns the line of the first row that is wrong for this rule file, or 0 if no row is wrong.
 pub fn first_wrong_under(alloc: Global, file: &str, rows: &str) -> usize {
     first_wrong(alloc, rows, |alloc, row| is_decided_so(alloc, file, row))
 }
@@ -190,8 +195,7 @@ data /B/x by /ops/KEY/1 key → denied 1 SigType
 data /B/x by digest → allowed 1
 ";
 
-/// Only the first rule that applies decides, although a later rule would allow what the first rule
-/// denies.
+/// Only the first rule that applies decides, even if a later rule would allow the packet.
 #[test]
 fn the_first_rule_decides(rt: HostRuntime) {
     assert_right(&rt, first_wrong_of(rt.alloc(), FIRST_RULE));
@@ -225,7 +229,7 @@ any interest /D/x/y → rule 0
 any interest / → no rule
 ";
 
-/// A rule with filters applies exactly if the name passes at least one of them.
+/// A rule with filters applies exactly if the name passes at least one of its filters.
 #[test]
 fn filters(rt: HostRuntime) {
     assert_right(&rt, first_wrong_of(rt.alloc(), FILTERS));
@@ -297,7 +301,7 @@ octets 060c070308014116031b01011700 → denied 0 SigType
 data /A by /ops/KEY/1 key → denied 0 SigType
 ";
 
-/// A checker for RSA or ECDSA refuses a signature by RSA and a signature by an HMAC key.
+/// A checker for RSA or ECDSA refuses RSA signatures and HMAC signatures.
 #[test]
 fn unsupported_signatures(rt: HostRuntime) {
     assert_right(&rt, first_wrong_of(rt.alloc(), UNSUPPORTED));
@@ -311,7 +315,8 @@ rule {␊ id a␊ for data␊ checker {␊ type customized␊ sig-type hmac-sha2
 data /A by /ops/KEY/1 kez → denied 0 Tag
 ";
 
-/// If several checkers refuse a packet, the reason that is last in the list `Reason` is reported.
+/// If several checkers refuse a packet, their reasons may differ. The decision reports the reason
+/// that comes last in the enum `Reason`.
 #[test]
 fn the_greatest_reason(rt: HostRuntime) {
     assert_right(&rt, first_wrong_of(rt.alloc(), GREATEST_REASON));
@@ -325,8 +330,8 @@ rule {␊ id a␊ for data }
 data /A by /ops/KEY/1 kez → denied 0 KeyLocator
 ";
 
-/// If no checker of a rule is for the packet's signature type, the packet is denied with the reason
-/// `SigType`. A rule without checkers denies a signed packet with the reason `KeyLocator`.
+/// If a rule has checkers, but none for the packet's signature type, the packet is denied with the
+/// reason `SigType`. A rule without checkers denies a signed packet with the reason `KeyLocator`.
 #[test]
 fn no_checker_of_the_type(rt: HostRuntime) {
     assert_right(&rt, first_wrong_of(rt.alloc(), NO_CHECKER_OF_THE_TYPE));
@@ -352,8 +357,8 @@ octets 053007250801410220620e59c59d04596b40d4cbe11e875a127f928accec817bec4519ae7
 octets 053307280801410801420220620e59c59d04596b40d4cbe11e875a127f928accec817bec4519ae74d661f47a0a0401020304240170 → no rule
 ";
 
-/// An Interest without a signature is denied. A filter is matched with the Interest's name without
-/// the parameters digest.
+/// An Interest without a signature is denied. A filter tests the Interest's name without the name's
+/// parameters digest.
 #[test]
 fn interests_that_are_not_signed(rt: HostRuntime) {
     assert_right(&rt, first_wrong_of(rt.alloc(), NOT_SIGNED));
@@ -366,7 +371,7 @@ octets 0567072508014102204b517d4208fcf6ccf88fa54794a0898bf87bd1bd363776b41a1ffc2
 interest /A by /ops/KEY/1 key → denied 0 KeyLocator
 ";
 
-/// A rule without checkers denies a signed Interest with the reason `Shape` if it has no
+/// A rule without checkers denies a signed Interest with the reason `Shape` if the Interest has no
 /// SignatureTime, and with the reason `KeyLocator` otherwise.
 #[test]
 fn signed_interests(rt: HostRuntime) {
@@ -457,8 +462,8 @@ rule {␊ id a␊ for data␊ checker {␊ type customized␊ sig-type hmac-sha2
 data /a/b/c by /a/b/KEY/1 key → denied 0 KeyLocator
 "#;
 
-/// In a hyper-relation, the name expanded from the key's name is the first name. With
-/// `is-prefix-of`, this name must be a prefix of the name expanded from the packet's name.
+/// A hyper-relation compares the name expanded from the key's name with the name expanded from the
+/// packet's name. With `is-prefix-of`, the first of these names must be a prefix of the second.
 #[test]
 fn hyper_relations(rt: HostRuntime) {
     assert_right(&rt, first_wrong_of(rt.alloc(), HYPER_RELATIONS));
@@ -498,7 +503,7 @@ rule {␊ id a␊ for interest␊ checker {␊ type customized␊ sig-type hmac-
 interest /ops by /ops/KEY/1 key → allowed 0
 "#;
 
-/// A hyper-relation uses the name of an Interest without the parameters digest.
+/// A hyper-relation leaves out the parameters digest of an Interest's name.
 #[test]
 fn hyper_relations_of_interests(rt: HostRuntime) {
     assert_right(&rt, first_wrong_of(rt.alloc(), HYPER_OF_INTERESTS));
@@ -508,17 +513,17 @@ const KEY_OF_NAME_OPS_KEY: &str = r"
 rule {␊ id a␊ for interest␊ checker {␊ type customized␊ sig-type hmac-sha256␊ key-locator {␊ type name␊ name /ops/KEY␊ relation equal } } }
 ";
 
-/// Returns whether `wanted` is the decision, under these keys, on an Interest for /A that is signed
-/// by the key /ops/KEY.
+/// Returns whether an Interest for /A, signed by the key /ops/KEY, gets the decision `wanted` if
+/// the key file is `keys`.
 fn is_ops_decided(alloc: Global, keys: &str, wanted: &str) -> bool {
     let packet =
         "octets 05670725080141022052d80660e71c995e200e90fca82774055b6c5240685cab9cef7cdb476c5d1c240a040102030424002c141b01041c0c070a08036f707308034b45592801012e200e161f3e3217de961e12f02dca786e191af9e5a29166ddb8293582ab256106cd";
     told_of(alloc, KEY_OF_NAME_OPS_KEY, keys, packet).is_some_and(|told| told.as_str() == wanted)
 }
 
-/// An Interest's signature covers the name before the digest, and the octets from the parameters
-/// on. If the key file has other octets for the key, the tag is wrong. If the key file has no line
-/// for the key, the key is unknown.
+/// An Interest's signature covers the name before the parameters digest, and the octets from the
+/// ApplicationParameters on. If the key file has other octets for the key, the tag is wrong. If the
+/// key file has no line for the key, the key is unknown.
 #[test]
 fn both_parts_are_covered(rt: HostRuntime) {
     assert!(rt; is_ops_decided(rt.alloc(), "/ops/KEY 6b6579", "allowed 0"));

@@ -329,7 +329,8 @@ data /A by digest → allowed 0
 data /B by digest → allowed 1
 ";
 
-/// A checker of digests needs no key, even if it has a key locator or is hierarchical.
+/// A checker for DigestSha256 needs no key, even if the checker has a key locator or is
+/// hierarchical.
 #[test]
 fn digests_need_no_key(rt: HostRuntime) {
     assert_right(&rt, first_wrong_under(rt.alloc(), DIGESTS, OF_DIGESTS));
@@ -443,8 +444,8 @@ fn other_signatures(rt: HostRuntime) {
     );
 }
 
-/// Returns whether the rule in `SHARED_PART` allows a Data. Running out of memory before or during
-/// the decision is also accepted.
+/// Returns whether the rule in `SHARED_PART` allows a Data. Also returns true if memory runs out
+/// before or during the decision.
 fn is_allowed_unless_memory(alloc: Global) -> bool {
     let packet = "data /lab/roof/wind by /keys/roof/KEY/7 key";
     told_of(alloc, SHARED_PART, KEYS, packet).is_none_or(|told| told.as_str() == "allowed 0")

@@ -11,13 +11,14 @@ pub fn rules_of(alloc: Global, text: &str) -> Result<Rules, RulesFault> {
     Rules::read(alloc, &tree)
 }
 
-/// Returns whether a text has this number of rules, as in `rules: 1`, or this fault, as in `3
-/// Syntax`.
+/// Returns whether `wanted` is the number of rules in a text, as in `rules: 1`, or the fault of the
+/// text, as in `3 Syntax`.
 fn is_told(alloc: Global, text: &str, wanted: &str) -> bool {
     told_of(alloc, text).is_some_and(|told| told.as_str() == wanted)
 }
 
-/// Returns the number of rules in a text, or its fault.
+/// Returns the number of rules in a text, as in `rules: 1`, or the fault of the text, as in
+/// `3 Syntax`.
 fn told_of(alloc: Global, text: &str) -> Option<String> {
     match rules_of(alloc, text) {
         Ok(rules) => format!(in alloc; "rules: {}", rules.len()).ok(),
@@ -25,8 +26,8 @@ fn told_of(alloc: Global, text: &str) -> Option<String> {
     }
 }
 
-/// Returns whether a row `TEXT → LINE KIND` or `TEXT → rules: 1` is correct, with other texts
-/// before and after the row's text.
+/// Returns whether a row `TEXT → LINE KIND` or `TEXT → rules: 1` is correct, if the row's text is
+/// read between `before` and `after`.
 fn is_told_between(alloc: Global, before: &str, row: &str, after: &str) -> bool {
     let Some((inner, wanted)) = row.split_once(" → ") else {
         return false;
@@ -38,8 +39,8 @@ fn is_told_between(alloc: Global, before: &str, row: &str, after: &str) -> bool 
     ))
 }
 
-/// Returns a text between two other texts, with symbols replaced by the characters that they stand
-/// for.
+/// Joins `before`, `inner` and `after`, and replaces the symbols in them by the characters that the
+/// symbols stand for.
 fn typed_between(alloc: Global, before: &str, inner: &str, after: &str) -> Option<String> {
     let text = format!(in alloc; "{before}{inner}{after}").ok()?;
     typed(alloc, text.as_str())
@@ -243,7 +244,7 @@ fn a_second_form_lacks_nothing(rt: HostRuntime) {
     assert_right(&rt, first_wrong(rt.alloc(), SECOND_FORM, is_told_so));
 }
 
-/// Returns whether a text of `count` rules is read with this result.
+/// Returns whether reading a text of `count` rules has the result `wanted`.
 fn are_rules_told(alloc: Global, count: u32, wanted: &str) -> bool {
     let mut text = String::new(alloc);
     put_rules(alloc, &mut text, count).is_some() && is_told(alloc, text.as_str(), wanted)
@@ -258,13 +259,13 @@ fn put_rules(alloc: Global, text: &mut String, count: u32) -> Option<()> {
     Some(())
 }
 
-/// Returns whether a rule with `count` of these blocks is read with this result.
+/// Returns whether reading a rule with `count` repetitions of `block` has the result `wanted`.
 fn are_blocks_told(alloc: Global, count: u32, block: &str, wanted: &str) -> bool {
     let mut text = String::new(alloc);
     put_blocks(&mut text, count, block).is_some() && is_told(alloc, text.as_str(), wanted)
 }
 
-/// Appends a rule with `count` of these blocks.
+/// Appends a rule with `count` repetitions of `block`.
 fn put_blocks(text: &mut String, count: u32, block: &str) -> Option<()> {
     text.push_str("rule {\n id a\n for data\n").ok()?;
     for _ in 0..count {
@@ -329,7 +330,7 @@ rule {␊id a␊} → 1 Missing
 rule␊{␊  id a␊  for data␊}␊rule␊{␊  id a␊  for data␊}␊ → 8 TwiceNamed
 ";
 
-/// Returns whether the fault of a text is reported in these words.
+/// Returns whether `words` are the message of the text's fault.
 fn is_reported_as(alloc: Global, text: &str, words: &str) -> bool {
     let Err(fault) = rules_of(alloc, text) else {
         return false;
@@ -373,8 +374,7 @@ rule {
 }
 ";
 
-/// Returns whether the one rule of `HYPER_RELATION` is read. Running out of memory is also
-/// accepted.
+/// Returns whether the one rule of `HYPER_RELATION` is read. Also returns true if memory runs out.
 fn is_read_unless_memory(alloc: Global) -> bool {
     match rules_of(alloc, HYPER_RELATION) {
         Ok(rules) => rules.len() == 1,
@@ -388,7 +388,7 @@ fn rules_with_refused_memory(rt: HostRuntime) {
     assert!(rt; is_read_unless_memory(rt.alloc()));
 }
 
-/// Returns the kind of fault with this name.
+/// Returns the `RulesFaultKind` with this name.
 fn fault_of(name: &str) -> Option<RulesFaultKind> {
     Some(match name {
         "Syntax" => RulesFaultKind::Syntax,
@@ -405,7 +405,7 @@ fn fault_of(name: &str) -> Option<RulesFaultKind> {
     })
 }
 
-/// Returns the message for a fault of this kind on line 8.
+/// Returns the message for a fault on line 8 whose kind has the name `name`.
 fn fault_text(alloc: Global, name: &str) -> Option<String> {
     let kind = fault_of(name)?;
     let fault = RulesFault { line: 8, kind };

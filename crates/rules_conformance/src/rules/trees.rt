@@ -5,8 +5,8 @@ use info_rules::{InfoTree, RulesFault, RulesFaultKind};
 use std::alloc::Global;
 use test_support::{first_wrong, typed};
 
-/// Returns an entry in the format of `Debug`. The entry is given as its depth, its line, its key,
-/// `=` and its value if it has one, and a brace if it has a block.
+/// Returns an entry in the format of `Debug`. The entry is given as `DEPTH LINE KEY`, followed by
+/// `=VALUE` if it has a value, and then by ` {` if it has a block.
 fn shown_entry(alloc: Global, entry: &str) -> Option<String> {
     let (depth, rest) = entry.split_once(' ')?;
     let (line, rest) = rest.split_once(' ')?;
@@ -67,7 +67,7 @@ fn debug_of(alloc: Global, text: &str) -> Option<String> {
     format!(in alloc; "{tree:?}").ok()
 }
 
-/// Returns whether a text has a fault of this kind on this line.
+/// Returns whether a text has the fault `wanted`, given by its line and its kind, as in `3 Syntax`.
 fn has_fault(alloc: Global, text: &str, wanted: &str) -> bool {
     let Err(fault) = InfoTree::read(alloc, text) else {
         return false;
@@ -310,8 +310,8 @@ fn lengths(rt: HostRuntime) {
     assert!(rt; has_fault_with(rt.alloc(), 65534, "\n}", "2 Syntax"));
 }
 
-/// Returns whether a text has a syntax fault on line `line`, or no fault if `line` is 0. Running
-/// out of memory is also accepted.
+/// Returns whether a text has a syntax fault on line `line`, or no fault if `line` is 0. Also
+/// returns true if memory runs out.
 fn is_told_or_memory(alloc: Global, text: &str, line: u32) -> bool {
     match InfoTree::read(alloc, text) {
         Ok(_) => line == 0,

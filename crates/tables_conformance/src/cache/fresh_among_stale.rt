@@ -1,4 +1,4 @@
-//! Tests of lookups that search one fresh Data among many stale Data.
+//! Tests of lookups that must find the only fresh Data among many stale Data.
 
 use super::{key_of, put_number, put_packet};
 use content_store::*;
@@ -7,11 +7,11 @@ use ndn_packets::*;
 use std::alloc::Global;
 use test_support::data_of;
 
-/// The number of Data.
+/// The number of Data in the store.
 const COUNT: u32 = 2000;
 
-/// Puts a Data for each number: the fresh Data for the number `at`, and stale Data for all other
-/// numbers. Returns whether all of them are cached.
+/// Puts a Data for each number below `COUNT`: the fresh Data for the number `at`, and a stale Data
+/// for each other number. Returns whether all of them are cached.
 fn put_all(alloc: Global, store: &mut Store, fresh: &[u8], at: u32) -> Option<bool> {
     let mut stale = data_of(alloc, "/n/0000", "01", Some(0))?;
     for step in 0..COUNT {
@@ -57,7 +57,7 @@ fn is_given_while_fresh(store: &mut Store, name: Name<'_>, fresh: &[u8]) -> Opti
     }
 }
 
-/// Puts the fresh Data for the number `at`, and stale Data for all other numbers. Returns whether
+/// Puts the fresh Data for the number `at`, and a stale Data for each other number. Returns whether
 /// all of them are cached and `is_given_while_fresh` then returns true.
 fn is_found_among_stale(alloc: Global, store: &mut Store, fresh: &[u8], at: u32) -> Option<bool> {
     if !put_all(alloc, store, fresh, at)? {

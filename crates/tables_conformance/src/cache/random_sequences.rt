@@ -31,7 +31,7 @@ struct Made {
     digest: [u8; 32],
 }
 
-/// A cached Data: its index among the Data that were made, and its arrival.
+/// A cached Data: its index in the list of `all_made`, and the moment of its arrival.
 #[derive(Clone, Copy)]
 struct Held {
     made: usize,
@@ -119,7 +119,7 @@ fn forget(held: &mut Vec<Held>, made: usize) {
 }
 
 /// Puts a random Data into the store and into the list. Returns whether the Data is cached in the
-/// store, as it must be with ample memory.
+/// store. With ample memory, the Data must be cached.
 fn put_agrees(
     all: &[Made],
     store: &mut Store,
@@ -137,8 +137,8 @@ fn put_agrees(
 }
 
 /// Calls `find`, `find_counted` or `serve_at`, chosen at random, and returns the result. Returns
-/// `None` if `place_for` finds a Data and this call does not, or the other way round. Returns
-/// `None` also if `find_counted` takes more than 17 comparisons.
+/// `None` if only one of this call and `place_for` finds a Data. Returns `None` also if
+/// `find_counted` takes more than 17 comparisons.
 fn look_up<'a>(
     store: &'a mut Store,
     key: Key<'_>,
@@ -245,7 +245,8 @@ fn calls_agree(
     Some(true)
 }
 
-/// Returns whether eight random calls of a store with a random capacity agree with the list.
+/// Returns whether eight random calls give the same results for an empty store with a random
+/// capacity and for an empty list.
 fn sequence_agrees(
     alloc: Global,
     all: &[Made],

@@ -57,7 +57,8 @@ ask /A 1 7 5, withdraw /A 2, withdraw /B 1, remove /A+p, len -> yes; -; -; -; 1 
 ";
 
 /// For each face, only its latest Interest under a key counts. A withdrawal removes only the
-/// Interest of one face under one key, and a removal only the Interests under one key.
+/// Interest of one face under one key. A removal removes only the Interests under one key, but the
+/// Interests of all faces.
 #[test]
 fn of_each_face_the_last_interest(rt: HostRuntime) {
     check_rows(&rt, rt.alloc(), OF_EACH_FACE_THE_LAST_INTEREST, answers);
@@ -86,7 +87,7 @@ ask /A 1 7 5000, sent /A 1 2 7 0, sent /A 1 3 7 0, nack /A 3 7 50, sent /A 1 3 8
 ask /A 1 7 5000, nack /A 1 7 50, nack /A+f 1 7 50 -> yes; no pending; no pending
 ";
 
-/// Once each face to which an Interest was sent has answered with a Nack, the result is the least
+/// When each face to which an Interest was sent has answered with a Nack, the result is the least
 /// reason of these Nacks. A Nack counts only if it has the Nonce that was last sent to its face.
 #[test]
 fn the_least_nack_of_all_faces_asked(rt: HostRuntime) {
@@ -111,7 +112,7 @@ ask /A 1 7 5, ask /B 1 8 5, ask /B 2 9 5, sent /B 2 1 9 1, close 1, len, used /B
 ask /A 1 7 5, sent /A 1 2 7 1, sent /A 1 3 7 1, nack /A 3 7 50, close 2, len, used /A, nack /A 3 7 50 -> yes; yes; yes; waiting; -; 1 false; used 3@1; all 50
 ";
 
-/// After a face has closed, it has no records any more.
+/// When a face closes, all records of the face are removed.
 #[test]
 fn a_face_that_closes(rt: HostRuntime) {
     check_rows(&rt, rt.alloc(), A_FACE_THAT_CLOSES, answers);
@@ -122,7 +123,8 @@ ask /A/B 1 1 9, prepare /A/B/C 4, remove /A/B, ask /A/B/C 2 2 9, of /A/B 1, of /
 ask /A/B 1 1 9, ask /A/D 3 2 9, prepare /A/B/C 4, data /A/B, ask /A/B/C 2 3 9, of /A/B/C 2, data /A/D, data /A/B/C, len -> yes; yes; yes; faces 1; yes; 00000003; faces 3; faces 2; 0 true
 ";
 
-/// A prepared Interest is recorded, even if Interests for prefixes of its name are removed first.
+/// A prepared Interest is recorded, even if Interests for prefixes of its name are removed after
+/// the preparation.
 #[test]
 fn a_preparation_on_a_path_that_empties(rt: HostRuntime) {
     check_rows(

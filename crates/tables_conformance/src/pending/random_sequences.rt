@@ -1,4 +1,5 @@
-//! Random calls of a table, compared with plain lists of records that are filtered for each answer.
+//! Random calls of a table, compared with plain lists of records. For each answer, these lists are
+//! searched from end to end.
 
 use super::{OwnedKey, Table, data_at, faces_answered};
 use ndn_packets::*;
@@ -63,7 +64,7 @@ fn has_key(asks: &[Asks], key: usize) -> bool {
 }
 
 impl Records {
-    /// Removes the out-records of keys under which no Interest is pending.
+    /// Removes the out-records of each key under which no Interest is pending.
     fn settle(&mut self) {
         let asks = &self.asks;
         self.asked.retain(|sent| has_key(asks, sent.key));
@@ -164,8 +165,8 @@ impl Records {
         is_pending
     }
 
-    /// Returns `All` with the least reason under a key, or `Waiting` if a face to which the
-    /// Interest was sent has not answered with a Nack.
+    /// Returns `Waiting` if a face to which the Interest was sent has not answered with a Nack.
+    /// Otherwise returns `All` with the least reason of the Nacks under the key.
     fn least_reason(&self, key: usize) -> Nacked {
         let mut least = u64::MAX;
         for sent in &self.asked {
@@ -198,7 +199,8 @@ impl Records {
     }
 }
 
-/// Returns whether the octets are the Nonce of the Interest `ask`, or both are `None`.
+/// Returns whether `octets` are the Nonce of the Interest `ask`, or whether `octets` and `ask` are
+/// both `None`.
 fn is_same(octets: Option<&[u8]>, ask: Option<Asks>) -> bool {
     match (octets, ask) {
         (Some(octets), Some(ask)) => octets == octets_of(ask.nonce).as_slice(),
@@ -368,7 +370,8 @@ fn remove(table: &mut Table, records: &mut Records, key: Key<'_>, removal: u64, 
     }
 }
 
-/// Returns a random face, Nonce and moment, for the key with the index `first` or the next index.
+/// Returns a random face, Nonce and moment. The index of the key is at random `first` or the next
+/// index.
 fn random_call(first: u64, state: &mut u64) -> Asked {
     let key = first.saturating_add(random(state, 2)) as usize;
     let (face, nonce, moment) = (random(state, 3), random(state, 2), random(state, 20));
@@ -382,7 +385,7 @@ fn random_call(first: u64, state: &mut u64) -> Asked {
 }
 
 /// Returns whether a random call gives the same answer for the table and for the records. Most
-/// calls are for one of two keys.
+/// calls are for the key with the index `first` or with the next index.
 fn call_agrees(
     table: &mut Table,
     records: &mut Records,
@@ -408,8 +411,8 @@ fn call_agrees(
     Some(agrees? && shows(table, records, one.key, key, one.face))
 }
 
-/// Returns whether 24 random calls agree with the records, and the table then shows the same
-/// records.
+/// Returns whether 24 random calls agree with the records, and the table then has the same records
+/// as `records`.
 fn calls_agree(
     table: &mut Table,
     records: &mut Records,

@@ -15,8 +15,8 @@ token /A 1 5 200, token /A/sha256digest=2d92a383706a615fe67c9a585b00f29c5c06d2ab
 token /A/sha256digest=2d92a383706a615fe67c9a585b00f29c5c06d2abdaec456e9cdc026679eb2479 1 6 100, token /A 1 5 200, token_for /A 1 -> yes; yes; 05
 ";
 
-/// With a Data, a face gets the token of its Interest with the latest deadline among the Interests
-/// that the Data answers.
+/// If a Data answers several Interests of a face, the face gets the token of the Interest with the
+/// latest deadline.
 #[test]
 fn token_of_the_last_deadline(rt: HostRuntime) {
     check_rows(&rt, rt.alloc(), TOKEN_OF_THE_LAST_DEADLINE, answers);
@@ -88,7 +88,7 @@ const KNOWS_OF_TOKENS: &str = "\
 has_tokens, ask /A 1 7 100, has_tokens, token /B 1 5 100, has_tokens -> false; yes; false; yes; true
 ";
 
-/// `has_tokens` is false until an Interest with a token has come.
+/// `has_tokens` is false until an Interest with a token is recorded.
 #[test]
 fn knows_of_tokens(rt: HostRuntime) {
     check_rows(&rt, rt.alloc(), KNOWS_OF_TOKENS, answers);

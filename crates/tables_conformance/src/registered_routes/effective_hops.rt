@@ -36,7 +36,7 @@ register /A 2 cost=1 flags=0, register /A 2 cost=9 origin=1, register /A/B 3, of
 ";
 
 /// Among the routes of several origins on one face, the least cost counts. Longer names inherit the
-/// least cost of the child-inherit routes alone.
+/// least cost among the child-inherit routes only.
 #[test]
 fn the_least_cost_counts(rt: HostRuntime) {
     check_rows(&rt, rt.alloc(), THE_LEAST_COST_COUNTS, answers);

@@ -8,7 +8,8 @@ use pit_fib::*;
 use std::alloc::Global;
 use test_support::random;
 
-/// Names in canonical order: if two of them are prefixes of the same name, the later one is longer.
+/// Names in canonical order. If two of these names are prefixes of the same name, the later of the
+/// two is longer.
 const NAMES: [&str; 8] = ["/", "/A", "/A/B", "/A/B/C", "/A/B/C/D", "/A/C", "/B", "/AA"];
 
 /// The faces are 0, 1 and 2.
@@ -34,7 +35,8 @@ struct Plain {
     routes: Vec<Registered>,
 }
 
-/// Returns whether a name is a proper prefix of another.
+/// Returns whether the name with the index `prefix` is a proper prefix of the name with the index
+/// `name`.
 fn is_above(prefix: usize, name: usize) -> bool {
     let (Some(prefix), Some(name)) = (NAMES.get(prefix), NAMES.get(name)) else {
         return false;
@@ -60,7 +62,7 @@ fn ends_by(route: Route, now: u64) -> bool {
     }
 }
 
-/// Returns the lesser of `cost` and `other`, or `cost` if there is no other cost.
+/// Returns the lesser of `cost` and `other`, or `cost` if `other` is `None`.
 fn lesser(cost: u64, other: Option<u64>) -> Option<u64> {
     match other {
         Some(other) => Some(cost.min(other)),
@@ -116,7 +118,7 @@ impl Plain {
         Some(())
     }
 
-    /// Appends those of the given routes that do not expire by a moment.
+    /// Appends the routes in `routes` that do not expire by the moment `now`.
     fn copy_routes(&mut self, routes: &[Registered], now: u64) -> Option<()> {
         for one in routes {
             if !ends_by(one.route, now) {
@@ -235,7 +237,7 @@ impl Plain {
         self.least_cost(above, face, true)
     }
 
-    /// Returns the cost of a face among the effective next hops of a name.
+    /// Returns the cost of the effective next hop of a name on a face.
     fn cost(&self, seen: &mut Seen, name: usize, face: u64) -> Option<u64> {
         if let Some(cost) = self.hop_cost(name, face) {
             return Some(cost);
@@ -267,7 +269,7 @@ struct Seen {
     ended: u64,
 }
 
-/// Returns the cost of a face among the next hops.
+/// Returns the cost of the next hop on this face.
 fn cost_in(hops: &Hops, face: u64) -> Option<u64> {
     let mut cost = None;
     for i in 0..hops.len() {
@@ -306,7 +308,7 @@ fn hops_agree(plain: &Plain, seen: &mut Seen, name: Option<usize>, hops: &Hops) 
     Some(hops.len() == len && are_in_order(hops)?)
 }
 
-/// Returns whether a name has the next hops that the lists give, and its lookup makes at most 4
+/// Returns whether the lookup of a name finds the next hops that the lists give, with at most 4
 /// searches.
 fn longest_agrees(
     routes: &RouteTable,
@@ -321,7 +323,8 @@ fn longest_agrees(
     Some(hops_agree(plain, seen, plain.longest(name), &hops)? && steps <= 4)
 }
 
-/// Returns whether the rows are all names that have an entry, in order, with their next hops.
+/// Returns whether `rows` are all names that have an entry in the plain lists, in canonical order,
+/// each with its effective next hops.
 fn rows_agree(
     rows: &[(NameBuf, Hops)],
     plain: &Plain,
@@ -373,8 +376,8 @@ fn list_agrees(
     )
 }
 
-/// Returns whether the number of routes that expire by a moment is the same in the table and in the
-/// lists.
+/// Removes the routes that expire by a moment. Returns whether equally many routes are removed from
+/// the table and from the lists.
 fn expire_agrees(
     routes: &mut RouteTable,
     plain: &mut Plain,
@@ -464,7 +467,8 @@ fn change(
     }
 }
 
-/// Returns a random route of a random name. One route in three expires, at a moment below 24.
+/// Returns a random route of a random name. On average, one route in three has a deadline, which is
+/// below 24.
 fn random_route(state: &mut u64) -> Registered {
     let name = random(state, 8) as usize;
     let (face, origin) = (random(state, FACES), random(state, 2));
@@ -483,8 +487,8 @@ fn random_route(state: &mut u64) -> Registered {
     }
 }
 
-/// Returns whether a random call, and the next hops of a random name after it, agree with the
-/// lists.
+/// Returns whether a random call agrees with the lists, and the next hops of a random name then
+/// agree with the lists as well.
 fn call_agrees(
     alloc: Global,
     routes: &mut RouteTable,

@@ -61,7 +61,8 @@ fn takes_16384(alloc: Global, routes: &mut RouteTable) -> Option<bool> {
 }
 
 /// Returns whether a table with 16,384 routes refuses a new route for a known name, for a new name
-/// and for a name of 33 components, but accepts a route that it already has, and a next hop.
+/// and for a name of 33 components. The table must accept a route that the table already has, and a
+/// next hop of a new name.
 fn refuses_new_routes(alloc: Global, routes: &mut RouteTable) -> Option<bool> {
     let route = Route::new(0, 32);
     let further = register(alloc, routes, 7, route)? == FULL;
@@ -114,8 +115,8 @@ fn takes_4096_names(alloc: Global, routes: &mut RouteTable) -> Option<bool> {
     Some(routes.read().len() == 4096)
 }
 
-/// Returns whether a table with 4,096 names refuses a further name and a name of 33 components, but
-/// accepts a name that it has.
+/// Returns whether a table with 4,096 names refuses a further name and a name of 33 components. The
+/// table must accept further next hops and routes of names that it already has.
 fn refuses_new_names(alloc: Global, routes: &mut RouteTable) -> Option<bool> {
     let route = Route::new(1, 0);
     let is_full = add_numbered(alloc, routes, 4096, 0)? == FULL
@@ -133,8 +134,8 @@ fn takes_known_names(alloc: Global, routes: &mut RouteTable) -> Option<bool> {
     Some(is_routed && is_added)
 }
 
-/// Returns whether a full table refuses a new name until another name loses its last next hop or
-/// route.
+/// Returns whether a table with 4,096 names refuses a new name, and accepts a new name after
+/// another name has lost its last next hop or route.
 fn frees_names(alloc: Global, routes: &mut RouteTable) -> Option<bool> {
     unregister(alloc, routes, 7, 1)?;
     let is_full = register(alloc, routes, 4096, Route::new(1, 0))? == FULL;
@@ -168,7 +169,8 @@ fn tells_refusals(alloc: Global, routes: &mut RouteTable) -> Option<bool> {
     Some(is_told && refused && register_deep(alloc, routes, 0, route)?.is_ok())
 }
 
-/// Registers a route for each name of 0 to 32 components `A`. Each route is on its own face.
+/// Registers a route for each name of 0 to 32 components `A`. The route of the name with N
+/// components is on face N.
 fn register_33(alloc: Global, routes: &mut RouteTable) -> Option<()> {
     for depth in 0..33 {
         let mut route = Route::new(depth as u64, 0);
@@ -188,8 +190,8 @@ fn finds_33(fib: &Fib, name: Name<'_>) -> Option<bool> {
 }
 
 /// Returns whether the lookup of a name of 64 components finds the routes of 33 prefixes, with at
-/// most one search for each component. Each of these prefixes has a route on its own face, with a
-/// lesser cost than the next shorter prefix.
+/// most one search for each component. The route of each of these prefixes is on another face, and
+/// has a lesser cost than the route of the next shorter prefix.
 fn looks_up_64_components(alloc: Global, routes: &mut RouteTable) -> Option<bool> {
     register_33(alloc, routes)?;
     let deep = deep_name(alloc, 64)?;
@@ -202,10 +204,10 @@ fn is_listed(alloc: Global, fib: &Fib, expected: &str) -> Option<bool> {
     Some(listed.as_str() == expected)
 }
 
-/// Prepares a route of this name. Before the call, the table has only a route of another name with
-/// the deadline 9. If the preparation fails, returns whether the table still has only this other
-/// route. If the preparation succeeds, returns whether the prepared route is registered after the
-/// other route has expired.
+/// Prepares a route of the name `name`. Before the preparation, the table has only a route of
+/// another name, and the deadline of this route is 9. If the preparation fails, returns whether the
+/// table still has only this other route. If the preparation succeeds, returns whether the prepared
+/// route is registered after the other route has expired.
 fn takes_prepared_route(alloc: Global, routes: &mut RouteTable, name: Name<'_>) -> Option<bool> {
     if routes.prepare(name).is_err() {
         return is_listed(alloc, routes.read(), "/%00%02 2@0");
@@ -268,7 +270,7 @@ fn adds_what_is_prepared(alloc: Global, routes: &mut RouteTable) -> Option<bool>
 }
 
 /// Registers two routes of this name with the same face and origin. Returns whether the second
-/// route replaces the first route, or leaves it unchanged if memory runs out.
+/// route replaces the first route, or leaves the first route unchanged if memory runs out.
 fn keeps_one_route(routes: &mut RouteTable, name: Name<'_>) -> Option<bool> {
     let mut route = Route::new(2, 0);
     route.cost = 5;
