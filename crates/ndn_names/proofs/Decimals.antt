@@ -13,8 +13,8 @@ use Rattle.ndn_names.specs.declared.fault.NameFault.TheVariants.{BadUri}
 use Rattle.ndn_names.specs.UriReading.{number_in, type_in}
 use Rattle.ndn_tlv.specs.Reading.{◌>>=◌}
 
--- if at least one of three tests fails, a conditional that needs all three equals its second
--- alternative
+-- if at least one of the tests `a`, `b` and `c` fails, a conditional that needs all three tests has
+-- the result `y`, its second alternative
 unless_all : {A : Type 0} (a b c : Bool) (x y : A) → (a ≡ true → b ≡ true → c ≡ true → ⊥) → cond (a && (b && c)) x y ≡ y
 unless_all false b c x y h = refl
 unless_all true false c x y h = refl
@@ -33,7 +33,7 @@ pub sign_unread : (bs : List ℕ) → get_or bs 0 0 ≡ 43 → number_in bs ≡ 
 sign_unread [] e = absurd (omega arith)
 sign_unread (b ∷ bs) e = rw e refl
 
--- if three tests pass, the last one passes
+-- if the conjunction of three tests is true, the last test is true
 all_true : (a b c : Bool) → (a && (b && c)) ≡ true → c ≡ true
 all_true false b c e = absurd cc
 all_true true false c e = absurd cc
@@ -47,7 +47,7 @@ first_of_zero : get_or (decimal 0) 0 0 ≡ 48
 first_of_zero = rw (decimal_digit 0 (omega arith)) refl
 
 -- if a text does not begin with the digit 0, and `number_in` reads it as a number below 65536,
--- `type_in` reads it as the same number
+-- `type_in` reads this text as the same number
 pub type_read : (type_name : List ℕ) (kind : ℕ) → get_or type_name 0 0 ≢ 48 → number_in type_name ≡ Ok kind → kind < 65536 → type_in type_name ≡ Ok kind
 type_read type_name kind lead e small =
     let p = number_found type_name kind e in

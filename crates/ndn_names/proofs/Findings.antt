@@ -20,8 +20,9 @@ never_empty [] c e = cc
 never_empty (d ∷ cs) c e = cc
 
 -- `first` is the first component of type `kind` among the components `front`, which have been read.
--- `is_only` tells whether no other component in `front` has type `kind`. `is_last` tells whether
--- `first` is the last component in `front` and no octets `rest` are still to be read.
+-- `is_only` tells whether no other component in `front` has type `kind`. The octets `rest` are
+-- still to be read. `is_last` tells whether `first` is the last component in `front` and `rest` is
+-- empty.
 pub record FirstSoFar (kind : ℕ) (front : List Field) (rest : List ℕ) (first : FirstOfType) : Type 0 where
   pub before : List Field
   pub after : List Field

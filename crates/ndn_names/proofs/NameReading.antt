@@ -51,14 +51,15 @@ named_one count cs text rest piece after c h room split e =
     moved cs (Ok ds) = ap (λ (t : List Field). Ok t) (sym (append_assoc cs (c ∷ []) ds))
     moved cs (Err fault) = refl
 
--- appending the octets of the components `cs`, and then those of the component `c`, appends the
--- octets of the list `cs ++ c ∷ []`
+-- if the octets of the components `cs` and then the octets of the component `c` are appended, the
+-- octets of the list `cs ++ c ∷ []` are appended
 pub octets_more : (old now next : List ℕ) (cs : List Field) (c : Field) → now ≡ old ++ octets_of cs → next ≡ now ++ element c → next ≡ old ++ octets_of (cs ++ c ∷ [])
 octets_more old now next cs c e put =
     put ∙ ap (λ (t : List ℕ). t ++ element c) e ∙ append_assoc old (octets_of cs) (element c)
     ∙ ap (λ (t : List ℕ). old ++ t) (ap (λ (t : List ℕ). octets_of cs ++ t) (sym (append-nil (element c))) ∙ sym (flat_map-append element cs (c ∷ [])))
 
--- if all components together have fewer than 2^64 octets, each of them is a valid element
+-- if valid components together have fewer than 2^64 octets, each of these components is a valid
+-- element
 short_fields : (cs : List Field) → AllByRecursion IsComponent cs → length (octets_of cs) < 2 ^ 64 → AllByRecursion IsField cs
 short_fields [] is short = tt
 short_fields (c ∷ cs) is short =
@@ -72,7 +73,7 @@ value_shown text value cs read e short =
     let is = (text_found text cs read).7 in
     is_shown value cs ((short_fields cs is.1 (omega (arith, ap length e)), e), is)
 
--- ---- the first slash of a text after the scheme
+-- ---- the first slash after the scheme of a text
 
 pub no_slash : (text path : List ℕ) → path ≡ without_scheme text → ((rest : List ℕ) → path ≢ 47 ∷ rest) → name_in text ≡ Err BadUri
 unfolding name_in

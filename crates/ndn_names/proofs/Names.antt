@@ -1,4 +1,4 @@
--- What reading a name tells about its octets.
+-- Facts about octets from which a name is read.
 use Rattle.std.proofs.Common.{◌≡◌, ◌≢◌, ℕ, zero, suc, ◌+◌, ◌^◌, ◌<◌, ◌≤◌, Bool, true, false, cond, eqb, ltb, leb, List, [], ◌∷◌, ◌++◌, length, map, Result, Ok, Err, refl, sym, ap, subst, ◌∙◌, append_assoc, arith, inl, inr, eq-eqb}
 use Rattle.std.specs.Prelude.{◌↔◌, IsTrue, slice_get, take, drop, Some, ◌&&◌, ◌||◌, not}
 use Rattle.std.specs.List.{filter_map, AllByRecursion}
@@ -133,13 +133,15 @@ components_of-found value cs fits e =
 
 -- ---- reading a name in a loop
 
--- reading `value` as a name returns some components followed by the components that
--- `components_after n` returns for `rest`, or the fault in `rest`
+-- If `value` is read as a name, the result is some components followed by the components that
+-- `components_after n` returns for `rest`. If `components_after n` returns a fault for `rest`, the
+-- result is this fault.
 abbrev pub IsOn : ℕ → List ℕ → List ℕ → Type 0
 IsOn n rest value = (front : List Field) × (name_at value ≡ (components_after n (elements_of rest) >>= λ cs. Ok (front ++ cs)))
 
--- reading `value` as a name returns the components `front` followed by the components that
--- `components_after n` returns for `rest`, or the fault in `rest`
+-- If `value` is read as a name, the result is the components `front` followed by the components
+-- that `components_after n` returns for `rest`. If `components_after n` returns a fault for `rest`,
+-- the result is this fault.
 abbrev pub Reads : ℕ → List ℕ → List ℕ → List Field → Type 0
 Reads n rest value front = name_at value ≡ (components_after n (elements_of rest) >>= λ cs. Ok (front ++ cs))
 
@@ -180,7 +182,7 @@ is_done n rest value e on = (on.0, reads_all n rest value on.0 e on.1)
 pub refused : (value : List ℕ) (e : NameFault) → name_at value ≡ Err e → (cs : List Field) → IsNameValue value cs → ⊥
 refused value e is cs h = let read = name_again value cs h in let no : Err e ≡ done cs = sym is ∙ read in absurd cc
 
--- reading octets that are not empty returns at least one item: an element or a fault
+-- if `rest` is not empty, `elements_of` returns at least one item for `rest`: an element or a fault
 something : (rest : List ℕ) → rest ≢ [] → (at : Result Field TlvFault) × (others : List (Result Field TlvFault)) × (elements_of rest ≡ at ∷ others)
 something rest some =
     elim (element_at rest) as (λ r. element_at rest ≡ r → (at : Result Field TlvFault) × (others : List (Result Field TlvFault)) × (elements_of rest ≡ at ∷ others)) [

@@ -32,8 +32,8 @@ put_one reading old now text rest after octet h e =
     moved front (Ok octets) = ap (λ (t : List ℕ). Ok t) (sym (append_assoc front (octet ∷ []) octets))
     moved front (Err fault) = refl
 
--- from its i-th pair of digits on, the text is the two digits of this pair, followed by the text
--- from the next pair on
+-- The text from the i-th pair of digits on is the two digits of this pair, followed by the text
+-- from the next pair on. Pairs are counted from 0.
 pair_at : (text : List ℕ) (i : ℕ) → 2 * i + 1 < length text → drop (2 * i) text ≡ get_or text (2 * i) 0 ∷ get_or text (2 * i + 1) 0 ∷ drop (2 * (i + 1)) text
 pair_at text i lt =
     let next : 2 * i + 1 + 1 ≡ 2 * (i + 1) = omega arith in

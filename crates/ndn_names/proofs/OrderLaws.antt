@@ -116,8 +116,8 @@ Less-irreflexive a h = let e : Lt ≡ Equal = sym (name_cmp-less a a h) ∙ name
 pub Less-transitive : (a b c : List Field) → Less a b → Less b c → Less a c
 Less-transitive a b c h k = less-name_cmp a c (name_cmp-total.trans a b c (name_cmp-less a b h) (name_cmp-less b c k))
 
--- if `name_cmp a b` is `Less`, `a` is less than `b`; if it is `Equal`, `a` and `b` are equal; if it
--- is `Greater`, `b` is less than `a`
+-- if `name_cmp a b` is `Less`, `a` is less than `b`; if `name_cmp a b` is `Equal`, `a` and `b` are
+-- equal; if `name_cmp a b` is `Greater`, `b` is less than `a`
 pub MatchOrdering-name_cmp : (a b : List Field) → MatchOrdering (name_cmp a b) (Less a b) (a ≡ b) (Less b a)
 MatchOrdering-name_cmp a b =
     elim (name_cmp a b) as (λ o. name_cmp a b ≡ o → MatchOrdering o (Less a b) (a ≡ b) (Less b a)) [

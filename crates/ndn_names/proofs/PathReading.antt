@@ -1,4 +1,4 @@
--- What reading a name's text tells about the text.
+-- Facts about texts from which a name is read.
 use Rattle.std.proofs.Common.{◌≡◌, ◌≢◌, ◌⊎◌, ℕ, ◌+◌, ◌<◌, ◌≤◌, false, cond, eqb, ltb, List, [], ◌∷◌, ◌++◌, length, take, drop, flat_map, Result, Ok, Err, refl, sym, ap, subst, ◌∙◌, arith, inl, inr, eq-eqb, codes, bytes_eq, append_assoc}
 use Rattle.std.specs.List.{AllByRecursion}
 use Rattle.std.proofs.lemmas.Bool.{cases_lt, cases_eq, cases_Bool, lt-ltb, le-ltb, eqb-true, ne_eqb}
@@ -99,7 +99,8 @@ pieces_lack (o ∷ text) =
     front_lacks o [] other h = ((other, tt), tt)
     front_lacks o (piece ∷ pieces) other h = ((other, h.0), h.1)
 
--- a slash followed by `text` is the path of these pieces, possibly with one more slash at its end
+-- a slash followed by `text` is the path of the pieces `pieces`, with or without one more slash
+-- after the path
 abbrev IsJoined : List ℕ → List (List ℕ) → Type 0
 IsJoined text pieces = (end : List ℕ) × (47 ∷ text ≡ path_of pieces ++ end) × IsEnd end
 

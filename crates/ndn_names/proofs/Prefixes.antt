@@ -44,7 +44,7 @@ left_after view (Some x) cs left after i e lt h =
     let more = sym h ∙ e ∙ drop_more cs i (0, []) lt in cc
 
 -- if `rest` encodes all but the first n components of a name, the octets before `rest` are the
--- TLV-VALUE of the name of these first n components
+-- TLV-VALUE of the name that consists of these first n components
 pub prefix_shown : (octets rest : List ℕ) (n i : ℕ) → IsNameValue octets (components_of octets) → IsNameValue rest (components_of rest) → components_of rest ≡ drop i (components_of octets) → i ≤ n → n ≤ i
     → (length rest ≤ length octets) × (components_of (take (length octets - length rest) octets) ≡ take n (components_of octets))
     × IsNameValue (take (length octets - length rest) octets) (components_of (take (length octets - length rest) octets))

@@ -43,8 +43,8 @@ not_shortest value n (inr (inr (inr p))) lt e =
     let small : n < 2 ^ 32 = rw p.1 at lt in
     omega (arith, length-shortest_four n small, ap length e, ap length p.1)
 
--- comparing a number with `least_of` the length of its octets decides whether the octets are its
--- shortest encoding
+-- if a value encodes the number n, the value is the shortest encoding of n exactly if n is at least
+-- `least_of` the value's length
 tested : (value : List ℕ) (n : ℕ) → nni_at value ≡ Ok n → IsNni value n → then_some (leb (least_of (length value)) n) n ≡ shortest_number value
 tested value n is nni =
     elim (cases_lt n (least_of (length value))) [

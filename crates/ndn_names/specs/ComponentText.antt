@@ -20,8 +20,8 @@ value_in len (Escaped text) = do
 value_in len (Hexadecimal text) = hex_in text.now
 value_in len (Number n) = Ok (shortest_nni n)
 
--- `text` represents the component `c`: the type and the length are those of `c`, and the text
--- encodes the value of `c`
+-- `text` represents the component `c`: `text` has the type of `c` and the length of the value of
+-- `c`, and encodes this value
 abbrev pub IsTextOf : Field → ComponentText → Type 0
 IsTextOf c text =
     (text.kind ≡ c.0) × (text.len ≡ length c.1) × (value_in text.len text.value ≡ Ok c.1)

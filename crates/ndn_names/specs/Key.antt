@@ -22,7 +22,7 @@ component_cmp-total =
 pub name_cmp-total : IsTotalOrder name_cmp
 name_cmp-total = lists_total component_cmp-total
 
--- the coding of names; the codings of types that contain names are made with it
+-- the coding of names; codings of types that contain names are built from this coding
 abbrev pub name_code : Coded (List Field)
 name_code = coded_list (coded× coded_ℕ (coded_list coded_ℕ))
 

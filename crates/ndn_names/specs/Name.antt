@@ -28,7 +28,7 @@ IsNameValue value cs = IsElements value cs × IsName cs
 abbrev pub IsPrefix : List Field → List Field → Type 0
 IsPrefix a b = (rest : List Field) × (b ≡ a ++ rest)
 
--- the elements at the front of the octets, up to the first one that cannot be read
+-- the elements at the front of the octets, before the first element that cannot be read
 unfoldable pub components_of : List ℕ → List Field
 components_of value = filter_map result_ok (elements_of value)
 

@@ -42,7 +42,8 @@ IsFaultOrMemory found c fault = (found ≡ Err fault) ⊎ ((fault ≡ Memory) ×
 abbrev pub component_after : ℕ → Result Field TlvFault → Result Field NameFault
 component_after n e = if nat_lt n 64 then component_at e else Err TooManyComponents
 
--- these elements as the components of a name that come after n other components, or the first fault
+-- The list of elements, read as components of a name. n other components of this name come before
+-- these components. If there is a fault, the result is the first fault.
 abbrev pub components_after : ℕ → List (Result Field TlvFault) → Result (List Field) NameFault
 components_after n [] = Ok []
 components_after n (e ∷ es) = do

@@ -35,8 +35,8 @@ StandsFor text [] = text ≡ []
 StandsFor text (o ∷ octets) =
     (front rest : List ℕ) × (text ≡ front ++ rest) × IsOctetText front o × StandsFor rest octets
 
--- the text encodes the value, or, if the value is empty or consists of periods only, the value
--- followed by three periods
+-- If the value is empty or consists of periods only, the text encodes the value followed by three
+-- periods. Otherwise the text encodes the value.
 abbrev pub IsValueText : List ℕ → List ℕ → Type 0
 IsValueText text value = StandsFor text (padded value)
 
@@ -60,8 +60,9 @@ IsDigest piece c =
     × (type_name_of c.0 ≡ Some type_name) × (c.0 ≤ PARAMETERS_SHA256_DIGEST)
     × (length text ≡ 64) × IsHex text c.1
 
--- the piece is the type name of a type whose values are numbers, an equals sign, and a number below
--- 2^64 in decimal digits; the value is the shortest NonNegativeInteger encoding of this number
+-- The piece has three parts: the type name of a type whose values are numbers; an equals sign; a
+-- number below 2^64 in decimal digits. The value is the shortest NonNegativeInteger encoding of
+-- this number.
 abbrev pub IsNumbered : List ℕ → Field → Type 0
 IsNumbered piece c =
     (type_name text : List ℕ) × (piece ≡ type_name ++ 61 ∷ text)

@@ -1,8 +1,8 @@
 -- Spare capacity in tables with one row for each name or signer.
 use Rattle.std.specs.Prelude.{ℕ, ◌<◌, Option, None, Some}
 
--- if `prepared` is present, the capacity of the table is greater than `len`, the number of its
--- rows; if it is absent, nothing is required
+-- If `prepared` is present, the capacity of a table is greater than `len`, the number of rows in
+-- the table. If `prepared` is absent, nothing is required.
 abbrev pub HasRoom : {X : Type 0} → ℕ → ℕ → Option X → Type 0
 HasRoom len capacity None = Unit {0}
 HasRoom len capacity (Some prepared) = len < capacity

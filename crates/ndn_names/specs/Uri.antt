@@ -29,8 +29,9 @@ padded value = if is_periods value then value ++ codes "..." else value
 abbrev pub value_text : List ℕ → List ℕ
 value_text value = flat_map escaped (padded value)
 
--- the text of a component without a type name: the type number and an equals sign, both omitted for
--- a GenericNameComponent, and the text of the value
+-- The text of a component, written without a type name. For a GenericNameComponent, the result is
+-- the text of the value. For any other component, the result is the type number, an equals sign and
+-- the text of the value.
 abbrev pub plain_text : Field → List ℕ
 plain_text c =
     if c.0 == GENERIC then value_text c.1 else decimal c.0 ++ (codes "=" ++ value_text c.1)

@@ -15,7 +15,8 @@ use Rattle.ndn_names.specs.Reading.{component_of}
 use Rattle.ndn_names.specs.TypeName.{kind_of}
 use Rattle.ndn_names.specs.Uri.{is_periods}
 
--- the octet that two hexadecimal digits encode, or the fault `BadUri` if one of them is not a digit
+-- the octet that the hexadecimal digits `high` and `low` encode, or the fault `BadUri` if `high` or
+-- `low` is not a hexadecimal digit
 abbrev pub pair_in : ℕ → ℕ → Result ℕ NameFault
 pair_in high low =
     if nat_lt (digit_value high) 16 && nat_lt (digit_value low) 16
@@ -48,9 +49,9 @@ octets_in (a ∷ b ∷ c ∷ text) =
       before o (octets_in text))
     else before a (octets_in (b ∷ c ∷ text))
 
--- The value whose text encodes these octets. If all octets are periods, the value is the octets
--- without three periods, or the fault `BadUri` if there are fewer than three octets. If not all
--- octets are periods, the value is the octets themselves.
+-- The value whose text encodes `octets`. If all octets are periods, the result is `octets` without
+-- three of the periods, or the fault `BadUri` if there are fewer than three octets. If not all
+-- octets are periods, the result is `octets`.
 abbrev pub unpadded : List ℕ → Result (List ℕ) NameFault
 unpadded octets =
     if not (is_periods octets) then Ok octets else (
@@ -89,9 +90,9 @@ numbered_in kind text = do
   n ← number_in text
   Ok (kind, shortest_nni n)
 
--- The component whose text is `type_name`, an equals sign and `text`, or a fault. `Some kind` means
--- that `type_name` is the name of the component type `kind`. `None` means that no type has this
--- name.
+-- The component whose text consists of `type_name`, an equals sign and `text`. If there is no such
+-- component, the result is a fault. `Some kind` means that `type_name` is the name of the component
+-- type `kind`. `None` means that no type has this name.
 abbrev pub typed_in : List ℕ → List ℕ → Option ℕ → Result Field NameFault
 typed_in type_name text (Some kind) =
     if nat_le kind PARAMETERS_SHA256_DIGEST then digest_in kind text else numbered_in kind text
@@ -121,7 +122,8 @@ component_in piece = component_by_cut piece (cut_at 61 piece)
 abbrev pub piece_in : List ℕ → Result Field NameFault
 piece_in text = if list_any (λ o. o == 47) text then Err BadUri else component_in text
 
--- the components that these pieces read as after n other components, or the first fault
+-- The components that the pieces read as. n other components of the name come before these
+-- components. If there is a fault, the result is the first fault.
 abbrev pub components_in : ℕ → List (List ℕ) → Result (List Field) NameFault
 components_in n [] = Ok []
 components_in n (piece ∷ pieces) = do
@@ -166,7 +168,7 @@ IsFaultBeforeMemory {A} read fault =
 abbrev pub IsFaultOf : {A : Type 0} → Result A NameFault → NameFault → Type 0
 IsFaultOf read fault = (read ≡ Err fault) ⊎ (fault ≡ Memory)
 
--- `read` has succeeded, and `new` is `old` followed by the octets of its result
+-- `read` has succeeded with some `x`, and `new` is `old` followed by the octets of `x`
 abbrev pub Adds : {A : Type 0} → (A → List ℕ) → Result A NameFault → List ℕ → List ℕ → Type 0
 Adds {A} octets_of read old new = (x : A) × (read ≡ Ok x) × (new ≡ old ++ octets_of x)
 
@@ -177,7 +179,7 @@ AreCounted read count =
     (octets : List ℕ) × (read ≡ Ok octets) × (count.0 ≡ length octets)
     × (count.1 ≡ is_periods octets)
 
--- the value whose text encodes `octets` consists of their first `len` octets: all of them, or all
--- but three if they are periods only
+-- The first `len` of the octets `octets` are the value whose text encodes `octets`. If `octets` are
+-- periods only, the value lacks three of them. Otherwise the value is all of `octets`.
 abbrev pub AreLeft : List ℕ → ℕ → Type 0
 AreLeft octets len = (unpadded octets ≡ Ok (take len octets)) × (len ≡ length (take len octets))

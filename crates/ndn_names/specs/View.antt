@@ -6,7 +6,7 @@ use Rattle.ndn_names.specs.declared.components.Components.{Components}
 use Rattle.ndn_names.specs.declared.name.Name.{Name}
 use Rattle.ndn_names.specs.Name.{components_of}
 
--- a component's type and octets
+-- the type and the value of a component
 abbrev pub field_of : Component → Field
 field_of c = (c.kind, c.value.now)
 

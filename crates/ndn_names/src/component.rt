@@ -20,8 +20,8 @@ pub struct Component<'a> {
     pub value: &'a [u8],
 }
 
-/// Returns `kind` as a `u16`, if a component may have this type and value. Returns the same faults
-/// as `kind_by_len`.
+/// Returns `kind` as a `u16`, if a component may have the type `kind` and the value `value`.
+/// Returns the same faults as `kind_by_len`.
 #[inline(always)]
 pub(crate) fn component_kind(kind: u32, value: &[u8]) -> Result<u16, NameFault>
     ensures { on_result (λ k. Ok (k, value.now)) Err result ≡ component_of (kind, value.now) }
@@ -29,9 +29,9 @@ pub(crate) fn component_kind(kind: u32, value: &[u8]) -> Result<u16, NameFault>
     kind_by_len(kind, value.len())
 }
 
-/// Returns `kind` as a `u16`, if a component may have this type and a value of `len` octets.
-/// Returns `BadComponent` for type 0 and for types above 65535, and `BadDigestLength` for a digest
-/// whose `len` is not 32.
+/// Returns `kind` as a `u16`, if a component may have the type `kind` and a value of `len` octets.
+/// Returns `BadComponent` for type 0 and for types above 65535. Returns `BadDigestLength` for a
+/// digest if `len` is not 32.
 pub(crate) fn kind_by_len(kind: u32, len: usize) -> Result<u16, NameFault>
     ensures { (value : List ℕ) → len ≡ length value
         → on_result (λ k. Ok (k, value)) Err result ≡ component_of (kind, value) }

@@ -13,12 +13,12 @@ use crate::fault::NameFault;
 use crate::type_name::kind_of;
 use ndn_tlv::{nni_len, put_nni};
 
-/// The text of a value that has not been decoded yet.
+/// The text of a value, before this text is decoded.
 #[derive(Clone, Copy)]
 pub enum ValueText<'a> {
     /// The octets of the value themselves.
     Plain(&'a [u8]),
-    /// Octets and percent escapes that encode the value.
+    /// Octets and percent escapes. The octets that they encode begin with the value.
     Escaped(&'a [u8]),
     /// Two hexadecimal digits for each octet of the value.
     Hexadecimal(&'a [u8]),
@@ -127,7 +127,8 @@ fn type_of(type_name: &str) -> Result<u16, NameFault>
     }
 }
 
-/// Returns the component of type `kind` whose value `text` encodes, with percent escapes.
+/// Returns the component that has the type `kind` and the value that `text` encodes. `text` may
+/// have percent escapes.
 fn plain_text(kind: u16, text: &[u8]) -> Result<ComponentText<'_>, NameFault>
     ensures { MatchResult result
         (λ c. (field : Field) × (read.plain_in kind text.now ≡ Ok field) × IsTextOf field c)
@@ -140,7 +141,8 @@ fn plain_text(kind: u16, text: &[u8]) -> Result<ComponentText<'_>, NameFault>
     Ok(ComponentText { kind, len, value })
 }
 
-/// Returns the text of a value: the first `len` of the `count` octets that `text` encodes.
+/// Returns the text of a value. The value is the first `len` of the `count` octets that `text`
+/// encodes.
 fn value_text(text: &[u8], count: usize, len: usize) -> ValueText<'_>
     requires { len ≤ count }
     ensures { (octets : List ℕ) → read.octets_in text.now ≡ Ok octets → count ≡ length octets
@@ -152,7 +154,8 @@ fn value_text(text: &[u8], count: usize, len: usize) -> ValueText<'_>
     ValueText::Escaped(text)
 }
 
-/// Returns the digest component of type `kind` whose value `text` encodes in hexadecimal digits.
+/// Returns the digest component that has the type `kind` and the value that the hexadecimal digits
+/// in `text` encode.
 fn digest_text(kind: u16, text: &[u8]) -> Result<ComponentText<'_>, NameFault>
     ensures { MatchResult result
         (λ c. (field : Field) × (read.digest_in kind text.now ≡ Ok field) × IsTextOf field c)
@@ -172,8 +175,8 @@ fn digest_text(kind: u16, text: &[u8]) -> Result<ComponentText<'_>, NameFault>
     })
 }
 
-/// Returns the component of type `kind` whose value is the number that `text` represents in decimal
-/// digits.
+/// Returns the component that has the type `kind` and, as its value, the number that `text`
+/// represents in decimal digits.
 fn number_text(kind: u16, text: &str) -> Result<ComponentText<'_>, NameFault>
     ensures { MatchResult result
         (λ c. (field : Field) × (read.numbered_in kind text.now ≡ Ok field) × IsTextOf field c)

@@ -15,7 +15,7 @@ pub enum NameFault {
     /// The type of a component is 0 or above 65535, or an element cannot be read.
     #[error("a component must be a complete element with a type from 1 to 65535")]
     BadComponent,
-    /// A digest, a component of type 1 or 2, is not 32 octets long.
+    /// The value of a digest is not 32 octets long. A digest is a component of type 1 or 2.
     #[error("the value of a digest component, which has type 1 or 2, must have 32 octets")]
     BadDigestLength,
     /// A name has more than 64 components.

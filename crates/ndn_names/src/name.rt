@@ -65,7 +65,8 @@ impl<'a> Name<'a> {
         Ok(Name { octets: value })
     }
 
-    /// Reads a name as `read` does, and also returns its first component of type `kind`.
+    /// Reads a name as `read` does. Returns the name, and its first component of type `kind` or
+    /// `None` if no component has this type.
     #[inline(always)]
     pub fn read_finding(
         value: &'a [u8],
@@ -85,7 +86,7 @@ impl<'a> Name<'a> {
         self.octets
     }
 
-    /// Returns the name of the first `n` components.
+    /// Returns the name that consists of the first `n` components.
     pub fn prefix(&self, n: usize) -> Name<'a>
         requires { n ≤ length (components self.now) }
         ensures { components result ≡ take n (components self.now) }

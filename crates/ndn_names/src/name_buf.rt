@@ -36,7 +36,7 @@ impl NameBuf {
         }
     }
 
-    /// Returns the name with this TLV-VALUE.
+    /// Returns the name with the TLV-VALUE `octets`.
     pub(crate) fn from_octets(octets: Vec<u8>) -> NameBuf
         requires { IsNameValue octets.items (components_of octets.items) }
         ensures { result ≡ components_of octets.items }
@@ -59,7 +59,7 @@ impl NameBuf {
         NameBuf::from_name(alloc, self.view())
     }
 
-    /// Appends a component with this type and value.
+    /// Appends a component with the type `kind` and the value `value`.
     ///
     /// If the component is refused, the name does not change, and the first fault in this order is
     /// returned: `TooManyComponents` if the name has 64 components, `BadComponent` for type 0,

@@ -118,8 +118,8 @@ impl NameBuf {
         ensures exact { IfOk result (λ text. string_bytes text ≡ uri_of self.now) }
         ensures reads_back { IfOk result (λ text. ReadsAs (string_bytes text) self.now) }
     {
-        // The proof of `reads_back` uses the contract of `as_octets`, which says that all values
-        // consist of octets.
+        // The proof of `reads_back` uses the contract of `as_octets`: the returned octets are the
+        // TLV-VALUE of the name. They are below 256, so the octets of all values are below 256.
         let octets = self.view().as_octets();
         Ok(Name { octets }.to_string(alloc)?)
     }

@@ -1,4 +1,4 @@
--- What reading an element, or successive elements, tells about the octets.
+-- Facts about octets from which an element, or successive elements, are read.
 use Rattle.std.proofs.Common.{◌≡◌, ◌≢◌, ℕ, zero, suc, ◌-◌, ◌^◌, ◌<◌, ◌≤◌, ◌⊎◌, Bool, true, false, cond, ltb, eqb, List, [], ◌∷◌, ◌++◌, length, take, drop, map, Result, Ok, Err, refl, sym, ap, subst, ◌∙◌, append_assoc, arith, inl, inr}
 use Rattle.std.specs.List.{flat_map, AllByRecursion}
 use Rattle.std.specs.Int.{Width, w16, w32, w64, byte_len, from_be_bytes}
@@ -283,8 +283,8 @@ reads_same (f ∷ fs) (g ∷ gs) e =
     let others = reads_same fs gs is.1 in
     cc
 
--- if `elements_of` returns elements and no fault, all of them are valid, and the octets that were
--- read are the concatenation of these elements
+-- if `elements_of` returns elements and no fault, all these elements are valid, and the octets that
+-- were read are the concatenation of these elements
 pub elements_read : (bytes : List ℕ) (fields : List Field) → IsBytes bytes → elements_of bytes ≡ map (λ f. read f) fields → IsElements bytes fields
 elements_read [] [] fits e = (tt, refl)
 elements_read [] (f ∷ fields) fits e = let no = elements_of-nil in absurd cc

@@ -1,4 +1,5 @@
--- Lengths of elements, and octets that stay unchanged when other octets are appended.
+-- Lengths of elements; appending an element in parts; and that octets which begin with `front` also
+-- begin with what `front` begins with.
 use Rattle.std.proofs.Common.{◌≡◌, ℕ, ◌+◌, ◌<◌, ◌≤◌, List, ◌++◌, length, take, sym, ap, ◌∙◌, append_assoc, arith}
 use Rattle.std.proofs.lemmas.List.{length-append, take-take, take_at}
 use Rattle.ndn_tlv.specs.Number.{shortest_nni, spelling}
@@ -23,8 +24,8 @@ number_fits kind n lt =
     let one = length-spelling_one (length (shortest_nni n)) (omega (arith, few)) in
     omega (arith, few, one, length-element kind (shortest_nni n), length-spelling_one kind lt)
 
--- appending a type, the length of a value, and then this value appends the element with this type
--- and value
+-- if a type, the length of a value, and this value are appended in this order, the element with
+-- this type and value is appended
 pub element_put : (old : List ℕ) (kind len : ℕ) (value : List ℕ) → len ≡ length value → (old ++ (spelling kind ++ spelling len)) ++ value ≡ old ++ element (kind, value)
 element_put old kind len value is = rw is (simp append_assoc)
 

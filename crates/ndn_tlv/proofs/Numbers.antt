@@ -1,4 +1,4 @@
--- The shortest form of a number, and what reading a number tells about the octets.
+-- The shortest encoding of a number, and facts about octets from which a number is read.
 use Rattle.std.proofs.Common.{◌≡◌, ◌≢◌, ℕ, zero, suc, ◌+◌, ◌-◌, ◌^◌, ◌<◌, ◌≤◌, ◌⊎◌, Bool, true, false, cond, ltb, List, [], ◌∷◌, ◌++◌, length, get_or, take, drop, Result, Ok, Err, refl, sym, ap, subst, ◌∙◌, arith, inl, inr}
 use Rattle.std.specs.Int.{Width, w16, w32, w64, byte_len, from_be_bytes, to_be_bytes}
 use Rattle.std.proofs.lemmas.Bool.{cases_lt, lt-ltb, le-ltb, ltb-true, ltb-false}
@@ -187,8 +187,8 @@ form_beats text n (inr (inr (inr f))) =
       | inr a ↦ beats_same text n (f.1 ∙ sym (spelling_nine n a))
     ]
 
--- if octets encode a number by `Spells`, this number is below 2^64, and the octets are its
--- `spelling`
+-- if `Spells` relates octets to a number, this number is below 2^64, and `spelling` of this number
+-- is these octets
 pub Spells-is : (text : List ℕ) (n : ℕ) → Spells text n → (n < 2 ^ 64) × (text ≡ spelling n)
 Spells-is text n s =
     let below = form_below text n s.0 in
@@ -203,8 +203,8 @@ pub Spells-from : (text : List ℕ) (n : ℕ) → (n < 2 ^ 64) × (text ≡ spel
 Spells-from text n p = rw p.1 (Spells-spelling n p.0)
 
 -- The form of the shortest encoding depends on the size of the number. A number below 253 is
--- encoded as itself in one octet. For a greater number, an octet 253, 254 or 255 is followed by the
--- number in 2, 4 or 8 octets.
+-- encoded as itself in one octet. A number from 253 on is encoded as an octet 253, 254 or 255,
+-- followed by the number in 2, 4 or 8 octets.
 pub spelling_head : (n : ℕ) (x : List ℕ) → ((n < 253) × (spelling n ++ x ≡ n ∷ x)) ⊎ (((253 ≤ n) × (n < 2 ^ 16) × (spelling n ++ x ≡ 253 ∷ (to_be_bytes w16 n ++ x))) ⊎ (((2 ^ 16 ≤ n) × (n < 2 ^ 32) × (spelling n ++ x ≡ 254 ∷ (to_be_bytes w32 n ++ x))) ⊎ ((2 ^ 32 ≤ n) × (spelling n ++ x ≡ 255 ∷ (to_be_bytes w64 n ++ x)))))
 spelling_head n x =
     elim (cases_lt n 253) [
@@ -387,7 +387,7 @@ number_fault (b ∷ bytes) f fits e =
           rw a (long_number_fault w64 (2 ^ 64) (2 ^ 32) 255 bytes f wide64.len (λ n h. inr (inr (inr (h, refl)))) (λ n h. omega (arith, length-spelling_five n h)) (long_fault w64 (2 ^ 64) wide64 (2 ^ 32) bytes f (IsBytes-rest b bytes fits) (sym (number_at-255 bytes) ∙ at)))
     ]
 
--- ---- the result of a reader of a number, as plain data
+-- ---- functions whose results, as plain data, are those of `number_at`
 
 pub number_of-found : {X : Type 0} (view : X → ℕ × List ℕ) (r : Result X TlvFault) (bytes : List ℕ) → IsBytes bytes → on_result (λ x. Ok (view x)) Err r ≡ number_at bytes → IfOk r (λ x. (text : List ℕ) × Spells text (view x).0 × (bytes ≡ text ++ (view x).1))
 number_of-found view (Ok x) bytes fits e =

@@ -15,11 +15,11 @@ abbrev pub field_or_fault : Result Element TlvFault → Result Field TlvFault
 field_or_fault (Ok e) = Ok (field e)
 field_or_fault (Err f) = Err f
 
--- the remaining octets of an iterator
+-- the octets that an iterator still has to read
 abbrev pub octets_left : Elements → List ℕ
 octets_left s = s.rest.now
 
--- the elements that an iterator has not returned yet, up to the first fault, which is then the last
--- item
+-- the elements that an iterator has not returned yet, up to the end of the octets or to the first
+-- fault; a fault is the last item of the list
 abbrev pub elements_left : Elements → List (Result Field TlvFault)
 elements_left s = elements_of (octets_left s)

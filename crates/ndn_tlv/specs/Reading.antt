@@ -64,15 +64,16 @@ abbrev pub on_result : {A F C : Type 0} → (A → C) → (F → C) → Result A
 on_result f g (Ok x) = f x
 on_result f g (Err e) = g e
 
--- the elements of a text in order, up to the first fault, which is then the last item; the list has
--- at most n items
+-- The elements of a text, in order, up to the end of the text or to the first fault. A fault is the
+-- last item of the list. The list has at most n items; later elements are left out.
 unfoldable pub elements_within : ℕ → List ℕ → List (Result Field TlvFault)
 elements_within zero bytes = []
 elements_within (suc n) [] = []
 elements_within (suc n) (b ∷ bytes) =
     on_result (λ x. Ok x.0 ∷ elements_within n x.1) (λ f. Err f ∷ []) (element_at (b ∷ bytes))
 
--- the elements of a text in order, up to its end or to the first fault, which is then the last item
+-- The elements of a text, in order, up to the end of the text or to the first fault. A fault is the
+-- last item of the list.
 unfoldable pub elements_of : List ℕ → List (Result Field TlvFault)
 elements_of bytes = elements_within (length bytes) bytes
 
@@ -100,7 +101,7 @@ AfterType bytes P =
     (text rest : List ℕ) × (kind : ℕ) × (bytes ≡ text ++ rest) × Spells text kind × (1 ≤ kind)
     × (kind < 2 ^ 32) × P rest
 
--- the octets begin with the length of a value in its shortest encoding, and fewer octets than this
+-- the octets begin with the shortest encoding of the length of a value, and fewer octets than this
 -- length follow
 abbrev pub IsCutValue : List ℕ → Type 0
 IsCutValue bytes =

@@ -26,9 +26,9 @@ flag kind false = []
 abbrev pub number : ℕ → Option ℕ → List Field
 number kind n = optional kind (option_map shortest_nni n)
 
--- The octets are appended unless memory runs out. If memory runs out, some octets may still have
--- been appended. Memory does not run out if the capacity suffices. The old octets stay unchanged,
--- and the capacity does not become smaller.
+-- A call that changes `old` to `new` appends `octets`, unless memory runs out. If memory runs out,
+-- some octets may have been appended. Memory does not run out if the capacity suffices. The old
+-- octets stay unchanged, and the capacity does not become smaller.
 pub record Puts (old new : Vec ℕ) (result : Result (Unit {0}) Memory) (octets : List ℕ) : Type 0
   where
     pub ok : OnOk result (new.items ≡ old.items ++ octets)

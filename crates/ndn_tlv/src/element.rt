@@ -116,9 +116,10 @@ pub fn put_element(out: &mut Vec<u8>, kind: u32, value: &[u8]) -> Result<(), Mem
     done
 }
 
-/// Law: octets are the concatenation of at most one list of elements. For the concatenation of a
-/// list of elements, `elements_of` returns this list. A fault that `elements_of` returns says why
-/// no element can be read after the elements before the fault.
+/// Law: octets are the concatenation of at most one list of elements. If octets are the
+/// concatenation of a list of elements, `elements_of` returns this list for these octets. If the
+/// last item that `elements_of` returns is a fault, this fault says why no element can be read
+/// after the preceding elements.
 pub fn elements_have_one_reading()
     ensures one { (text : List ℕ) (xs ys : List Field) → IsElements text xs → IsElements text ys
         → xs ≡ ys }

@@ -1,4 +1,5 @@
-//! Appends headers, numbers and flags as elements, and computes the lengths of elements.
+//! Appends headers of elements, appends numbers and flags as elements, and computes the lengths of
+//! elements. A header is the type of an element and the length of its value.
 
 ghost use Rattle.std.specs.Prelude.{◌≡◌, ◌++◌, ◌+◌, ◌≤◌, ◌<◌, ◌^◌, length};
 ghost use Rattle.ndn_tlv.specs.Number.{shortest_nni, spelling};
@@ -31,8 +32,9 @@ pub fn put_nni_element(out: &mut Vec<u8>, kind: u32, number: u64) -> Result<(), 
     Ok(())
 }
 
-/// Appends an element whose value is the number `asked`, or nothing if `asked` is `None`. If memory
-/// runs out, some octets may have been appended.
+/// Appends an element whose value is the shortest NonNegativeInteger encoding of the number
+/// `asked`. Appends nothing if `asked` is `None`. If memory runs out, some octets may have been
+/// appended.
 #[inline(always)]
 pub fn put_number_field(out: &mut Vec<u8>, kind: u32, asked: Option<u64>) -> Result<(), Memory>
     ensures { Puts out.old out.new result (octets (number kind asked)) }
@@ -43,7 +45,7 @@ pub fn put_number_field(out: &mut Vec<u8>, kind: u32, asked: Option<u64>) -> Res
     }
 }
 
-/// Appends a flag, which is an element with an empty value, if `set` is true. If memory runs out,
+/// Appends a flag if `set` is true. A flag is an element with an empty value. If memory runs out,
 /// some octets may have been appended.
 #[inline(always)]
 pub fn put_flag(out: &mut Vec<u8>, kind: u32, set: bool) -> Result<(), Memory>
@@ -57,13 +59,13 @@ pub fn put_flag(out: &mut Vec<u8>, kind: u32, set: bool) -> Result<(), Memory>
 }
 
 #[tactic(auto, using(crate::proofs::Lengths::element_lengths))]
-/// Returns the length in octets of an element whose value is the shortest NonNegativeInteger
-/// encoding of `number`.
+/// Returns the length of an element, in octets. The value of the element is the shortest
+/// NonNegativeInteger encoding of `number`.
 #[inline(always)]
 pub fn nni_element_len(kind: u32, number: u64) -> usize
     ensures exact { result ≡ length (element (kind, shortest_nni number)) }
     ensures small { result ≤ 26 }
-    // The number is below 2^64, which proofs about the grammar of written packets use.
+    // `number` is below 2^64. Proofs about the grammar of written packets use this fact.
     ensures sound { number < 2 ^ 64 }
 {
     let value_len = nni_len(number);

@@ -5,8 +5,8 @@ ghost use Rattle.ndn_tlv.specs.Elements.{field_or_fault, octets_left, elements_l
 use crate::element::{Element, first_element};
 use crate::fault::TlvFault;
 
-/// An iterator over the elements of some octets, in order. The last item is the first fault, if
-/// there is one (NDN Packet Format 0.3, "Type-Length-Value (TLV) Encoding").
+/// An iterator over the elements of some octets, in order. If an element cannot be read, its fault
+/// is the last item (NDN Packet Format 0.3, "Type-Length-Value (TLV) Encoding").
 #[derive(Clone, Copy, Debug)]
 pub struct Elements<'a> {
     rest: &'a [u8],

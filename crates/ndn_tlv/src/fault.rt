@@ -1,9 +1,9 @@
 use thiserror::Error;
 
 /// Why octets are not a number or not an element (NDN Packet Format 0.3, "Type-Length-Value (TLV)
-/// Encoding"). The first fault from the left is reported, in this order: `Truncated` and
-/// `NotShortest` for the type, then `TypeZero` and `TypeTooLarge`, then `Truncated` and
-/// `NotShortest` for the length, and `Truncated` for the value.
+/// Encoding"). For an element, the first fault from the left is reported, in this order:
+/// `Truncated` or `NotShortest` for the type, then `TypeZero` or `TypeTooLarge`, then `Truncated`
+/// or `NotShortest` for the length, and then `Truncated` for the value.
 #[derive(Clone, Copy, Debug, PartialEq, Eq, Error)]
 pub enum TlvFault {
     /// Octets are missing, or there are none at all.

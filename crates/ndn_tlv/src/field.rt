@@ -1,4 +1,4 @@
-//! Finding fields of a given TLV-TYPE in the octets of parameters and replies.
+//! Finding elements of a given TLV-TYPE, for example in the parameters of commands and in replies.
 
 ghost use Rattle.std.specs.Prelude.{◌≡◌, ◌≤◌, IfSome, length};
 ghost use Rattle.std.specs.Option.{option_map};
@@ -22,8 +22,8 @@ pub fn single_element(octets: &[u8], kind: u32) -> Option<&[u8]>
     None
 }
 
-/// Returns the value of the first field of type `kind`, or `None` if the search finds no such
-/// field. The search ends at the first element that cannot be read.
+/// Returns the value of the first element of type `kind`, or `None` if the search finds no such
+/// element. The search ends at the first element that cannot be read.
 pub fn first_field(octets: &[u8], kind: u32) -> Option<&[u8]>
     ensures exact { option_map (λ v. v.now) result ≡ first_of kind (elements_of octets.now) }
     ensures short { IfSome result (λ v. length v.now ≤ length octets.now) }

@@ -20,7 +20,7 @@ fn integer_of(value: &[u8]) -> Result<u64, TlvFault>
 }
 
 /// Reads a whole TLV-VALUE as a NonNegativeInteger (NDN Packet Format 0.3, "Non-Negative Integer
-/// Encoding"): 1, 2, 4 or 8 octets in network order, not necessarily the shortest. Returns
+/// Encoding"): 1, 2, 4 or 8 octets in network order, not necessarily the shortest encoding. Returns
 /// `BadInteger` for a value of any other length.
 pub fn nni_of(value: &[u8]) -> Result<u64, TlvFault>
     ensures found { IfOk result (IsNni value.now) }

@@ -7,8 +7,8 @@ ghost use Rattle.ndn_tlv.specs.Reading.{number_at, long_number_at, NumberFault, 
 use crate::fault::TlvFault;
 use crate::memory::Memory;
 
-/// Reads the number in the two octets that follow a first octet of 253. Returns the number and the
-/// octets after these two octets.
+/// Reads the number in the first two octets of `octets`. An octet 253 comes before `octets`.
+/// Returns the number and the octets after these two octets.
 fn two_octets(octets: &[u8]) -> Result<(u64, &[u8]), TlvFault>
     ensures { on_result (λ x. Ok (x.0, x.1.now)) Err result ≡ long_number_at w16 253 octets.now }
 {
