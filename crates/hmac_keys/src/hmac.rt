@@ -8,8 +8,8 @@ use sha2::{Digest, Sha256};
 /// The length of a block of SHA-256, in octets.
 const BLOCK_LEN: usize = 64;
 
-/// The octet that is combined with each octet of a key's block for the outer hash. `INNER_PAD` is
-/// the octet for the inner hash.
+/// The octet that is combined by XOR with each octet of a key's block for the outer hash.
+/// `INNER_PAD` is the octet for the inner hash.
 const OUTER_PAD: u8 = 0x5c;
 
 const INNER_PAD: u8 = 0x36;

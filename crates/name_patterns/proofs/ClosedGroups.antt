@@ -1,4 +1,4 @@
--- Whether a text contains a closing parenthesis outside all `<` and `>`.
+-- Whether a text contains a closing parenthesis that is not between `<` and `>`.
 use Rattle.std.proofs.Common.{◌≡◌, ◌≢◌, ℕ, zero, suc, Bool, true, false, cond, eqb, leb, ◌||◌, List, [], ◌∷◌, ◌++◌, length, Option, Some, None, refl, sym, ap, subst, ◌∙◌, inl, inr, arith}
 use Rattle.std.specs.Option.{option_map_or}
 use Rattle.std.specs.Str.{all_ascii_digits}
@@ -192,7 +192,7 @@ atom_passed text found e =
     (λ bounds. Some (record { part = record { test = test.0.part; bounds = bounds.0 }; is_inner = test.0.is_inner; rest = bounds.1 })) found test.2 in
     test_passed text test.0 test.1 ∙ repeat_passed test.0.rest bounds.0 bounds.1 ∙ ap (λ (found : FrontPart PlainAtom). is_closed false found.rest) (same_Some _ _ bounds.2)
 
--- a text that begins with `)` contains a closing parenthesis outside all `<` and `>`
+-- a text that begins with `)` contains a closing parenthesis that is not between `<` and `>`
 pub closed_here : (o : ℕ) (text : List ℕ) → o ≡ 41 → is_closed false (o ∷ text) ≡ true
 unfolding is_closed
 closed_here o text is = rw (eq-eqb o 41 is) refl

@@ -11,8 +11,8 @@ use Rattle.name_patterns.proofs.Places.{in_both, in_either, one_before, passes_n
 use Rattle.name_patterns.proofs.Rows.{count_by_places}
 use Rattle.name_patterns.proofs.Splits.{no_greatest, IsGreatest, some_greatest}
 
--- `takes passed after place k`: the `k` components from position `place` on pass, and the later
--- atoms have a split from the position after these components
+-- `takes passed after place k`: `passed` has the `k` positions from `place` on, and `after` has the
+-- position `place + k`
 abbrev pub takes : ℕ → ℕ → ℕ → ℕ → Bool
 takes passed after place zero = has_place after place
 takes passed after place (suc k) = has_place passed place && takes passed after (place + 1) k

@@ -33,15 +33,15 @@ failed false r y e = (refl, e)
 
 -- ---- steps that may fail
 
--- if a sequence of two steps succeeds, the first step succeeds, and the second step, applied to its
--- result, returns the result of the sequence
+-- if a sequence of two steps succeeds, the first step succeeds, and the second step, applied to the
+-- result of the first step, returns the result of the sequence
 pub ok_is : {A B : Type 0} (r : Result A PatternFault) (f : A → Result B PatternFault) (y : B) → on_result f Err r ≡ Ok y → (x : A) × (r ≡ Ok x) × (f x ≡ Ok y)
 ok_is (Ok x) f y e = (x, refl, e)
 ok_is (Err fault) f y e = absurd cc
 
 -- In the sequence of two steps, the function `g` is applied to a fault of the first step. If the
--- sequence succeeds, the first step succeeds, and the second step, applied to its result, returns
--- the result of the sequence.
+-- sequence succeeds, the first step succeeds, and the second step, applied to the result of the
+-- first step, returns the result of the sequence.
 pub result_is : {A B : Type 0} (f : A → Result B PatternFault) (g : PatternFault → PatternFault) (r : Result A PatternFault) (y : B) → on_result f (λ fault. Err (g fault)) r ≡ Ok y
     → (x : A) × (r ≡ Ok x) × (f x ≡ Ok y)
 result_is f g (Ok x) y e = (x, refl, e)

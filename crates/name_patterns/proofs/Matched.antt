@@ -1,4 +1,4 @@
--- What the groups of a match capture.
+-- Which components of a name the groups of a pattern capture.
 use Rattle.std.proofs.Common.{◌≡◌, ℕ, zero, suc, ◌+◌, ◌<◌, ◌≤◌, List, [], ◌∷◌, length, map, take, drop, sum, refl, sym, ◌∙◌, ap, arith, take-append-drop}
 use Rattle.std.specs.Prelude.{slice_get, slice_index, IsSomeAnd}
 use Rattle.std.specs.List.{AllByRecursion}

@@ -29,8 +29,8 @@ no_place place = is_not_there 0 place (bit_at-zero place)
 pub no_place_from : (places k place : ℕ) → places < 2 ^ k → k ≤ place → has_place places place ≡ false
 no_place_from places k place small from = is_not_there places place (bit_at_above places k place small from)
 
--- adding the position `k` to a set: `k` is in the new set (`added_same`), and the other positions
--- are in it exactly if they were in the old set (`added_other`)
+-- Adding the position `k` to a set: `k` is in the new set (`added_same`). Any other position is in
+-- the new set exactly if it is in the old set (`added_other`).
 pub added_same : (places k : ℕ) → k < 128 → has_place (bit_or places (1 * 2 ^ k % 2 ^ 128)) k ≡ true
 added_same places k low = is_there _ k (bit_at_set_same w128 places k low)
 

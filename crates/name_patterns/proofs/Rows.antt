@@ -37,8 +37,8 @@ pub nil_at_end : (cs : List Field) → first_count [] (drop (length cs) cs) ≡ 
 unfolding first_count
 nil_at_end cs = rw (drop-length cs) refl
 
--- if the end of the name is the only position in the set `places`, the empty list of atoms has a
--- split from exactly the positions in this set
+-- The empty list of atoms has a split from the end of the name only. So `AreSplit` holds for the
+-- empty list and for a set `places` whose only position is the end of the name.
 pub last_split : (cs : List Field) (len places : ℕ) → length cs ≡ len → has_place places len ≡ true
     → ((place : ℕ) → place ≢ len → has_place places place ≡ false) → AreSplit [] cs places
 last_split cs len places len_is there other place low =
@@ -129,8 +129,8 @@ drop_map_end : {X Y : Type 0} (f : X → Y) (xs : List X) → drop (length xs) (
 drop_map_end f [] = refl
 drop_map_end f (x ∷ xs) = drop_map_end f xs
 
--- if all atoms of a list are dropped, the remaining list has a split from the same positions as the
--- empty list
+-- if the set of the positions from which the empty list has a split is `places`, `places` is also
+-- that set for a list of which all atoms are dropped
 pub after_all : {X : Type 0} (f : X → PlainAtom) (xs : List X) (cs : List Field) (places : ℕ) → AreSplit [] cs places → AreSplit (drop (length xs) (map f xs)) cs places
 after_all f xs cs places are = rw (drop_map_end f xs) are
 

@@ -1,4 +1,4 @@
--- The search finds the greatest split, or there is none.
+-- The search finds the greatest split, or no split exists.
 use Rattle.std.proofs.Common.{◌≡◌, ℕ, zero, suc, ◌+◌, ◌<◌, ◌≤◌, ◌⊎◌, Bool, true, false, not, ◌&&◌, cond, List, [], ◌∷◌, ◌++◌, length, take, drop, sum, min, length-drop, Option, Some, None, is_some, refl, sym, ◌∙◌, ap, append_assoc, append-nil, arith, inl, inr, true≢false, eqb, ltb}
 use Rattle.std.specs.Prelude.{bytes_eq, option_map}
 use Rattle.std.specs.List.{AllByRecursion}
@@ -164,8 +164,8 @@ some_greatest can least (suc n) k e =
 
 -- ---- the split that `greedy` finds
 
--- without a first count there is no split, and `greedy` returns `None`; with a first count,
--- `greedy` returns the greatest split
+-- If there is no first count, there is no split, and `greedy` returns `None`. If there is a first
+-- count, `greedy` returns the greatest split.
 abbrev pub IsSearched : List PlainAtom → List Field → Option ℕ → Type 0
 IsSearched atoms cs None = HasNoSplit atoms cs × (greedy atoms cs ≡ None)
 IsSearched atoms cs (Some k) = (counts : List ℕ) × (greedy atoms cs ≡ Some counts) × IsGreatestSplit atoms cs counts
@@ -182,9 +182,9 @@ some_splits atoms cs (Some k) counts h split = refl
 abbrev AreSearched : List PlainAtom → Type 0
 AreSearched atoms = (cs : List Field) → IsSearched atoms cs (first_count atoms cs)
 
--- If `count ∷ counts` is a split, `count` is at most the greatest number of `atom`, and at most the
--- number of components before the first one that fails. The other atoms have a split of the
--- components after the first `count`.
+-- If `count ∷ counts` is a split, `count` is at most the upper bound of `atom`. `count` is also at
+-- most the number of components before the first component that fails the test of `atom`. The other
+-- atoms have a split of the components that follow the first `count` components.
 taken : (atom : PlainAtom) (atoms : List PlainAtom) (cs : List Field) (count : ℕ) (counts : List ℕ) → AreSearched atoms → IsSplit (atom ∷ atoms) cs (count ∷ counts)
     → (count ≤ at_most atom.bounds.most (run_of atom.test cs)) × (is_some (first_count atoms (drop count cs)) ≡ true)
 taken atom atoms cs count counts following split = (
@@ -310,8 +310,8 @@ none_first atom atoms cs once_is no_run =
     let most : min 1 0 ≡ 0 = omega arith in
     rw (once_is, no_run, most) (greatest_no_one (λ count. is_some (first_count atoms (drop count cs))))
 
--- if the first atom matches exactly one component, and the first component fails or is missing,
--- `greedy` returns `None`
+-- if the first atom matches exactly one component, and the first component fails the atom's test or
+-- is missing, `greedy` returns `None`
 pub no_single : (atom : PlainAtom) (atoms : List PlainAtom) (cs : List Field) → atom.bounds ≡ once → run_of atom.test cs ≡ 0 → greedy (atom ∷ atoms) cs ≡ None
 no_single atom atoms cs once_is no_run = greedy_none atom atoms cs (none_first atom atoms cs once_is no_run)
 
@@ -323,8 +323,8 @@ single_first atom atoms c cs once_is is =
     let most : min 1 (1 + run_of atom.test cs) ≡ 1 = omega arith in
     rw (once_is, run, most) (greatest_one (λ count. is_some (first_count atoms (drop count (c ∷ cs)))))
 
--- if the first atom matches exactly one component, and the first component passes, `greedy` returns
--- the count 1, followed by the counts for the other atoms and components
+-- if the first atom matches exactly one component, and the first component passes the atom's test,
+-- `greedy` returns the count 1, followed by the counts for the other atoms and components
 pub single_taken : (done : List ℕ) (atom : PlainAtom) (atoms : List PlainAtom) (c : Field) (cs : List Field) → atom.bounds ≡ once → passes atom.test c ≡ true
     → after_counts done (greedy (atom ∷ atoms) (c ∷ cs)) ≡ after_counts (done ++ 1 ∷ []) (greedy atoms cs)
 single_taken done atom atoms c cs once_is is = by_rest (first_count atoms cs) refl

@@ -1,4 +1,4 @@
--- Reading tests by the first character.
+-- Reading a test, by the first character of its text.
 use Rattle.std.proofs.Common.{◌≡◌, ◌≢◌, ℕ, Bool, true, false, cond, List, [], ◌∷◌, length, Some, None, refl, eqb}
 use Rattle.std.proofs.lemmas.Bool.{ne_eqb}
 use Rattle.ndn_tlv.specs.Element.{Field}
@@ -9,7 +9,7 @@ use Rattle.name_patterns.specs.PatternReading.{FrontPart, listed_within, list_in
 use Rattle.name_patterns.proofs.Steps.{fault_on}
 use Rattle.name_patterns.proofs.TextParts.{BeginsNot, first_other}
 
--- the test of a list, negated or not
+-- which test a list of components makes: `NoneOf` for a list that begins with `[^`, else `OneOf`
 abbrev pub list_test : Bool → List Field → PlainTest
 list_test true = NoneOf
 list_test false = OneOf

@@ -113,7 +113,7 @@ range_by_cut text None = do
   n ← count_in text
   Some (record { least = n; most = Some n })
 
--- the range whose text, without the braces, is this text, or `None` if it is no range
+-- the range whose text without the braces is `text`, or `None` if there is no such range
 unfoldable pub range_in : List ℕ → Option Bounds
 range_in text = range_by_cut text (cut_at 44 text)
 
@@ -219,8 +219,8 @@ with_item draft at (o ∷ text) =
     if o == 41 then with_closed draft at text draft.open_group else
     with_atom draft at (o ∷ text))
 
--- whether the text contains a closing parenthesis outside all < and >; `is_inside` is true if the
--- text begins between < and >
+-- Whether the text contains a closing parenthesis that is not between < and >. `is_inside` is true
+-- if the text begins between < and >.
 unfoldable pub is_closed : Bool → List ℕ → Bool
 is_closed is_inside [] = false
 is_closed is_inside (o ∷ text) =

@@ -25,7 +25,7 @@ IsTemplate groups text (part ∷ parts) =
     (front rest : List ℕ) × (text ≡ front ++ rest) × IsPart groups front part
     × IsTemplate groups rest parts
 
--- the components from the first position up to the second
+-- the components from position `places.0` up to, but not including, position `places.1`
 abbrev pub between : List Field → ℕ × ℕ → List Field
 between cs places = take (places.1 - places.0) (drop places.0 cs)
 

@@ -12,7 +12,7 @@ use crate::fault::PatternFault;
 use crate::pattern::Pattern;
 use std::alloc::Global;
 
-/// Returns whether the text contains a closing parenthesis outside all `<` and `>`.
+/// Returns whether the text contains a closing parenthesis that is not between `<` and `>`.
 fn is_closed(text: &[u8]) -> bool
     ensures { result ≡ read.is_closed false text.now }
 {

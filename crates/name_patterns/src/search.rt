@@ -72,7 +72,7 @@ fn passed(test: &Test, name: Name<'_>, len: usize, tests: &mut u64) -> Places
     passed
 }
 
-/// Returns how many consecutive components pass, counted from position `place` on.
+/// Returns how many consecutive positions from `place` on are in `passed`.
 #[inline(always)]
 fn run_at(passed: Places, place: usize) -> u8
     requires { (passed < 2 ^ 64) × (place ≤ 64) }

@@ -140,7 +140,7 @@ fn append_part(
     Ok(())
 }
 
-/// Appends the components of a name from position `start` up to `end`.
+/// Appends the components of a name from position `start` up to, but not including, position `end`.
 fn append_between(
     expanded: &mut NameBuf,
     name: Name<'_>,

@@ -78,8 +78,8 @@ module _ {V : Type 0} (k : ℕ) (v : Option V) (h h' : Heap V) (turns : Turns k 
         stays None = refl
         stays (Some j) = same_or j k (value h' j ≡ value h j) (λ e. ap (value h') e ∙ turns.here ∙ now ∙ sym (ap (value h) e ∙ was)) (λ ne. turns.others j ne)
 
-    -- If the change removes the node's value, one name fewer has a value. If the change does not
-    -- remove a value, the number of names with a value stays the same.
+    -- If the change removes the node's value, the number of names with a value decreases by one. If
+    -- the change does not remove a value, the number of names with a value stays the same.
     pub count_turned : (change : V → Option V) → v ≡ option_and_then change (value h k)
         → len (table_of h' root) + cond (is_some (value h k) && is_none v) 1 0 ≡ len (table_of h root)
     count_turned change is =

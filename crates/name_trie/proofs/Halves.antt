@@ -29,7 +29,8 @@ module _ {K X : Type 0} {R : K → K → Ordering} (total : IsTotalOrder R) wher
   upto k (e ∷ rows) (suc at) row lt is sorted gt =
       (lower total k e.0 row.0 (below_at e.0 rows at row (omega arith) is (first_of _ _ sorted)) gt, upto k rows at row (omega arith) is (second_of _ _ sorted) gt)
 
-  -- if the row at index `at` of sorted rows has the key, all rows before it are less than the key
+  -- if the row at index `at` of sorted rows has the key, all rows before this row are less than the
+  -- key
   before : (k : K) (rows : List (K × X)) (at : ℕ) (row : K × X) → at < length rows → row ≡ get_or rows at row → T (is_sorted R rows) → R k row.0 ≡ Equal → AllLower R k (take at rows)
   before k [] at row lt is sorted tie = absurd (omega arith)
   before k (e ∷ rows) zero row lt is sorted tie = tt

@@ -148,8 +148,8 @@ not_empty s t is =
     ] in
     cases (set.len s) refl
 
--- replacing an expired timer by a timer that has not expired, or removing it, reduces the number of
--- expired timers
+-- replacing an expired timer by a timer that has not expired, or removing an expired timer, reduces
+-- the number of expired timers
 pub fewer_due : (now k d : ℕ) (o : Option ℕ) (timers : TimerSet) → contains timers (timer_for k d) ≡ true → d ≤ now → ((e : ℕ) → o ≡ Some e → now < e)
     → due now (started k o (stopped k (Some d) timers)) < due now timers
 fewer_due now k d o timers there le later =

@@ -27,7 +27,7 @@ abbrev pub ByName : Type 0 → Type 0
 ByName X = FinMap name_cmp X
 
 -- the value of the longest prefix of `name` that has a value, among the prefixes of at most n
--- components; None if none of these has a value
+-- components; None if no prefix of at most n components has a value
 abbrev pub longest_within : {X : Type 0} → ByName X → List Field → ℕ → Option X
 longest_within table name zero = get table []
 longest_within table name (suc n) =

@@ -13,8 +13,8 @@ abbrev pub bare : {V : Type 0} → Option ℕ → Node V
 bare parent = record { parent = parent; hint = tt; children = empty; value = None }
 
 module _ {V : Type 0} where
-  -- A new node k, with neither a value nor children, is added as the child of node `at` for the
-  -- component `c`. No other node changes.
+  -- A new node k is added as the child of node `at` for the component `c`. The new node has no value
+  -- and no children. No other node changes.
   pub record Joins (k at : ℕ) (c : Field) (h h' : Heap V) : Type 0 where
     pub node : Node V
     pub there : h at ≡ Some node
@@ -23,7 +23,7 @@ module _ {V : Type 0} where
     pub above : h' at ≡ Some (record node { children = insert node.children c k })
     pub others : (j : ℕ) → j ≢ k → j ≢ at → h' j ≡ h j
 
-  -- A new node k, with neither a parent nor a value nor children, is added. No other node changes.
+  -- A new node k is added. It has no parent, no value and no children. No other node changes.
   pub record Starts (k : ℕ) (h h' : Heap V) : Type 0 where
     pub fresh : h k ≡ None
     pub leaf : h' k ≡ Some (bare None)

@@ -1,4 +1,5 @@
--- A trie of names whose nodes have indexes, and what walks from its root find.
+-- A trie of names, and what walks from the root of the trie find. Each node of the trie has an
+-- index.
 use Rattle.std.specs.Prelude.{◌≡◌, ◌≤◌, ℕ, zero, suc, List, [], ◌∷◌, ◌++◌, Option, None, Some, map, length}
 use Rattle.std.specs.Option.{option_and_then, option_map, option_or}
 use Rattle.std.specs.FinMap.{get, entries, from_entries}

@@ -115,7 +115,7 @@ impl Children {
 }
 
 /// Returns the index of the first row that is not before `hint`, or the number of rows if all rows
-/// are before it. If there are fewer than two rows, returns 0.
+/// are before `hint`. If there are fewer than two rows, returns 0.
 fn start_of(rows: &[(ComponentBuf, usize)], hint: &Hint) -> usize
     ensures { result ≤ length rows.now }
 {

@@ -183,8 +183,8 @@ impl<V: Drop> NameMap<V> {
         self.trie.see_all(see);
     }
 
-    /// Shows all names that have a value, in canonical order, each with the state of the walk at
-    /// that name. On `Err`, some of the names may have been shown.
+    /// Shows the visitor `show` all names that have a value, in canonical order, each with the
+    /// state of the walk at that name. On `Err`, some of the names may have been shown.
     pub fn show_all<W: Carry<V> + Drop, S: Show<W>>(
         &self,
         before: &W,

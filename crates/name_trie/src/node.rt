@@ -73,7 +73,8 @@ pub fn set_value<V: Drop>(nodes: &mut Slab<Node<V>>, at: usize, value: Option<V>
     nodes[at].value = value;
 }
 
-/// Adds a child that has neither a value nor children, for a component that has no child.
+/// Adds a child of node `at` for `component`. The child has neither a value nor children. Node `at`
+/// must not have a child for `component` yet.
 pub fn add_child<V: Drop>(
     alloc: Global,
     nodes: &mut Slab<Node<V>>,
@@ -125,7 +126,7 @@ pub fn add_root<V: Drop>(alloc: Global, nodes: &mut Slab<Node<V>>) -> Result<usi
     Ok(k)
 }
 
-/// Removes a node and its parent's link to it. Returns the parent.
+/// Removes a node and the link from its parent to the node. Returns the parent.
 pub fn cut<V: Drop>(nodes: &mut Slab<Node<V>>, k: usize) -> Option<usize>
     requires there { IsSome (get nodes.old k) }
     requires once { (a : ℕ) (c d : Field) → child (get nodes.old) a c ≡ Some k
@@ -181,7 +182,7 @@ pub fn prune<V: Drop>(
     }
 }
 
-/// Returns the root, which is created without a value if it is missing.
+/// Returns the root. If there is no root, a root without a value is created.
 fn start<V: Drop>(
     alloc: Global,
     nodes: &mut Slab<Node<V>>,
@@ -204,8 +205,8 @@ fn start<V: Drop>(
     Ok(k)
 }
 
-/// Returns the child of a node for a component. The child is created without a value if it is
-/// missing.
+/// Returns the child of a node for a component. If the node has no such child, a child without a
+/// value is created.
 fn step<V: Drop>(
     alloc: Global,
     nodes: &mut Slab<Node<V>>,

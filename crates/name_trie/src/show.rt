@@ -105,8 +105,8 @@ fn show_below<V, W: Carry<V> + Drop, S: Show<W>>(
     Ok(())
 }
 
-/// Shows all names that have a value, in canonical order, each with the state of the walk at that
-/// name.
+/// Shows the visitor `show` all names that have a value, in canonical order, each with the state of
+/// the walk at that name.
 pub fn show_all<V, W: Carry<V> + Drop, S: Show<W>>(
     alloc: Global,
     nodes: &Slab<Node<V>>,

@@ -270,8 +270,8 @@ impl<V: Drop> NameTrie<V> {
         see_all(&self.nodes, self.root, see);
     }
 
-    /// Shows all names that have a value, in canonical order, each with the state of the walk at
-    /// that name.
+    /// Shows the visitor `show` all names that have a value, in canonical order, each with the
+    /// state of the walk at that name.
     pub fn show_all<W: Carry<V> + Drop, S: Show<W>>(
         &self,
         before: &W,

@@ -30,8 +30,9 @@ raised_after (Some l) t n time number =
       λ h k. let e = h.0 in let f = k.0 in (omega (arith, e, f), both.1 h.1 k.1),
     )
 
--- a command is newer than the state of its signer after `r` is recorded exactly if it is newer than
--- the state before `r` and `IsNewer` holds for this command and `r`
+-- Recording `r` changes the state of the signer of `r`. A command is newer than the state of its
+-- own signer after this exactly if the command is newer than the state of its own signer before
+-- this, and `IsNewer` holds for the command and `r`.
 pub one_more : (table : Signer → Option Latest) (r : Recorded) (signer : Signer) (time : ℕ) (number : Option ℕ) (b : Bool) → eq_by_cmp signer_cmp signer r.signer ≡ b
     → (IsAfterLatest (cond b (Some (raised (table r.signer) r.time r.number)) (table signer)) time number → IsAfterLatest (table signer) time number × IsNewer signer time number r)
     × (IsAfterLatest (table signer) time number → IsNewer signer time number r → IsAfterLatest (cond b (Some (raised (table r.signer) r.time r.number)) (table signer)) time number)

@@ -160,8 +160,8 @@ place_tells table rows s (Some at) shown first =
     let got : map.get table s ≡ Some row.1 = ap (λ (m : Table). map.get m s) (sym shown) ∙ get_first s rows at row first (row_at_is rows at first.within) in
     (λ _. rw got refl, λ _. refl)
 
--- if `rows` has the first `at` rows of `others` and the row of `others` at index `at`, it has the
--- first `at + 1` rows of `others`
+-- if `rows` has the first `at` rows of `others` and the row of `others` at index `at`, `rows` has
+-- the first `at + 1` rows of `others`
 pub all_more : (rows others : List Row) (at : ℕ) (x : Row) → at < length others → x ≡ get_or others at x → find signer_cmp x.0 rows ≡ Some x.1
     → HasAll rows (take at others) → HasAll rows (take (at + 1) others)
 all_more rows [] at x lt is found all = absurd (omega arith)

@@ -21,7 +21,7 @@ pub struct Guard {
     alloc: Global,
     rows: Vec<Row>,
     // The key of the prepared row, or `None` if no row is prepared. If a row is prepared, `rows`
-    // has capacity for it.
+    // has capacity for this row.
     spare: Option<Option<NameBuf>>,
 }
 
@@ -165,7 +165,8 @@ fn are_near(a: u64, b: u64) -> bool
     a.abs_diff(b) <= WINDOW
 }
 
-/// Returns the signer's key: the spare key if it is the signer's, or a new copy.
+/// Returns the key of `signer`. If `spare` is this key, `spare` is returned, and otherwise a new
+/// copy of the key.
 fn key_in(
     alloc: Global,
     spare: Option<Option<NameBuf>>,

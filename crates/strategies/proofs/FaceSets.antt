@@ -17,7 +17,8 @@ length-with_face face (f ∷ faces) =
       | false ↦ omega (arith, length-with_face face faces)
     ]
 
--- if there are fewer than 64 faces, `adding` adds the face unless it is already among them
+-- if `faces` has fewer than 64 faces, `adding` adds `face` to `faces`, unless `faces` already has
+-- `face`
 added : (face : ℕ) (faces : List ℕ) → length faces < 64 → (adding face faces).1 ≡ cond (has_face face faces) faces (with_face face faces)
 added face faces lt =
     let more = with_face face faces in

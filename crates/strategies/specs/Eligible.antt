@@ -1,5 +1,5 @@
--- The next hops that an Interest may be sent to. All next hops lead to open faces, since closing a
--- face removes its next hops.
+-- The next hops that an Interest may be sent to. All next hops lead to open faces: when a face is
+-- closed, all next hops that lead to the face are removed.
 use Rattle.std.specs.Prelude.{ℕ, List, Bool, false, Option, None, Some, filter, not, ◌==◌, ◌&&◌, ◌||◌}
 use Rattle.pit_fib.specs.declared.hops.Hop.{Hop}
 use Rattle.strategies.specs.declared.strategy.Ask.{Ask}

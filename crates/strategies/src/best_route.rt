@@ -68,8 +68,8 @@ fn least_new(hops: &Hops, used: &Used, ask: Ask) -> Option<Hop>
 }
 
 /// Returns the eligible hop that was used longest ago. A hop that was never used counts as used at
-/// the moment 0. If several hops were used at the same moment, the least by cost and then by face
-/// comes first.
+/// the moment 0. Of several hops that were used at the same moment, the hop that is least by cost
+/// and then by face is returned.
 fn stalest(hops: &Hops, used: &Used, ask: Ask) -> Option<Hop>
     ensures { result ≡ least (is_hop_staler used.now) (eligible ask hops.now) }
 {
