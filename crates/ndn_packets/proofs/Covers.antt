@@ -316,7 +316,7 @@ record Begins (kind : ℕ) (from : List ℕ) (fields : List Field) : Type 0 wher
   others : Others kind early
 
 -- if `octets` are cut before the first element of type `kind`, the octets after the cut are this
--- element and all elements after it
+-- element and all elements after this element
 begins : (ignores : ℕ → Bool) (kind : ℕ) (later : List ℕ) (octets before from : List ℕ) (first : Field) (elements fields : List Field) (m : Met ignores kind later elements fields) → first.0 ≢ kind
     → octets ≡ flat_map element (first ∷ elements) → AllByRecursion IsField (first ∷ elements) → IsCut kind octets before from → from ≡ flat_map element ((kind, m.value) ∷ m.back)
 begins ignores kind later octets before from first elements fields m other is sizes cut =
@@ -500,8 +500,8 @@ interest_ends text i s first second h signed c =
 
 -- ---- the digest at the end of an Interest's name, and the two parts that a signature covers
 
--- if a name ends in a digest of parameters, and none of its components in `back` is a digest of
--- parameters, `back` is empty
+-- Let a name end in a digest of parameters, and let `back` be the components of the name after some
+-- digest of parameters. If no component in `back` is a digest of parameters, `back` is empty.
 last_one : (front back components : List Field) (v d : List ℕ) → NoneOfType 2 back → front ++ (2, v) ∷ back ≡ components ++ (2, d) ∷ [] → back ≡ []
 last_one [] back [] v d none e = cc
 last_one [] back (c ∷ components) v d none e =

@@ -70,8 +70,9 @@ bytes_with limit after small fits (suc zero) = omega arith
 bytes_with limit after small fits (suc (suc zero)) = small
 bytes_with limit after small fits (suc (suc (suc i))) = fits i
 
--- `octet_is`: the octet after the type and the length of the HopLimit is its value. `octet_set`:
--- setting the octet after the type and the length of the HopLimit changes only its value.
+-- `octet_is`: the octet after the type and the length of the HopLimit is the value of the HopLimit.
+-- `octet_set`: setting the octet after the type and the length of the HopLimit changes only the
+-- value of the HopLimit.
 octet_is : (front after : List ℕ) (limit : ℕ) → slice_index (front ++ 34 ∷ 1 ∷ limit ∷ after) (length front + 2) ≡ limit
 octet_is front after limit =
     let len : length (front ++ 34 ∷ 1 ∷ []) ≡ length front + 2 = length-append front (34 ∷ 1 ∷ []) in

@@ -33,7 +33,7 @@ pub with_digest_octets : (name later : List Field) → not (is_nil later) ≡ tr
 with_digest_octets name [] some = absurd cc
 with_digest_octets name (f ∷ later) some = octets_following name (sha256 (octets (f ∷ later)))
 
--- 32 zeros, which are written in place of the digest at first
+-- 32 zeros, which are written in place of the digest until the digest is known
 abbrev zeros : List ℕ
 zeros = replicate 32 0
 

@@ -65,7 +65,7 @@ between (n ∷ name) (c ∷ u) (d ∷ v) flag e low high =
         let here : is_eq (component_cmp n c) ≡ true = ap is_eq o in
         (λ k. (here k && s.0 k) && s.1 k)
 
--- ---- the octets of a full name after those of a name that is a prefix of it
+-- ---- the octets of a full name that follow the octets of a prefix of the full name
 
 pub after_front : (name rest : List Field) → drop (length name) (name ++ rest) ≡ rest
 after_front [] rest = refl

@@ -1,4 +1,4 @@
--- The octets of an Interest from its ApplicationParameters on, and the elements in them.
+-- The octets of an Interest from its ApplicationParameters on, and the elements in these octets.
 use Rattle.std.proofs.Common.{◌≡◌, ℕ, true, false, cond, eqb, List, [], ◌∷◌, ◌++◌, map, Some, Result, Ok, refl, sym, ap, ◌∙◌}
 use Rattle.std.specs.List.{filter_map, flat_map, AllByRecursion}
 use Rattle.std.specs.Result.{result_ok}
@@ -34,7 +34,7 @@ octets_read (f ∷ fields) = flat_map-cons element f (filter_map result_ok (map 
 pub parameters_octets : (fields : List Field) → octets_of_read (parameters_on (map read fields)) ≡ flat_map element (from_parameters fields)
 parameters_octets fields = ap octets_of_read (parameters_read fields) ∙ octets_read (from_parameters fields)
 
--- the octets from the first ApplicationParameters on are those of the elements that
+-- the octets from the first ApplicationParameters on are the octets of the elements that
 -- `from_parameters` returns
 noted : (fields : List Field) (from : List ℕ) → AllByRecursion IsField fields → from_first 36 (flat_map element fields) ≡ Some from → from ≡ flat_map element (from_parameters fields)
 noted [] from sizes e = absurd (none_is_not_some from (sym (never_in 36 [] tt tt) ∙ e))
@@ -45,8 +45,8 @@ noted (f ∷ fields) from sizes e =
       | false ↦ λ other. noted fields from sizes.1 (sym (next_other 36 (flat_map element (f ∷ fields)) f (flat_map element fields) here (eqb-false f.0 36 other)) ∙ e)
     ] refl
 
--- if all fields of an Interest are read, the octets from the first ApplicationParameters on are
--- those of the elements that `parameters_on` returns
+-- if all fields of an Interest are read, the octets from the first ApplicationParameters on are the
+-- octets of the elements that `parameters_on` returns
 pub noted_octets : (text from : List ℕ) (t : InterestSoFar) → IsBytes text → read_fields take_interest_field no_fields_yet (fields_from is_even_high interest_schema (elements_of text)) ≡ Ok t → from_first 36 text ≡ Some from
     → from ≡ octets_of_read (parameters_on (elements_of text))
 noted_octets text from t fits read_all mark =

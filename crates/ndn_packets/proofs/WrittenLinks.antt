@@ -1,4 +1,5 @@
--- A written link packet around a packet is in the grammar, and reading it returns its PIT token.
+-- A written link packet around a packet is in the grammar. Reading the link packet returns its PIT
+-- token.
 use Rattle.std.proofs.Common.{rules, ◌≡◌, ℕ, ◌+◌, ◌^◌, ◌<◌, ◌≤◌, List, [], ◌∷◌, ◌++◌, length, Option, Some, None, Ok, refl, arith, inl, inr}
 use Rattle.std.specs.Prelude.{IfSome}
 use Rattle.std.specs.Option.{option_map}

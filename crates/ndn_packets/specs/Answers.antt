@@ -18,8 +18,8 @@ Answers name digest asked can_be_prefix =
     (asked ≡ name) ⊎ ((asked ≡ full_name name digest)
     ⊎ ((can_be_prefix ≡ true) × (IsPrefix asked name ⊎ IsPrefix asked (full_name name digest))))
 
--- The Interest's name is the Data's name or, with CanBePrefix, a prefix of the Data's name. Then
--- the Data answers the Interest, whatever the digest of the Data is.
+-- The Interest's name is the Data's name or, with CanBePrefix, a prefix of the Data's name. In both
+-- cases, the Data answers the Interest, whatever the digest of the Data is.
 abbrev pub AnswersByName : List Field → List Field → Bool → Type 0
 AnswersByName name asked can_be_prefix =
     (asked ≡ name) ⊎ ((can_be_prefix ≡ true) × IsPrefix asked name)

@@ -24,7 +24,8 @@ pub record IsCut (kind : ℕ) (octets before from : List ℕ) : Type 0 where
 
 -- `from_within n kind octets` is the suffix of `octets` that begins at the first element of type
 -- `kind`. Only the first `n` elements are searched. The result is `None` if none of the first `n`
--- elements has type `kind`, or if an element before the first one of type `kind` cannot be read.
+-- elements has type `kind`, or if an element before the first element of type `kind` cannot be
+-- read.
 unfoldable pub from_within : ℕ → ℕ → List ℕ → Option (List ℕ)
 from_within zero kind octets = None
 from_within (suc n) kind octets =
@@ -34,7 +35,7 @@ from_within (suc n) kind octets =
 unfoldable pub from_first : ℕ → List ℕ → Option (List ℕ)
 from_first kind octets = from_within (length octets) kind octets
 
--- The signature of a Data covers the octets from its Name up to, but not including, the
+-- The signature of a Data covers the octets from the Name of the Data up to, but not including, the
 -- SignatureValue.
 pub record CoversData (text covered : List ℕ) : Type 0 where
   pub value : List ℕ
@@ -44,10 +45,10 @@ pub record CoversData (text covered : List ℕ) : Type 0 where
 
 -- The signature of an Interest covers two parts. The first part is the components of the name
 -- before the digest of parameters, which is the last component. The second part is the octets from
--- the ApplicationParameters up to, but not including, the InterestSignatureValue. If there are
--- several ApplicationParameters elements, the first one counts. The InterestSignatureInfo is the
--- first one after the ApplicationParameters. The InterestSignatureValue is the first one after the
--- InterestSignatureInfo.
+-- the ApplicationParameters up to, but not including, the InterestSignatureValue. If the Interest
+-- has several ApplicationParameters elements, the first of them counts. After these
+-- ApplicationParameters, the first InterestSignatureInfo counts. After this InterestSignatureInfo,
+-- the first InterestSignatureValue counts.
 pub record CoversInterest (name : List Field) (text first second : List ℕ) : Type 0 where
   pub components : List Field
   pub digest : List ℕ
@@ -128,8 +129,9 @@ IsSignedAt octets from_parameters from_value =
     × (from_first INTEREST_SIGNATURE_INFO from_parameters ≡ Some from_info)
     × (from_first INTEREST_SIGNATURE_VALUE from_info ≡ Some from_value)
 
--- the octets of `from_parameters` before `from_value`, or `None` if the Interest has no signature
--- or its digest of parameters is not the last component of its name
+-- the octets `from_parameters` without the octets `from_value` at their end; or `None` if the
+-- Interest has no signature, or if the first digest of parameters in its name is missing or is not
+-- the last component
 abbrev pub second_part : Option PlainSignature → Option FirstOfType → List ℕ → List ℕ
     → Option (List ℕ)
 second_part None digest from_parameters from_value = None

@@ -1,4 +1,4 @@
--- The fields that a reader of fields has not returned yet.
+-- The fields that a `FieldReader` has not returned yet.
 use Rattle.std.specs.Prelude.{◌≡◌, ◌≢◌, [], ◌∷◌, ℕ, Bool, List, Result, Ok, Err, Option, None, Some, IsSome}
 use Rattle.ndn_tlv.specs.Element.{Field}
 use Rattle.ndn_tlv.specs.Reading.{element_at, elements_of}
@@ -29,9 +29,9 @@ IsNextField before after (Ok (Some e)) =
 IsNextField before after (Err fault) = fields_left before ≡ Err fault ∷ []
 
 -- The reader just returned the field `e`. `after.here` is the octets from `e` on. `after.schema`
--- lists the types after the type of `e`. If a field of type `kind` could come next before this
--- step, `before.rest` and `after.here` have the same octets from the first element of type `kind`
--- on.
+-- lists the types after the type of `e`. If a field of type `kind` could come next when the reader
+-- was in the state `before`, then `before.rest` and `after.here` have the same octets from the
+-- first element of type `kind` on.
 pub record StandsHere (before after : FieldReader) (e : Element) : Type 0 where
   pub here : Ok ((e.kind, e.value.now), after.rest.now) ≡ element_at after.here.now
   pub schema : schema_after e.kind before.schema.now ≡ Some after.schema.now
@@ -39,7 +39,7 @@ pub record StandsHere (before after : FieldReader) (e : Element) : Type 0 where
       → from_first kind before.rest.now ≡ from_first kind after.here.now
 
 -- For every type other than Name, `octets` and `rest` have the same octets from the first element
--- of this type on. Readers use this for the octets `rest` that follow a Name at the start of
--- `octets`.
+-- of this type on. Readers use this relation if `octets` begins with a Name and `rest` is the
+-- octets after this Name.
 abbrev pub OthersAfter : List ℕ → List ℕ → Type 0
 OthersAfter octets rest = (kind : ℕ) → kind ≢ NAME → from_first kind octets ≡ from_first kind rest

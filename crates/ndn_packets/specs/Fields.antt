@@ -35,8 +35,9 @@ abbrev pub info_schema : List ℕ
 info_schema =
     SIGNATURE_TYPE ∷ KEY_LOCATOR ∷ SIGNATURE_NONCE ∷ SIGNATURE_TIME ∷ SIGNATURE_SEQ_NUM ∷ []
 
--- An InterestSignatureInfo or an InterestSignatureValue may come only after the field that precedes
--- it in the schema. Ignored elements may come between a field and the field that precedes it.
+-- An InterestSignatureInfo is a field only if the last field before it is the
+-- ApplicationParameters. An InterestSignatureValue is a field only if the last field before it is
+-- the InterestSignatureInfo. Ignored elements may come between two fields.
 abbrev pub needs_previous_field : ℕ → Bool
 needs_previous_field kind = kind == INTEREST_SIGNATURE_INFO || kind == INTEREST_SIGNATURE_VALUE
 
@@ -49,9 +50,9 @@ Counts kind later schema =
     × (needs_previous_field kind ≡ true → front ≡ [])
 
 -- `fields` are the fields of a schema among `elements`. An element is a field if the schema lists
--- its type after the types of all earlier fields. A type that needs the previous field must also
--- come directly after the type of the last earlier field in the schema. Every element that is not a
--- field must have a type that is ignored.
+-- its type after the types of all earlier fields. If `needs_previous_field` is true of the type of
+-- an element, the schema must list this type directly after the type of the last earlier field.
+-- Every element that is not a field must have a type that is ignored.
 abbrev pub Fields : (ℕ → Bool) → List ℕ → List Field → List Field → Type 0
 Fields ignores schema [] fields = fields ≡ []
 Fields ignores schema (e ∷ elements) fields =

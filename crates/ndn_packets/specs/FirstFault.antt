@@ -1,5 +1,5 @@
--- The first fault among elements, defined without the functions that read them (NDN Packet Format
--- 0.3, "Considerations for Evolvability of TLV-Based Encoding").
+-- The first fault among elements (NDN Packet Format 0.3, "Considerations for Evolvability of
+-- TLV-Based Encoding"). `FirstFault` is defined without `fields_from` and `read_fields`.
 use Rattle.std.specs.Prelude.{◌≡◌, ◌⊎◌, ◌↔◌, ℕ, List, [], ◌∷◌, ◌++◌, map, Result, Ok, Err, Bool, true, false}
 use Rattle.ndn_tlv.specs.declared.fault.TlvFault.{TlvFault}
 use Rattle.ndn_tlv.specs.Element.{Field}

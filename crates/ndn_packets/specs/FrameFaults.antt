@@ -1,4 +1,4 @@
--- The first fault of a frame, defined by its elements and without the functions that read it
+-- The first fault of a frame, defined by the elements of the frame and without `framed_at`
 -- (NDNLPv2, "Packet Format", "Fragmentation", "Network Nack", "PIT Token").
 use Rattle.std.specs.Prelude.{◌≡◌, ◌≢◌, ◌⊎◌, ℕ, ◌<◌, ◌≤◌, List, [], ◌∷◌, ◌++◌, length, map, Option, None, Some, IsSome, Result, Ok, Err, IsErr, false}
 use Rattle.std.specs.List.{AllByRecursion}
@@ -16,8 +16,8 @@ use Rattle.ndn_packets.specs.declared.types.TheConstants.{DATA, FRAGMENT, FRAG_C
 
 -- ---- packets
 
--- The octets are not exactly one element. `fault` is the fault of an element that cannot be read,
--- or `BadField` if octets follow the element.
+-- The octets `text` are not exactly one element. If the first element cannot be read, `fault` is
+-- the fault of this element. If octets follow the first element, `fault` is `BadField`.
 abbrev pub OuterFault : List ℕ → PacketFault → Type 0
 OuterFault text fault =
     ((unreadable : TlvFault) × (element_at text ≡ Err unreadable) × (fault ≡ Tlv unreadable))
@@ -29,7 +29,8 @@ abbrev pub IsAlone : List ℕ → Field → Type 0
 IsAlone text e = element_at text ≡ Ok (e, [])
 
 -- The fault of a packet. If the packet has more than 8,800 octets, the fault is `TooLong`. If the
--- packet has at most 8,800 octets, the statement `Otherwise` holds, which describes the fault.
+-- packet has at most 8,800 octets, the argument `Otherwise` is the statement that describes the
+-- fault.
 abbrev pub LongOr : List ℕ → PacketFault → Type 0 → Type 0
 LongOr text fault Otherwise =
     ((8800 < length text) × (fault ≡ TooLong)) ⊎ ((length text ≤ 8800) × Otherwise)
@@ -40,8 +41,8 @@ NoInterest text e fault = LongOr text fault (InterestFault (elements_of e.1) fau
 abbrev pub NoData : List ℕ → Field → PacketFault → Type 0
 NoData text e fault = LongOr text fault (DataFault (elements_of e.1) fault)
 
--- The octets `text` are exactly the element `e`, and `fault` is the reason why they are not a valid
--- packet. If `e` is neither an Interest nor a Data, the fault is `BadField`.
+-- The octets `text` are exactly the element `e`, and `fault` is the reason why these octets are not
+-- a valid packet. If `e` is neither an Interest nor a Data, the fault is `BadField`.
 abbrev pub NoPacket : List ℕ → Field → PacketFault → Type 0
 NoPacket text e fault =
     ((e.0 ≡ INTEREST) × NoInterest text e fault)
@@ -50,8 +51,9 @@ NoPacket text e fault =
 
 -- ---- link packets
 
--- The Fragment `text` is exactly the element `e`, and `fault` is the reason why it is not valid. In
--- a link packet with a Nack, an element other than an Interest has the fault `BadField`.
+-- The value `text` of a Fragment is exactly the element `e`, and `fault` is the reason why this
+-- Fragment is not valid. In a link packet with a Nack, an element other than an Interest has the
+-- fault `BadField`.
 abbrev pub NoneInside : Option ℕ → List ℕ → Field → PacketFault → Type 0
 NoneInside None text e fault = NoPacket text e fault
 NoneInside (Some reason) text e fault =
@@ -75,8 +77,8 @@ IsRefused before h =
     ⊎ (((h.0 ≡ PIT_TOKEN) × ((length h.1 < 1) ⊎ (32 < length h.1)))
     ⊎ ((IsKnown h.0 → ⊥) × (is_ignored_header h.0 ≡ false)))
 
--- the value is not a number and the fault is `BadField`, or it is a number above the limit and the
--- fault is `Fragmented`
+-- the value is not a number and the fault is `BadField`, or the value is a number above `limit` and
+-- the fault is `Fragmented`
 abbrev pub IsAbove : ℕ → List ℕ → PacketFault → Type 0
 IsAbove limit value fault =
     (IsErr (nni_at value) × (fault ≡ BadField))
@@ -89,16 +91,16 @@ HeaderValueFault h fault =
     ⊎ ((h.0 ≡ NACK)
     × FirstFault take_nack_field is_even_high nack_schema 0 (elements_of h.1) fault))
 
--- The fault of a header field after the fields in `before`: `LpField` if the field is not allowed,
--- otherwise a fault in its value.
+-- The fault of the header field `h`, which comes after the header fields `before`. The fault is
+-- `LpField` if `h` is not allowed. Otherwise, the fault is a fault in the value of `h`.
 abbrev pub HeaderFault : List Field → Field → PacketFault → Type 0
 HeaderFault before h fault =
     (IsRefused before h × (fault ≡ LpField))
     ⊎ ((IsRefused before h → ⊥) × HeaderValueFault h fault)
 
--- The fault of an element after a Fragment, where no element may come. The fault is `Tlv` if the
--- first element after the Fragment cannot be read, otherwise `LpField`. If no element comes after
--- the Fragment, there is no fault.
+-- The fault of the elements after a Fragment. No element may come after a Fragment. The fault is
+-- `Tlv` if the first element after the Fragment cannot be read, otherwise `LpField`. If no element
+-- comes after the Fragment, there is no fault.
 abbrev pub FollowerFault : List (Result Field TlvFault) → PacketFault → Type 0
 FollowerFault [] fault = ⊥
 FollowerFault (Err unreadable ∷ after) fault = fault ≡ Tlv unreadable

@@ -46,8 +46,8 @@ nacked_of reason text outer =
 
 -- ---- link packets
 
--- the reason in a NackReason field, which replaces the earlier reason; the fault is `BadField` if
--- the value of the field is not a number
+-- the reason in a NackReason field; this reason replaces the earlier reason `reason`; the fault is
+-- `BadField` if the value of the field is not a number
 abbrev pub take_nack_field : ℕ → Field → Result ℕ PacketFault
 take_nack_field reason f = nni_value_at f.1
 
@@ -77,7 +77,7 @@ abbrev pub is_token : List ℕ → Bool
 is_token value = nat_le 1 (length value) && nat_le (length value) 32
 
 -- whether a header field is refused: a known field may come once only, a token has 1 to 32 octets,
--- and an unknown field must be one that is ignored
+-- and `is_ignored_header` must be true of the type of an unknown field
 abbrev pub is_refused_header : LinkSoFar → Field → Bool
 is_refused_header s h =
     if h.0 == SEQUENCE then s.sequence else (
@@ -119,13 +119,14 @@ last_of framed [] = Ok framed
 last_of framed (Err f ∷ elements) = Err (Tlv f)
 last_of framed (Ok e ∷ elements) = Err LpField
 
--- the content of a link packet without a Fragment; if it has a Nack, the fault is `BadField`
+-- the content of a link packet without a Fragment; if the link packet has a Nack, the fault is
+-- `BadField`
 abbrev pub no_fragment : Option (List ℕ) → Option ℕ → Result PlainFramed PacketFault
 no_fragment token None = Ok (framed_with token Idle)
 no_fragment token (Some reason) = Err BadField
 
 -- The content of a link packet, or its first fault. `s` is the state after the header fields that
--- have been read. The elements of the list are those that have not been read yet.
+-- have been read. The list of elements has the elements that have not been read yet.
 abbrev pub link_from : LinkSoFar → List (Result Field TlvFault) → Result PlainFramed PacketFault
 link_from s [] = no_fragment s.token s.nack
 link_from s (Err f ∷ elements) = Err (Tlv f)

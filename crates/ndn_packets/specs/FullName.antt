@@ -1,6 +1,6 @@
--- Full names and their octets. A full name is a name and the implicit digest of its Data. The last
--- 34 octets of a full name are the digest component (NDN Packet Format 0.3, "Name", "Implicit
--- Digest Component").
+-- Full names and their octets. The full name of a Data is the name of the Data followed by the
+-- implicit digest of the Data. The last 34 octets of a full name are the digest component (NDN
+-- Packet Format 0.3, "Name", "Implicit Digest Component").
 use Rattle.std.specs.Prelude.{◌≡◌, ℕ, ◌-◌, ◌≤◌, List, [], ◌∷◌, length, take, drop, Bool, true, nat_lt, ◌&&◌, ◌||◌, refl}
 use Rattle.std.specs.Coded.{Coded, code_by, coded×, coded_list, coded_ℕ}
 use Rattle.std.specs.List.{AllByRecursion}
@@ -14,7 +14,7 @@ pub record PlainFullName : Type 0 where
   pub name : List Field
   pub digest : List ℕ
 
--- the components of a full name: those of the name, then the digest
+-- the components of a full name: the components of the name, then the digest component
 abbrev pub all_components : PlainFullName → List Field
 all_components f = full_name f.name f.digest
 
@@ -25,14 +25,16 @@ full_name_code =
 
 -- ---- full names that are near a name in canonical order
 
--- the list is empty, or the type of its first component is at most that of an implicit digest
+-- the list is empty, or the type of its first component is at most 1, the type of an implicit
+-- digest
 abbrev pub starts_small : List Field → Bool
 starts_small [] = true
 starts_small (c ∷ cs) = nat_lt c.0 PARAMETERS_SHA256_DIGEST
 
--- `full` begins with `name`. Without CanBePrefix, if `full` has a component after `name`, the type
--- of this component is at most that of an implicit digest. If a Data answers an Interest with this
--- name and this CanBePrefix, the full name of the Data is near the name.
+-- `full` begins with `name`. If `can_be_prefix` is false and `full` has components after `name`,
+-- the type of the first of these components is at most 1, the type of an implicit digest. If a Data
+-- answers an Interest that has the name `name` and the CanBePrefix `can_be_prefix`, the full name
+-- of the Data is near `name`.
 abbrev pub is_near : List Field → Bool → List Field → Bool
 is_near name can_be_prefix full =
     begins_with name full && (can_be_prefix || starts_small (drop (length name) full))
@@ -51,7 +53,7 @@ digest_in full = drop (length full - 32) full
 abbrev pub full_name_in : List ℕ → List Field
 full_name_in full = full_name (name_in full) (digest_in full)
 
--- the octets are those of a full name
+-- the octets `full` are the octets of a full name
 pub record IsFullName (full : List ℕ) : Type 0 where
   pub long : 34 ≤ length full
   pub name : name_octets full ≡ octets_of (name_in full)

@@ -12,9 +12,9 @@ use Rattle.ndn_packets.specs.Fields.{Fields, is_even_high, is_ignored_in_meta_in
 use Rattle.ndn_packets.specs.Packet.{PlainLocator, Missing, KeyName, Digest, Other, PlainSignatureInfo, PlainSignature, PlainInterest, PlainData}
 use Rattle.ndn_packets.specs.declared.types.TheConstants.{APPLICATION_PARAMETERS, CAN_BE_PREFIX, CONTENT, CONTENT_TYPE, DATA, FINAL_BLOCK_ID, FORWARDING_HINT, FRESHNESS_PERIOD, HOP_LIMIT, INTEREST, INTEREST_LIFETIME, INTEREST_SIGNATURE_INFO, INTEREST_SIGNATURE_VALUE, KEY_DIGEST, KEY_LOCATOR, META_INFO, MUST_BE_FRESH, NAME, NONCE, SIGNATURE_INFO, SIGNATURE_NONCE, SIGNATURE_SEQ_NUM, SIGNATURE_TIME, SIGNATURE_TYPE, SIGNATURE_VALUE}
 
--- The text is one element of this type, at most 8,800 octets long, whose value begins with a Name.
--- `fields` are the fields of the schema among the elements after the Name. All other elements are
--- ignored.
+-- The text is one element of type `kind`. The text has at most 8,800 octets. The value of the
+-- element begins with a Name whose value is `name_value`. `fields` are the fields of the schema
+-- among the elements after the Name. All other elements are ignored.
 pub record IsPacket (text : List ℕ) (kind : ℕ) (ignores : ℕ → Bool) (schema : List ℕ)
     (name_value : List ℕ) (fields : List Field) : Type 0 where
   pub value : List ℕ
@@ -36,7 +36,7 @@ abbrev pub IsOctet : Option (List ℕ) → Option ℕ → Type 0
 IsOctet None n = n ≡ None
 IsOctet (Some value) n = (k : ℕ) × (value ≡ k ∷ []) × (n ≡ Some k)
 
--- the value of a KeyLocator is exactly one Name, which is the valid name `name`
+-- the value of a KeyLocator is exactly one Name element, and this element encodes the name `name`
 abbrev pub NamesKey : List ℕ → List Field → Type 0
 NamesKey value name =
     (name_value : List ℕ) × IsElement value NAME name_value × IsNameValue name_value name
@@ -45,8 +45,9 @@ NamesKey value name =
 abbrev pub DigestsKey : List ℕ → Type 0
 DigestsKey value = (digest : List ℕ) × IsElement value KEY_DIGEST digest
 
--- The plain data of an optional KeyLocator with this value. A value that is neither exactly one
--- valid Name nor exactly one KeyDigest is `Other`.
+-- The `PlainLocator` of an optional KeyLocator. It is `Missing` if there is no KeyLocator. It is
+-- `Other` if the value of the KeyLocator is neither exactly one valid Name nor exactly one
+-- KeyDigest.
 abbrev pub IsLocator : Option (List ℕ) → PlainLocator → Type 0
 IsLocator None locator = locator ≡ Missing
 IsLocator (Some value) Missing = ⊥
@@ -55,8 +56,9 @@ IsLocator (Some value) Digest = DigestsKey value
 IsLocator (Some value) Other =
     ((name : List Field) → NamesKey value name → ⊥) × (DigestsKey value → ⊥)
 
--- MetaInfo = [ContentType] [FreshnessPeriod] [FinalBlockId]. Only the FreshnessPeriod is returned;
--- it is 0 if absent.
+-- MetaInfo = [ContentType] [FreshnessPeriod] [FinalBlockId]. `freshness` is the number in the
+-- FreshnessPeriod, or 0 if the FreshnessPeriod is absent. The ContentType must be a number. The
+-- value of the FinalBlockId may be any octets.
 pub record IsMetaInfo (text : List ℕ) (freshness : ℕ) : Type 0 where
   pub content_type : Option (List ℕ)
   pub period : Option (List ℕ)
@@ -94,18 +96,19 @@ from_parameters [] = []
 from_parameters (e ∷ elements) =
     if e.0 == APPLICATION_PARAMETERS then e ∷ elements else from_parameters elements
 
--- The name of an Interest without parameters has no digest of parameters. The name of an Interest
--- with parameters has exactly one digest of parameters, at any position. This digest is SHA-256 of
--- the octets from the parameters to the end of the packet. `elements` are all elements after the
--- Name.
+-- If an Interest has no ApplicationParameters, its name has no digest of parameters. If an Interest
+-- has ApplicationParameters, its name has exactly one digest of parameters, at any position. This
+-- digest is SHA-256 of the octets from the ApplicationParameters to the end of the packet.
+-- `elements` are all elements after the Name.
 abbrev pub IsDigested : List Field → List Field → Option (List ℕ) → Type 0
 IsDigested name elements None = digests_in name ≡ []
 IsDigested name elements (Some parameters) =
     digests_in name
     ≡ (PARAMETERS_SHA256_DIGEST, sha256 (flat_map element (from_parameters elements))) ∷ []
 
--- An Interest is signed if it has both an InterestSignatureInfo and an InterestSignatureValue. An
--- InterestSignatureInfo without an InterestSignatureValue must be valid too.
+-- An Interest is signed if it has both an InterestSignatureInfo and an InterestSignatureValue. If
+-- an Interest has an InterestSignatureInfo but no InterestSignatureValue, the Interest is not
+-- signed, but the value of the InterestSignatureInfo must still satisfy `IsSignatureInfo`.
 abbrev pub IsSigned : Option (List ℕ) → Option (List ℕ) → Option PlainSignature → Type 0
 IsSigned None value signature = signature ≡ None
 IsSigned (Some info_value) None signature =
@@ -144,8 +147,8 @@ pub record IsInterest (text : List ℕ) (i : PlainInterest) : Type 0 where
   pub digested : IsDigested i.name fields.elements i.parameters
   pub signature : IsSigned info_value signature_value i.signature
 
--- The optional MetaInfo is absent or valid. `freshness` is its FreshnessPeriod, or 0 if the
--- MetaInfo is absent.
+-- The optional MetaInfo is absent or valid. `freshness` is the FreshnessPeriod in the MetaInfo, or
+-- 0 if the MetaInfo or its FreshnessPeriod is absent.
 abbrev pub IsFreshness : Option (List ℕ) → ℕ → Type 0
 IsFreshness None freshness = freshness ≡ 0
 IsFreshness (Some value) freshness = IsMetaInfo value freshness

@@ -36,13 +36,13 @@ key_of i = record {
 }
 
 -- Keys are ordered by name in canonical order, then by CanBePrefix, then by MustBeFresh; an unset
--- flag comes before a set one.
+-- flag comes before a set flag.
 abbrev pub key_cmp : PlainKey → PlainKey → Ordering
 key_cmp =
     then_cmp (on (λ k. k.name) name_cmp)
     (then_cmp (on (λ k. k.can_be_prefix) bool_cmp) (on (λ k. k.must_be_fresh) bool_cmp))
 
--- a coding of keys, so that finite maps can use them as keys
+-- a coding of `PlainKey`, so that finite maps can have a `PlainKey` as their key
 abbrev pub key_code : Coded PlainKey
 key_code =
     code_by (List Field × (Bool × Bool))
@@ -72,7 +72,7 @@ key_cmp-antisymmetric x y e =
     let fresh : x.must_be_fresh ≡ y.must_be_fresh = bool_tie _ _ b.1 in
     λ i. record { name = names i; can_be_prefix = prefixes i; must_be_fresh = fresh i }
 
--- the order of borrowed keys is the order of their plain data
+-- two borrowed keys have the same order as their plain keys
 abbrev pub key_view_cmp : Key → Key → Ordering
 key_view_cmp = on plain_key key_cmp
 

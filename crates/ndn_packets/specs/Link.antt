@@ -34,9 +34,9 @@ pub record IsNack (text : List ℕ) (reason : ℕ) : Type 0 where
 abbrev pub IsToken : List ℕ → Type 0
 IsToken token = (1 ≤ length token) × (length token ≤ 32)
 
--- A valid header field. FragIndex must be 0, and FragCount at most 1. A PitToken has 1 to 32
--- octets, and a Nack is valid. Any Sequence is valid. A header field of any other type must be one
--- that is ignored.
+-- A valid header field. FragIndex must be 0, and FragCount at most 1. A PitToken must have 1 to 32
+-- octets. The value of a Nack must satisfy `IsNack`. Any Sequence is valid. A header field of any
+-- other type is valid if `is_ignored_header` is true of its type.
 abbrev pub IsHeader : Field → Type 0
 IsHeader h =
     (h.0 ≡ SEQUENCE)
@@ -92,6 +92,6 @@ IsFrameWith text token Idle = IsLinkPacket text token None None
 abbrev pub IsFramed : List ℕ → PlainFramed → Type 0
 IsFramed text framed = IsFrameWith text framed.token framed.frame
 
--- the text is this frame, with any PIT token or without one
+-- the text is this frame, with any PIT token or without a PIT token
 abbrev pub IsFrame : List ℕ → PlainFrame → Type 0
 IsFrame text frame = (token : Option (List ℕ)) × IsFrameWith text token frame

@@ -63,7 +63,7 @@ abbrev pub interest_frame : Option ℕ → List ℕ → PlainInterest → PlainF
 interest_frame None whole i = AnInterest whole i
 interest_frame (Some reason) whole i = ANack reason whole i
 
--- the components of a name that are digests of parameters
+-- the digests of parameters among the components of a name
 abbrev pub digests_in : List Field → List Field
 digests_in name = filter (λ c. c.0 == PARAMETERS_SHA256_DIGEST) name
 

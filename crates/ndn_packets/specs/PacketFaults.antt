@@ -1,5 +1,7 @@
--- The first fault of a packet and of a SignatureInfo, defined by their elements and without the
--- functions that read them (NDN Packet Format 0.3, "Interest Packet" and "Data Packet").
+-- The first fault of a packet and of a SignatureInfo, defined by the elements of the packet or of
+-- the SignatureInfo (NDN Packet Format 0.3, "Interest Packet" and "Data Packet"). `InterestFault`
+-- is defined without `interest_at`, `DataFault` without `data_at`, and `InfoFault` without
+-- `info_at`.
 use Rattle.std.specs.Prelude.{◌≡◌, ◌≢◌, ◌⊎◌, ℕ, List, [], ◌∷◌, Option, None, Some, Result, Ok, Err, IsErr}
 use Rattle.ndn_tlv.specs.declared.fault.TlvFault.{TlvFault}
 use Rattle.ndn_tlv.specs.Element.{Field}
@@ -29,7 +31,8 @@ InfoFault elements fault =
     FirstFault take_info_field is_ignored_in_signature_info info_schema no_info_yet elements fault
     ⊎ InfoEndsWrong elements fault
 
--- The elements begin with a Name of these components, and `later` are the elements after the Name.
+-- The elements begin with a Name that has the components `name`, and `later` are the elements after
+-- the Name.
 pub record Leads (elements : List (Result Field TlvFault)) (name : List Field)
     (later : List (Result Field TlvFault)) : Type 0 where
   pub value : List ℕ
@@ -50,7 +53,7 @@ NameFault (Ok e ∷ later) fault =
 -- `DigestWithout`: there are no ApplicationParameters, but the name has a digest of parameters.
 -- `DigestMissing`: there are ApplicationParameters, but the name has no digest of parameters.
 -- `DigestWrong`: there are ApplicationParameters, but the name has a wrong digest of parameters, or
--- more than one.
+-- more than one digest of parameters.
 abbrev pub DigestFault : List Field → List Field → Option (List ℕ) → PacketFault → Type 0
 DigestFault name elements None fault = (digests_in name ≢ []) × (fault ≡ DigestWithout)
 DigestFault name elements (Some parameters) fault =
@@ -71,8 +74,8 @@ pub record InterestEndsWrong (name : List Field) (later : List (Result Field Tlv
       ⊎ ((taken.nonce ≢ None) × DigestFault name plain taken.parameters fault)
 
 -- The fault of an Interest that begins with a Name. If the name is empty, the fault is `NoName`.
--- Otherwise, the fault is the first fault among the elements after the Name, or the fault in
--- `InterestEndsWrong`.
+-- Otherwise, the fault is the first fault among the elements after the Name, or the fault that
+-- `InterestEndsWrong` describes.
 abbrev pub AfterInterestName : List Field → List (Result Field TlvFault) → PacketFault → Type 0
 AfterInterestName name later fault =
     ((name ≡ []) × (fault ≡ NoName))

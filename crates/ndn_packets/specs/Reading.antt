@@ -57,7 +57,7 @@ abbrev pub name_value_at : List ℕ → Result (List Field) PacketFault
 name_value_at value = on_result (λ name. Ok name) (λ _. Err BadField) (name_at value)
 
 -- The name in the first element, which must be a Name, and the elements after this element. The
--- fault is that of `name_first`, or `BadField` if the value of the Name is not a name.
+-- fault is the fault of `name_first`, or `BadField` if the value of the Name is not a name.
 abbrev pub leading_name_at : List (Result Field TlvFault)
     → Result (List Field × List (Result Field TlvFault)) PacketFault
 leading_name_at elements = do
@@ -90,8 +90,8 @@ meta_at value =
     read_fields take_meta_field 0
     (fields_from is_ignored_in_meta_info meta_schema (elements_of value))
 
--- The plain data of a KeyLocator, given the first element `e` of its value and the octets after it.
--- If octets follow `e`, or if `e` is neither a valid Name nor a KeyDigest, the result is `Other`.
+-- The `PlainLocator` of a KeyLocator whose value is the element `e` followed by the octets `rest`.
+-- If `rest` has octets, or if `e` is neither a valid Name nor a KeyDigest, the result is `Other`.
 abbrev pub locator_of : Field → List ℕ → PlainLocator
 locator_of e rest =
     if not (is_nil rest) then Other else (
@@ -175,16 +175,16 @@ take_interest_field s f =
     if f.0 == INTEREST_SIGNATURE_VALUE then Ok (record s { value = Some f.1 }) else
     Ok s)))))))
 
--- the elements from the first ApplicationParameters on; the empty list if there are none, or if an
--- element before them cannot be read
+-- the elements from the first ApplicationParameters on; the empty list if there are no
+-- ApplicationParameters, or if an element before the ApplicationParameters cannot be read
 abbrev pub parameters_on : List (Result Field TlvFault) → List (Result Field TlvFault)
 parameters_on [] = []
 parameters_on (Err f ∷ elements) = []
 parameters_on (Ok e ∷ elements) =
     if e.0 == APPLICATION_PARAMETERS then Ok e ∷ elements else parameters_on elements
 
--- The octets of the elements that can be read. These are the received octets, because types and
--- lengths can be read only in their shortest encoding.
+-- The octets of the elements that can be read. These octets are the received octets of the
+-- elements, because a type or a length can be read only in its shortest encoding.
 abbrev pub octets_of_read : List (Result Field TlvFault) → List ℕ
 octets_of_read elements = flat_map element (filter_map result_ok elements)
 
@@ -199,8 +199,8 @@ digest_fault (Some parameters) (d ∷ []) right =
 digest_fault (Some parameters) (d ∷ e ∷ digests) right = Some DigestWrong
 
 -- The fault of the digests of parameters in a name, or `None` if they have no fault. The result is
--- computed from the first of these digests and from whether it is the only one. `right` is the
--- correct digest.
+-- computed from the first digest of parameters in the name. `is_only` tells whether the name has no
+-- other digest of parameters. `right` is the correct digest.
 abbrev pub fault_by : Option (List ℕ) → Option FirstOfType → List ℕ → Option PacketFault
 fault_by None None right = None
 fault_by None (Some first) right = Some DigestWithout

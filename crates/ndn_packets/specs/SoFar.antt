@@ -1,4 +1,5 @@
--- The states of readers as plain data, without their positions in memory.
+-- The states of readers as plain data: a state has the octets that the reader borrows, but not the
+-- positions of these octets in memory.
 use Rattle.std.specs.Option.{option_map}
 use Rattle.ndn_packets.specs.declared.data.DataFields.{DataFields}
 use Rattle.ndn_packets.specs.declared.interest.InterestFields.{InterestFields}

@@ -38,8 +38,10 @@ plain_frame frames.Idle = Idle
 abbrev pub plain_framed : Framed → PlainFramed
 plain_framed f = record { token = option_map (λ t. t.now) f.token; frame = plain_frame f.frame }
 
--- `IsReadInterest` and `IsReadData` state that the received octets of a packet are that packet.
--- Every packet in memory satisfies this, because only reading creates packets.
+-- `IsReadInterest` states that the received octets of an Interest in memory are this Interest in
+-- the grammar. `IsReadData` states that the received octets of a Data in memory are this Data in
+-- the grammar. Every packet in memory satisfies its statement, because packets in memory are
+-- created only by reading.
 abbrev pub IsReadInterest : Interest → Type 0
 IsReadInterest i = IsInterest i.whole.now (plain_interest i)
 

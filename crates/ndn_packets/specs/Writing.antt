@@ -57,7 +57,7 @@ info_asked signed time seq = record {
   seq = seq;
 }
 
--- the value of a signature that covers these octets
+-- the SignatureValue of a signature over the octets `covered`
 abbrev pub value_of : Sign → List ℕ → List ℕ
 value_of sign.Digest covered = sha256 covered
 value_of (sign.Hmac name key) covered = Mac key.now covered
@@ -70,7 +70,7 @@ abbrev pub parameters_of : Option Sign → Option (List ℕ) → Option (List �
 parameters_of None parameters = parameters
 parameters_of (Some signed) parameters = Some (unwrap_or parameters [])
 
--- the fields that the signature of an Interest covers, apart from the components of its name
+-- the fields that the signature of an Interest covers after the components of the Interest's name
 abbrev pub covered_fields : InterestWriter → Sign → List Field
 covered_fields w signed =
     (APPLICATION_PARAMETERS, unwrap_or (option_map (λ p. p.now) w.parameters) [])
@@ -80,8 +80,8 @@ abbrev pub interest_value : InterestWriter → Sign → List ℕ
 interest_value w signed =
     value_of signed (octets (components w.name) ++ octets (covered_fields w signed))
 
--- the fields of an Interest from the ApplicationParameters on; an Interest with neither a signature
--- nor parameters has no such fields
+-- the ApplicationParameters of an Interest and all fields after the ApplicationParameters; the list
+-- is empty if the Interest has neither a signature nor parameters
 abbrev pub later_fields : InterestWriter → Option Sign → List Field
 later_fields w None = optional APPLICATION_PARAMETERS (option_map (λ p. p.now) w.parameters)
 later_fields w (Some signed) =
@@ -96,13 +96,15 @@ early_fields w =
     ∷ (number INTEREST_LIFETIME w.lifetime
     ++ optional HOP_LIMIT (option_map (λ limit. limit ∷ []) w.hop_limit))))
 
--- the name `name`, followed by the digest of parameters `digest` if there are fields from the
--- ApplicationParameters on
+-- The name of a written Interest. The last argument is the list of fields from the
+-- ApplicationParameters on. If this list is empty, the result is `name`. Otherwise, the result is
+-- `name` followed by a component with the digest `digest`.
 abbrev pub name_with : List ℕ → List Field → List Field → List Field
 name_with digest name [] = name
 name_with digest name (f ∷ fields) = name ++ (PARAMETERS_SHA256_DIGEST, digest) ∷ []
 
--- the name with its digest of the fields from the ApplicationParameters on
+-- the writer's name, followed by the digest of the fields from the ApplicationParameters on, if
+-- there are such fields
 abbrev pub interest_name : InterestWriter → List Field
 interest_name w =
     name_with (sha256 (octets (later_fields w w.sign))) (components w.name) (later_fields w w.sign)
@@ -130,7 +132,7 @@ interest_asked w = record {
   }) w.sign;
 }
 
--- the signature of the written Interest was computed over exactly the octets that it covers
+-- the signature of the written Interest was computed over exactly the octets that `Covered` defines
 abbrev pub SignsInterest : InterestWriter → Sign → Type 0
 SignsInterest w signed =
     Covered (AnInterest (interest_text w) (interest_asked w)) (octets (components w.name))
@@ -193,8 +195,8 @@ meta_asked w = meta_of (meta_fields w.freshness w.last)
 abbrev pub content_asked : DataWriter → Option (List ℕ)
 content_asked w = option_map (λ c. c.now) w.content
 
--- `fields_covered` are the fields of the requested Data that its signature covers. `fields_asked`
--- are all fields of the requested Data.
+-- `fields_covered` is the list of the fields that the signature of the requested Data covers.
+-- `fields_asked` is the list of all fields of the requested Data.
 abbrev pub fields_covered : DataWriter → List Field
 fields_covered w = data_fields w.sign (components w.name) (meta_asked w) (content_asked w)
 
@@ -243,7 +245,7 @@ reply_of name content = record {
   sign = sign.Digest;
 }
 
--- the signature of the reply was computed over exactly the octets that it covers
+-- the signature of the reply was computed over exactly the octets that `Covered` defines
 abbrev pub SignsReply : List Field → List ℕ → Type 0
 SignsReply name content =
     Covered (AData (reply_text name content) (reply_asked name content))
@@ -251,11 +253,11 @@ SignsReply name content =
 
 -- ---- Nacks
 
--- the header field of a Nack with this reason
+-- the octets of a Nack header field with the reason `reason`
 abbrev pub nack_field : ℕ → List ℕ
 nack_field reason = element (NACK, element (NACK_REASON, shortest_nni reason))
 
--- a link packet with a Nack of this reason around the octets of an Interest
+-- a link packet that has a Nack with the reason `reason`, and the octets `interest` as its Fragment
 abbrev pub nack_text : ℕ → List ℕ → List ℕ
 nack_text reason interest =
     element (
@@ -265,7 +267,7 @@ nack_text reason interest =
 
 -- ---- link packets
 
--- the header field of a Nack, if a reason is given
+-- the Nack header field with this reason, if a reason is given
 abbrev pub nack_headers : Option ℕ → List Field
 nack_headers None = []
 nack_headers (Some reason) = (NACK, octets ((NACK_REASON, shortest_nni reason) ∷ [])) ∷ []
@@ -294,8 +296,8 @@ link_value token nack packet =
 abbrev pub link_text : Option (List ℕ) → Option ℕ → List ℕ → List ℕ
 link_text token nack packet = element (LINK_PACKET, link_value token nack packet)
 
--- the octets before the packet in a link packet with this PIT token, for a packet of length
--- `packet_len`
+-- the octets that come before the packet in a link packet, if the PIT token is `token` and the
+-- packet has `packet_len` octets
 abbrev pub link_start : List ℕ → ℕ → List ℕ
 link_start token packet_len =
     let token_field = element (PIT_TOKEN, token) in
@@ -305,7 +307,7 @@ link_start token packet_len =
 
 -- ---- lengths
 
--- `n` is the length of the octets, or the greatest `usize` if they are longer
+-- `n` is the length of the list `octets`, or 2^64 - 1 (the greatest `usize`) if the list is longer
 abbrev pub IsLength : ℕ → List ℕ → Type 0
 IsLength n octets = n ≡ min (length octets) (2 ^ 64 - 1)
 
@@ -342,7 +344,7 @@ pub record SoundInterest (w : InterestWriter) : Type 0 where
 
 -- ---- a name before its digest is known
 
--- the name of an Interest with 32 zeros in place of its digest of parameters, if it has such a
--- digest
+-- the name of the written Interest; if this name has a digest of parameters, 32 zeros are in place
+-- of the digest
 abbrev pub zeroed_name : InterestWriter → List Field
 zeroed_name w = name_with (replicate 32 0) (components w.name) (later_fields w w.sign)

@@ -84,7 +84,8 @@ impl Data<'_> {
         Some(last.value)
     }
 
-    /// Returns whether `asked` is the Data's name or, with CanBePrefix, a prefix of it.
+    /// Returns whether `asked` is the Data's name or, with CanBePrefix, a prefix of the Data's
+    /// name.
     fn answers_by_name(&self, asked: Name<'_>, can_be_prefix: bool) -> bool
         ensures { IsTrue result
             ↔ AnswersByName (components self.now.name) (components asked.entry) can_be_prefix }

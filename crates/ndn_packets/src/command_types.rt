@@ -1,5 +1,5 @@
 //! TLV-TYPEs that the standards assign to commands, to their replies and to datasets. TLV-TYPEs
-//! that commands share with packets, such as that of the Name, are in `types`.
+//! that commands share with packets, such as the TLV-TYPE of the Name, are in the module `types`.
 
 ghost use Rattle.std.specs.Prelude.{◌≡◌};
 
@@ -26,20 +26,21 @@ pub const ORIGIN: u32 = 111;
 
 pub const COUNT: u32 = 132;
 
-/// The reply of a node and its fields (NFD Management, "Control Command", ControlResponse).
+/// The reply of a node, and the fields of this reply (NFD Management, "Control Command",
+/// ControlResponse).
 pub const CONTROL_RESPONSE: u32 = 101;
 
 pub const STATUS_CODE: u32 = 102;
 
 pub const STATUS_TEXT: u32 = 103;
 
-/// The reply of a repository and its status code (repo-ng, RepoCommandResponse).
+/// The reply of a repository, and the status code in this reply (repo-ng, RepoCommandResponse).
 pub const REPO_COMMAND_RESPONSE: u32 = 207;
 
 pub const REPO_STATUS_CODE: u32 = 208;
 
-/// An entry of a dataset, and a next hop in it (NFD Management, "FIB Dataset", "Strategy Choice
-/// Dataset").
+/// An entry of a dataset, and a next hop in an entry (NFD Management, "FIB Dataset", "Strategy
+/// Choice Dataset").
 pub const ENTRY: u32 = 128;
 
 pub const NEXT_HOP: u32 = 129;

@@ -64,7 +64,8 @@ impl<'a> Interest<'a> {
 }
 
 /// Returns the octets from the first element of type `kind` on, or `None` if there is no such
-/// element. The search ends at the first element that cannot be read.
+/// element. The search ends at the first element that cannot be read, and the result is then
+/// `None`.
 pub(crate) fn from_first(octets: &[u8], kind: u32) -> Option<&[u8]>
     ensures exact { option_map (λ from. from.now) result ≡ from_first kind octets.now }
     ensures within { IfSome result (λ from. length from.now ≤ length octets.now) }
@@ -88,11 +89,11 @@ pub(crate) fn octets_before<'a>(octets: &'a [u8], end: &[u8]) -> &'a [u8]
     &octets[..octets.len() - end.len()]
 }
 
-/// Law: every Data has covered octets. An Interest has covered octets exactly if it is signed and
-/// the digest of its parameters is the last component of its name. The covered octets end where the
-/// SignatureValue or the InterestSignatureValue begins. The covered octets of an Interest are all
-/// components of its name before the digest of parameters, followed by a second part. The second
-/// part begins with the first octet that the digest of parameters covers.
+/// Law: every Data has covered octets. An Interest has covered octets exactly if the Interest is
+/// signed and the last component of its name is the digest of parameters. The covered octets end
+/// where the SignatureValue or the InterestSignatureValue begins. The covered octets of an Interest
+/// are all components of its name before the digest of parameters, followed by a second part. The
+/// second part begins with the first octet that the digest of parameters covers.
 pub fn signed_packets_have_covered_octets()
     ensures data { (text : List ℕ) (d : PlainData) → IsData text d
         → (covered : List ℕ) × Covered (AData text d) covered [] }

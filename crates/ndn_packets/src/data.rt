@@ -30,9 +30,11 @@ pub struct Data<'a> {
     pub content: Option<&'a [u8]>,
     /// The signature, which is not verified.
     pub signature: Signature<'a>,
-    /// The received octets of the whole packet, including its type and length, at most 8,800.
+    /// The received octets of the whole packet, including the type and length of the packet. There
+    /// are at most 8,800 of these octets.
     pub whole: &'a [u8],
-    /// The octets that the signature covers: those from the Name up to the SignatureValue.
+    /// The octets that the signature covers: the octets from the Name up to, but not including, the
+    /// SignatureValue.
     pub(crate) covered: &'a [u8],
     ghost covers: { ∥ CoversData whole.now covered.now ∥₁ },
     ghost spelled: { ∥ IsData whole.now (record {
@@ -52,7 +54,7 @@ struct DataFields<'a> {
     content: Option<&'a [u8]>,
     info: Option<SignatureInfo<'a>>,
     value: Option<&'a [u8]>,
-    /// The octets from the SignatureValue on, once it has been read.
+    /// The octets from the SignatureValue on, once the SignatureValue has been read.
     from_value: &'a [u8],
 }
 
@@ -64,7 +66,7 @@ impl<'a> Data<'a> {
     ghost use Rattle.ndn_packets.specs.declared.types.TheConstants.{DATA};
 
     #[tactic(auto, unfolding(crate::specs::Reading::data_at))]
-    /// Reads the Data in this element.
+    /// Reads the Data in the element `outer`.
     #[inline(always)]
     pub(crate) fn read(outer: Element<'a>) -> Result<Data<'a>, PacketFault>
         requires { outer.kind ≡ DATA }
@@ -92,7 +94,7 @@ impl<'a> Data<'a> {
 }
 
 #[tactic(auto, using(crate::proofs::Marks::data_first, crate::proofs::Marks::data_still, crate::proofs::Marks::data_value))]
-/// Reads the fields after the Name.
+/// Reads the fields of a Data from `rest`, the octets after the Name.
 #[inline(always)]
 fn fields_of(rest: &[u8]) -> Result<DataFields<'_>, PacketFault>
     ensures walk { on_result (λ f. Ok (so_far f)) Err result

@@ -68,7 +68,7 @@ impl DataWriter<'_> {
         // The written octets are in the grammar, and are the requested Data.
         ensures reads_back { data_refusal self.now ≡ None
             → IsData (data_text self.now) (data_asked self.now) }
-        // The signature was computed over exactly the octets that it covers.
+        // The signature was computed over exactly the octets that `Covered` defines.
         ensures signed { data_refusal self.now ≡ None
             → Covered (AData (data_text self.now) (data_asked self.now))
             (octets (fields_covered self.now)) [] }
@@ -82,7 +82,7 @@ impl DataWriter<'_> {
     }
 
     #[tactic(auto, using(crate::proofs::Lengths::fields_are_long))]
-    /// Returns the length of the value of the MetaInfo in octets, 0 if there is none.
+    /// Returns the length of the value of the MetaInfo in octets, or 0 if no MetaInfo is written.
     fn meta_len(&self) -> usize
         ensures exact { result ≡ length (octets (meta_fields self.now.freshness self.now.last)) }
         ensures small { result ≤ 70 }
@@ -93,7 +93,7 @@ impl DataWriter<'_> {
     }
 
     #[tactic(auto, using(crate::proofs::DataWriting::meta_absent, crate::proofs::DataWriting::meta_present))]
-    /// Returns the length of the MetaInfo in octets, 0 if there is none.
+    /// Returns the length of the MetaInfo in octets, or 0 if no MetaInfo is written.
     fn meta_field_len(&self) -> usize
         ensures len { IsLength result (octets (optional META_INFO (meta_asked self.now))) }
         ensures freshness { IsU64 self.now.freshness }
@@ -105,7 +105,8 @@ impl DataWriter<'_> {
         }
     }
 
-    /// Returns the length in octets of what the signature covers, at most `usize::MAX`.
+    /// Returns the length in octets of the fields that the signature covers, or `usize::MAX` if the
+    /// length is greater.
     fn covered_len(&self) -> usize
         ensures len { IsLength result (octets (fields_covered self.now)) }
         // Proofs about the written Data use the fact that the octets and numbers of the writer are
@@ -118,7 +119,8 @@ impl DataWriter<'_> {
             .saturating_add(element_len(SIGNATURE_INFO, info_len(self.sign, None, None)))
     }
 
-    /// Returns the length of the packet's value in octets, at most `usize::MAX`.
+    /// Returns the length of the packet's value in octets, or `usize::MAX` if the length is
+    /// greater.
     fn value_len(&self) -> usize
         ensures len { IsLength result (octets (fields_asked self.now)) }
         // Proofs about the written Data use the fact that the octets and numbers of the writer are
@@ -146,7 +148,8 @@ impl DataWriter<'_> {
     }
 
     #[tactic(auto, using(crate::proofs::DataWriting::covered_put))]
-    /// Appends what the signature covers. If memory runs out, some octets may have been appended.
+    /// Appends the fields that the signature covers. If memory runs out, some octets may have been
+    /// appended.
     fn put_covered(&self, out: &mut Vec<u8>) -> Result<(), Memory>
         ensures { Puts out.old out.new result (octets (fields_covered self.now)) }
     {
@@ -158,7 +161,8 @@ impl DataWriter<'_> {
     }
 
     /// Appends the Data. If memory runs out, some octets may have been appended. Capacity for the
-    /// whole Data is reserved first, so a Data that is longer than any memory is refused at once.
+    /// whole Data is reserved first, so a Data that is longer than any memory gets the fault
+    /// `Memory` at once.
     fn put_parts(&self, out: &mut Vec<u8>, value_len: usize) -> Result<(), Memory>
         requires { IsLength value_len (octets (fields_asked self.now)) }
         ensures { Puts out.old out.new result (data_text self.now) }
@@ -192,7 +196,7 @@ impl DataWriter<'_> {
 }
 
 #[tactic(auto, using(crate::proofs::DataWriting::last_is_short, crate::proofs::DataWriting::last_is_long))]
-/// Returns the length of a FinalBlockId in octets, 0 if there is none.
+/// Returns the length of the FinalBlockId in octets, or 0 if `last` is `None`.
 fn last_len(last: Option<u64>) -> usize
     ensures exact { result ≡ length (octets (last_fields last)) }
     ensures small { result ≤ 44 }
@@ -204,7 +208,8 @@ fn last_len(last: Option<u64>) -> usize
     }
 }
 
-/// Appends a FinalBlockId, if there is one. If memory runs out, some octets may have been appended.
+/// Appends a FinalBlockId with the segment number `last`, or nothing if `last` is `None`. If memory
+/// runs out, some octets may have been appended.
 fn put_last(out: &mut Vec<u8>, last: Option<u64>) -> Result<(), Memory>
     ensures { Puts out.old out.new result (octets (last_fields last)) }
 {
@@ -230,7 +235,7 @@ pub fn put_reply(out: &mut Vec<u8>, name: Name<'_>, content: &[u8]) -> Result<()
     ensures reads_back { length (reply_text (components name.entry) content.now) ≤ 8800
         → IsData (reply_text (components name.entry) content.now)
         (reply_asked (components name.entry) content.now) }
-    // The signature was computed over exactly the octets that it covers.
+    // The signature was computed over exactly the octets that `Covered` defines.
     ensures signed { length (reply_text (components name.entry) content.now) ≤ 8800
         → SignsReply (components name.entry) content.now }
 {

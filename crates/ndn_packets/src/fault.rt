@@ -10,12 +10,13 @@ use thiserror::Error;
 /// later elements in order, a missing field, and last a fault of the digest of an Interest's
 /// parameters. If several faults of one element apply, `Tlv` is reported before `CriticalUnknown`,
 /// and `CriticalUnknown` before a fault in the element's value. `Tlv` never contains `BadInteger`.
-/// In the value of a MetaInfo, a SignatureInfo or an InterestSignatureInfo, the first fault of its
-/// elements is reported. A missing SignatureType is reported after all other faults of a
-/// SignatureInfo. If several faults of one header field of a link packet apply, `Tlv` is reported
-/// before `LpField`, and `LpField` before a fault in the field's value. In the value of a Nack, the
-/// first fault of its elements is reported. In the value of a Fragment, the first fault of the
-/// packet is reported, beginning with its outer element.
+/// In the value of a MetaInfo, a SignatureInfo or an InterestSignatureInfo, the first fault among
+/// the elements of this value is reported. A missing SignatureType is reported after all other
+/// faults of a SignatureInfo. If several faults of one header field of a link packet apply, `Tlv`
+/// is reported before `LpField`, and `LpField` before a fault in the field's value. In the value of
+/// a Nack, the first fault among the elements of this value is reported. In the value of a
+/// Fragment, the first fault of the packet is reported, beginning with the outer element of the
+/// packet.
 #[derive(Clone, Copy, Debug, PartialEq, Eq, Error)]
 pub enum PacketFault {
     /// An element cannot be read, whether or not this profile knows its type.
@@ -55,7 +56,7 @@ pub enum PacketFault {
     #[error("the packet is one of several fragments")]
     Fragmented,
     /// A header field that this profile knows comes twice in a link packet, or an element follows
-    /// the Fragment, or a PitToken does not have 1 to 32 octets. This is also the fault of an
+    /// the Fragment, or a PitToken does not have 1 to 32 octets. `LpField` is also the fault of an
     /// unknown header field whose type is outside 800 to 959, or is not divisible by 4.
     #[error("the link packet has a header field that it may not have")]
     LpField,
@@ -68,8 +69,8 @@ impl PacketFault {
     ghost use Rattle.std.specs.Prelude.{◌≡◌};
     ghost use Rattle.ndn_packets.specs.FaultName.{packet_name};
 
-    /// Returns the name of the fault, as scripts and the client print it. After the name `Tlv`, the
-    /// name of the contained fault follows.
+    /// Returns the name of the fault, as scripts and the client print it. For a fault `Tlv`, the
+    /// result is `Tlv`, a space and the name of the contained `TlvFault`.
     pub fn name(self) -> &'static str
         ensures { result.now ≡ packet_name self }
     {
@@ -100,7 +101,8 @@ pub enum WriteFault {
     /// add.
     #[error("the Interest's name is empty, or has a digest of ApplicationParameters")]
     BadName,
-    /// The name would have more than 64 components, or the packet more than 8,800 octets.
+    /// The written name of an Interest would have more than 64 components, or the written packet
+    /// would have more than 8,800 octets.
     #[error("the name has more than 64 components, or the packet has more than 8800 octets")]
     TooLong,
     /// Memory could not be allocated.

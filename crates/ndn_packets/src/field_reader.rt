@@ -22,8 +22,8 @@ use ndn_tlv::{Element, first_element, nni_of};
 #[derive(Drop)]
 pub struct FieldReader<'a> {
     rules: Rules,
-    /// If `next` has just returned a field, the octets from the start of this field to the end of
-    /// the value.
+    /// If `next` has just returned a field, `here` is the octets from the start of this field to
+    /// the end of the value.
     pub here: &'a [u8],
     rest: &'a [u8],
     schema: &'a [u32],
@@ -104,8 +104,8 @@ fn leading_value(value: &[u8]) -> Result<(&[u8], &[u8]), PacketFault>
 }
 
 /// Returns the name in the first element, which must be a Name, and the octets after this element.
-/// Returns `NoName` if the first element is missing or has another type, `Tlv` if it cannot be
-/// read, and `BadField` if its value is not a name.
+/// Returns `NoName` if the first element is missing or has another type, `Tlv` if the first element
+/// cannot be read, and `BadField` if the value of the Name is not a name.
 #[inline(always)]
 pub fn leading_name(value: &[u8]) -> Result<(Name<'_>, &[u8]), PacketFault>
     ensures exact { on_result (λ x. Ok (components x.0, elements_of x.1.now)) Err result
@@ -139,8 +139,8 @@ pub fn digested_name(
     }
 }
 
-/// Returns the number that a value encodes as a NonNegativeInteger, or `BadField` if it encodes
-/// none.
+/// Returns the number that a value encodes as a NonNegativeInteger, or `BadField` if the value is
+/// not a NonNegativeInteger.
 #[inline(always)]
 pub fn number(value: &[u8]) -> Result<u64, PacketFault>
     ensures { result ≡ nni_value_at value.now }

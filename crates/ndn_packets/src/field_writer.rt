@@ -1,5 +1,5 @@
-//! What the writers of packets share: functions that compute lengths before anything is written,
-//! and functions that write fields.
+//! Functions that the writers of packets share. Some functions compute lengths before anything is
+//! written, and other functions write fields.
 
 ghost use Rattle.std.specs.Prelude.{◌≡◌, ◌<◌, ◌≤◌, ◌+◌, ◌^◌, ◌++◌, ℕ, IfSome, List, drop, length, take, option_map};
 ghost use Rattle.ndn_tlv.specs.Number.{spelling, shortest_nni};
@@ -21,7 +21,7 @@ use ndn_tlv::{
 /// The length of a SHA-256 digest, in octets.
 pub const DIGEST_LEN: usize = 32;
 
-/// The length of a component that is a digest, in octets, including its type and length.
+/// The length of a digest component in octets, including the type and length of the component.
 pub const DIGEST_COMPONENT_LEN: usize = 34;
 
 /// Returns the length of `octets`.
@@ -35,8 +35,8 @@ pub fn octets_len(octets: &[u8]) -> usize
 }
 
 #[tactic(auto, using(ndn_tlv::proofs::Lengths::header_lengths, crate::proofs::Lengths::element_is_long))]
-/// Returns the length in octets of an element whose value has length `value_len`, at most
-/// `usize::MAX`.
+/// Returns the length in octets of an element of type `kind` whose value has `value_len` octets, or
+/// `usize::MAX` if the length of the element is greater.
 #[inline(always)]
 pub fn element_len(kind: u32, value_len: usize) -> usize
     ensures { (value : List ℕ) → IsLength value_len value
@@ -46,7 +46,7 @@ pub fn element_len(kind: u32, value_len: usize) -> usize
     header_len.saturating_add(value_len)
 }
 
-/// Returns the length of an optional field in octets, at most `usize::MAX`.
+/// Returns the length of an optional field in octets, or `usize::MAX` if the length is greater.
 #[inline(always)]
 pub fn optional_len(kind: u32, value: Option<&[u8]>) -> usize
     ensures len { IsLength result (octets (optional kind (option_map (λ v. v.now) value.entry))) }
@@ -71,7 +71,7 @@ pub fn number_field_len(kind: u32, asked: Option<u64>) -> usize
     }
 }
 
-/// Returns the length of the Name element in octets, at most `usize::MAX`.
+/// Returns the length of the Name element in octets, or `usize::MAX` if the length is greater.
 pub fn name_element_len(name: Name<'_>) -> usize
     ensures len { IsLength result (element (NAME, octets (components name.entry))) }
     ensures sound { AreOctets (octets (components name.entry)) }
@@ -79,7 +79,7 @@ pub fn name_element_len(name: Name<'_>) -> usize
     element_len(NAME, octets_len(name.as_octets()))
 }
 
-/// Returns the SignatureType.
+/// Returns the SignatureType of a packet that is signed as `sign` tells.
 #[inline(always)]
 fn kind_of(sign: Sign<'_>) -> u64
     ensures { result ≡ kind_of sign.entry }
@@ -90,7 +90,8 @@ fn kind_of(sign: Sign<'_>) -> u64
     }
 }
 
-/// Returns the length of the KeyLocator in octets, 0 if there is none, at most `usize::MAX`.
+/// Returns the length of the KeyLocator in octets, or 0 if there is no KeyLocator. If the length is
+/// greater than `usize::MAX`, returns `usize::MAX`.
 fn locator_len(sign: Sign<'_>) -> usize
     ensures len { IsLength result (octets (locator_fields sign.entry)) }
     ensures sound { IsSoundSign sign.entry }
@@ -102,8 +103,8 @@ fn locator_len(sign: Sign<'_>) -> usize
 }
 
 #[tactic(auto, using(crate::proofs::Lengths::info_is_long))]
-/// Returns the length in octets of the value of a SignatureInfo, or of an InterestSignatureInfo, at
-/// most `usize::MAX`.
+/// Returns the length in octets of the value of a SignatureInfo or of an InterestSignatureInfo, or
+/// `usize::MAX` if the length is greater.
 pub fn info_len(sign: Sign<'_>, time: Option<u64>, seq: Option<u64>) -> usize
     ensures len { IsLength result (octets (info_fields sign.entry time seq)) }
     ensures time { IsU64 time }
@@ -160,7 +161,7 @@ pub fn put_info(
     Ok(())
 }
 
-/// Overwrites the octets that begin at index `place` with the octets `by`.
+/// Replaces `by.len()` octets in `octets`, from index `place` on, with the octets in `by`.
 pub fn overwrite(octets: &mut [u8], place: usize, by: &[u8])
     requires { place + length by.now ≤ length octets.old }
     ensures { octets.new

@@ -27,7 +27,7 @@ pub enum Frame<'a> {
     Data(Data<'a>),
     /// A link packet with a Nack.
     Nack {
-        /// The NackReason, 0 if absent: `CONGESTION`, `DUPLICATE`, `NO_ROUTE` or another.
+        /// The NackReason, 0 if absent: `CONGESTION`, `DUPLICATE`, `NO_ROUTE` or another number.
         reason: u64,
         /// The Interest that the Nack refuses.
         interest: Interest<'a>,
@@ -53,11 +53,11 @@ pub const MAX_FRAME: usize = 9000;
 pub const MAX_PACKET: usize = 8800;
 
 /// Reads a frame (NDN Packet Format 0.3, "Interest Packet" and "Data Packet"; NDNLPv2, "Packet
-/// Format"): one Interest or one Data of this profile, or a link packet. Fields must be in the
-/// order of the standard. Elements that are not fields are ignored if their types allow it. The
-/// digest of an Interest's ApplicationParameters must be correct. A frame has at most 9,000 octets,
-/// and a packet at most 8,800. The received octets of a packet are its own element, without the
-/// link packet around it.
+/// Format"): one Interest or one Data of this profile, or a link packet. The fields of a packet
+/// must be in the order of the standard. The header fields of a link packet may be in any order.
+/// Elements that are not fields are ignored if their types allow it. The digest of an Interest's
+/// ApplicationParameters must be correct. A frame has at most 9,000 octets, and a packet at most
+/// 8,800. The received octets of a packet are its own element, without the link packet around it.
 ///
 /// If the octets are not a frame, returns the first fault from the left: see `PacketFault`.
 /// Signatures are not verified. A PIT token is checked but not returned: `read_lp` returns it.
@@ -153,7 +153,7 @@ pub(crate) fn only_element(octets: &[u8]) -> Result<Element<'_>, PacketFault>
     Ok(element)
 }
 
-/// Returns whether these octets are too long for a packet.
+/// Returns whether the octets `whole` are too long for a packet.
 #[inline(always)]
 pub(crate) fn is_too_long(whole: &[u8]) -> bool
     ensures exact { result ≡ nat_lt 8800 (length whole.now) }
@@ -163,8 +163,8 @@ pub(crate) fn is_too_long(whole: &[u8]) -> bool
     whole.len() > MAX_PACKET
 }
 
-/// Reads the Interest or the Data in this element. Returns `BadField` if the element is neither an
-/// Interest nor a Data.
+/// Reads the Interest or the Data in the element `outer`. Returns `BadField` if the element is
+/// neither an Interest nor a Data.
 #[inline(never)]
 pub(crate) fn packet_of(outer: Element<'_>) -> Result<Frame<'_>, PacketFault>
     ensures { on_result (λ f. Ok (plain_frame f)) Err result
@@ -177,8 +177,8 @@ pub(crate) fn packet_of(outer: Element<'_>) -> Result<Frame<'_>, PacketFault>
     }
 }
 
-/// Reads the Interest in this element, and returns it with `reason` as a Nack. Returns `BadField`
-/// if the element is not an Interest.
+/// Reads the Interest in the element `outer`, and returns a Nack for this Interest with the reason
+/// `reason`. Returns `BadField` if the element is not an Interest.
 pub(crate) fn nacked_of(reason: u64, outer: Element<'_>) -> Result<Frame<'_>, PacketFault>
     ensures { on_result (λ f. Ok (plain_frame f)) Err result
         ≡ nacked_of reason outer.entry.whole.now (outer.entry.kind, outer.entry.value.now) }
@@ -211,8 +211,9 @@ pub fn frames_tell_the_first_fault()
         → ((frame_at text ≡ Err fault) ↔ FaultOf text fault) }
 {}
 
-/// Law: the received octets of every Interest and every Data in memory are that packet, even if the
-/// packet came in a link packet. The reason is that only `read_frame` and `read_lp` create an
+/// Law: in the grammar, the received octets of an Interest in memory are this Interest, and the
+/// received octets of a Data in memory are this Data. Both statements are also true of a packet
+/// that came in a link packet. The reason is that only `read_frame` and `read_lp` create an
 /// Interest or a Data in memory.
 pub fn packets_in_hand_are_read()
     ensures interest { (i : Interest) → IsReadInterest i }

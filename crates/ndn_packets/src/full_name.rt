@@ -21,7 +21,7 @@ use std::marker::Model;
 /// "Implicit Digest Component").
 #[derive(Drop)]
 pub struct FullName {
-    // The TLV-VALUE of the full name, which may have 65 components and is then too long for a
+    // The TLV-VALUE of the full name. A full name may have 65 components, which are too many for a
     // `Name`.
     octets: Vec<u8>,
 }
@@ -39,7 +39,7 @@ impl Model for FullName {
 }
 
 impl FullName {
-    /// Returns the full name of a Data. Only this function computes the digest.
+    /// Returns the full name of a Data. No other function of `FullName` computes the digest.
     pub fn new(alloc: Global, packet: &Data<'_>) -> Result<FullName, Memory>
         ensures { IfOk result (λ f. f ≡ record {
           name = components packet.now.name;
@@ -105,10 +105,11 @@ impl FullName {
         self.octets.as_slice().starts_with(name.as_octets())
     }
 
-    /// Returns whether the full name is near `name`. A full name near `name` begins with `name`.
-    /// Without CanBePrefix, if the full name has a component after `name`, the type of this
-    /// component is at most 1, the type of an implicit digest. If a Data answers an Interest with
-    /// this name and this CanBePrefix, the full name of the Data is near the name.
+    /// Returns whether the full name is near `name`. A full name near `name` begins with `name`. If
+    /// `can_be_prefix` is false and the full name has components after `name`, the type of the
+    /// first of these components is at most 1, the type of an implicit digest. If a Data answers an
+    /// Interest that has the name `name` and the CanBePrefix `can_be_prefix`, the full name of the
+    /// Data is near `name`.
     pub fn is_near(&self, name: Name<'_>, can_be_prefix: bool) -> bool
         ensures { result ≡ is_near (components name.entry) can_be_prefix
             (all_components self.now) }

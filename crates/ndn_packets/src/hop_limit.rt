@@ -35,8 +35,8 @@ pub fn hop_limit_mut(octets: &mut [u8]) -> Option<&mut u8>
     Some(&mut octets[place])
 }
 
-/// Returns the index of the HopLimit's octet in an Interest, or the length of `octets` if there is
-/// no HopLimit.
+/// Returns the index of the HopLimit's octet, or the length of `octets` if `octets` are not one
+/// Interest that has a HopLimit.
 fn hop_place(octets: &[u8]) -> usize
     ensures exact { result ≡ hop_place octets.now }
     // The proof of `hop_limit_mut` uses the fact that octets are below 256.

@@ -47,10 +47,11 @@ pub struct Interest<'a> {
     pub parameters: Option<&'a [u8]>,
     /// The signature, if the Interest is signed. The signature is not verified.
     pub signature: Option<Signature<'a>>,
-    /// The received octets of the whole packet, including its type and length, at most 8,800.
+    /// The received octets of the whole packet, including the type and length of the packet. There
+    /// are at most 8,800 of these octets.
     pub whole: &'a [u8],
-    /// The octets from the ApplicationParameters on that the signature covers, or `None` if the
-    /// signature covers nothing.
+    /// The second part of the octets that the signature covers. This part begins with the
+    /// ApplicationParameters. `None` means that the signature covers nothing.
     pub(crate) covered: Option<&'a [u8]>,
     ghost covers: { ∥ HoldsSecond (components name) whole.now
         (option_map (λ c. c.now) covered) ∥₁ },
@@ -90,11 +91,11 @@ struct InterestFields<'a> {
     lifetime: u64,
     hop_limit: Option<u8>,
     parameters: Option<&'a [u8]>,
-    /// The octets from the ApplicationParameters on, once they have been read.
+    /// The octets from the ApplicationParameters on, once the ApplicationParameters have been read.
     from_parameters: &'a [u8],
     info: Option<SignatureInfo<'a>>,
     value: Option<&'a [u8]>,
-    /// The octets from the InterestSignatureValue on, once it has been read.
+    /// The octets from the InterestSignatureValue on, once this value has been read.
     from_value: &'a [u8],
 }
 
@@ -118,7 +119,7 @@ impl<'a> Interest<'a> {
     }
 
     #[tactic(auto, using(crate::proofs::Rules::nil_tests), unfolding(crate::specs::Reading::interest_at))]
-    /// Reads the Interest in this element.
+    /// Reads the Interest in the element `outer`.
     #[inline(always)]
     pub(crate) fn read(outer: Element<'a>) -> Result<Interest<'a>, PacketFault>
         requires { outer.kind ≡ INTEREST }
@@ -224,7 +225,7 @@ fn signature_of<'a>(
 }
 
 #[tactic(auto, using(crate::proofs::Marks::interest_first, crate::proofs::Marks::interest_still, crate::proofs::Marks::interest_parameters, crate::proofs::Marks::interest_info, crate::proofs::Marks::interest_value))]
-/// Reads the fields after the Name.
+/// Reads the fields of an Interest from `rest`, the octets after the Name.
 #[inline(always)]
 fn fields_of(rest: &[u8]) -> Result<InterestFields<'_>, PacketFault>
     ensures walk { on_result (λ f. Ok (interest_so_far f)) Err result

@@ -88,7 +88,8 @@ impl InterestWriter<'_> {
         // The written octets are in the grammar, and are the requested Interest.
         ensures reads_back { interest_refusal self.now ≡ None
             → IsInterest (interest_text self.now) (interest_asked self.now) }
-        // The signature, if there is one, was computed over exactly the octets that it covers.
+        // If the Interest is signed, the signature was computed over exactly the octets that
+        // `Covered` defines.
         ensures signed { interest_refusal self.now ≡ None
             → IfSome self.now.sign (SignsInterest self.now) }
     {
@@ -121,7 +122,7 @@ impl InterestWriter<'_> {
     }
 
     /// Returns the number of components of the written name, including the digest of parameters, or
-    /// `None` if an Interest may not have this name.
+    /// `None` if `self.name` is empty or has a digest of parameters.
     #[inline(always)]
     fn component_count(&self) -> Option<usize>
         ensures { MatchOption result (is_bad_name (components self.now.name) ≡ true)
@@ -143,7 +144,7 @@ impl InterestWriter<'_> {
         self.parameters.is_some() || self.sign.is_some()
     }
 
-    /// Returns the length of the name's value in octets, at most `usize::MAX`.
+    /// Returns the length of the name's value in octets, or `usize::MAX` if the length is greater.
     #[inline(always)]
     fn name_len(&self) -> usize
         ensures len { IsLength result (octets (interest_name self.now)) }
@@ -158,7 +159,7 @@ impl InterestWriter<'_> {
     }
 
     /// Returns the length in octets of the fields between the name and the ApplicationParameters,
-    /// at most `usize::MAX`.
+    /// or `usize::MAX` if the length is greater.
     #[inline(always)]
     fn early_len(&self) -> usize
         ensures len { IsLength result (octets (early_fields self.now)) }
@@ -174,8 +175,8 @@ impl InterestWriter<'_> {
             .saturating_add(octet_field_len(HOP_LIMIT, self.hop_limit))
     }
 
-    /// Returns the length in octets of the fields from the ApplicationParameters on, at most
-    /// `usize::MAX`.
+    /// Returns the length in octets of the fields from the ApplicationParameters on, or
+    /// `usize::MAX` if the length is greater.
     #[inline(always)]
     fn later_len(&self) -> usize
         ensures len { IsLength result (octets (later_fields self.now self.now.sign)) }
@@ -207,8 +208,8 @@ impl InterestWriter<'_> {
         }
     }
 
-    /// Returns the lengths of the name's value and of the Interest's value in octets, each at most
-    /// `usize::MAX`.
+    /// Returns the lengths of the name's value and of the Interest's value in octets. A length
+    /// greater than `usize::MAX` is returned as `usize::MAX`.
     #[inline(always)]
     fn lengths(&self) -> Lengths
         ensures name { IsLength result.name (octets (interest_name self.now)) }
@@ -255,7 +256,8 @@ impl InterestWriter<'_> {
         put_info(out, INTEREST_SIGNATURE_INFO, sign, self.time, self.seq)
     }
 
-    /// Returns the value of the signature, which covers the name's components and `covered`.
+    /// Returns the SignatureValue of the signature over the octets of the name's components
+    /// followed by the octets `covered`.
     fn signature_value(&self, sign: Sign<'_>, covered: &[u8]) -> [u8; DIGEST_LEN]
         requires { covered.now ≡ octets (covered_fields self.now sign) }
         ensures { result ≡ interest_value self.now sign.entry }
@@ -263,8 +265,9 @@ impl InterestWriter<'_> {
         sign.value(self.name.as_octets(), covered)
     }
 
-    /// Appends the Name element. If memory runs out, some octets may have been appended. A digest
-    /// of parameters is first written as zeros.
+    /// Appends the Name element. If memory runs out, some octets may have been appended. If the
+    /// name has a digest of parameters, 32 zeros are written in place of the digest, which is not
+    /// yet known.
     #[inline(always)]
     fn put_name(&self, out: &mut Vec<u8>, name_len: usize) -> Result<(), Memory>
         requires len { IsLength name_len (octets (interest_name self.now)) }
@@ -343,7 +346,7 @@ fn put_digest(octets: &mut [u8], digest_end: usize, start: usize)
     overwrite(octets, digest_end - DIGEST_LEN, &digest);
 }
 
-/// Returns the number of a name's components, or `None` if one is a digest of parameters.
+/// Returns the number of a name's components, or `None` if a component is a digest of parameters.
 #[inline(always)]
 fn count_without_digest(name: Name<'_>) -> Option<usize>
     ensures exact { MatchOption result (is_nil (digests_in (components name.entry)) ≡ false)
@@ -361,7 +364,7 @@ fn count_without_digest(name: Name<'_>) -> Option<usize>
     Some(count)
 }
 
-/// Returns the length of a flag in octets, 0 if it is not set.
+/// Returns the length of a flag in octets, or 0 if the flag is not set.
 #[inline(always)]
 fn flag_len(kind: u32, set: bool) -> usize
     ensures { IsLength result (octets (flag kind set)) }

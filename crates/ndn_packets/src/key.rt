@@ -25,8 +25,8 @@ impl Key<'_> {
     ghost use Rattle.std.specs.Prelude.{◌≡◌};
     ghost use Rattle.ndn_packets.specs.Key.{plain_key, key_cmp};
 
-    /// Compares by name in canonical order (NDN Packet Format 0.3, "Name", "Canonical Order"), then
-    /// by CanBePrefix, then by MustBeFresh. An unset flag comes before a set one.
+    /// Compares two keys by name in canonical order (NDN Packet Format 0.3, "Name", "Canonical
+    /// Order"), then by CanBePrefix, then by MustBeFresh. An unset flag comes before a set flag.
     pub fn compare(&self, other: Key<'_>) -> Ordering
         ensures { result ≡ key_cmp (plain_key self.now) (plain_key other.entry) }
     {

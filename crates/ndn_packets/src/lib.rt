@@ -1,5 +1,5 @@
-//! Interests, Data and link packets of the Named Data Networking packet format: reading them in
-//! place, and writing them.
+//! Reads and writes Interests and Data of the NDN Packet Format 0.3, and link packets of NDNLPv2.
+//! Packets are read in place.
 #![tactic(auto)]
 
 mod answers;

@@ -31,8 +31,8 @@ const MAX_IGNORED: u32 = 959;
 /// The greatest length of a PitToken, in octets.
 const MAX_TOKEN: usize = 32;
 
-/// The header fields that have been read so far. Of a Sequence, a FragIndex and a FragCount, only
-/// the presence is stored.
+/// The header fields that have been read so far. The values of the Sequence, the FragIndex and the
+/// FragCount are not stored, only whether these fields have been read.
 #[derive(Clone, Copy)]
 struct Headers<'a> {
     sequence: bool,
@@ -88,16 +88,16 @@ impl<'a> Headers<'a> {
     }
 }
 
-/// Returns whether a header field that this profile does not know is ignored (NDNLPv2, "Packet
-/// Format").
+/// Returns whether a header field of type `kind` is ignored if this profile does not know the type
+/// (NDNLPv2, "Packet Format").
 fn is_ignored_header(kind: u32) -> bool
     ensures { result ≡ is_ignored_header kind }
 {
     kind > NACK && kind <= MAX_IGNORED && kind % 4 == 0
 }
 
-/// Refuses a number above `limit` as `Fragmented`, because the packet is then one of several
-/// fragments. Refuses a value that is not a number as `BadField`.
+/// Returns `BadField` if `value` is not a NonNegativeInteger. Returns `Fragmented` if the number is
+/// above `limit`, because the link packet is then one of several fragments.
 fn check_at_most(limit: u64, value: &[u8]) -> Result<(), PacketFault>
     ensures { (s : LinkSoFar) → on_result (λ _. Ok s) Err result ≡ at_most limit value.now s }
 {
@@ -171,7 +171,9 @@ fn fragment_of(nack: Option<u64>, fragment: &[u8]) -> Result<Frame<'_>, PacketFa
 }
 
 #[tactic(auto, using(crate::proofs::Rules::no_elements))]
-/// Refuses octets after a Fragment.
+/// Checks that no octets follow a Fragment. The argument `after` is the octets that follow the
+/// Fragment. If `after` is not empty, returns `Tlv` if the first element in `after` cannot be read,
+/// and `LpField` otherwise.
 fn check_last(after: &[u8]) -> Result<(), PacketFault>
     ensures { (framed : PlainFramed)
         → on_result (λ _. Ok framed) Err result ≡ last_of framed (elements_of after.now) }
@@ -183,10 +185,11 @@ fn check_last(after: &[u8]) -> Result<(), PacketFault>
     Err(PacketFault::LpField)
 }
 
-/// Appends a link packet around a packet, with the PIT token and the Nack that are given (NDNLPv2,
-/// "PIT Token", "Network Nack"). With neither a PIT token nor a Nack, appends the packet alone. The
-/// token must have 1 to 32 octets, and is written before the Nack. The NackReason of a Nack is
-/// written even if it is 0. If memory runs out, nothing is appended.
+/// Appends a link packet that contains `packet`, the PIT token if `token` is given, and a Nack if
+/// the reason `nack` is given (NDNLPv2, "PIT Token", "Network Nack"). If neither `token` nor `nack`
+/// is given, appends `packet` alone. The token must have 1 to 32 octets, and is written before the
+/// Nack. The NackReason of a Nack is written even if it is 0. If memory runs out, nothing is
+/// appended.
 pub fn put_lp(
     out: &mut Vec<u8>,
     token: Option<&[u8]>,
@@ -279,9 +282,9 @@ fn put_link_start(out: &mut Vec<u8>, token: &[u8], packet_len: usize) -> Result<
     Ok(())
 }
 
-/// Appends a link packet with a Nack of this reason around an Interest's octets (NDNLPv2, "Network
-/// Nack"). The NackReason is always written, even if it is 0. If memory runs out, nothing is
-/// appended.
+/// Appends a link packet that contains a Nack with the reason `reason` and the octets `interest`
+/// (NDNLPv2, "Network Nack"). The NackReason is always written, even if it is 0. If memory runs
+/// out, nothing is appended.
 pub fn put_nack(out: &mut Vec<u8>, reason: u64, interest: &[u8]) -> Result<(), Memory>
     ensures ok { OnOk result (out.new.items ≡ out.old.items ++ nack_text reason interest.now) }
     ensures err { OnErr result (out.new.items ≡ out.old.items) }
@@ -289,8 +292,8 @@ pub fn put_nack(out: &mut Vec<u8>, reason: u64, interest: &[u8]) -> Result<(), M
     ensures room { vec_len out.old + length (nack_text reason interest.now) ≤ vec_capacity out.old
         → IsOk result }
     ensures capacity { vec_capacity out.old ≤ vec_capacity out.new }
-    // If `interest` is one Interest, the appended octets are a frame with a Nack of this reason for
-    // this Interest.
+    // If `interest` is one Interest, the appended octets are a frame that is a Nack with this
+    // reason for this Interest.
     ensures reads_back { (i : PlainInterest) → IsInterest interest.now i
         → IsFrame (nack_text reason interest.now) (ANack reason interest.now i) }
 {
@@ -319,8 +322,8 @@ fn put_lp_parts(
 
 #[tactic(auto, using(crate::proofs::NackWriting::link_put, crate::proofs::NackWriting::link_parts))]
 /// Appends a link packet. If memory runs out, some octets may have been appended. Capacity for the
-/// whole link packet is reserved first, so a link packet that is longer than any memory is refused
-/// at once.
+/// whole link packet is reserved first, so a link packet that is longer than any memory gets the
+/// fault `Memory` at once.
 fn put_link(
     out: &mut Vec<u8>,
     token: Option<&[u8]>,
@@ -345,7 +348,8 @@ fn put_link(
     Ok(())
 }
 
-/// Returns the length of the value of a link packet in octets, at most `usize::MAX`.
+/// Returns the length of the value of a link packet in octets, or `usize::MAX` if the length is
+/// greater.
 fn link_value_len(token: Option<&[u8]>, nack: Option<u64>, packet: &[u8]) -> usize
     ensures len { IsLength result
         (link_value (option_map (λ t. t.now) token.entry) nack packet.now) }
@@ -357,7 +361,7 @@ fn link_value_len(token: Option<&[u8]>, nack: Option<u64>, packet: &[u8]) -> usi
         .saturating_add(element_len(FRAGMENT, packet.len()))
 }
 
-/// Returns the length of the header field of a Nack in octets, 0 if there is none.
+/// Returns the length of the Nack header field in octets, or 0 if `nack` is `None`.
 fn nack_header_len(nack: Option<u64>) -> usize
     ensures len { IsLength result (octets (nack_headers nack)) }
     ensures sound { IsU64 nack }
@@ -383,7 +387,8 @@ fn put_headers(out: &mut Vec<u8>, token: Option<&[u8]>, nack: Option<u64>) -> Re
 }
 
 #[tactic(auto, using(ndn_tlv::proofs::Lengths::element_put))]
-/// Appends the header field of a Nack. If memory runs out, some octets may have been appended.
+/// Appends a Nack header field with the reason `reason`. If memory runs out, some octets may have
+/// been appended.
 fn put_reason(out: &mut Vec<u8>, reason: u64) -> Result<(), Memory>
     ensures { Puts out.old out.new result (nack_field reason) }
 {

@@ -18,7 +18,7 @@ pub enum Rules {
 }
 
 impl Rules {
-    /// Returns whether an element of this type that is not a field is ignored.
+    /// Returns whether an element of type `kind` is ignored if the element is not a field.
     #[inline(always)]
     pub fn ignores(self, kind: u32) -> bool
         ensures { result ≡ ignored_by self kind }
@@ -32,8 +32,8 @@ impl Rules {
     }
 }
 
-/// Returns whether a field of this type may come only after the field of the preceding type in the
-/// schema. Ignored elements may come between a field and the field that precedes it.
+/// Returns whether an element of type `kind` is a field only if the last field before it has the
+/// preceding type in the schema. Ignored elements may come between the two fields.
 #[inline(always)]
 pub fn needs_previous_field(kind: u32) -> bool
     ensures { result ≡ needs_previous_field kind }

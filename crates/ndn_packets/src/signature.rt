@@ -66,7 +66,8 @@ impl Sign<'_> {
     ghost use Rattle.std.specs.Prelude.{◌≡◌, ◌++◌};
     ghost use Rattle.ndn_packets.specs.Writing.{value_of};
 
-    /// Returns the value of a signature that covers `first` followed by `second`.
+    /// Returns the SignatureValue of a signature over the octets `first` followed by the octets
+    /// `second`.
     pub(crate) fn value(self, first: &[u8], second: &[u8]) -> [u8; 32]
         ensures { result ≡ value_of self.entry (first.now ++ second.now) }
     {
@@ -82,7 +83,7 @@ impl Sign<'_> {
     }
 }
 
-/// A SignatureInfo.
+/// The fields of a SignatureInfo or of an InterestSignatureInfo, except the SignatureNonce.
 #[derive(Clone, Copy)]
 pub struct SignatureInfo<'a> {
     pub kind: u64,

@@ -56,7 +56,8 @@ pub const SIGNATURE_TIME: u32 = 40;
 
 pub const SIGNATURE_SEQ_NUM: u32 = 42;
 
-/// An element that is ignored in a SignatureInfo (NDN Certificate Format 2.0, "ValidityPeriod").
+/// The type of an element that is ignored in a SignatureInfo (NDN Certificate Format 2.0,
+/// "ValidityPeriod").
 pub const VALIDITY_PERIOD: u32 = 253;
 
 /// The type of the element that a KeyLocator may have instead of a Name.
