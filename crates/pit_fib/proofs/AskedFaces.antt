@@ -1,5 +1,6 @@
--- The faces with a pending Interest that a Data answers: those with an in-record under the Data's
--- name or a proper prefix of it, and those with an in-record under the full name.
+-- The faces with a pending Interest that a Data answers: the faces with an in-record under the
+-- Data's name or under a proper prefix of this name, and the faces with an in-record under the full
+-- name.
 use Rattle.std.proofs.Common.{◌≡◌, inl, inr, ℕ, Bool, true, false, List, [], ◌∷◌, ◌++◌, refl, sym, ap, subst, ◌∙◌}
 use Rattle.std.specs.Prelude.{Option, None, Some, IsSome, IsTrue, is_some, ◌||◌, ◌↔◌}
 use Rattle.std.specs.Ordering.{nat_cmp, eq_by_cmp}

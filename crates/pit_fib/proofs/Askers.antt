@@ -47,8 +47,8 @@ all_has (f ∷ faces) = (ap (λ b. b || has_face f faces) (same f), wider f face
     wider f whole [] h = tt
     wider f whole (g ∷ faces) h = (ap (λ b. eqb f g || b) h.0 ∙ or_true (eqb f g), wider f whole faces h.1)
 
--- In this module, at most 64 faces have the property `P`, and a face with this property is added to
--- faces that all have it.
+-- In this module, at most 64 faces have the property `P`. `face` and all faces in `faces` have this
+-- property. `face` is added to `faces`.
 module _ (P : ℕ → Type 0) (few : AtMost64 P) (face : ℕ) (has : P face) (faces new : List ℕ) (added : Bool) (rising : IsRising faces)
     (all : (f : ℕ) → IsTrue (has_face f faces) → P f) (is : (added, new) ≡ adding face faces) where
   each : (l : List ℕ) → AllByRecursion (λ f. IsTrue (has_face f faces)) l → AllByRecursion P l

@@ -1,5 +1,5 @@
--- The list of all entries after an expiry, which removes routes, and removes each entry that then
--- has neither next hops nor routes.
+-- The list of all entries after an expiry. An expiry removes routes, and then removes each entry
+-- that has neither next hops nor routes left.
 use Rattle.std.proofs.Common.{◌≡◌, ℕ, ◌<◌, true, false, List, [], ◌∷◌, ◌++◌, length, get_or, refl, sym, ap, ◌∙◌}
 use Rattle.std.proofs.lemmas.List.{append-nil, map-append}
 use Rattle.std.specs.Prelude.{None, Some, IsSome, is_some, map}

@@ -109,7 +109,7 @@ module _ {S X : Type 0} (show : S → List ℕ → X → S) (t : ByName X) (befo
       ap (λ (x : X). shown_known show (known_at latest before (get t)) (show s (octets_of e.0) x) es) (own_along before (get t) [] e.0 e.1 (each 0 e (omega arith)))
       ∙ own_shown es (λ i d lt. each (suc i) d (omega (arith, lt))) (show s (octets_of e.0) e.1)
 
-  -- on a walk whose state is the value that the walk passed last, each name is shown with its own
+  -- if the state of a walk is the last value that the walk passed, each name is shown with its own
   -- value
   pub own_are_shown : (s : S) → shown_known show (known_at latest before (get t)) s (entries t) ≡ shown_each show s (entries t)
   own_are_shown s = own_shown (entries t) (λ i d lt. entry_is_there name_cmp-total t i d lt) s

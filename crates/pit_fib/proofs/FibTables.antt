@@ -1,4 +1,4 @@
--- Changes of the table of routes keep it within its limits.
+-- Changes of the table of routes keep the table within its limits.
 use Rattle.std.proofs.Common.{◌≡◌, ◌⊎◌, inl, inr, ℕ, ◌+◌, ◌<◌, ◌≤◌, true, false, cond, List, [], ◌∷◌, length, nat_cmp, refl, sym, ap, subst, ◌∙◌, arith}
 use Rattle.std.specs.Prelude.{Option, None, Some, IsSome, unwrap_or, is_some}
 use Rattle.std.specs.Option.{option_and_then}

@@ -1,5 +1,5 @@
--- The number of all routes, the first moment at which one expires, and the number of routes that
--- expire by a moment.
+-- The number of all routes, the first moment at which a route expires, and the number of routes
+-- that expire by a moment.
 use Rattle.std.proofs.Common.{◌≡◌, ◌+◌, ◌^◌, ◌<◌, ◌≤◌, ℕ, true, false, cond, List, [], ◌∷◌, length, refl, sym, ap, subst, ◌∙◌, arith}
 use Rattle.std.proofs.lemmas.Bool.{lt-leb}
 use Rattle.std.specs.Prelude.{Option, None, Some, fold, map}

@@ -115,7 +115,7 @@ abbrev pub GivesNone : Cause → Type 0
 GivesNone cause = (f : ℕ) → Adds cause f → ⊥
 
 -- If the cause gives no face a record (expiry, Data, a Nack, a withdrawal, a removal or a closing),
--- each face that has a record after the cause had a record before it.
+-- each face that has a record after the cause had a record before the cause.
 pub had_records : (cause : Cause) (old new : Pending) → GivesNone cause → Follows cause old new → (f : ℕ) → HasRecord new f → HasRecord old f
 had_records cause old new none follows f has =
     elim (had_record cause old new follows f has) [ (inl was) ↦ was | (inr adds) ↦ absurd (none f adds) ]
@@ -150,13 +150,13 @@ pub at_most : {P Q : ℕ → Type 0} → ((f : ℕ) → P f → Q f) → AtMost6
 at_most sub few faces rising all = few faces rising (all_before sub faces all)
 
 -- if at most 64 faces have records before a cause that gives no face a record, at most 64 faces
--- have records after it
+-- have records after the cause
 pub stays_few : (cause : Cause) (old new : Pending) → ((f : ℕ) → Adds cause f → ⊥) → Follows cause old new → AtMost64 (HasRecord old) → AtMost64 (HasRecord new)
 stays_few cause old new none follows few =
     at_most (λ f has. elim (had_record cause old new follows f has) [ (inl was) ↦ was | (inr adds) ↦ absurd (none f adds) ]) few
 
--- if a cause gives a record to no face but `face`, and the faces with records before the cause,
--- together with `face`, are at most 64, then at most 64 faces have records after the cause
+-- Let a cause give a record to `face` only, or to no face. If the faces with records before the
+-- cause, together with `face`, are at most 64, then at most 64 faces have records after the cause.
 pub grows_few : (cause : Cause) (old new : Pending) (face : ℕ) → ((f : ℕ) → Adds cause f → f ≡ face) → Follows cause old new
     → AtMost64 (λ f. HasRecord old f ⊎ (f ≡ face)) → AtMost64 (HasRecord new)
 grows_few cause old new face one follows room =

@@ -36,7 +36,7 @@ from_kept test rows sorted =
 abbrev pub no_row : RouteKey × Route
 no_row = (record { face = 0; origin = 0 }, record { cost = 0; flags = 0; deadline = None })
 
--- if the row at index `at` passes the test, some row passes it
+-- if the row at index `at` passes the test, some row passes the test
 pub any_at : (test : RouteKey × Route → Bool) (rows : List (RouteKey × Route)) (at : ℕ) (d : RouteKey × Route) → at < length rows → test (get_or rows at d) ≡ true → list_any test rows ≡ true
 any_at test [] at d lt passes = absurd (omega arith)
 any_at test (row ∷ rows) zero d lt passes = ap (λ b. b || list_any test rows) passes

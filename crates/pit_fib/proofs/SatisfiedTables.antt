@@ -1,5 +1,5 @@
--- A table after a Data has removed the entries that it answers: entries under its name, under
--- proper prefixes of its name, and under its full name.
+-- A table after a Data has removed the entries that the Data answers: entries under the name of the
+-- Data, under proper prefixes of this name, and under the full name of the Data.
 use Rattle.std.proofs.Common.{◌≡◌, ℕ, Bool, true, false, cond, List, refl, sym, ap, ◌∙◌}
 use Rattle.std.specs.Prelude.{Option, None, Some, ◌||◌}
 use Rattle.std.specs.Option.{option_and_then}

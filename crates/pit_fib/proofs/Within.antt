@@ -1,4 +1,4 @@
--- Setting a cost if fewer than 64 faces have one.
+-- Setting the cost of a face, if fewer than 64 faces have a cost.
 use Rattle.std.proofs.Common.{◌≡◌, ◌⊎◌, inl, inr, ◌<◌, ℕ, Bool, true, false, cond, refl, ap, ◌∙◌}
 use Rattle.std.proofs.lemmas.Bool.{lt-ltb}
 use Rattle.std.specs.Prelude.{IsSome, nat_lt, ◌||◌}
@@ -17,7 +17,7 @@ any_or : (a b : Bool) → b ≡ true → (a || b) ≡ true
 any_or true b e = refl
 any_or false b e = e
 
--- if the face has a cost, or fewer than 64 faces have one, `set_within` inserts the cost
+-- if the face has a cost, or fewer than 64 faces have a cost, `set_within` inserts the new cost
 pub set_in_room : (old : ByFace) (face cost : ℕ) → IsSome (get old face) ⊎ (len old < 64) → set_within old face cost ≡ insert old face cost
 set_in_room old face cost (inl there) = ap (λ b. cond (b || nat_lt (len old) 64) (insert old face cost) old) there
 set_in_room old face cost (inr few) = ap (λ b. cond b (insert old face cost) old) (any_or (contains_key old face) (nat_lt (len old) 64) (lt-ltb (len old) 64 few))

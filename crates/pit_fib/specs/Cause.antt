@@ -10,15 +10,15 @@ use Rattle.name_trie.specs.ByName.{revise}
 use Rattle.pit_fib.specs.Records.{InRecord, OutRecord, OutRecords, Records, Pending, no_records, is_alive, records_at, same_nonce}
 
 pub data Cause : Type 0 where
-  -- time passed: in-records whose deadline is `now` or earlier expire
+  -- the time is `now`: in-records expire if their deadline is `now` or earlier
   Expires : (now : ℕ) → Cause
   -- an Interest of this key arrived on a face
   Arrives : (key : PlainKey) (face : ℕ) (in_record : InRecord) → Cause
   -- an Interest of this key was sent to a face
   SentTo : (key : PlainKey) (face : ℕ) (nonce : List ℕ) (moment : ℕ) → Cause
-  -- a Data of this name and implicit digest came, and satisfies the Interests that it answers
+  -- a Data of this name and implicit digest came, and satisfied the Interests that the Data answers
   Satisfied : (name : List Field) (digest : List ℕ) → Cause
-  -- a Nack of an Interest of this key, with this Nonce and reason, arrived on a face
+  -- a Nack with this Nonce and reason, for an Interest of this key, arrived on a face
   NackCame : (key : PlainKey) (face : ℕ) (nonce : List ℕ) (reason : ℕ) → Cause
   -- the in-record of a face under this key was removed
   Withdrawn : (key : PlainKey) (face : ℕ) → Cause
@@ -34,26 +34,26 @@ same_key = eq_by_cmp key_cmp
 abbrev pub until_after : ℕ → InRecord → Option InRecord
 until_after now in_record = if nat_lt now in_record.deadline then Some in_record else None
 
--- the out-record of an Interest that was just sent, to which no Nack has come yet
+-- a new out-record: an Interest with this Nonce was sent at `moment`, and no Nack has come yet
 abbrev pub sent_at : List ℕ → ℕ → OutRecord
 sent_at nonce moment = record { nonce = nonce; moment = moment; reason = None }
 
--- the out-record with the reason of a Nack if the Nack has the out-record's Nonce, or else
--- unchanged
+-- the out-record after a Nack: with the Nack's reason if the Nack has the out-record's Nonce, and
+-- unchanged otherwise
 abbrev pub nacked_with : List ℕ → ℕ → OutRecord → OutRecord
 nacked_with nonce reason out_record =
     if same_nonce out_record.nonce nonce then record out_record { reason = Some reason }
     else out_record
 
--- The out-records after a Nack with this Nonce and reason arrived on a face. The face's out-record
--- is `Some out_record`, or None if the face has no out-record.
+-- The out-records after a Nack with this Nonce and reason arrived on a face. The last argument is
+-- the face's out-record, or None if the face has no out-record.
 abbrev pub with_reason : ℕ → List ℕ → ℕ → OutRecords → Option OutRecord → OutRecords
 with_reason face nonce reason out_records None = out_records
 with_reason face nonce reason out_records (Some out_record) =
     map.insert out_records face (nacked_with nonce reason out_record)
 
--- the records of a key after the change that a cause makes, before the out-records are removed if
--- no in-record is left
+-- The records of a key after the change that a cause makes. If no in-record is left, out-records
+-- may still be left; `settled` removes these out-records.
 abbrev pub changed : Cause → PlainKey → Records → Records
 changed (Expires now) k r = record r { in_records = revise (until_after now) r.in_records }
 changed (Arrives key face in_record) k r =
@@ -84,7 +84,7 @@ settled r = if is_alive r then r else no_records
 abbrev pub records_after : Cause → PlainKey → Records → Records
 records_after cause k r = settled (changed cause k r)
 
--- for each key, the records in `new` are the records in `old` after the cause
+-- for each key, the cause changes the key's records in `old` into the key's records in `new`
 abbrev pub Follows : Cause → Pending → Pending → Type 0
 Follows cause old new =
     (k : PlainKey) → records_at new k ≡ records_after cause k (records_at old k)

@@ -24,7 +24,8 @@ lesser cost (Some other) = min cost other
 abbrev pub with_lesser : ByFace → ℕ → ℕ → ByFace
 with_lesser costs face cost = map.insert costs face (lesser cost (map.get costs face))
 
--- for each face, the least cost of those routes in the list that pass the test `wanted`
+-- for each face, the least cost of those routes on the face that are in the list and pass the test
+-- `wanted`
 abbrev pub least_costs : (Route → Bool) → List (RouteKey × Route) → ByFace
 least_costs wanted routes =
     fold {A = RouteKey × Route} {B = ByFace}
@@ -68,8 +69,9 @@ abbrev pub effective : Routes → List Field → ByFace
 effective routes name =
     effective_of (entry_at routes name) (handed_down routes name (length name))
 
--- the costs of the effective next hops of the longest prefix that has an entry, among the prefixes
--- of at most n components; no costs if none of these has an entry
+-- The costs of the effective next hops of one prefix of the name: the longest prefix that has an
+-- entry and at most n components. There are no costs if no prefix of at most n components has an
+-- entry.
 abbrev pub longest_costs : Routes → List Field → ℕ → ByFace
 longest_costs routes name zero =
     if map.contains_key routes (take 0 name) then effective routes (take 0 name) else map.empty
@@ -90,10 +92,10 @@ entry_listed routes e = (e.0, hops_of (effective routes e.0))
 abbrev pub listed : Routes → List (List Field × List Hop)
 listed routes = list_map (entry_listed routes) (map.entries routes)
 
--- ---- the same costs, defined face by face
+-- ---- the effective costs, defined face by face
 
--- a route on this face that passes the test has this cost, and no route on this face that passes
--- the test has a lesser cost
+-- Some route on this face passes the test and has this cost. All routes on this face that pass the
+-- test have at least this cost.
 pub record IsLeastCost (wanted : Route → Bool) (registered : Registered) (face cost : ℕ) : Type 0
   where
     pub origin : ℕ
@@ -111,10 +113,10 @@ HasNone wanted registered face =
     (origin : ℕ) (r : Route)
     → map.get registered (record { face = face; origin = origin }) ≡ Some r → wanted r ≡ false
 
--- The name inherits `cost` for `face`. The prefix of `from` components is the longest proper prefix
--- of the name that has a child-inherit route on `face`. `cost` is the least cost of the
--- child-inherit routes of this prefix on `face`. No proper prefix of the name with more than `from`
--- components has a capture route.
+-- The name inherits `cost` for `face` from one of its proper prefixes. This prefix is the longest
+-- proper prefix with a child-inherit route on `face`, and the field `from` is the number of
+-- components of this prefix. `cost` is the least cost of the prefix's child-inherit routes on
+-- `face`. All longer proper prefixes of the name are without capture routes.
 pub record IsInherited (routes : Routes) (name : List Field) (face cost : ℕ) : Type 0 where
   pub from : ℕ
   pub shorter : from < length name

@@ -1,4 +1,4 @@
--- The two flags of a key, and their order among the keys of one name.
+-- The two flags of a key, CanBePrefix and MustBeFresh, and the order of flags.
 use Rattle.std.specs.Prelude.{Bool, List, refl}
 use Rattle.std.specs.Coded.{Coded, code_by, coded×, coded_bool}
 use Rattle.std.specs.declared.cmp.Ordering.{Ordering}
@@ -11,7 +11,7 @@ abbrev pub flags : Bool → Bool → Flags
 flags can_be_prefix must_be_fresh =
     record { can_be_prefix = can_be_prefix; must_be_fresh = must_be_fresh }
 
--- flags are ordered by CanBePrefix, then by MustBeFresh; an unset flag comes before a set one
+-- flags are ordered by CanBePrefix, then by MustBeFresh; false comes before true
 abbrev pub flags_cmp : Flags → Flags → Ordering
 flags_cmp =
     then_cmp (on (λ f. f.can_be_prefix) bool_cmp) (on (λ f. f.must_be_fresh) bool_cmp)

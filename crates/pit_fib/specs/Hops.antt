@@ -10,7 +10,7 @@ use Rattle.pit_fib.specs.Tables.{ByFace}
 abbrev pub is_before : Hop → Hop → Bool
 is_before a b = nat_lt a.cost b.cost || ((a.cost == b.cost) && nat_lt a.face b.face)
 
--- the hops with `hop` inserted, in order of cost and then of face
+-- the list `hops`, which is ordered by cost and then by face, with `hop` inserted in this order
 abbrev pub with_hop : Hop → List Hop → List Hop
 with_hop hop [] = hop ∷ []
 with_hop hop (h ∷ hops) = if is_before hop h then hop ∷ h ∷ hops else h ∷ with_hop hop hops
@@ -27,7 +27,8 @@ in_order costs = fold {A = ℕ × ℕ} {B = List Hop} (λ hops e. with_hop (unma
 abbrev pub hops_of : ByFace → List Hop
 hops_of costs = in_order (entries costs)
 
--- each hop comes before all later hops of the list, by cost and then by face
+-- the hops of the list are in order of cost and then of face, and no two hops have both the same
+-- cost and the same face
 abbrev pub AreInOrder : List Hop → Type 0
 AreInOrder [] = Unit {0}
 AreInOrder (h ∷ hops) = AllByRecursion (λ g. is_before h g ≡ true) hops × AreInOrder hops

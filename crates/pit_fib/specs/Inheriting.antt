@@ -23,8 +23,8 @@ abbrev pub counts_at : Option ℕ → Route → Bool
 counts_at None r = true
 counts_at (Some now) r = not (is_due now r)
 
--- whether a route of a name counts for this name or, if `below` is true, for the names below it;
--- for the names below, only child-inherit routes count
+-- whether a route of a name counts for this name or, if `below` is true, for the longer names below
+-- this name; for the longer names, only child-inherit routes count
 abbrev pub counts_for : Option ℕ → Bool → Route → Bool
 counts_for at below r = counts_at at r && (not below || is_child_inherit r)
 
@@ -40,7 +40,7 @@ has_route_at at rows = list_any (λ e. counts_at at e.1) rows
 abbrev pub has_capture_at : Option ℕ → List (RouteKey × Route) → Bool
 has_capture_at at rows = list_any (λ e. counts_at at e.1 && is_capture e.1) rows
 
--- the state of the walk after the entry `e`, if its state before `e` is `s`
+-- the state of the walk after the entry `e`, where `s` is the state of the walk before `e`
 abbrev pub past_entry : Inheriting → Entry → Inheriting
 past_entry s e =
     let rows = map.entries e.registered in

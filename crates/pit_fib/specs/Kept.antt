@@ -1,5 +1,5 @@
--- The entry of a key, and how each call of the table changes it, for the contracts of private
--- functions.
+-- The entry of a key, and how each call of the table changes the entry, for the contracts of
+-- private functions.
 use Rattle.std.specs.Prelude.{ℕ, ◌-◌, ◌==◌, Bool, true, false, List, [], ◌∷◌, length, take, drop, Option, None, Some, nat_lt, min, unwrap_or, refl, ◌||◌, if◌then◌else◌}
 use Rattle.std.specs.Coded.{Coded, code_by, coded×, coded_bool}
 use Rattle.std.specs.Option.{option_map, option_and_then}
@@ -28,7 +28,8 @@ abbrev pub token_in : ℕ → List ℕ → Option (List ℕ)
 token_in token_len octets =
     if token_len == 0 then None else Some (drop (length octets - token_len) octets)
 
--- the entry of a key: its records, and whether it has memory for the out-records of 64 faces
+-- the entry of a key: the key's records, and whether the entry has memory for the out-records of 64
+-- faces
 pub record Kept : Type 0 where
   pub records : Records
   pub is_wide : Bool
@@ -50,7 +51,7 @@ abbrev pub with_out_records : Kept → Faced OutRecord → Kept
 with_out_records s f =
     record { records = record s.records { out_records = f.values }; is_wide = f.is_wide }
 
--- the entry with the in-record of a face set, or unchanged if the face is new and 64 faces have
+-- the entry after the in-record of a face is set, or unchanged if the face is new and 64 faces have
 -- in-records
 abbrev pub with_in_record : ℕ → InRecord → Kept → Kept
 with_in_record face in_record s =
@@ -104,12 +105,12 @@ living s = if is_alive s.records then Some s else None
 abbrev pub kept_after : Cause → PlainKey → Kept → Option Kept
 kept_after cause k s = living (record s { records = changed cause k s.records })
 
--- the least deadline of an entry's in-records, or 0 if it has none
+-- the least deadline of an entry's in-records, or 0 if the entry has no in-records
 abbrev pub deadline : Kept → ℕ
 deadline s = least (λ in_record. in_record.deadline) (map.entries s.records.in_records)
 
--- the faces in `faces` with the faces of these in-records added; no face is added if there are
--- already 64 faces
+-- the list `faces` after the faces of these in-records are added; once the list has 64 faces, no
+-- face is added
 abbrev pub with_faces_of : List (ℕ × InRecord) → List ℕ → List ℕ
 with_faces_of [] faces = faces
 with_faces_of (e ∷ es) faces = with_faces_of es (adding e.0 faces).1
@@ -129,7 +130,8 @@ lesser (Some a) (Some b) = Some (min a b)
 abbrev pub Row : Type 0
 Row = map.FinMap flags_cmp Kept
 
--- the values that `has` returns for the four combinations of flags, in the order of the flags
+-- the values that the function `has` returns for the four combinations of flags, in the order of
+-- the flags; a combination is left out if its value is None
 abbrev pub slots : {X : Type 0} → (Flags → Option X) → List (Flags × X)
 slots has =
     with_entry (flags false false) (has (flags false false)) (
@@ -147,12 +149,12 @@ by_flags a b c d f =
     if f.can_be_prefix then (if f.must_be_fresh then d else c) else (
     if f.must_be_fresh then b else a)
 
--- the row after `change` has changed or removed each of its entries, or None if no entry remains
+-- the row after the function `change` is applied to each entry, or None if no entry remains
 abbrev pub changed_row : (Flags → Kept → Option Kept) → Row → Option Row
 changed_row change row = nonempty (row_of (λ f. option_and_then (change f) (map.get row f)))
 
--- the change of a row that applies `change` to the entry under the flags `f`, and changes no other
--- entry
+-- the function that applies `change` to the entry under the flags `f`, and leaves each other entry
+-- unchanged
 abbrev pub only : Flags → (Kept → Option Kept) → Flags → Kept → Option Kept
 only f change g s = if same_flags g f then change s else Some s
 
@@ -160,7 +162,8 @@ only f change g s = if same_flags g f then change s else Some s
 abbrev pub kept_in : Option Row → Flags → Option Kept
 kept_in row f = option_and_then (λ r. map.get r f) row
 
--- the row with the entry `s` under the key with these flags; a new row if there was none
+-- the row after the entry `s` is set under the key with these flags; a new row with only this entry
+-- if there was no row
 abbrev pub with_kept : Flags → Kept → Option Row → Row
 with_kept f s row = map.insert (unwrap_or row map.empty) f s
 
@@ -169,14 +172,14 @@ abbrev pub row_arrived : Flags → ℕ → InRecord → ℕ → Option Row → R
 row_arrived f face in_record room row =
     with_kept f (with_in_record face in_record (unwrap_or (kept_in row f) (new_in room))) row
 
--- the row with the entry, if there is one, under the key with these flags; without an entry, the
--- row is unchanged
+-- the row after an entry is set under the key with these flags; if no entry is given, the row is
+-- unchanged, or is an empty row if there was no row
 abbrev pub with_kept_if : Flags → Option Kept → Option Row → Row
 with_kept_if f None row = unwrap_or row map.empty
 with_kept_if f (Some s) row = with_kept f s row
 
--- The row after an Interest was sent to a face, or unchanged if the key has no entry. The call
--- supplies memory for `room` out-records in addition to the entry's own.
+-- The row after an Interest was sent to a face. The row is unchanged if the key has no entry. The
+-- call `sent` supplies memory for `room` out-records in addition to the entry's own memory.
 abbrev pub row_sent : Flags → ℕ → OutRecord → ℕ → Option Row → Row
 row_sent f face out_record room row =
     with_kept_if f (option_map (sent_in room face out_record) (kept_in row f)) row
@@ -190,8 +193,8 @@ is_answered is_own f = is_own || f.can_be_prefix
 abbrev pub unanswered : Bool → Flags → Kept → Option Kept
 unanswered is_own f s = if is_answered is_own f then None else Some s
 
--- the faces in `faces`, and the faces that have an in-record under a key of the row that the Data
--- answers; no face is added if there are already 64 faces
+-- The list `faces` with more faces added: the faces that have an in-record under an answered key of
+-- the row (`is_answered`). Once the list has 64 faces, no face is added.
 abbrev pub with_answered : Bool → List ℕ → Row → List ℕ
 with_answered is_own faces row =
     with_asking (map.get row (flags true true)) (

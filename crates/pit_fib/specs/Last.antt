@@ -21,23 +21,23 @@ later (Some a) (Some b) = if nat_lt b.deadline a.deadline then Some a else Some 
 abbrev pub ask_in : ℕ → Option Kept → Option InRecord
 ask_in face kept = option_and_then (λ s. map.get s.records.in_records face) kept
 
--- the last in-record (`later`) among `last` and the face's in-records under those keys of the row
--- that do not have CanBePrefix
+-- the last in-record (`later`) among the in-record `last`, if given, and the face's in-records
+-- under the row's keys without CanBePrefix
 abbrev pub last_exact : ℕ → Option InRecord → Row → Option InRecord
 last_exact face last row =
     later (later last (ask_in face (map.get row (flags false false))))
     (ask_in face (map.get row (flags false true)))
 
--- the last in-record (`later`) among `last` and the face's in-records under those keys of the row
--- that have CanBePrefix
+-- the last in-record (`later`) among the in-record `last`, if given, and the face's in-records
+-- under the row's keys with CanBePrefix
 abbrev pub last_prefix : ℕ → Option InRecord → Row → Option InRecord
 last_prefix face last row =
     later (later last (ask_in face (map.get row (flags true false))))
     (ask_in face (map.get row (flags true true)))
 
--- The last in-record (`later`) among `last` and the face's in-records under the keys of the row
--- that a Data answers. A Data answers the keys with CanBePrefix and, if `is_own` is true, also the
--- keys without CanBePrefix.
+-- The last in-record (`later`) among the in-record `last`, if given, and the face's in-records
+-- under the row's keys that a Data answers. A Data answers the keys with CanBePrefix and, if
+-- `is_own` is true, also the keys without CanBePrefix.
 abbrev pub last_in : Bool → ℕ → Option InRecord → Row → Option InRecord
 last_in is_own face last row =
     last_prefix face (if is_own then last_exact face last row else last) row
@@ -46,19 +46,19 @@ abbrev pub last_in_row : Bool → ℕ → Option InRecord → Option Row → Opt
 last_in_row is_own face last None = last
 last_in_row is_own face last (Some row) = last_in is_own face last row
 
--- the state of a search for a face's last in-record after it has looked at one more row
+-- the state of a search for a face's last in-record after the search has looked at one more row
 abbrev pub last_seen : Bool → ℕ × Option InRecord → Row → ℕ × Option InRecord
 last_seen is_own s row = (s.0, last_in is_own s.0 s.1 row)
 
--- the face's last in-record under the keys with CanBePrefix whose names are prefixes of `name` with
--- fewer than n components
+-- the face's last in-record under those keys with CanBePrefix whose name is a prefix of `name` and
+-- has fewer than n components
 abbrev pub last_above : Rows → ℕ → List Field → ℕ → Option InRecord
 last_above rows face name zero = None
 last_above rows face name (suc n) =
     last_in_row false face (last_above rows face name n) (map.get rows (take n name))
 
--- the face's last in-record under the keys of a name and the keys with CanBePrefix of its proper
--- prefixes
+-- the face's last in-record under the keys of `name` and under the keys with CanBePrefix of the
+-- proper prefixes of `name`
 abbrev pub last_along : Rows → ℕ → List Field → Option InRecord
 last_along rows face name =
     last_in_row true face (last_above rows face name (length name)) (map.get rows name)

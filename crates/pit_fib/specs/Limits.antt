@@ -25,8 +25,8 @@ abbrev pub HaveSome : Routes → Type 0
 HaveSome routes =
     (name : List Field) (e : Entry) → map.get routes name ≡ Some e → is_vacant e ≡ false
 
--- A table has at most 4,096 names of at most 32 components, 16,384 routes, and 64 faces with next
--- hops or routes. Each name in the table has next hops or routes.
+-- The table has at most 4,096 names, at most 16,384 routes, and at most 64 faces with next hops or
+-- routes. Each name in the table has at most 32 components, and has next hops or routes.
 pub record IsWithinFib (routes : Routes) : Type 0 where
   pub names : IsWithinLimits routes
   pub some : HaveSome routes

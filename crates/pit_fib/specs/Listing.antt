@@ -17,7 +17,7 @@ start_at now =
       way = record { at = Some now; inherited = map.empty; costs = map.empty };
     }
 
--- the state of a walk after the entry `e`, if its state before `e` is `s`
+-- the state of a walk after the entry `e`, where `s` is the state of the walk before `e`
 abbrev pub past_at : AtName → Entry → AtName
 past_at s e =
     record {

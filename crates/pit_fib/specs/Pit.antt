@@ -71,8 +71,8 @@ abbrev pub asks_with : Option InRecord → List ℕ → Bool
 asks_with None nonce = false
 asks_with (Some in_record) nonce = same_nonce in_record.nonce nonce
 
--- An Interest loops if the in-record of another face, or an out-record, has its Nonce, while the
--- in-record of its own face has another Nonce or does not exist.
+-- An Interest loops if the in-record of another face, or an out-record, has the Interest's Nonce,
+-- while the in-record of the Interest's own face has another Nonce or does not exist.
 abbrev pub loops : Records → ℕ → List ℕ → Bool
 loops r face nonce =
     not (asks_with (map.get r.in_records face) nonce)
@@ -83,8 +83,8 @@ loops r face nonce =
 abbrev pub moments : OutRecords → ByFace
 moments out_records = revise (λ out_record. Some out_record.moment) out_records
 
--- the least of `least` and of the reasons in the out-records, or None if some out-record has no
--- reason
+-- the least number among `least` and the reasons in the out-records, or None if some out-record has
+-- no reason
 abbrev pub least_reason : ℕ → List (ℕ × OutRecord) → Option ℕ
 least_reason least [] = Some least
 least_reason least (e ∷ es) =

@@ -34,7 +34,7 @@ abbrev pub HasNoArrival : Option Prepared → Type 0
 HasNoArrival prepared = IfSome prepared (λ p. p.arrival ≡ None)
 
 -- There is memory for the out-records of 64 faces under a key: the spare memory has capacity for 64
--- out-records, or the key's entry, if there is one, has this memory.
+-- out-records, or the key's entry has its own memory for 64 out-records, or the key has no entry.
 abbrev pub CanSend : Rows → PlainKey → ℕ → Type 0
 CanSend rows key spare =
     (MAX_FACES ≤ spare) ⊎ ((s : Kept) → kept_at rows key ≡ Some s → s.is_wide ≡ true)

@@ -16,8 +16,9 @@ pub record InRecord : Type 0 where
   pub deadline : ℕ
   pub token : Option (List ℕ)
 
--- The last Interest that was sent to a face: its Nonce, and the moment in milliseconds since 1970.
--- `reason` is the reason of the last Nack that came back with this Nonce, or None if no Nack came.
+-- The last Interest that was sent to a face: its Nonce, and the moment when it was sent, in
+-- milliseconds since 1970. `reason` is the reason of the last Nack that came back with this Nonce,
+-- or None if no such Nack came.
 pub record OutRecord : Type 0 where
   pub nonce : List ℕ
   pub moment : ℕ

@@ -1,4 +1,4 @@
--- Which values a table by name rejects.
+-- Why a table of values by name refuses a value.
 use Rattle.std.specs.Prelude.{List, Option, None, Some, length, nat_lt, nat_le, if◌then◌else◌}
 use Rattle.std.specs.FinMap as map
 use Rattle.ndn_tlv.specs.Element.{Field}

@@ -7,6 +7,6 @@ use Rattle.pit_fib.specs.Fib.{Entry}
 abbrev pub plain_row : List Field × Bor Entry → List Field × Entry
 plain_row row = (row.0, row.1.now)
 
--- the lists have the same names, each with an equal entry
+-- both lists have the same names in the same order, and the entries of each name are equal
 abbrev pub AreSame : List (List Field × Bor Entry) → List (List Field × Bor Entry) → Type 0
 AreSame rows others = map plain_row rows ≡ map plain_row others

@@ -13,16 +13,16 @@ IsAsker records name digest face key in_record =
     IsTrue (answers name digest key.name key.can_be_prefix)
     × (map.get (records key).in_records face ≡ Some in_record)
 
--- The in-record does not come after `last`: its deadline is earlier, or the deadlines are the same
--- and its key is not greater. Keys are ordered by name in canonical order, then by CanBePrefix,
--- then by MustBeFresh.
+-- The in-record `in_record` does not come after the in-record `last`: the deadline of `in_record`
+-- is earlier, or the deadlines are the same and `key` is not greater than `last_key`. Keys are
+-- ordered by name in canonical order, then by CanBePrefix, then by MustBeFresh.
 abbrev pub IsNotAfter : PlainKey → InRecord → PlainKey → InRecord → Type 0
 IsNotAfter key in_record last_key last =
     (in_record.deadline < last.deadline)
     ⊎ ((in_record.deadline ≡ last.deadline) × (key_cmp key last_key ≢ Greater))
 
--- of the face's in-records that the Data answers, `in_record` under `key` is the last by deadline
--- and then by key
+-- `in_record` under `key` is the last, by deadline and then by key, of the face's in-records that
+-- the Data answers
 pub record IsLast (records : PlainKey → Records) (name : List Field) (digest : List ℕ) (face : ℕ)
     (key : PlainKey) (in_record : InRecord) : Type 0 where
   pub asks : IsAsker records name digest face key in_record

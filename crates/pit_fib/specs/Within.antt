@@ -1,4 +1,5 @@
--- Setting a value unless that would exceed a limit, for the contracts of private functions.
+-- How a value is set if a limit on the number of values permits it, for the contracts of private
+-- functions.
 use Rattle.std.specs.Prelude.{ℕ, nat_lt, ◌||◌, if◌then◌else◌}
 use Rattle.std.specs.FinMap as map
 use Rattle.pit_fib.specs.declared.face_set.TheConstants.{MAX_FACES}
@@ -8,7 +9,8 @@ use Rattle.pit_fib.specs.Fib.{Entry}
 use Rattle.pit_fib.specs.Route.{Registered}
 use Rattle.pit_fib.specs.Tables.{ByFace}
 
--- the costs with the cost of `face` set, or unchanged if the face is new and 64 faces have a cost
+-- the costs after the cost of `face` is set, or unchanged if the face is new and 64 faces have a
+-- cost
 abbrev pub set_within : ByFace → ℕ → ℕ → ByFace
 set_within costs face cost =
     if map.contains_key costs face || nat_lt (map.len costs) MAX_FACES

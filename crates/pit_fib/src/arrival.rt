@@ -1,5 +1,6 @@
-//! How the calls `arrive` and `sent` of the pending Interest table change the row of a name, in
-//! memory that the call supplies.
+//! How the calls `arrive` and `sent` of the pending Interest table change the row of a name. Before
+//! the change, the call obtains the memory that the change may need, and puts this memory into the
+//! field `room` of `Arrival` or `Departure`.
 
 ghost use Rattle.std.specs.Prelude.{◌≡◌, ◌≤◌, Option, None, Some, unwrap_or};
 ghost use Rattle.std.specs.Option.{option_map};
@@ -127,7 +128,8 @@ fn slots_of(row: Option<Row>) -> Option<Box<Slots>>
     row?.into_slots()
 }
 
-/// Returns `entry`, or a new entry in the supplied memory if `entry` is `None`.
+/// Returns `entry`, or a new entry in the memory `in_records` and `out_records` if `entry` is
+/// `None`.
 fn entry_or_new(
     entry: Option<Entry>,
     in_records: Room<InRecord>,

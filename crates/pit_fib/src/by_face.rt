@@ -8,9 +8,9 @@ use crate::face_set::MAX_FACES;
 use std::cmp::Ordering;
 use std::marker::Model;
 
-/// A map from at most 64 faces to numbers, in rising order of the faces. The numbers are the costs
-/// of an entry's next hops, or the moments at which an Interest was last sent to a face, in
-/// milliseconds since 1970. The map is an array, so it never allocates.
+/// A map from at most 64 faces to numbers, in rising order of the faces. The numbers are costs, or
+/// the moments at which an Interest was last sent to each face, in milliseconds since 1970. The map
+/// is an array, so it never allocates.
 #[derive(Drop)]
 pub struct Used {
     places: [(u64, u64); MAX_FACES],
@@ -71,7 +71,7 @@ impl Used {
         self.as_slice().len()
     }
 
-    /// Returns the number of a face.
+    /// Returns the number that the map has for a face, or `None` if the map does not have the face.
     pub fn get(&self, face: u64) -> Option<u64>
         ensures { result ≡ map.get self.now face }
     {
@@ -81,8 +81,8 @@ impl Used {
         }
     }
 
-    /// Returns the face at index `i` in rising order of the faces, and the number of this face. The
-    /// first index is 0. Returns `None` if `i` or fewer faces have a number.
+    /// Returns the face at index `i` in rising order of the faces, and the number that the map has
+    /// for this face. The first index is 0. Returns `None` if `i` or fewer faces have a number.
     pub fn at(&self, i: usize) -> Option<(u64, u64)>
         ensures { result ≡ slice_get (map.entries self.now) i }
     {
@@ -90,8 +90,8 @@ impl Used {
         Some(*place)
     }
 
-    /// Sets the number of a face. Returns false, and changes nothing, if the face has no number yet
-    /// and 64 other faces have one.
+    /// Sets the number that the map has for a face. Returns false, and changes nothing, if the map
+    /// does not have the face and already has 64 other faces.
     pub fn insert(&mut self, face: u64, number: u64) -> bool
         ensures ok { IsTrue result → self.new ≡ map.insert self.old face number }
         ensures full { result ≡ false → (self.new ≡ self.old) × (map.get self.old face ≡ None)
@@ -130,8 +130,8 @@ impl Used {
     }
 }
 
-/// Moves to the front those of the first `len` entries whose face is not `face`. Returns how many
-/// entries were moved.
+/// Moves some of the first `len` entries to the front: the entries whose face is not `face`.
+/// Returns how many entries were moved.
 fn without_face(places: &mut [(u64, u64)], len: usize, face: u64) -> usize
     requires { len ≤ length places.old }
     ensures fewer { result ≤ len }
@@ -172,7 +172,7 @@ pub fn place_of<V>(places: &[(u64, V)], face: u64) -> Result<usize, usize>
     Err(places.len())
 }
 
-/// Returns whether two lists have the same faces with the same numbers.
+/// Returns whether two lists have the same faces with the same numbers, in the same order.
 fn are_same(rows: &[(u64, u64)], others: &[(u64, u64)]) -> bool
     ensures { IsTrue result → rows.now ≡ others.now }
 {

@@ -101,7 +101,7 @@ pub struct OutRecord {
     nonce: [u8; 4],
     // When the Interest was sent, in milliseconds since 1970.
     moment: u64,
-    // The reason of the last Nack that came back for this Nonce, or `None` if no Nack came.
+    // The reason of the last Nack that came back with this Nonce, or `None` if no such Nack came.
     reason: Option<u64>,
 }
 
@@ -156,7 +156,8 @@ impl FaceMap<OutRecord> {
         }
     }
 
-    /// Records the reason of a Nack, if its Nonce is the last one that was sent to the face.
+    /// Records the reason of a Nack, if the Nack's Nonce is the last Nonce that was sent to the
+    /// face.
     fn nacked(&mut self, face: u64, nonce: [u8; 4], reason: u64)
         ensures { self.new ≡ record self.old {
           values = with_reason face nonce reason
@@ -227,7 +228,7 @@ impl Model for Entry {
 }
 
 impl Entry {
-    /// Returns an entry without records, in this memory.
+    /// Returns an entry without records, in the memory `in_records` and `out_records`.
     pub fn new(in_records: Room<InRecord>, out_records: Room<OutRecord>) -> Entry
         requires in_records { FEW ≤ in_records }
         requires out_records { FEW ≤ out_records }
@@ -262,8 +263,8 @@ impl Entry {
     }
 
     /// Adds or replaces the in-record of a face. Changes nothing if the face has no in-record and
-    /// 64 other faces have one. If the entry's own memory is full, the in-records move into the
-    /// memory `room`.
+    /// 64 other faces have one. If the face is new and the entry's own memory is full, the
+    /// in-records move into the memory `room`.
     pub fn arrive(&mut self, face: u64, in_record: InRecord, room: Room<InRecord>)
         requires { MAX_FACES ≤ room }
         ensures { self.new ≡ with_in_record face in_record self.old }
@@ -271,7 +272,8 @@ impl Entry {
         self.in_records.set(face, in_record, room);
     }
 
-    /// Returns whether the entry's own memory suffices for an out-record of this face.
+    /// Returns whether the entry's own memory suffices for an out-record of this face. If 64 other
+    /// faces have out-records, the result is true, although no place is left.
     pub fn has_place_for(&self, face: u64) -> bool
         ensures { result ≡ (map.contains_key self.now.records.out_records face
             || has_place (kept_out_records self.now)) }
@@ -287,7 +289,7 @@ impl Entry {
         self.out_records.set(face, out_record, room);
     }
 
-    /// Returns whether an Interest of the key with this Nonce from this face loops.
+    /// Returns whether an Interest of the key, with this Nonce and from this face, loops.
     pub fn loops(&self, face: u64, nonce: [u8; 4]) -> bool
         ensures { result ≡ loops_in self.now.records face nonce }
     {
@@ -318,8 +320,8 @@ impl Entry {
             .any(|row| row.1.nonce == nonce)
     }
 
-    /// Returns the moments at which an Interest of the key was last sent to each face, in
-    /// milliseconds since 1970.
+    /// Returns, for each face, the moment at which an Interest of the key was last sent to the
+    /// face, in milliseconds since 1970.
     pub fn moments(&self) -> Used
         ensures { result ≡ moments_of self.now.records.out_records }
     {
@@ -362,7 +364,8 @@ impl Entry {
         self.out_records.was_sent(face, nonce)
     }
 
-    /// Records the reason of a Nack, if its Nonce is the last one that was sent to the face.
+    /// Records the reason of a Nack, if the Nack's Nonce is the last Nonce that was sent to the
+    /// face.
     pub fn nacked(&mut self, face: u64, nonce: [u8; 4], reason: u64)
         ensures { self.new ≡ nacked face nonce reason self.old }
     {
@@ -433,7 +436,7 @@ pub fn in_record_of(entry: &Option<Entry>, face: u64) -> Option<&InRecord>
     }
 }
 
-/// Adds the faces with an in-record in the entry, if there is an entry.
+/// Adds the faces with an in-record in the entry to `faces`, if there is an entry.
 pub fn add_faces(entry: &Option<Entry>, faces: &mut Faces)
     ensures { faces.new ≡ with_asking entry.now faces.old }
 {
@@ -442,7 +445,7 @@ pub fn add_faces(entry: &Option<Entry>, faces: &mut Faces)
     }
 }
 
-/// Adds the faces of these in-records.
+/// Adds the faces of these in-records to `faces`.
 fn add_faces_of(rows: &[(u64, InRecord)], faces: &mut Faces)
     ensures { faces.new ≡ with_faces_of rows.now faces.old }
 {

@@ -45,7 +45,7 @@ impl<V> Model for FaceMap<V> {
 }
 
 impl<V: Drop> FaceMap<V> {
-    /// Returns a map without values, in this memory.
+    /// Returns a map without values, in the memory `room`.
     pub fn new(room: Room<V>) -> FaceMap<V>
         requires { FEW ≤ room }
         ensures { result ≡ none_in room }
@@ -80,7 +80,8 @@ impl<V: Drop> FaceMap<V> {
         }
     }
 
-    /// If the map has fewer than 64 values, returns whether its own memory suffices for one more.
+    /// Returns whether the map's own memory suffices for one more value. If the map has 64 values,
+    /// the result is true, although no place is left.
     pub fn has_place(&self) -> bool
         ensures { result ≡ has_place self.now }
     {
@@ -120,8 +121,8 @@ impl<V: Drop> FaceMap<V> {
         }
     }
 
-    /// Sets the value of a face. Changes nothing if the face is new and 64 faces have values, or if
-    /// neither the map's own memory nor the memory `room` suffices.
+    /// Sets the value of a face. Changes nothing if the face is new and there is no place for its
+    /// value: 64 faces have values, or neither the map's own memory nor the memory `room` suffices.
     pub fn set(&mut self, face: u64, value: V, room: Room<V>)
         ensures { self.new ≡ set_in room face value self.old }
     {

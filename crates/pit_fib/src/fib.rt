@@ -98,8 +98,8 @@ impl Fib {
         self.entries.len()
     }
 
-    /// Adds a next hop, or sets its cost. The faces of all next hops and routes, together with
-    /// `face`, must be at most 64.
+    /// Adds a next hop on a face, or sets the cost of the name's next hop on the face. The faces of
+    /// all next hops and routes, together with `face`, must be at most 64.
     ///
     /// On failure, returns the first fault in the order of `TableFault`, and leaves the table
     /// unchanged. Each call ends the preparation, even if the call fails. `Memory` is never
@@ -288,8 +288,9 @@ impl Fib {
         (self.count - left.count) as u64
     }
 
-    /// Returns the effective next hops of the longest prefix of a name that has an entry. In each
-    /// next hop `local` is false until `Hops::mark` sets it.
+    /// Returns the effective next hops of one prefix of a name: the longest prefix that has an
+    /// entry. Returns no next hops if no prefix has an entry. In each next hop `local` is false
+    /// until `Hops::mark` sets it.
     pub fn longest(&self, name: Name<'_>) -> Hops
         ensures { result ≡ longest_hops self.now.table (components name.entry) }
     {
@@ -310,9 +311,9 @@ impl Fib {
         hops_in_order(way.costs.as_slice())
     }
 
-    /// Returns the names that still have an entry after the routes that expire by `now` are
-    /// removed, in canonical order. Each name comes with the effective next hops that it has
-    /// without the expired routes.
+    /// Returns the names that an `expire` at the moment `now` would leave in the table. The names
+    /// are in canonical order. Each name comes with the effective next hops that the name would
+    /// have after this `expire`.
     pub fn list(&self, alloc: Global, now: u64) -> Result<Vec<(NameBuf, Hops)>, Memory>
         ensures { IfOk result (λ list. list.items ≡ listed (left_at now self.now.table)) }
     {
@@ -337,9 +338,9 @@ impl Fib {
         Ok(are_same(&entries, &others))
     }
 
-    /// Shows the names that still have an entry after the routes that expire by `now` are removed,
-    /// in canonical order. Each name is shown with the effective next hops that it has without the
-    /// expired routes.
+    /// Shows names to the visitor `show`: the names that an `expire` at the moment `now` would
+    /// leave in the table. The names are shown in canonical order. Each name is shown with the
+    /// effective next hops that the name would have after this `expire`.
     pub fn show_all<S: Show<Hops> + Drop>(&self, now: u64, show: S) -> Result<S, Memory>
         ensures { IfOk result
             (λ s. s ≡ shown_each S.shown show (listed (left_at now self.now.table))) }
@@ -425,7 +426,8 @@ impl Fib {
     }
 }
 
-/// Returns whether two lists have the same names, each with the same next hops and routes.
+/// Returns whether two lists have the same names in the same order, each with the same next hops
+/// and routes.
 fn are_same(entries: &[(NameBuf, &Entry)], others: &[(NameBuf, &Entry)]) -> bool
     ensures { IsTrue result → AreSame entries.now others.now }
 {

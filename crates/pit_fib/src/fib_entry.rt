@@ -39,7 +39,7 @@ impl Entry {
         }
     }
 
-    /// Returns the entry, or an empty one if there is none.
+    /// Returns the entry, or an empty entry if there is no entry.
     fn or_new(alloc: Global, entry: Option<Entry>) -> Entry
         ensures { result ≡ unwrap_or entry no_entry }
     {
@@ -100,8 +100,9 @@ impl Becomes<Entry> for WithHop {
     }
 }
 
-/// A change that sets the registered route with a face and an origin, using the memory in this
-/// change.
+/// A change that sets the registered route with a face and an origin. The name's routes are then
+/// stored in the vector `room`. The entry is unchanged if `room` lacks capacity for the old routes
+/// and one more.
 #[derive(Drop)]
 pub struct WithRoute {
     pub alloc: Global,

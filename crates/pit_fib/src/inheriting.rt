@@ -125,8 +125,8 @@ fn least_within(rows: &[(RouteKey, Route)], at: Option<u64>, below: bool) -> Use
     costs
 }
 
-/// Sets the cost of a face, if the face has a greater cost, or if it has none and fewer than 64
-/// faces have one.
+/// Sets the cost of a face to `cost` if the face has a greater cost, or if the face has no cost and
+/// fewer than 64 other faces have a cost.
 fn set_lesser(costs: &mut Used, face: u64, cost: u64)
     ensures { costs.new ≡ set_within costs.old face (lesser cost (map.get costs.old face)) }
 {

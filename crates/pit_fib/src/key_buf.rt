@@ -53,7 +53,7 @@ impl KeyBuf {
         }
     }
 
-    /// Returns whether this is the key `key`.
+    /// Returns whether this key is equal to `key`.
     pub fn is(&self, key: Key<'_>) -> bool
         ensures { result ≡ same_key self.now (plain_key key.entry) }
     {

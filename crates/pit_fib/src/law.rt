@@ -22,8 +22,8 @@ use crate::face_set::MAX_FACES;
 use crate::fib::{MAX_DEPTH, MAX_ENTRIES, MAX_ROUTES};
 use crate::pit::MAX_PENDING;
 
-/// Law: in a map of values by name, `longest` is the value of the longest prefix of a name that has
-/// a value, or None if no prefix has one.
+/// Law: in a map of values by name, `longest` is the value of one prefix of a name: the longest
+/// prefix that has a value. `longest` is None if no prefix of the name has a value.
 pub fn longest_is_the_longest_prefix<V>()
     ensures found { (table : ByName V) (name : List Field) (n : ℕ) → IsLongest table name n
         → longest table name ≡ map.get table (take n name) }
@@ -52,8 +52,9 @@ pub fn effective_hops_are_as_defined()
         → (map.get (effective routes name) face ≡ Some cost) ↔ IsEffective routes name face cost }
 {}
 
-/// Law: the next hops for an Interest are the effective next hops of the longest prefix of its name
-/// that has an entry. An Interest has no next hops if no prefix of its name has an entry.
+/// Law: the next hops for an Interest are the effective next hops of one prefix of its name: the
+/// longest prefix that has an entry. An Interest has no next hops if no prefix of its name has an
+/// entry.
 pub fn routes_are_those_of_the_longest_prefix()
     ensures found { (routes : Routes) (name : List Field) (n : ℕ) → IsLongest routes name n
         → longest_hops routes name ≡ hops_of (effective routes (take n name)) }
@@ -70,18 +71,20 @@ pub fn routes_that_end_are_counted()
         (map.entries routes) }
 {}
 
-/// Law: when all values of a map by face are changed, each face has the changed value, or no value
-/// if it had none or its value was removed.
+/// Law: when a change is applied to each value of a map by face, each value is replaced by the
+/// changed value, or is removed if the change gives None. A face without a value stays without a
+/// value.
 pub fn revising_changes_each_value<V, W>()
     ensures { (change : V → Option W) (m : map.FinMap nat_cmp V) (face : ℕ)
         → map.get (revise change m) face ≡ option_and_then change (map.get m face) }
 {}
 
 /// Law: the records of each face under a key follow from the list of past causes, in which the
-/// latest cause comes first. The in-record of a face is its last Interest, unless a later cause has
-/// removed it. The out-record of a face is the last Interest that was sent to that face. The
-/// out-record is removed when the face closes, and when the key has no in-record any more. The key
-/// has an in-record exactly if `in_record_of` is not None for some face.
+/// latest cause comes first. The in-record of a face is the last Interest that arrived on the face,
+/// unless a later cause has removed this in-record. The out-record of a face is the last Interest
+/// that was sent to that face. The out-record is removed when the face closes, and when the key has
+/// no in-record any more. The key has an in-record exactly if `in_record_of` is not None for some
+/// face.
 pub fn records_are_the_past()
     ensures in_records { (causes : List Cause) (key : PlainKey) (face : ℕ)
         → map.get (records_after_all causes key).in_records face ≡ in_record_of causes key face }
@@ -92,9 +95,10 @@ pub fn records_are_the_past()
         ↔ ((face : ℕ) × IsSome (in_record_of causes key face)) }
 {}
 
-/// Law: the result of a Nack is `NoPending` exactly if its Nonce was not the last one sent to its
-/// face. If the Nonce was the last one sent to the face, the result is `All` exactly if each
-/// out-record has a reason after the Nack, and the number in `All` is the least of these reasons.
+/// Law: the result of a Nack is `NoPending` exactly if the Nack's Nonce was not the last Nonce sent
+/// to the Nack's face. If the Nonce was the last one sent to the face, the result is `All` exactly
+/// if each out-record has a reason after the Nack, and the number in `All` is the least of these
+/// reasons.
 pub fn nacks_tell_the_least_reason()
     ensures pending { (r : Records) (face : ℕ) (nonce : List ℕ) (reason : ℕ)
         → (nacked_answer r face nonce reason ≡ answers.NoPending)

@@ -11,9 +11,10 @@ use ndn_tlv::Memory;
 #[derive(Drop)]
 pub struct AtName {
     pub now: u64,
-    /// Whether the entry of the name remains at the moment `now`.
+    /// Whether the entry of the name still has next hops or routes at the moment `now`.
     pub is_left: bool,
-    /// The effective next hops of the last entry along the name, which may be the name's own entry.
+    /// The state of the walk along the name, after the last entry. This entry may be the name's
+    /// own.
     pub way: Inheriting,
 }
 

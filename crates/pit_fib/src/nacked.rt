@@ -1,7 +1,8 @@
 /// The result of a Nack (NFD Developer's Guide, "Incoming Nack Pipeline").
 #[derive(Clone, Copy, Debug, PartialEq, Eq)]
 pub enum Nacked {
-    /// The Nonce of the Nack is not the last Nonce that was sent to the Nack's face under its key.
+    /// The Nonce of the Nack is not the last Nonce that was sent to the Nack's face under the
+    /// Nack's key.
     NoPending,
     /// At least one out-record has no Nack yet.
     Waiting,

@@ -122,9 +122,10 @@ impl Pit {
     }
 
     /// Prepares one `arrive` of this key, for an Interest and a PIT token of at most `octets`
-    /// octets together, and the `sent` calls of this key after it. The prepared calls cannot run
-    /// out of memory if, after `prepare`, only calls that remove records come before or between the
-    /// prepared calls. `prepare` fails only if memory runs out; then no call is prepared.
+    /// octets together, and the `sent` calls of this key after this `arrive`. The prepared calls
+    /// cannot run out of memory if, after `prepare`, only calls that remove records come before or
+    /// between the prepared calls. `prepare` fails only if memory runs out; then no call is
+    /// prepared.
     pub fn prepare(&mut self, key: Key<'_>, octets: usize) -> Result<(), Memory>
         ensures pending { self.new.pending ≡ self.old.pending }
         ensures ok { OnOk result (self.new.prepared
@@ -140,14 +141,15 @@ impl Pit {
         Ok(())
     }
 
-    /// Records the Interest of a face until a deadline, in milliseconds since 1970. `interest` has
-    /// the octets of the Interest, and `token` is its PIT token, of 1 to 32 octets (NDNLPv2, "PIT
-    /// Token"). The new in-record replaces an older in-record of the face under this key. The faces
-    /// that have records, together with `face`, must be at most 64.
+    /// Records an Interest that arrived on a face. The in-record expires at `deadline`, in
+    /// milliseconds since 1970. `interest` has the octets of the Interest, and `token` is its PIT
+    /// token, of 1 to 32 octets (NDNLPv2, "PIT Token"). The new in-record replaces an older
+    /// in-record of the face under this key. The faces that have records, together with `face`,
+    /// must be at most 64.
     ///
     /// On failure, the records are unchanged. An `arrive` that fails, or that is not the prepared
-    /// one, ends the preparation. `arrive` fails with `PitFull` if the key is new and there are
-    /// 4,096 keys, and otherwise with `Memory`.
+    /// one, ends the preparation. If the key is new and there are 4,096 keys, `arrive` fails with
+    /// `PitFull`. Every other failure is `Memory`.
     pub fn arrive(
         &mut self,
         key: Key<'_>,
@@ -342,8 +344,8 @@ impl Pit {
         last_for(&self.rows, packet, face)?.token()
     }
 
-    /// Removes all Interests that a Data answers, with or without MustBeFresh, and returns their
-    /// faces.
+    /// Removes all Interests that a Data answers, with or without MustBeFresh, and returns the
+    /// faces of these Interests.
     pub fn satisfy(&mut self, packet: &Data<'_>) -> Faces
         ensures pending { Follows (Satisfied (components packet.now.name)
             (sha256 packet.now.whole.now)) self.old.pending self.new.pending }
@@ -474,10 +476,10 @@ fn entry_of<'a>(rows: &'a TimedMap<Row>, key: Key<'_>) -> Option<&'a Entry>
     rows.get(key.name)?.get(Flags::of(key))
 }
 
-/// Adds the faces that have an in-record under a key of the row that the Data answers, if there is
-/// a row. If the name of the row is the Data's name or full name (`is_own`), the Data answers all
-/// keys of the row. If the name of the row is a proper prefix of the Data's name, the Data answers
-/// only the keys with CanBePrefix.
+/// Adds faces to `faces`: the faces that have an in-record under those keys of the row that a Data
+/// answers. Adds no face if there is no row. If the name of the row is the Data's name or full name
+/// (`is_own`), the Data answers all keys of the row. If the name of the row is a proper prefix of
+/// the Data's name, the Data answers only the keys with CanBePrefix.
 fn add_of(row: Option<&Row>, is_own: bool, faces: &mut Faces)
     ensures { faces.new
         ≡ taken (with_answered is_own) faces.old (option_map (λ r. r.now) row.entry) }

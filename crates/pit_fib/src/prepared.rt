@@ -11,7 +11,7 @@ use ndn_packets::Key;
 use ndn_tlv::Memory;
 use std::alloc::Global;
 
-/// Memory for one arrival: for its octets, and for its records.
+/// Memory for one `arrive`: for the octets of the Interest and its token, and for the records.
 #[derive(Drop)]
 pub struct Ready {
     size: usize,
@@ -42,7 +42,8 @@ impl Ready {
 }
 
 impl Prepared {
-    /// Prepares an `arrive` of this key with at most `size` octets, and the `sent` calls after it.
+    /// Prepares one `arrive` of this key, and the `sent` calls after this `arrive`. The Interest
+    /// and the token of the `arrive` may have at most `size` octets together.
     pub fn new(alloc: Global, key: Key<'_>, size: usize) -> Result<Prepared, Memory>
         ensures { IfOk result (λ made. (made.key ≡ plain_key key.entry)
             × (room_of made.arrival ≡ Some size) × IfSome made.arrival IsReady) }
@@ -56,8 +57,8 @@ impl Prepared {
     }
 }
 
-/// Returns the memory of an `arrive` of this key, if one is prepared, and the calls that are still
-/// prepared after it.
+/// Returns the memory of an `arrive` of this key, if such an `arrive` is prepared, and the calls
+/// that are still prepared after this `arrive`.
 pub fn arriving(prepared: Option<Prepared>, key: Key<'_>) -> (Option<Ready>, Option<Prepared>)
     requires { IfSome prepared (λ p. IfSome p.arrival IsReady) }
     ensures ready { IfSome result.0 IsReady }
@@ -81,7 +82,8 @@ pub fn arriving(prepared: Option<Prepared>, key: Key<'_>) -> (Option<Ready>, Opt
     (arrival, Some(after))
 }
 
-/// Returns `ready` if it has capacity for `size` octets, and new memory otherwise.
+/// Returns the memory `ready` if this memory has capacity for `size` octets, and new memory
+/// otherwise.
 fn ready_for(alloc: Global, ready: Option<Ready>, size: usize) -> Result<Ready, Memory>
     requires { IfSome ready IsReady }
     ensures ok { IfOk result (λ ready. (size ≤ ready.size) × IsReady ready) }
@@ -122,7 +124,7 @@ fn octets_and_room(
     Ok((ready.octets, ready.records))
 }
 
-/// Returns the in-record of an Interest and its token, if it has one, and memory for the Interest's
+/// Returns the in-record of an Interest and of its token (if any), and memory for the Interest's
 /// records. The memory is taken from `ready` if `ready` is large enough, and is newly allocated
 /// otherwise.
 pub fn in_record_and_room(

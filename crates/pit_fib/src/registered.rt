@@ -71,8 +71,9 @@ impl Registered {
         place_of(self.rows(), key).is_ok()
     }
 
-    /// Returns these routes with `route` set under `key`, stored in the vector `room`. If `room`
-    /// lacks capacity for all these routes and one more, returns the routes unchanged.
+    /// Returns these routes after `route` is set under `key`. The returned routes are stored in the
+    /// vector `room`. If `room` lacks capacity for all old routes and one more, returns the old
+    /// routes unchanged.
     pub fn with(self, key: RouteKey, route: Route, room: Vec<(RouteKey, Route)>) -> Registered
         ensures { result ≡ with_route_within (vec_capacity room) key route self }
     {

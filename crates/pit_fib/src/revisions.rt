@@ -1,5 +1,5 @@
-//! How an entry changes in the calls of the pending Interest table that remove records or record a
-//! Nack.
+//! How some calls of the pending Interest table change an entry: the calls that remove records, and
+//! the call `nacked`, which stores the reason of a Nack.
 
 use crate::entry::Entry;
 use crate::face_set::Faces;

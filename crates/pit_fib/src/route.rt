@@ -51,15 +51,15 @@ impl Route {
         self.cost == other.cost && self.flags == other.flags && self.deadline == other.deadline
     }
 
-    /// Returns whether longer names inherit the route.
+    /// Returns whether the route is a child-inherit route, which longer names can inherit.
     pub fn is_child_inherit(self) -> bool
         ensures { result ≡ is_child_inherit self }
     {
         self.flags % 2 == 1
     }
 
-    /// Returns whether the route is a capture route: its name inherits nothing, and longer names
-    /// inherit nothing from names that are shorter than its name.
+    /// Returns whether the route is a capture route. The name of a capture route inherits nothing,
+    /// and longer names inherit nothing from the proper prefixes of this name.
     pub fn is_capture(self) -> bool
         ensures { result ≡ is_capture self }
     {

@@ -73,10 +73,10 @@ impl Row {
         Some(Row::from_slots(slots))
     }
 
-    /// Adds the faces that have an in-record under a key of this name that the Data answers. If the
-    /// name is the Data's name or full name (`is_own`), the Data answers all keys of the name. If
-    /// the name is a proper prefix of the Data's name, the Data answers only the keys with
-    /// CanBePrefix.
+    /// Adds faces to `faces`: the faces that have an in-record under those keys of this name that a
+    /// Data answers. If the name is the Data's name or full name (`is_own`), the Data answers all
+    /// keys of the name. If the name is a proper prefix of the Data's name, the Data answers only
+    /// the keys with CanBePrefix.
     pub fn add_answered(&self, is_own: bool, faces: &mut Faces)
         ensures { faces.new ≡ with_answered is_own faces.old self.now }
     {
@@ -85,12 +85,12 @@ impl Row {
         }
     }
 
-    /// Of `last` and the face's in-records under the keys of this name that the Data answers,
-    /// returns the in-record with the latest deadline. Among in-records with the same deadline, the
-    /// in-record under the greatest key takes precedence, and `last` has the lowest precedence. If
-    /// the name is the Data's name or full name (`is_own`), the Data answers all keys of the name.
-    /// If the name is a proper prefix of the Data's name, the Data answers only the keys with
-    /// CanBePrefix.
+    /// Returns the in-record with the latest deadline among the in-record `last` (if any) and the
+    /// face's in-records under those keys of this name that a Data answers. Among in-records with
+    /// the same deadline, the in-record under the greatest key takes precedence, and `last` has the
+    /// lowest precedence. If the name is the Data's name or full name (`is_own`), the Data answers
+    /// all keys of the name. If the name is a proper prefix of the Data's name, the Data answers
+    /// only the keys with CanBePrefix.
     pub fn last_of<'a>(
         &'a self,
         is_own: bool,
@@ -131,7 +131,7 @@ impl Timed for Row {
     }
 }
 
-/// A change of a name's row that applies a revision to each key of the name.
+/// A change of a name's row. The change applies a revision to the entry of each key.
 #[derive(Drop)]
 pub struct RowRevision<R>(pub R);
 

@@ -132,10 +132,10 @@ impl Slots {
         all.unwrap_or(0)
     }
 
-    /// Adds the faces that have an in-record under a key of this name that the Data answers. If the
-    /// name is the Data's name or full name (`is_own`), the Data answers all keys of the name. If
-    /// the name is a proper prefix of the Data's name, the Data answers only the keys with
-    /// CanBePrefix.
+    /// Adds faces to `faces`: the faces that have an in-record under those keys of this name that a
+    /// Data answers. If the name is the Data's name or full name (`is_own`), the Data answers all
+    /// keys of the name. If the name is a proper prefix of the Data's name, the Data answers only
+    /// the keys with CanBePrefix.
     pub fn add_answered(&self, is_own: bool, faces: &mut Faces)
         ensures { faces.new ≡ with_answered is_own faces.old self.now }
     {
@@ -147,9 +147,10 @@ impl Slots {
         add_faces(&self.prefix_fresh, faces);
     }
 
-    /// Of `last` and the face's in-records under the keys without CanBePrefix, returns the
-    /// in-record with the latest deadline. Among in-records with the same deadline, the in-record
-    /// under the greatest key takes precedence, and `last` has the lowest precedence.
+    /// Returns the in-record with the latest deadline among the in-record `last` (if any) and the
+    /// face's in-records under the keys without CanBePrefix. Among in-records with the same
+    /// deadline, the in-record under the greatest key takes precedence, and `last` has the lowest
+    /// precedence.
     fn last_exact<'a>(&'a self, face: u64, last: Option<&'a InRecord>) -> Option<&'a InRecord>
         ensures { option_map (λ r. r.now) result
             ≡ last_exact face (option_map (λ r. r.now) last.entry) self.now }
@@ -158,9 +159,9 @@ impl Slots {
         later(last, in_record_of(&self.exact_fresh, face))
     }
 
-    /// Of `last` and the face's in-records under the keys with CanBePrefix, returns the in-record
-    /// with the latest deadline. Among in-records with the same deadline, the in-record under the
-    /// greatest key takes precedence, and `last` has the lowest precedence.
+    /// Returns the in-record with the latest deadline among the in-record `last` (if any) and the
+    /// face's in-records under the keys with CanBePrefix. Among in-records with the same deadline,
+    /// the in-record under the greatest key takes precedence, and `last` has the lowest precedence.
     fn last_prefix<'a>(&'a self, face: u64, last: Option<&'a InRecord>) -> Option<&'a InRecord>
         ensures { option_map (λ r. r.now) result
             ≡ last_prefix face (option_map (λ r. r.now) last.entry) self.now }
@@ -169,12 +170,12 @@ impl Slots {
         later(last, in_record_of(&self.prefix_fresh, face))
     }
 
-    /// Of `last` and the face's in-records under the keys of this name that the Data answers,
-    /// returns the in-record with the latest deadline. Among in-records with the same deadline, the
-    /// in-record under the greatest key takes precedence, and `last` has the lowest precedence. If
-    /// the name is the Data's name or full name (`is_own`), the Data answers all keys of the name.
-    /// If the name is a proper prefix of the Data's name, the Data answers only the keys with
-    /// CanBePrefix.
+    /// Returns the in-record with the latest deadline among the in-record `last` (if any) and the
+    /// face's in-records under those keys of this name that a Data answers. Among in-records with
+    /// the same deadline, the in-record under the greatest key takes precedence, and `last` has the
+    /// lowest precedence. If the name is the Data's name or full name (`is_own`), the Data answers
+    /// all keys of the name. If the name is a proper prefix of the Data's name, the Data answers
+    /// only the keys with CanBePrefix.
     pub fn last_of<'a>(
         &'a self,
         is_own: bool,

@@ -39,7 +39,8 @@ impl Carry<StrategyId> for StrategyId {
 /// at most 4,096 names of at most 32 components. The name `/` is always in the table.
 #[derive(Drop)]
 pub struct StrategyTable {
-    // The strategy of `/`, stored separately, since it needs no memory.
+    // The strategy of `/`. It is stored apart from the other strategies, so it never needs an
+    // allocation.
     root: StrategyId,
     others: NameMap<StrategyId>,
 }
@@ -162,7 +163,7 @@ impl StrategyTable {
         self.others.remove(name);
     }
 
-    /// Returns the strategy of the longest prefix of a name that has a strategy.
+    /// Returns the strategy of one prefix of a name: the longest prefix that has a strategy.
     pub fn longest(&self, name: Name<'_>) -> StrategyId
         ensures { Some result ≡ longest_in self.now.table (components name.entry) }
     {
@@ -206,7 +207,7 @@ impl StrategyTable {
     }
 }
 
-/// Returns whether two lists have the same names, each with the same strategy.
+/// Returns whether two lists have the same names in the same order, each with the same strategy.
 fn are_same(choices: &[(NameBuf, StrategyId)], others: &[(NameBuf, StrategyId)]) -> bool
     ensures { IsTrue result → choices.now ≡ others.now }
 {

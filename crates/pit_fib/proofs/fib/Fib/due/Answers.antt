@@ -14,8 +14,8 @@ returns-then-now-self c =
     let none : 0 ≡ due_count c.args.now t = omega (arith, same) in
     none ∙ ap (λ s. due_count c.args.now s.table) c.self.view_is
 
--- the visitor has counted the routes that remain after the expiry at `now`, and their number is at
--- most the number of all routes
+-- the visitor has counted the routes that remain after the expiry at `now`, and the number of these
+-- routes is at most the number of all routes
 left : (c : goal.After-see_all) → (c.see_all.new.see.count ≡ route_count (left_at c.args.now c.self.inside.entries.table)) × (c.see_all.new.see.count ≤ c.self.inside.count)
 left c =
     let t = c.self.inside.entries.table in
