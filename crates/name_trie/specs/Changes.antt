@@ -13,8 +13,8 @@ abbrev pub bare : {V : Type 0} → Option ℕ → Node V
 bare parent = record { parent = parent; hint = tt; children = empty; value = None }
 
 module _ {V : Type 0} where
-  -- A new node k is added as the child of node `at` for the component `c`. The new node has no value
-  -- and no children. No other node changes.
+  -- A new node k is added as the child of node `at` for the component `c`. The new node has no
+  -- value and no children. No other node changes.
   pub record Joins (k at : ℕ) (c : Field) (h h' : Heap V) : Type 0 where
     pub node : Node V
     pub there : h at ≡ Some node
