@@ -198,7 +198,7 @@ ends_at bs i d at a lt before within =
       | inr last ↦ (let e = last_ends 0 bs i d a last in (omega arith, λ l. omega arith))
     ]
 
--- reading one block twice gives the same block
+-- two reads of the block with index `i` return equal blocks
 pub read_twice : (bs : List Block) (i : ℕ) (b c : Block) → i < length bs → b ≡ get_or bs i b → c ≡ get_or bs i c → b ≡ c
 read_twice bs i b c lt e f = e ∙ get_or_default bs i b c lt ∙ sym f
 

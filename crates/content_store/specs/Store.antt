@@ -90,8 +90,8 @@ pub record IsLeast (P : CachedData → Type 0) (cs : List CachedData) (c : Cache
 abbrev pub without : List Field → List CachedData → List CachedData
 without name cached = filter (λ c. not (eq_by_cmp name_cmp (full_name_of c) name)) cached
 
--- `after` is the list `before` after some or no elements are removed. The remaining elements keep
--- their order.
+-- `after` is what remains of the list `before` when some or no elements are removed. The remaining
+-- elements keep their order.
 pub record LosesSome (before after : List CachedData) : Type 0 where
   pub stays : CachedData → Bool
   pub left : after ≡ filter stays before

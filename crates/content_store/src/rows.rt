@@ -224,7 +224,7 @@ impl Rows {
         first_from(&self.entries, &self.order, &self.blocks, start, key, now)
     }
 
-    /// Returns the number of rows. The contract also states that every list of rows is valid
+    /// Returns the number of rows. The contract also states that the list of rows is valid
     /// (`IsValidRows`).
     pub fn len(&self) -> usize
         ensures len { result ≡ length self.now }

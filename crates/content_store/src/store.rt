@@ -36,7 +36,8 @@ pub struct Store {
     alloc: Global,
     capacity: usize,
     rows: Rows,
-    // The slab indexes of rows by serial number. The least recently used row is evicted first.
+    // Maps the serial number of each row to the row's slab index. The least recently used row is
+    // evicted first.
     used: LruCache<u64, u32>,
     next: u64,
 }
@@ -109,14 +110,14 @@ impl Store {
         self.len() == 0
     }
 
-    /// Caches a Data that arrived at `arrival`, in milliseconds since 1970, as the most recently
-    /// used. The Data replaces a cached Data with the same full name and the same octets. If the
-    /// full name is new and the store is full, the least recently used Data is evicted. A Data that
-    /// is already cached with the same octets needs no memory, and is never refused. Returns false
-    /// and leaves the store unchanged if memory runs out, or if a cached Data with the same full
-    /// name has other octets. After 2^64 - 1 Data with new full names have been cached, the next
-    /// Data with a new full name empties the store: this Data is not cached, and the result is
-    /// false.
+    /// Caches a Data as the most recently used. The Data arrived at the moment `arrival`, in
+    /// milliseconds since 1970. The Data replaces a cached Data with the same full name and the
+    /// same octets. If the full name is new and the store is full, the least recently used Data is
+    /// evicted. A Data that is already cached with the same octets needs no memory, and is never
+    /// refused. Returns false and leaves the store unchanged if memory runs out, or if a cached
+    /// Data with the same full name has other octets. After 2^64 - 1 Data with new full names have
+    /// been cached, the next Data with a new full name empties the store: this Data is not cached,
+    /// and the result is false.
     pub fn put(&mut self, packet: &Data<'_>, arrival: u64) -> bool
         ensures ok { IsTrue result
             → self.new ≡ with_cached self.old (cached_at packet.now arrival) }
@@ -216,9 +217,9 @@ impl Store {
         Some(self.rows.row(at).entry.octets())
     }
 
-    /// Removes at most `count` Data whose full names begin with a name, the least full names first.
-    /// If `count` is `None`, removes all Data whose full names begin with the name. Returns the
-    /// number of removed Data.
+    /// Removes at most `count` Data whose full names begin with `name`, those with the least full
+    /// names first. If `count` is `None`, removes all Data whose full names begin with `name`.
+    /// Returns the number of removed Data.
     pub fn erase(&mut self, name: Name<'_>, count: Option<u64>) -> u64
         ensures erased { Erases (components name.entry) count
             self.old.cached self.new.cached result }

@@ -42,7 +42,7 @@ number_fits true asked face = by_face (nat_eq asked 0)
     by_face true = omega (arith, face_fits face, length-append (element (105, shortest_nni face)) [], length-append (element (105, shortest_nni greatest)) [])
     by_face false = omega arith
 
--- the fields of a reply after Name and FaceId, which do not depend on the face
+-- the fields of a reply after Name and FaceId; these other fields do not depend on the face
 abbrev other_fields : PlainCommand → List Field
 other_fields c = number ORIGIN (given c ORIGIN (Some c.origin)) ++ given_fields c
 

@@ -40,7 +40,8 @@ set_status name (Some strategy) choices =
     if is_full choices name then TABLE_FULL else
     OK)
 
--- the first fields of a reply: Name, then FaceId and Origin if the command takes them
+-- the first fields of a reply: Name, then FaceId if the command takes a FaceId, then Origin if the
+-- command takes an Origin
 abbrev pub about_fields : PlainCommand → ℕ → List Field
 about_fields c face =
     (NAME, octets_of c.name)

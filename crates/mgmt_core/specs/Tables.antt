@@ -145,6 +145,6 @@ CachedAfter c before after =
       | _ ↦ after ≡ before
     ]
 
--- `after` if the status is 200 (OK), otherwise `before`
+-- the value `after` if the status is 200 (OK), otherwise the value `before`
 abbrev pub if_done : {X : Type 0} → ℕ → X → X → X
 if_done status after before = if status == OK then after else before

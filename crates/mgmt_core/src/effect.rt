@@ -19,8 +19,9 @@ use crate::types::{FACE_NOT_OPEN, OK, PREFIX_TOO_LONG, TABLE_FULL, UNKNOWN_STRAT
 use ndn_tlv::Memory;
 use pit_fib::{Faces, Fib, MAX_DEPTH, StrategyTable};
 
-/// Applies to the tables a command that came from `face`. `now` is in milliseconds since 1970. `up`
-/// contains the faces that are up. Each face that has a next hop or a route must be in `up`.
+/// Applies a command to the tables. The command came from `face`. `now` is in milliseconds since
+/// 1970. `up` contains the faces that are up. Each face that has a next hop or a route must be in
+/// `up`.
 ///
 /// Returns the first status that applies, in this order:
 /// - 414 if the name has more than 32 components (`fib/add-nexthop`, `rib/register`,

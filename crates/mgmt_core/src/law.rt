@@ -54,8 +54,9 @@ pub fn replies_are_bounded()
     ensures whole { (c : PlainCommand) (face status : ℕ) (text : List ℕ)
         → text_of status ≡ Some text
         → length (response status text (body_after c face status)) ≤ reply_limit c }
-    // This bound holds for every text and body. For example, the text of the reply to a command
-    // that no access rule allows is not one of the texts that `text_of` gives.
+    // This bound holds for every text and body, and not only for the texts that `text_of` gives.
+    // For example, `text_of` does not give the text of the reply to a command that no access rule
+    // allows.
     ensures any { (status : ℕ) (text body : List ℕ)
         → length (response status text body) ≤ length text + length body + 30 }
 {}

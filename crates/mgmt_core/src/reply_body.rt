@@ -48,8 +48,8 @@ impl Command<'_> {
         if self.face == 0 { face } else { self.face }
     }
 
-    /// Returns the time when a route that the command registers at `now` expires, or `None` if the
-    /// route does not expire.
+    /// Returns the deadline of a route that the command registers at `now`. The route expires at
+    /// this deadline. Returns `None` if the route does not expire.
     pub(crate) fn deadline_from(&self, now: u64) -> Option<u64>
         ensures { result ≡ deadline_of now self.now.expires }
     {
@@ -99,8 +99,9 @@ impl Command<'_> {
         self.put_given(out)
     }
 
-    /// Appends the Name of the reply and, if the command takes them, the FaceId and the Origin. If
-    /// memory runs out, some octets of these fields may be appended.
+    /// Appends the Name of the reply, then the FaceId if the command takes a FaceId, then the
+    /// Origin if the command takes an Origin. If memory runs out, some octets of these fields may
+    /// be appended.
     fn put_about(&self, out: &mut Vec<u8>, face: u64) -> Result<(), Memory>
         ensures ok { OnOk result
             (out.new.items ≡ out.old.items ++ octets (about_fields (asked self.now) face)) }

@@ -38,9 +38,9 @@ impl Tables {
     }
 
     /// Prepares one `apply` of this command, whichever face the command comes from. The prepared
-    /// `apply` cannot run out of memory if entries are only removed from the tables before the
-    /// `apply`. Each later `prepare`, even one that fails, ends the preparation. The next `apply`
-    /// of any command may also end the preparation.
+    /// `apply` cannot run out of memory if the only changes of the tables before the `apply` are
+    /// removals of entries. Each later `prepare`, even one that fails, ends the preparation. The
+    /// next `apply` of any command may also end the preparation.
     pub fn prepare(&mut self, command: &Command<'_>) -> Result<(), Memory>
         ensures ok { OnOk result (IsPrepared self.new (asked command.now)) }
         ensures err_routes { OnErr result (self.new.fib.prepared ≡ None) }

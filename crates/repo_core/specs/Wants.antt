@@ -18,7 +18,8 @@ use Rattle.repo_core.specs.Objects.{kept}
 abbrev pub WantKey : Type 0
 WantKey = List Field × Bool
 
--- the order of wants: by name in canonical order, and for the same name CanBePrefix `false` first
+-- the order of wants: by name in canonical order; of two wants with the same name, the one with
+-- CanBePrefix `false` comes first
 abbrev pub want_cmp : WantKey → WantKey → Ordering
 want_cmp = then_cmp (on (λ k. k.0) name_cmp) (on (λ k. k.1) bool_cmp)
 

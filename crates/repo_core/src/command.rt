@@ -24,7 +24,8 @@ pub struct Asked<'a> {
     pub lifetime: u64,
 }
 
-/// Returns the value of the component at index `at` after the prefix, if it has type `kind`.
+/// Returns the value of the component at index `at` after the prefix, if the component has type
+/// `kind`.
 fn value_after<'a>(start: Name<'_>, name: Name<'a>, kind: u16, at: usize) -> Option<&'a [u8]>
     requires { at ≤ 2 }
     ensures exact { option_map (λ v. v.now) result

@@ -55,8 +55,9 @@ pub fn repo_statuses_have_texts()
 pub fn repo_replies_are_bounded()
     ensures known { (status count : ℕ) (text : List ℕ) → repo_text_of status ≡ Some text
         → length (repo_response status text count) ≤ MAX_REPLY_LEN }
-    // This bound holds for every text. For example, the text of the reply to a command that no
-    // access rule allows is not one of the texts that `repo_text_of` gives.
+    // This bound holds for every text, and not only for the texts that `repo_text_of` gives. For
+    // example, `repo_text_of` does not give the text of the reply to a command that no access rule
+    // allows.
     ensures any { (status count : ℕ) (text : List ℕ)
         → length (repo_response status text count) ≤ length text + 40 }
 {}
