@@ -24,8 +24,8 @@ pub plain_front : (front word : List ℕ) → Lacks 92 front → unescaped (fron
 plain_front [] word h = refl
 plain_front (o ∷ front) word h = plain_octet o (front ++ word) h.0 ∙ ap (λ (w : List ℕ). o ∷ w) (plain_front front word h.1)
 
--- `escaped_octet` and `kept_backslash`: `unescaped` removes a backslash before an octet that it
--- escapes, and leaves a backslash before another octet or at the end of the word unchanged
+-- `escaped_octet` and `kept_backslash`: `unescaped` removes a backslash before a backslash or a
+-- quote, and leaves a backslash before another octet or at the end of the word unchanged
 pub escaped_octet : (next : ℕ) (word : List ℕ) → is_escaped next ≡ true → unescaped (92 ∷ (next ∷ word)) ≡ next ∷ unescaped word
 unfolding unescaped
 escaped_octet next word h = rw h refl

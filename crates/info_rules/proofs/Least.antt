@@ -39,7 +39,8 @@ told_of_two a b = by_test (sooner b a) refl
     by_test true e = record { one = inr refl; first = less_not b.line (kind_number b.kind) a.line (kind_number a.kind) e; second = itself b }
     by_test false e = record { one = inl refl; first = itself a; second = e }
 
--- `told` is the fault that is reported among `fault` and `faults`
+-- `told` is `fault` or a fault in the list `faults`, and none of these faults is reported before
+-- `told`
 abbrev IsFirst : RulesFault → List RulesFault → RulesFault → Type 0
 IsFirst fault faults told = IsAmong told (fault ∷ faults) × NoneIsSooner told (fault ∷ faults)
 

@@ -17,7 +17,7 @@ heads x y s t e = cc
 tails : (x y : ℕ) (s t : List ℕ) → x ∷ s ≡ y ∷ t → s ≡ t
 tails x y s t e = cc
 
--- two lists cannot each be less than the other in lexicographic order
+-- at most one of two lists is less than the other list in lexicographic order
 clash : (p q s t after before : List ℕ) (x y u v : ℕ) → p ++ x ∷ s ≡ q ++ v ∷ after → p ++ y ∷ t ≡ q ++ u ∷ before → x < y → u < v → ⊥
 clash [] [] s t after before x y u v e f low high = absurd (omega (arith, low, high, heads x v s after e, heads y u t before f))
 clash [] (b ∷ q) s t after before x y u v e f low high =

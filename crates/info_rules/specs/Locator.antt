@@ -21,8 +21,8 @@ pub record Makes (pattern : PlainPattern) (template : List PlainPart)
   pub expanded : made ≡ expansion_of template places name
   pub short : length made ≤ 64
 
--- the name expanded from the key's name has the relation to the name expanded from the packet's
--- name
+-- the name expanded from the key's name has the relation `hyper.relation` to the name expanded from
+-- the packet's name
 abbrev pub IsHyperRelated : PlainHyper → List Field → List Field → Type 0
 IsHyperRelated hyper key packet =
     (a b : List Field) × Makes hyper.key_pattern hyper.key_template key a

@@ -37,7 +37,8 @@ BeginsOff line NoNode = ⊤
 BeginsOff line (Leaf head others) = head.line ≢ line
 BeginsOff line (Branch head opened block closed others) = head.line ≢ line
 
--- an entry ends with its line: the next entry of the same block is on another line
+-- of two consecutive entries in one block, or outside all blocks, the second begins on another line
+-- than the line on which the first ends
 unfoldable pub IsApart : Nodes → Type 0
 IsApart NoNode = ⊤
 IsApart (Leaf head others) = BeginsOff head.line others × IsApart others

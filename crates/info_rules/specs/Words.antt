@@ -104,7 +104,8 @@ end_line text = 1 + count_by (λ o. o == 10) text
 abbrev pub is_escaped : ℕ → Bool
 is_escaped o = (o == 92) || (o == 34)
 
--- the word with each pair of backslashes replaced by one, and without the backslash before a quote
+-- the word with each pair of backslashes replaced by one backslash, and each pair of a backslash
+-- and a quote replaced by the quote
 unfoldable pub unescaped : List ℕ → List ℕ
 unescaped [] = []
 unescaped (o ∷ []) = o ∷ []

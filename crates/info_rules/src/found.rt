@@ -1,4 +1,4 @@
-//! Values read from a rule file, or the fault that is reported.
+//! Values that were read from a rule file, or the fault that is reported.
 
 ghost use Rattle.std.specs.Prelude.{◌≡◌, IfOk};
 ghost use Rattle.info_rules.specs.Found as found;
@@ -78,7 +78,7 @@ pub fn needed<A: Drop>(line: u32, read: Found<Option<A>>) -> Found<A>
     read?.ok_or(RulesFaultKind::Missing.at(line))
 }
 
-/// Appends a value that was read to a list of values. If `parts` or `read` is a fault, returns the
+/// Appends the value in `read` to the list in `parts`. If `parts` or `read` is a fault, returns the
 /// fault that is reported.
 pub fn with_one<A: Drop>(parts: Found<Vec<A>>, read: Found<A>) -> Read<Vec<A>>
     ensures { IfOk result (λ all. shown (λ parts. parts.items) all

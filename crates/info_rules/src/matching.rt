@@ -8,7 +8,7 @@ ghost use Rattle.info_rules.specs.First.{Passes, Applies};
 use crate::rule::{Kind, NameTest, Relation, Rule};
 use ndn_names::Name;
 
-/// Returns whether `name` has the relation to `other`.
+/// Returns whether `name` has the relation `relation` to `other`.
 pub fn is_related(relation: Relation, name: Name<'_>, other: Name<'_>) -> bool
     ensures { IsTrue result ↔ Related relation (components name.entry) (components other.entry) }
 {

@@ -16,7 +16,7 @@ use ndn_names::Name;
 use ndn_names::component_type::PARAMETERS_SHA256_DIGEST;
 use ndn_packets::{Data, Interest, Parts, Signature};
 
-/// A packet to be decided.
+/// An Interest or a Data, on which the rules make a decision.
 #[derive(Clone, Copy, Debug)]
 pub enum Packet<'a> {
     Interest(&'a Interest<'a>),

@@ -56,10 +56,10 @@ impl InfoTree {
     /// the text. An unquoted word that is only `{` or only `}` is a brace. Outside quotes, a
     /// semicolon begins a comment that ends with its line. A word that begins with `"` is quoted:
     /// it ends at the next `"` that has no backslash directly before it. This closing quote must be
-    /// on the same line. In words, quoted or not, `\\` means a backslash and `\"` a quote. An
-    /// entry is a key, at most one value on the key's line, and at most one block of entries
-    /// between braces. The opening brace may be on a later line. After an entry, only a comment or
-    /// the closing brace of the enclosing block may follow on the same line.
+    /// on the line of the opening quote. In words, quoted or not, `\\` means a backslash and `\"` a
+    /// quote. An entry is a key, at most one value on the key's line, and at most one block of
+    /// entries between braces. The opening brace may be on a later line. On the line where an entry
+    /// ends, only a comment or the closing brace of the enclosing block may follow the entry.
     ///
     /// On failure, returns the first fault of the text. A word or a brace where it is not allowed
     /// is `Syntax`, and so is a quote that is not closed on its line. A block that is not closed is
