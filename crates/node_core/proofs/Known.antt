@@ -46,8 +46,8 @@ Consumes-kept (Some a) None c x h k = absurd h
 Consumes-kept (Some a) (Some b) None x h k = absurd k
 Consumes-kept (Some a) (Some b) (Some c) x h k = h ∙ ap (λ (w : List ℕ). x ++ w) (sym k)
 
--- if a whole text is written, and then a prefix of a second text, a prefix of the concatenation of
--- the two texts is written
+-- if a whole text is written, and a prefix of a second text is written after it, then a prefix of
+-- the concatenation of the two texts is written
 pub AppendsFront-after : (a b c : Option (List ℕ)) (x y : List ℕ) → Appends a b x → AppendsFront b c y → AppendsFront a c (x ++ y)
 AppendsFront-after a b c x y h k = (x ++ k.0, k.1, ap (λ (w : List ℕ). x ++ w) k.2 ∙ sym (append_assoc x k.0 k.1), Appends-then a b c x k.0 h k.3)
 

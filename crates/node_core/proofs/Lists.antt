@@ -50,7 +50,7 @@ cut_once octet (o ∷ a) b (p ∷ c) d ha hc e =
     let first : o ≡ p = cc in
     record { front = cc (first, same.front); back = same.back }
 
--- the text after its first i octets equals the result of the slice `&text[i..]`
+-- the octets of `text` after the first `i` octets equal the result of the slice `&text[i..]`
 pub take_rest : (i : ℕ) (text : List ℕ) → drop i text ≡ take (length text - i) (drop i text)
 take_rest i text = sym (take_all (length text - i) (drop i text) (simp length-drop (omega arith)))
 

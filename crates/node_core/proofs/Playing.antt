@@ -206,8 +206,8 @@ joined-append (l ∷ a) b = ap (λ (t : List ℕ). ended l ++ t) (joined-append 
 pub IsBadLine-long : (line : List ℕ) → 20000 < length line → IsBadLine line
 IsBadLine-long line long = (λ h. omega (arith, h.0), λ event h. omega (arith, h.0))
 
--- a fault of appending octets to a line is also a fault of handling this line, since a line that is
--- too long is bad
+-- a fault of appending octets to a line is also a fault of handling the line with the appended
+-- octets, since a line that is too long is bad
 pub LineFails-from_add : (f : RunFault) (line : List ℕ) (from : Place) → AddStops f line from → LineFails f line from
 LineFails-from_add (fault.BadLine n) line from h = (h.0, IsBadLine-long line h.1)
 LineFails-from_add fault.Read line from h = absurd h
@@ -289,7 +289,7 @@ Fed-then stream from mid to line rest front after text held holds new fed is pla
     }
 
 -- if appending octets to an unfinished line has the fault `f`, since the line is too long or
--- memory runs out, then handling the octets stops with `f`
+-- memory runs out, then handling `stream` stops with `f`
 pub FeedStops-last : (f : RunFault) (stream : List ℕ) (from mid : Place) (line rest : List ℕ) (held holds : Option (List ℕ)) → Fed stream from mid line rest held holds
     → Lacks 10 line → Lacks 10 rest → AddStops f (line ++ rest) mid → FeedStops f stream from held holds
 FeedStops-last (fault.BadLine n) stream from mid line rest held holds fed la lb h =
@@ -300,7 +300,7 @@ FeedStops-last (fault.Node n) stream from mid line rest held holds fed la lb h =
 FeedStops-last fault.Memory stream from mid line rest held holds fed la lb h =
     (fed.lines, mid, fed.text, line ++ rest, fed.plays, AppendsFront-all held holds fed.text fed.written, fed.stream_is)
 
--- if handling a finished line has a fault, handling the octets stops with this fault
+-- if handling a finished line has a fault, handling `stream` stops with this fault
 pub FeedStops-line : (f : RunFault) (stream : List ℕ) (from mid : Place) (line rest front after : List ℕ) (held holds : Option (List ℕ)) → Fed stream from mid line rest held holds
     → rest ≡ front ++ (10 ∷ after) → Lacks 10 line → Lacks 10 front → LineFails f (line ++ front) mid → FeedStops f stream from held holds
 FeedStops-line (fault.BadLine n) stream from mid line rest front after held holds fed is la lb h =
@@ -343,8 +343,8 @@ TurnsBad-begins stream lines turns =
     let n = nonempty t.0 t.1 in
     init_after stream (joined lines) n.1 10 n.0 (ap ended (sym (append-nil stream)) ∙ t.2 ∙ ap (λ (s : List ℕ). joined lines ++ s) n.2)
 
--- if the answers before a fault were gathered and then written, handling the octets stops with the
--- same fault
+-- if the answers before a fault were gathered and then written, handling `stream` stops with this
+-- fault
 pub FeedStops-written : (f : RunFault) (stream : List ℕ) (from : Place) (text : List ℕ) (held holds : Option (List ℕ)) → FeedStops f stream from (Some []) (Some text)
     → Appends held holds text → FeedStops f stream from held holds
 FeedStops-written (fault.BadLine n) stream from text held holds h written = (h.0, h.1, h.2, h.3, gathered text h.2 held holds h.4 written, h.5, h.6)
@@ -353,8 +353,8 @@ FeedStops-written fault.Write stream from text held holds h written = (h.0, h.1,
 FeedStops-written (fault.Node n) stream from text held holds h written = absurd h
 FeedStops-written fault.Memory stream from text held holds h written = (h.0, h.1, h.2, h.3, h.4, gathered_front text h.2 held holds h.5 (AppendsFront-all held holds text written), h.6)
 
--- if the answers before a fault were gathered, but only a prefix of them was written, handling the
--- octets stops with the fault Write
+-- if the answers before a fault were gathered, but only a prefix of their text was written,
+-- handling `stream` stops with the fault Write
 pub FeedStops-cut : (f : RunFault) (stream : List ℕ) (from : Place) (text : List ℕ) (held holds : Option (List ℕ)) → FeedStops f stream from (Some []) (Some text)
     → AppendsFront held holds text → FeedStops fault.Write stream from held holds
 FeedStops-cut (fault.BadLine n) stream from text held holds h cut =

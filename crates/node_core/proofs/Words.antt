@@ -42,7 +42,8 @@ scope_word-Lacks Far = Lacks-from_test 32 (codes "far") refl
 pub number-Lacks : (n : ℕ) → n < 2 ^ 64 → Lacks 32 (decimal n)
 number-Lacks n lt = decimal-Lacks 32 (omega arith) n lt
 
--- `a`, `b` and `c` are the words after `up` in the line of the event
+-- the event is a `FaceUp`, and `a`, `b` and `c` are the words that follow the keyword `up` in the
+-- line of the event
 pub record UpWords (event : PlainEvent) (a b c : List ℕ) : Type 0 where
   pub face : ℕ
   pub scope : Scope
@@ -53,7 +54,8 @@ pub record UpWords (event : PlainEvent) (a b c : List ℕ) : Type 0 where
   pub scope_is : b ≡ scope_word scope
   pub now_is : c ≡ decimal now
 
--- `a`, `b` and `c` are the words after `in` in the line of the event
+-- the event is a `Packet`, and `a`, `b` and `c` are the words that follow the keyword `in` in the
+-- line of the event
 pub record InWords (event : PlainEvent) (a b c : List ℕ) : Type 0 where
   pub face : ℕ
   pub now : ℕ
@@ -64,7 +66,8 @@ pub record InWords (event : PlainEvent) (a b c : List ℕ) : Type 0 where
   pub now_is : b ≡ decimal now
   pub spelled : HexSpells octets c
 
--- `a` and `b` are the words after `down` in the line of the event
+-- the event is a `FaceDown`, and `a` and `b` are the words that follow the keyword `down` in the
+-- line of the event
 pub record DownWords (event : PlainEvent) (a b : List ℕ) : Type 0 where
   pub face : ℕ
   pub now : ℕ
@@ -73,7 +76,8 @@ pub record DownWords (event : PlainEvent) (a b : List ℕ) : Type 0 where
   pub face_is : a ≡ decimal face
   pub now_is : b ≡ decimal now
 
--- `a`, `b` and `c` are the words after `rules` in the line of the event
+-- the event is a `NewRules`, and `a`, `b` and `c` are the words that follow the keyword `rules` in
+-- the line of the event
 pub record RulesWords (event : PlainEvent) (a b c : List ℕ) : Type 0 where
   pub rules : List PlainRule
   pub keys : List NamedKey
@@ -90,7 +94,8 @@ first text = get_or text 0 0
 abbrev second : List ℕ → ℕ
 second text = get_or text 1 0
 
--- the text after `up` in an event's line is three words of an event `up`, separated by spaces
+-- if an event's line is the keyword `up`, a space and `text`, then the event is a `FaceUp`, and
+-- `text` is the three words of this event, separated by spaces
 pub up_text : (event : PlainEvent) (text : List ℕ) → LineSpells event (codes "up" ++ (32 ∷ text))
     → (a b c : List ℕ) × UpWords event a b c × (text ≡ a ++ (32 ∷ (b ++ (32 ∷ c))))
 up_text (FaceUp face scope now) text h =

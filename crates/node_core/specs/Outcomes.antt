@@ -26,8 +26,8 @@ IsOutcome old event (Answered answer) new = IsEvent event × IsStep old event an
 IsOutcome old event NoMemory new =
     IsEvent event × ChangesCacheOnly old new × (AsksNoMemory old event → ⊥)
 
--- `outcomes` has one outcome for each event, in the order of the events; handling the events leads
--- from the old node to the new node
+-- `outcomes` has one outcome for each event, in the order of the events; handling the events with
+-- these outcomes leads from the old node to the new node
 abbrev pub AreOutcomes : NodeState → List PlainEvent → List Outcome → NodeState → Type 0
 AreOutcomes old [] [] new = new ≡ old
 AreOutcomes old [] (done_as ∷ outcomes) new = ⊥

@@ -28,7 +28,7 @@ pub fn put_answer(
     ensures ok { OnOk result (text.new.items ≡ text.old.items
         ++ lines_text number (result_text rules.now outcome.now) outbox.now) }
     ensures err { OnErr result (text.new.items ≡ text.old.items) }
-    // If the spare capacity of `text` is enough for the octets to append, memory does not run out.
+    // If `text` has spare capacity for all octets that are appended, memory does not run out.
     ensures room { vec_len text.old
         + length (lines_text number (result_text rules.now outcome.now) outbox.now)
         ≤ vec_capacity text.old → IsOk result }
@@ -54,7 +54,7 @@ pub fn put_verdict(
     ensures ok { OnOk result (text.new.items ≡ text.old.items
         ++ numbered_line number (verdict_text rules.now (verdict_of verdict.now))) }
     ensures err { OnErr result (text.new.items ≡ text.old.items) }
-    // If the spare capacity of `text` is enough for the octets to append, memory does not run out.
+    // If `text` has spare capacity for all octets that are appended, memory does not run out.
     ensures room { vec_len text.old
         + length (numbered_line number (verdict_text rules.now (verdict_of verdict.now)))
         ≤ vec_capacity text.old → IsOk result }
@@ -74,7 +74,7 @@ pub fn put_refused(text: &mut Vec<u8>, number: u64) -> Result<(), Memory>
     ensures ok { OnOk result
         (text.new.items ≡ text.old.items ++ numbered_line number (codes "memory")) }
     ensures err { OnErr result (text.new.items ≡ text.old.items) }
-    // If the spare capacity of `text` is enough for the octets to append, memory does not run out.
+    // If `text` has spare capacity for all octets that are appended, memory does not run out.
     ensures room { vec_len text.old + length (numbered_line number (codes "memory"))
         ≤ vec_capacity text.old → IsOk result }
     ensures capacity { vec_capacity text.old ≤ vec_capacity text.new }
@@ -87,12 +87,13 @@ pub fn put_refused(text: &mut Vec<u8>, number: u64) -> Result<(), Memory>
     done
 }
 
-/// Appends one line for each packet that is sent, as `run_script` writes it: `>`, the face, and the
-/// octets in hexadecimal or a dash for no octets. If memory runs out, nothing is appended.
+/// Appends one line for each packet that is sent, in the form that `run_script` writes: `>`, the
+/// face, and the octets in hexadecimal. A dash stands for no octets. If memory runs out, nothing is
+/// appended.
 pub fn put_sends(text: &mut Vec<u8>, outbox: &Outbox) -> Result<(), Memory>
     ensures ok { OnOk result (text.new.items ≡ text.old.items ++ flat_map send_text outbox.now) }
     ensures err { OnErr result (text.new.items ≡ text.old.items) }
-    // If the spare capacity of `text` is enough for the octets to append, memory does not run out.
+    // If `text` has spare capacity for all octets that are appended, memory does not run out.
     ensures room { vec_len text.old + length (flat_map send_text outbox.now)
         ≤ vec_capacity text.old → IsOk result }
     ensures capacity { vec_capacity text.old ≤ vec_capacity text.new }

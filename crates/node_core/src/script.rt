@@ -42,8 +42,8 @@ pub enum RunFault {
     Memory,
 }
 
-/// Runs the events of a script on a new node and writes the answers. The answers to all lines that
-/// end within the octets of one read are written before the next read.
+/// Runs the events of a script on a new node and writes the answers. The answers to all lines whose
+/// LF is among the octets of one read are written before the next read.
 ///
 /// A line is `up FACE local|far MOMENT`, `down FACE MOMENT`, `tick MOMENT`, `in FACE MOMENT HEX` or
 /// `rules MOMENT HEX HEX`. FACE is the number of a face, MOMENT is a time in milliseconds since

@@ -15,8 +15,8 @@ abbrev pub AppendsFront : Option (List ℕ) → Option (List ℕ) → List ℕ �
 AppendsFront old new octets =
     (front back : List ℕ) × (octets ≡ front ++ back) × Appends old new front
 
--- this fault may occur in a run whose node has valid parts; creating such a node can only fail with
--- `Memory`
+-- this fault may occur in a run whose node has valid parts; if creating such a node fails, the
+-- fault of the node is `Memory`
 abbrev pub ComesWithGoodParts : RunFault → Type 0
 ComesWithGoodParts (fault.Node f) = f ≡ node.Memory
 ComesWithGoodParts (fault.BadLine n) = Unit {0}

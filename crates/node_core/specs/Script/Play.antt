@@ -39,7 +39,7 @@ pub record IsStart (place : Place) : Type 0 where
 abbrev pub HasRoom : Place → ℕ → Type 0
 HasRoom place n = (place.lines + n < 2 ^ 64) × (place.events + n < 2 ^ 64)
 
--- `to` counts at most `n` lines and at most `n` events more than `from`
+-- the state `to` counts at most `n` more lines and at most `n` more events than the state `from`
 abbrev pub IsNear : Place → ℕ → Place → Type 0
 IsNear from n to = (to.lines ≤ from.lines + n) × (to.events ≤ from.events + n)
 
@@ -56,9 +56,9 @@ pub record PlaysEvent (event : PlainEvent) (from to : Place) (text : List ℕ) :
   pub lines : to.lines ≡ from.lines
   pub events : to.events ≡ from.events + 1
 
--- Running the lines leads from the state `from` to the state `to`, which also counts these lines
--- and their events. `text` is the text of the outcomes. The first of these events has the number
--- `from.events + 1`.
+-- Running the lines leads from the state `from` to the state `to`. The counts of `to` are those of
+-- `from`, increased by the numbers of these lines and of their events. `text` is the text of the
+-- outcomes. The first event of the lines has the number `from.events + 1`.
 pub record Plays (lines : List (List ℕ)) (from to : Place) (text : List ℕ) : Type 0 where
   pub events : List PlainEvent
   pub outcomes : List Outcome

@@ -5,9 +5,9 @@ ghost use Rattle.node_core.specs.Script.Ending.{AppendsFront};
 use crate::script::RunFault;
 use std::io::{ErrorKind, Write};
 
-/// Writes all the octets. Returns `Write` if the writer fails, accepts no octets or was called
-/// 4,294,967,295 times. On failure, a prefix of the octets may have been written. An interrupted
-/// call is tried again.
+/// Writes all the octets. Returns `RunFault::Write` if the writer fails, accepts no octets or was
+/// called 4,294,967,295 times. On failure, a prefix of the octets may have been written. An
+/// interrupted call is tried again.
 pub fn put_all<W: Write>(writer: &mut W, octets: &[u8]) -> Result<(), RunFault>
     ensures done { OnOk result
         (Appends (W.contents writer.old) (W.contents writer.new) octets.now) }

@@ -93,7 +93,8 @@ impl Player {
         Err(RunFault::Read)
     }
 
-    // Handles the lines that end in the chunk and writes their answers. Leaves the octets of the
+    // Handles the lines whose LF is in `chunk`, and writes the answers to these lines. The first of
+    // these lines begins with the octets that `line` has before the call. Leaves the octets of the
     // unfinished line in `line`.
     fn feed<W: Write>(
         &mut self,
@@ -120,7 +121,7 @@ impl Player {
         done
     }
 
-    // Handles the last line, which has no LF, and writes its answer.
+    // Handles the last line, which has no LF, and writes the answer to this line.
     fn end<W: Write>(&mut self, writer: &mut W, line: &[u8]) -> Result<(), RunFault>
         requires room { HasRoom (place_of self.old) 1 }
         requires whole { Lacks 10 line.now }
@@ -136,8 +137,9 @@ impl Player {
         put_all(writer, self.text.as_slice())
     }
 
-    // Handles the lines that end in the chunk and appends their answers to `self.text`. Leaves the
-    // octets of the unfinished line in `line`.
+    // Handles the lines whose LF is in `chunk`, and appends the answers to these lines to
+    // `self.text`. The first of these lines begins with the octets that `line` has before the call.
+    // Leaves the octets of the unfinished line in `line`.
     fn gather(&mut self, line: &mut Vec<u8>, chunk: &[u8]) -> Result<(), RunFault>
         requires room { HasRoom (place_of self.old) (length chunk.now + 1) }
         requires pending { IsPending line.old.items }

@@ -36,8 +36,9 @@ pub fn cut_line(text: &[u8]) -> Option<(&[u8], &[u8])>
     Some((&text[..at], &text[at + 1..]))
 }
 
-/// Splits the text at its first two spaces. Returns the words before the two spaces, and the octets
-/// after the second space. Returns `None` if the text has fewer than two spaces.
+/// Splits the text at its first two spaces. Returns the octets before the first space, the octets
+/// between the two spaces, and the octets after the second space. Returns `None` if the text has
+/// fewer than two spaces.
 pub fn three_words(text: &[u8]) -> Option<(&[u8], &[u8], &[u8])>
     ensures found { IfSome result (λ p. (text.now ≡ p.0.now ++ (32 ∷ (p.1.now ++ (32 ∷ p.2.now))))
         × Lacks 32 p.0.now × Lacks 32 p.1.now) }
@@ -78,7 +79,7 @@ pub fn scope_of(word: &[u8]) -> Option<Scope>
 }
 
 /// Reads octets in hexadecimal of either case. The word `-` stands for no octets. Returns `None`
-/// for any other word.
+/// if the word is neither `-` nor one or more pairs of hexadecimal digits.
 pub fn octets_of(alloc: Global, word: &[u8]) -> Result<Option<Vec<u8>>, Memory>
     ensures found { IfOk result (λ read. IfSome read (λ octets. HexSpells octets.items word.now)) }
     ensures none { IfOk result
