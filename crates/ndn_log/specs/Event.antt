@@ -19,9 +19,9 @@ abbrev pub scope_word : code_scope.Scope → List ℕ
 scope_word Local = codes "local"
 scope_word Far = codes "far"
 
--- The words for what happened. For an event on a face, these are the face, its endpoint if known,
--- and then either the packet in `frame` or the words that the face opens or closes. For an event
--- without a face, the words are `tick` or `rules replaced`.
+-- The words for what happened. For an event on a face, these are the face, the endpoint of the face
+-- if known, and then the packet in `frame`, or ` opens, ` and the scope of the face, or ` closes`.
+-- For an event without a face, the words are `tick` or `rules replaced`.
 abbrev pub came_words : Option SocketAddr → Option PlainFrame → Came → List ℕ
 came_words endpoint frame (Packet face octets) =
     face_words face endpoint ++ (codes " " ++ packet_words frame)
@@ -31,8 +31,8 @@ came_words endpoint frame (Closed face) = face_words face endpoint ++ codes " cl
 came_words endpoint frame Tick = codes "tick"
 came_words endpoint frame NewRules = codes "rules replaced"
 
--- the words for the octets of a dropped packet: their number and the first 32 octets; empty for
--- other events
+-- the words for the octets of a dropped packet: the number of octets and the first 32 octets; empty
+-- for other events
 abbrev pub end_words : Came → Result code.Verdict Memory → List ℕ
 end_words (Packet face octets) outcome = dropped_words octets.now outcome
 end_words (Opened face scope) outcome = []

@@ -5,7 +5,7 @@ use Rattle.jiff.specs.Types.{DateTime}
 use Rattle.jiff.specs.Words.{civil_nanos, datetime_text}
 use Rattle.ndn_log.specs.declared.time.TheConstants.{LAST_DATED}
 
--- the text of the date and time in UTC that is this many nanoseconds after the start of 1970, with
+-- `text` is the date and time in UTC that is `nanosecond` nanoseconds after the start of 1970, with
 -- three digits of the fraction of a second, as in `2026-11-27T22:10:00.123Z`
 abbrev pub IsDateText : ℤ → List ℕ → Type 0
 IsDateText nanosecond text =
@@ -19,7 +19,8 @@ pub record IsTimeText (moment : ℕ) (text : List ℕ) : Type 0 where
   pub dated : moment ≤ LAST_DATED → IsDateText (pos moment *ℤ pos 1_000_000) text
   pub undated : LAST_DATED < moment → text ≡ decimal moment
 
--- the text of the date and time that is this many nanoseconds after the start of 1970 was appended
+-- `new` is `old` followed by the text of the date and time (`IsDateText`) that is `nanosecond`
+-- nanoseconds after the start of 1970
 abbrev pub IsDatePut : ℤ → List ℕ → List ℕ → Type 0
 IsDatePut nanosecond old new = (text : List ℕ) × IsDateText nanosecond text × (new ≡ old ++ text)
 

@@ -19,8 +19,9 @@ pub fn frame_in(octets: &[u8]) -> Option<Frame<'_>>
     read_frame(octets).ok()
 }
 
-/// Appends the kind of a packet and its name, or the single word `packet` if there is no frame. If
-/// memory runs out, some of the text may be appended.
+/// Appends the kind of a packet and the packet's name. For a Nack, the reason stands before the
+/// name. For an idle packet, appends the single word `idle`. If there is no frame, appends the
+/// single word `packet`. If memory runs out, some of the text may be appended.
 pub fn put_packet(text: &mut Vec<u8>, frame: &Option<Frame<'_>>) -> Result<(), Memory>
     ensures { OnOk result (text.new.items ≡ text.old.items
         ++ packet_words (option_map plain_frame frame.now)) }

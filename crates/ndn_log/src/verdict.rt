@@ -14,8 +14,8 @@ use ndn_tlv::Memory;
 use std::alloc::Global;
 use std::io::Write;
 
-/// Appends the verdict on an event with this frame. If memory runs out, some of the text may be
-/// appended.
+/// Appends the verdict in `outcome`, or `out of memory` if `outcome` is an error. `frame` is the
+/// frame that the event brings, if any. If memory runs out, some of the text may be appended.
 pub fn put_outcome(
     text: &mut Vec<u8>,
     rules: &Rules,
