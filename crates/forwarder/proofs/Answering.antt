@@ -99,7 +99,7 @@ strategy_passes seen key whole i face token (choices.Send faces) = by_full (not 
 pub later_sound : (old was : NodeState) (moment : ℕ) → IsSound old → IsLater old moment was → IsSound was
 later_sound old was moment sound later = step_sound old was _ _ sound (tick_step old was moment later)
 
--- ---- the Data that can answer an Interest when time has advanced to its moment
+-- ---- the Data that can answer an Interest when time has advanced to the Interest's moment
 
 -- `IsLeast` is true of no Data if no cached Data can serve the key
 pub nothing_served : (key : PlainKey) (now : ℕ) (cached : List CachedData) (c : CachedData) → IsLeast (CanServe key now) cached c → All (λ d. ¬ CanServe key now d) cached → ⊥
@@ -235,8 +235,8 @@ module _ (old was : NodeState) (moment face : ℕ) (token : Token) (whole : List
               (where_false _ _ is_loop once (None, none.0, h.replied ∙ sym (ap (by_repository (seen_by was) face token whole i) unheld))) h.policy h.pending h.alive
               (missed answer new h)
 
--- If an Interest for Data does not loop, neither the cache nor the repository answers it, and the
--- strategy's choice was carried out, then the Interest was handled.
+-- Let an Interest for Data not loop, let neither the cache nor the repository answer the Interest,
+-- and let the strategy's choice be carried out. Then the Interest was handled.
 pub forwards_handled : (old passed new : State) (was : NodeState) (before after : List Send) (moment face : ℕ) (token : Token) (whole : List ℕ) (i : PlainInterest)
     → IfSome token IsToken → IsLater (state_of old) moment was → request_of (state_of old).policy face i ≡ ForData
     → loops (records_at was.pending (key_of i)) face i.nonce ≡ false

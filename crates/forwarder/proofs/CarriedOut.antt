@@ -91,8 +91,8 @@ has_room len n limit cap none few most = omega arith
 pub at_most : (n limit cap : ℕ) → n ≤ limit → limit ≤ cap → n ≤ cap
 at_most n limit cap few most = omega arith
 
--- if only the FIB of the tables changes, and `prepared` of the FIB is unchanged, then a command
--- that was prepared is still prepared
+-- if only the FIB of the tables changes, and the field `prepared` of the FIB is unchanged, then a
+-- command that was prepared is still prepared
 pub still_ready : (old new : Tables) (c : PlainCommand) → new ≡ record old { fib = new.fib } → new.fib.prepared ≡ old.fib.prepared → IsPrepared old c → IsPrepared new c
 still_ready old new c same prepared ready =
     subst (λ (t : Tables). IsPrepared t c) (sym same) (ready.0, by_action c.action ready.1)

@@ -92,7 +92,7 @@ module _ (routes : Routes) where
         ])
 
   -- In this module, `e` is the entry of `name`. Each face in the next hops of `e`, and each face in
-  -- the costs of its routes, is the face of a next hop or of a route in `routes`.
+  -- the costs of the routes of `e`, is the face of a next hop or of a route in `routes`.
   module _ (name : List Field) (e : Entry) (there : entry_at routes name ≡ e) where
     hops_lead : AllLead e.hops
     hops_lead face some = (name, inl (subst (λ (x : Entry). IsSome (map.get x.hops face)) (sym there) some))

@@ -151,7 +151,7 @@ brings_none (FaceDown face now) rules keys none = (refl, refl)
 brings_none (Tick now) rules keys none = (refl, refl)
 brings_none (NewRules new others now) rules keys none = absurd none
 
--- an event that brings no rules and keys leaves those in force unchanged
+-- an event that brings no rules and keys leaves the rules and keys in force unchanged
 none_come : (was p : Policy) (event : PlainEvent) → BringsNoRules event → IsAfter was event p → (p.rules ≡ was.rules) × (p.keys ≡ was.keys)
 none_come was p event none h =
     let same = brings_none event was.rules was.keys none in (after_rules was p event h ∙ same.0, after_keys was p event h ∙ same.1)

@@ -117,8 +117,8 @@ module _ (reason : ℕ) where
   same_nacks g h (f ∷ faces) all =
       ap (λ o. nack_for reason f o ++ nacks_by reason g faces) all.0 ∙ ap (λ l. nack_for reason f (h f) ++ l) (same_nacks g h faces all.1)
 
-  -- if all faces in `faces` are greater than the key `k` of the first entry, looking them up gives
-  -- the same results with the first entry and without it
+  -- if all faces in `faces` are greater than the key `k` of the first entry, looking up these faces
+  -- gives the same results with the first entry and without it
   found_later : (k : ℕ) (ask : InRecord) (es : List (ℕ × InRecord)) (faces : List ℕ) → AllByRecursion (λ f. k < f) faces
       → AllByRecursion (λ f. find nat_cmp f ((k, ask) ∷ es) ≡ find nat_cmp f es) faces
   found_later k ask es [] all = tt
@@ -203,7 +203,7 @@ module _ (P : InRecord → Type 0) where
 
 -- ---- the in-records that remain after time has passed
 
--- each in-record of `some` is in `all`, unchanged
+-- each in-record of the map `some` is also in the map `all`, unchanged
 abbrev IsPart : InRecords → InRecords → Type 0
 IsPart some all = (f : ℕ) → (get some f ≡ None) ⊎ (get some f ≡ get all f)
 

@@ -56,7 +56,8 @@ request_guard p face i ForTables = tables_guard p face (command_at i.name)
 request_guard p face i ForRepository = refl
 request_guard p face i ForData = refl
 
--- the packet is an allowed command, and the new guard is the old one with the command recorded
+-- the packet is an Interest with values to record (`recorded_of`), and the guard `new` is the guard
+-- of `p` with these values recorded
 pub record Records (p : Policy) (packet : PlainFrame) (new : Table) : Type 0 where
   pub whole : List ℕ
   pub interest : PlainInterest
@@ -84,7 +85,7 @@ packet_guard p face (ANack reason whole i) = inl refl
 packet_guard p face Idle = inl refl
 
 -- either a decision on a packet leaves the guard unchanged, or the decision allows the packet and
--- the packet is recorded as a command
+-- the packet is recorded (`Records`)
 said_guard : (p : Policy) (face : ℕ) (packet : PlainFrame) (said : Decision) → ((after_decision p face packet said).guard ≡ p.guard)
     ⊎ (Records p packet (after_decision p face packet said).guard × ((rule : RuleNo) × (said ≡ decided.Allowed rule)))
 said_guard p face packet (decided.Allowed rule) = by_packet (packet_guard p face packet)

@@ -84,7 +84,8 @@ no_more-added octets more sends faces h some =
 
 -- Let `all` be `octets` followed by `more`, and let `more` be the range of `all` from `start` to
 -- `end`. Let `after` be `sends` followed by the sends of `more` to at least one face. If
--- `AreOctetsOf` is true of `octets` and `sends`, then it is true of `all` and `after`.
+-- `AreOctetsOf` is true of `octets` and `sends`, then `AreOctetsOf` is true of the octets `all` and
+-- the sends `after`.
 octets_after : (octets more all : List ℕ) (sends after : List Sent) (faces : List ℕ) (start end : ℕ)
     → start ≡ length octets → end ≡ length all → all ≡ octets ++ more → after ≡ sends ++ map (placed start end) faces
     → AreOctetsOf octets sends → 0 < length faces → AreOctetsOf all after

@@ -44,7 +44,7 @@ pub said_as : (old : Policy) (now moment : ℕ) (whole : List ℕ) (i : PlainInt
 said_as old now moment whole i given said at is says =
     λ p rules keys guard then. subst (λ (d : Decision). IsDecidedAs p (AnInterest whole i) d) is (says p rules keys guard (then ∙ sym at))
 
--- the decision on a command is the same once time has advanced to its moment
+-- the decision on a command is still the same once time has advanced to the command's moment
 said_then : (old was : NodeState) (now : ℕ) (whole : List ℕ) (i : PlainInterest) (said : Decision) → IsLater old now was
     → SaysAt old.policy now whole i said → IsDecidedAs was.policy (AnInterest whole i) said
 said_then old was now whole i said later says =
@@ -67,7 +67,7 @@ pub kept_unharmed : (old new : NodeState) (before after : List Send) → (new �
 kept_unharmed old new before after (same, sent) =
     (unharmed old new (ap (λ (n : NodeState). n.policy) same) (ap (λ (n : NodeState). n.pending) same) (ap (λ (n : NodeState). n.cache) same), sent)
 
--- the request of an Interest is the same once time has advanced to its moment
+-- the request of an Interest is still the same once time has advanced to the Interest's moment
 request_then : (old was : NodeState) (now face : ℕ) (i : PlainInterest) (request : Request) → IsLater old now was
     → request_of old.policy face i ≡ request → request_of was.policy face i ≡ request
 request_then old was now face i request later is = ap (λ (p : Policy). request_of p face i) later.policy ∙ is

@@ -116,7 +116,7 @@ nack_adds : (P : ℕ → Type 0) (face reason : ℕ) (i : PlainInterest) (sends 
 nack_adds P face reason i [] = (λ f none. absurd none, tt)
 nack_adds P face reason i (sent ∷ sends) = (λ f none. absurd none, (λ f none. absurd none, tt))
 
--- if the answer's verdict is Passed, its sends go to faces with the property `P`
+-- if the answer's verdict is Passed, the answer's sends go to faces with the property `P`
 abbrev PassesTo : (ℕ → Type 0) → Answer → Type 0
 PassesTo P answer = answer.verdict ≡ Passed → SendsTo P answer.sends
 

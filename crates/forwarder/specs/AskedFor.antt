@@ -15,8 +15,8 @@ use Rattle.forwarder.specs.Allowed.{AllowedIn, Allows}
 use Rattle.forwarder.specs.Runs.{Run, now_of, records_of}
 use Rattle.forwarder.specs.DataSends.{IsReplyToCommand, IsSegmentAskedFor}
 
--- the Data `d` with the octets `whole` answers an Interest from the face that is pending when time
--- has advanced to `now` after the run
+-- the Data `d` with the octets `whole` answers an Interest from the face; this Interest is pending
+-- when time has advanced to `now` after the run
 pub record IsPendingFor (past : Run) (now face : ℕ) (whole : List ℕ) (d : PlainData) : Type 0 where
   pub key : PlainKey
   pub in_record : InRecord

@@ -103,9 +103,10 @@ abbrev pub to_chosen : Choice → List ℕ → List Send
 to_chosen choices.NoRoute text = []
 to_chosen (choices.Send faces) text = to_each faces text
 
--- The sends of the node's Interest for a want to the faces that the strategy chooses. There are no
--- sends if there is no want, if the Interest cannot be encoded, or if the strategy finds no route.
--- The input of the strategy states that the Interest came from no face and was not sent before.
+-- How the node's Interest for a want is sent: once to each face that the strategy chooses. There
+-- are no sends if there is no want, if the Interest cannot be encoded, or if the strategy finds no
+-- route. The input of the strategy states that the Interest came from no face and was not sent
+-- before.
 abbrev pub fetch_sends : Policy → List ℕ → Option Want → List Send
 fetch_sends p nonce None = []
 fetch_sends p nonce (Some want) =

@@ -15,7 +15,8 @@ abbrev pub dataset_text : Policy → ListKind → List ℕ
 dataset_text p RouteList = fib_text p.now p.routes
 dataset_text p StrategyList = strategy_text p.choices
 
--- the name of a segment: the name of the list, its version and the segment's number
+-- the name of a segment: the name of the list, the version of the list, and the number of the
+-- segment
 abbrev pub segment_name : ListKind → ℕ → ℕ → List Field
 segment_name kind version segment =
     list_name kind ++ (VERSION, shortest_nni version) ∷ (SEGMENT, shortest_nni segment) ∷ []
@@ -36,7 +37,7 @@ segment_answer face token name None = dropped NoSegment
 segment_answer face token name (Some part) =
     passed (sent_back face token (segment_data name part.0 part.1) ∷ [])
 
--- whether the requested version is the current one, or no version is requested
+-- whether the requested version is the current version of the lists, or no version is requested
 abbrev pub is_present : Policy → Option ℕ → Bool
 is_present p None = true
 is_present p (Some version) = version == p.table_number

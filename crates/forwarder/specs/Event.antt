@@ -68,8 +68,8 @@ Send = ℕ × List ℕ
 abbrev pub sent_back : ℕ → Token → List ℕ → Send
 sent_back face token packet = (face, lp_text token None packet)
 
--- the send of a Nack to a face, with this reason and this token, if there is one; the Nack contains
--- the Interest with the octets `whole`
+-- the send of a Nack to a face, with this reason and, if there is a token, this token; the Nack
+-- contains the Interest with the octets `whole`
 abbrev pub nacked_back : ℕ → Token → ℕ → List ℕ → Send
 nacked_back face token reason whole = (face, lp_text token (Some reason) whole)
 

@@ -42,8 +42,8 @@ IsPacketEffect p face packet new false = new ≡ p
 abbrev pub seen_by : NodeState → Seen
 seen_by s = seen_in s.policy s.pending s.cache
 
--- the causes of a packet and its answer, in order; they apply at the moment `now`, after the
--- records that expire by `now` are removed
+-- the causes that a packet and its answer give, in order; the causes apply at the moment `now`,
+-- after the records that expire by `now` are removed
 abbrev pub packet_causes : ℕ → ℕ → Token → PlainFrame → Answer → List Cause
 packet_causes now face token packet answer =
     causes_by now token answer.sends (packet_outcome face packet answer.verdict)

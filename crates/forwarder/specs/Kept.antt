@@ -39,7 +39,8 @@ pub record IsKept (now : ℕ) (event : PlainEvent) (answer : Answer) (key : Plai
 
 -- The Interest is forwarded only to faces other than `face`, from which it came. The Interest is
 -- sent without its token, and unchanged except for its HopLimit. The list of faces may be empty,
--- since the strategy may wait for the faces to which an Interest of the same key was sent before.
+-- since the strategy may wait for answers from faces to which an Interest of the same key was sent
+-- shortly before.
 abbrev pub IsSentOn : ℕ → List ℕ → PlainInterest → List Send → Type 0
 IsSentOn face whole i sends =
     (faces : List ℕ) × (has_face face faces ≡ false)

@@ -31,8 +31,8 @@ strategy_for p name = unwrap_or (longest p.choices name) BestRoute
 abbrev pub hops_for : Policy → List Field → List Hop
 hops_for p name = marked (local_faces p) (longest_hops p.routes name)
 
--- the strategy's choice for an Interest of this name, where `asked` has, for each face, the moment
--- at which an Interest of the same key was last sent to the face
+-- the choice of the name's strategy for an Interest of this name; `asked` has, for each face, the
+-- moment at which an Interest with the same PIT key as this Interest was last sent to the face
 abbrev pub choice_for : Policy → List Field → ByFace → Ask → Choice
 choice_for p name asked ask =
     chosen (selection_of (strategy_for p name)) (hops_for p name) asked ask

@@ -47,10 +47,10 @@ seen_in p waiting cache = record {
 }
 
 -- One step, from received octets to sent octets: time passes, then the event is answered and has
--- its effect. Each of the fields `replies` and `policy` refers to a decision on the packet. The two
--- decisions are the same if no two keys of the old policy have the same name. Each of the fields
--- `replies` and `cache` refers to what the cache gives for an Interest. Both refer to the same Data
--- if the old cache satisfies `IsStore`.
+-- its effect. Each of the fields `replies` and `policy` refers to a decision on the event's packet.
+-- The two decisions are the same if no two keys of the old policy have the same name. Each of the
+-- fields `replies` and `cache` refers to what the cache gives for an Interest. Both refer to the
+-- same Data if the old cache satisfies `IsStore`.
 pub record IsStep (old : NodeState) (event : PlainEvent) (answer : Answer)
     (new : NodeState) : Type 0 where
   -- the Interests that are pending once time has advanced to the moment of the event
@@ -78,8 +78,8 @@ pub record ChangesCacheOnly (old new : NodeState) : Type 0 where
 
 -- The packets that need no memory. No memory is needed for malformed octets, for a link packet
 -- without a packet, for a packet out of scope, or for an Interest with the HopLimit 0. A Data that
--- is not allowed needs no memory either, if no checker of the first rule that applies expands a
--- template.
+-- is not allowed needs no memory either, if no checker of the first rule that applies to the Data
+-- expands the templates of a hyper-relation (`MayRefuse`).
 abbrev pub NeedsNoMemory : Policy → ℕ → Result PlainFrame PacketFault → Type 0
 NeedsNoMemory p face (Err fault) = ⊤
 NeedsNoMemory p face (Ok (AnInterest whole i)) =

@@ -20,7 +20,7 @@ pub use Rattle.forwarder.specs.declared.request.ListAsked.{ListAsked}
 abbrev pub generic : List ℕ → Field
 generic text = (GENERIC, text)
 
--- the prefix /localhost, whose names stay on this machine
+-- the prefix /localhost; packets whose names begin with this prefix stay on this machine
 abbrev pub localhost : List Field
 localhost = generic (codes "localhost") ∷ []
 

@@ -36,8 +36,8 @@ abbrev pub now_of : Run → ℕ
 now_of Start = 0
 now_of (Then before event answer) = max (now_of before) (moment event)
 
--- The policy after a run that starts from the policy `first`. This policy does not depend on the
--- run's answers.
+-- `p` is the policy after a run that starts from the policy `first`. The definition does not use
+-- the run's answers.
 abbrev pub IsPolicyOf : Policy → Run → Policy → Type 0
 IsPolicyOf first Start p = p ≡ first
 IsPolicyOf first (Then before event answer) p =
@@ -105,8 +105,9 @@ pub record IsWaiting (past : Run) (now : ℕ) (waiting : Pending) : Type 0 where
 
 -- ---- what the cache may hold (NFD Developer's Guide, "Content Store")
 
--- In some event of the run the Data came, it was allowed, some face waited for it, and no erase
--- without Count has removed it since. The cache may have dropped the Data.
+-- The Data `c` came in some event of the run and was allowed, and some face waited for the Data. No
+-- erase without Count has removed the Data since that event. Even so, the cache may have dropped
+-- the Data.
 abbrev pub MayHold : Run → CachedData → Type 0
 MayHold Start c = ⊥
 MayHold (Then before event answer) c =

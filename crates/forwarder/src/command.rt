@@ -98,8 +98,8 @@ impl State {
         Ok(())
     }
 
-    /// Applies an allowed command on routes, strategies or the cache, answers the command, and
-    /// returns the status of the reply.
+    /// Answers and records an allowed command on routes, strategies or the cache, and returns the
+    /// status of the reply. The command is applied if its name and parameters can be read.
     fn command_tables(
         &mut self,
         arrived: &Arrived<'_, Interest<'_>>,
@@ -121,7 +121,8 @@ impl State {
         }
     }
 
-    /// Answers and records an allowed command whose name or parameters cannot be read.
+    /// Answers and records an allowed command whose name or parameters cannot be read. Advances
+    /// time, and increases the version of the lists by 1.
     fn command_unread(
         &mut self,
         arrived: &Arrived<'_, Interest<'_>>,
@@ -216,8 +217,9 @@ impl State {
         Ok(reply.status)
     }
 
-    /// Sends the Interest in `reply.fetch`, if there is one, to the faces that the strategy
-    /// chooses. Sends nothing if the strategy finds no route, or if the Interest cannot be encoded.
+    /// Sends the Interest that `reply.fetch` describes, if there is one, to the faces that the
+    /// strategy chooses. The Interest gets the Nonce `nonce`. Sends nothing if the strategy finds
+    /// no route, or if the Interest cannot be encoded.
     fn fetch(&self, reply: &RepoReply, nonce: [u8; 4], out: &mut Sends) -> Result<(), Memory>
         ensures ok { OnOk result (out.new.sends
             ≡ out.old.sends ++ fetch_sends (policy_of self.entry.now) nonce reply.now.fetch) }

@@ -33,8 +33,8 @@ impl State {
     /// Handles a Data (NFD Developer's Guide, "Incoming Data Pipeline"). A Data that the rules
     /// allow is sent, without changes, to each face with a pending Interest for the Data, except
     /// the incoming face. The Data is offered to the cache if any face, even the incoming face, has
-    /// a pending Interest for the Data. The repository stores the Data if the repository wants the
-    /// Data.
+    /// a pending Interest for the Data. The pending Interests that the Data answers are removed.
+    /// The repository stores the Data if the repository wants the Data.
     pub fn receive_data(
         &mut self,
         arrived: &Arrived<'_, Data<'_>>,
@@ -63,7 +63,8 @@ impl State {
         }
     }
 
-    /// Reserves the memory that an allowed Data may need, advances time, and delivers the Data.
+    /// Reserves memory for the sends of an allowed Data, prepares the repository to store the Data,
+    /// advances time, and delivers the Data.
     fn receive_allowed(
         &mut self,
         arrived: &Arrived<'_, Data<'_>>,
@@ -87,10 +88,12 @@ impl State {
     }
 
     /// Sends an allowed Data to each face with a pending Interest for the Data, except `face`, from
-    /// which the Data came. If any face has a pending Interest for the Data, offers the Data to the
-    /// cache, which does not store the Data if memory runs out. Stores the Data in the repository
-    /// if the repository wants the Data. The call never fails: memory for 64 sends and their octets
-    /// is already reserved, and the offer to the repository is prepared.
+    /// which the Data came. Removes all in-records and out-records of the keys that the Data
+    /// answers. If any face had a pending Interest for the Data, offers the Data to the cache,
+    /// which does not store the Data if memory runs out. Stores the Data in the repository if the
+    /// repository wants the Data. If `with_tokens` is false, no pending Interest has a token. The
+    /// call never fails: memory for 64 sends and their octets is already reserved, and the offer to
+    /// the repository is prepared.
     fn deliver(
         &mut self,
         face: u64,

@@ -29,8 +29,9 @@ use std::alloc::Global;
 const FRESHNESS: u64 = 1000;
 
 /// Returns the Data of the requested segment (NFD Management, "Status Dataset"). `table_number` is
-/// the version of the lists after the routes that expire by `now` are removed. Returns `None` if
-/// another version is requested, or if the list has no segment with the requested number.
+/// the version of the lists after the routes that expire by `now` are removed. Returns `None` if a
+/// version other than `table_number` is requested, or if the list has no segment with the requested
+/// number.
 pub(crate) fn list_segment(
     alloc: Global,
     tables: &Tables,
@@ -57,7 +58,8 @@ pub(crate) fn list_segment(
     Ok(Some(octets))
 }
 
-/// Returns whether the requested version is the current one, or no version is requested.
+/// Returns whether the requested version is the current version `table_number`, or no version is
+/// requested.
 fn is_present(asked: Option<u64>, table_number: u64) -> bool
     ensures { (p : Policy) → p.table_number ≡ table_number → result ≡ is_present p asked }
 {
@@ -88,7 +90,8 @@ fn list_part(
     }
 }
 
-/// Returns the name of a segment: the name of the list, its version, and the segment's number.
+/// Returns the name of a segment: the name of the list, the version of the list, and the number of
+/// the segment.
 fn segment_name(
     alloc: Global,
     kind: ListKind,
@@ -151,10 +154,10 @@ fn segment_data<'a>(
 }
 
 impl State {
-    /// Sends a segment of a list, as the list is at this moment, to the face that requests the
-    /// segment. Drops the Interest if the requested segment does not exist, or if the requested
-    /// version is not the current version. The segment is encoded before time advances, so nothing
-    /// has changed if memory runs out.
+    /// Sends a segment of a list to the face that requests the segment. The segment shows the list
+    /// as it is once time has advanced to the moment of the Interest. Drops the Interest if the
+    /// requested segment does not exist, or if the requested version is not the current version.
+    /// The segment is encoded before time advances, so nothing has changed if memory runs out.
     pub fn send_list(
         &mut self,
         arrived: &Arrived<'_, Interest<'_>>,

@@ -15,7 +15,8 @@ use ndn_names::Name;
 use pit_fib::MAX_FACES;
 
 impl State {
-    /// Opens a face, unless its number is 0, it is already open, or 64 faces are open.
+    /// Advances time to `now`. Then opens the face, unless its number is 0, the face is already
+    /// open, or 64 faces are open.
     pub fn open(&mut self, face: u64, scope: Scope, now: u64) -> Verdict
         requires { IsSound (state_of self.old) }
         ensures { IsStep (state_of self.old) (FaceUp face scope now)
@@ -35,7 +36,8 @@ impl State {
         Verdict::Passed
     }
 
-    /// Closes a face if it is open, and removes its next hops, routes, in-records and out-records.
+    /// Advances time to `now`. Then, if the face is open, closes the face, removes the face's next
+    /// hops, routes, in-records and out-records, and increases the version of the lists by 1.
     pub fn close(&mut self, face: u64, now: u64) -> Verdict
         requires { IsSound (state_of self.old) }
         ensures { IsStep (state_of self.old) (FaceDown face now)

@@ -54,8 +54,10 @@ fn signed_by<'a>(interest: &Interest<'a>) -> Option<Signed<'a>>
 }
 
 /// Returns whether the SignatureTime of a command differs from `now` by at most 120,000
-/// milliseconds, and the command is newer than all recorded commands of its signer. `now` is in
-/// milliseconds since 1970. Returns true if the command has no signature or no SignatureTime.
+/// milliseconds, and the command is newer than all recorded commands of its signer. Newer means
+/// that the command has a greater SignatureTime and, if both commands have a SignatureSeqNum, also
+/// a greater SignatureSeqNum. `now` is in milliseconds since 1970. Returns true if the command has
+/// no signature or no SignatureTime.
 fn is_fresh(guard: &Guard, interest: &Interest<'_>, now: u64) -> bool
     ensures { (p : Policy) → p.guard ≡ guard.now.latest → p.now ≡ now
         → IsTrue result ↔ IsFreshCommand p (plain_interest interest.now) }
@@ -107,7 +109,7 @@ pub(crate) fn decide_data(
 }
 
 /// Reserves the memory for one call of `record` with this command. The reservation lasts until the
-/// next call of `record` or `prepare` of the guard.
+/// next call of `Guard::record` or `Guard::prepare`.
 pub(crate) fn prepare_record(guard: &mut Guard, interest: &Interest<'_>) -> Result<(), Memory>
     ensures latest { guard.new.latest ≡ guard.old.latest }
     ensures ok { OnOk result (IfSome (recorded_of (plain_interest interest.now))

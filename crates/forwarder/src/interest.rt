@@ -57,9 +57,9 @@ impl State {
     }
 
     /// Handles an Interest for Data. If the Interest loops, sends a Nack back. If the Interest does
-    /// not loop, answers the Interest from the cache or the repository, or forwards the Interest.
-    /// Looks for the Data in the cache and the repository before a PIT record is prepared, since an
-    /// answer from the cache or the repository needs no PIT record.
+    /// not loop, answers the Interest with a Data from the cache or the repository, or forwards the
+    /// Interest. Looks for the Data in the cache and the repository before a PIT record is
+    /// prepared, since an answer from the cache or the repository needs no PIT record.
     fn answer(
         &mut self,
         arrived: &Arrived<'_, Interest<'_>>,
@@ -84,8 +84,9 @@ impl State {
         self.miss(arrived, out)
     }
 
-    /// Answers an Interest from the cache (NFD Developer's Guide, "Content Store Hit Pipeline"), or
-    /// by a Nack if the Interest loops. `place` is the position that `Store::place_for` returned.
+    /// Answers an Interest with a Data from the cache (NFD Developer's Guide, "Content Store Hit
+    /// Pipeline"), or with a Nack if the Interest loops. `place` is the position of the Data in the
+    /// cache, as `Store::place_for` returned it.
     fn serve_cached(
         &mut self,
         arrived: &Arrived<'_, Interest<'_>>,
@@ -115,8 +116,7 @@ impl State {
         Ok(Verdict::Passed)
     }
 
-    /// Answers an Interest with the object that the repository stores for it, or by a Nack if the
-    /// Interest loops.
+    /// Answers an Interest with an object of the repository, or with a Nack if the Interest loops.
     fn serve_stored(
         &mut self,
         arrived: &Arrived<'_, Interest<'_>>,
@@ -178,7 +178,7 @@ impl State {
     }
 
     /// Sends a Nack back if an Interest loops (NFD Developer's Guide, "Interest Loop Pipeline"),
-    /// and returns whether it loops. Memory for the Nack is already reserved.
+    /// and returns whether the Interest loops. Memory for the Nack is already reserved.
     fn nack_loop(
         &self,
         arrived: &Arrived<'_, Interest<'_>>,
@@ -206,8 +206,8 @@ impl State {
     }
 
     /// Forwards an Interest, which neither the cache nor the repository answers, to the faces that
-    /// its strategy chooses. If no next hop may get the Interest, removes the in-record of `face`
-    /// under the Interest's key, and sends a Nack back.
+    /// the strategy of its name chooses. If no next hop may get the Interest, removes the in-record
+    /// of the incoming face `face` under the Interest's key, and sends a Nack back.
     fn forward(
         &mut self,
         face: u64,
@@ -287,7 +287,8 @@ impl State {
         Ok(Verdict::Passed)
     }
 
-    /// Records that the Interest was sent to each of these faces now.
+    /// Records in the PIT that the Interest is sent to each of these faces at the moment
+    /// `self.now`.
     fn record_sent(&mut self, interest: &Interest<'_>, faces: &Faces) -> Result<(), Memory>
         requires alive { is_alive (records_at self.old.pit.pending
             (key_of (plain_interest interest.now))) ≡ true }

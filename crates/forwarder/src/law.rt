@@ -46,8 +46,8 @@ pub fn events_have_one_effect()
 {}
 
 /// Law: two steps of the same node with the same event give the same policy, whatever their answers
-/// are, if no two keys of the node's key book have the same name. Only pending Interests and the
-/// cache may differ.
+/// are, if no two keys of the node's key book have the same name. The nodes after the two steps
+/// differ at most in pending Interests and the cache.
 pub fn steps_have_one_effect()
     ensures { (old new other : NodeState) (event : PlainEvent) (answer another : Answer)
         → AreApart old.policy.keys → IsStep old event answer new → IsStep old event another other
@@ -55,8 +55,8 @@ pub fn steps_have_one_effect()
 {}
 
 /// Law: advancing time to two moments, one after the other, has the same effect as advancing time
-/// to the later moment. In both cases, each expired route is counted once in the version of the
-/// lists.
+/// once, to the greater of these moments. In both cases, each expired route is counted once in the
+/// version of the lists of routes and strategies.
 pub fn moments_in_a_row_are_as_the_later()
     ensures { (p : Policy) (m n : ℕ) → at_moment (at_moment p m) n ≡ at_moment p (max m n) }
 {}
@@ -68,9 +68,9 @@ pub fn steps_keep_nodes_sound()
         → IsStep old event answer new → IsSound new }
 {}
 
-/// Law: let a node agree with a run that began at the moment 0. Then appending the event and the
-/// answer of a step to the run gives a valid run, and the node after the step agrees with this
-/// longer run.
+/// Law: let a node agree with a valid run that began at the moment 0. If the event and the answer
+/// of a step of this node are appended to the run, the longer run is valid, and the node after the
+/// step agrees with the longer run.
 pub fn steps_go_on_with_runs()
     ensures { (first : Policy) (past : Run) (old new : NodeState) (event : PlainEvent)
         (answer : Answer) → first.now ≡ 0 → IsRun first past → Stands first past old
@@ -95,13 +95,13 @@ pub fn refused_steps_stand_still()
         → ChangesCacheOnly old new → Stands first past new }
 {}
 
-/// Law: let no key book have two keys of the same name. Two runs with the same events that start
-/// from the same policy lead to the same policy. Let the same event follow both runs. If the event
-/// brings a command, a request for a list, or an Interest that is dropped because of its HopLimit
-/// or scope, each valid answer after one run equals each valid answer after the other run. If the
-/// event brings a Data, each valid answer after one run has the same verdict as each valid answer
-/// after the other run. It follows that all clauses of this law are true at each event of two runs
-/// with the same events.
+/// Law: let no key book have two keys of the same name. If two runs have the same events and start
+/// from the same policy, both runs lead to the same policy. Let the same event follow both runs. If
+/// the event brings a command, a request for a list, or an Interest that is dropped because of its
+/// HopLimit or scope, each valid answer after one run equals each valid answer after the other run.
+/// If the event brings a Data, each valid answer after one run has the same verdict as each valid
+/// answer after the other run. The parts of the two runs before any one event are again two runs
+/// with the same events. So this law applies at each event of the two runs.
 pub fn histories_decide()
     ensures policy { (first p q : Policy) (past other : Run) → KeysAreApart first past
         → HaveOneHistory past other → IsPolicyOf first past p → IsPolicyOf first other q → p ≡ q }
@@ -115,8 +115,8 @@ pub fn histories_decide()
 {}
 
 /// Law: let no key book have two keys of the same name. If some denied events of a valid run are
-/// replaced by ticks at the moments of these events, the run is still valid and leads to the same
-/// policy.
+/// replaced by ticks at the moments of these events, the resulting run is valid, and leads to the
+/// same policy as the run before the replacement.
 pub fn denied_events_change_nothing()
     ensures run { (first : Policy) (past other : Run) → KeysAreApart first past → IsRun first past
         → HasTicksForDenied past other → IsRun first other }
@@ -125,11 +125,12 @@ pub fn denied_events_change_nothing()
         → IsPolicyOf first other p }
 {}
 
-/// Law: each send of a valid answer is of one of three kinds. In the first kind, the Data of this
-/// event, which is allowed, is sent to another face with a pending Interest for the Data. In the
-/// second kind, a Data from the cache, the repository or the node itself answers the Interest of
-/// this event, and is sent back to the Interest's face. In the third kind, what is sent is no Data.
-/// The numbers in the event's packet must be below 256, which is true of every event of a node.
+/// Law: each send of a valid answer to an event is of one of three kinds. In the first kind, the
+/// event brings an allowed Data, and the Data is sent to another face, which has a pending Interest
+/// for the Data. In the second kind, the event brings an Interest, and a Data from the cache, the
+/// repository or the node itself answers the Interest, and is sent back to the Interest's face. In
+/// the third kind, what is sent is no Data. The numbers in the event's packet must be below 256,
+/// which is true of every event of a node.
 pub fn each_send_is_explained()
     ensures { (first : Policy) (past : Run) (event : PlainEvent) (answer : Answer)
         (reply : MayReply first past event answer) → BringsOctets event
@@ -137,9 +138,9 @@ pub fn each_send_is_explained()
         event answer }
 {}
 
-/// Law: let the keys of the first key book have different names, and let the keys that any one
-/// event brings have different names. Then the keys of each key book of the run, and of the key
-/// book in force after the run, have different names.
+/// Law: let no two keys of the key book from before a run have the same name, and let no event of
+/// the run bring two keys of the same name. Then no key book of the run has two keys of the same
+/// name. The key book in force after the run has no two keys of the same name either.
 pub fn keys_stay_apart()
     ensures books { (first : Policy) (past : Run) → AreApart first.keys
         → All BringsKeysApart (events_back past) → KeysAreApart first past }
@@ -147,9 +148,10 @@ pub fn keys_stay_apart()
         → IsPolicyOf first past p → AreApart p.keys }
 {}
 
-/// Law: the rules and keys in force after a run decide the event that follows the run. The rules
-/// and keys in force are those of the latest event that brought rules and keys. If no event brought
-/// rules and keys, those from before the run are still in force.
+/// Law: the rules and keys in force after a run are those of the latest event that brought rules
+/// and keys. If no event brought rules and keys, the rules and keys from before the run are still
+/// in force. A command or Data in the event that follows the run is decided by the rules and keys
+/// in force after the run.
 pub fn rules_in_force()
     ensures last { (first p : Policy) (past : Run) (rules : List PlainRule) (keys : List NamedKey)
         → IsPolicyOf first past p → AreLastRules past rules keys
@@ -162,19 +164,21 @@ pub fn rules_in_force()
         ⊎ ((rules : List PlainRule) × (keys : List NamedKey) × AreLastRules past rules keys) }
 {}
 
-/// Law: if the repository was empty at first, each Data that is sent was asked for by the face that
-/// it is sent to. Either the event brings the Data, the first rule that applies allows the Data,
-/// and the Data answers an Interest that is pending on that face. Or the event brings an Interest
-/// on that face, and one of two things is true: the Data answers the Interest and was allowed in an
-/// earlier event, or the Data is the node's own reply or segment for the Interest. The numbers in
-/// the event's packet must be below 256, which is true of every event of a node.
+/// Law: let the repository be empty before a valid run. Then each Data in a valid answer to the
+/// event after the run was asked for by the face that the Data is sent to. Either the event brings
+/// the Data, the first rule that applies allows the Data, and the Data answers an Interest that is
+/// pending on that face. Or the event brings an Interest on that face, and one of two things is
+/// true: the Data answers the Interest and was allowed in an earlier event, or the Data is the
+/// node's own answer to the Interest, which is a reply to a command or a segment of a list. The
+/// numbers in the event's packet must be below 256, which is true of every event of a node.
 pub fn every_data_sent_was_asked_for()
     ensures read { (first : Policy) (past : Run) (event : PlainEvent) (answer : Answer) (face : ℕ)
         (octets whole : List ℕ) (d : PlainData) (reply : MayReply first past event answer)
         → first.held.objects ≡ map.empty → IsRun first past → BringsOctets event
         → Contains answer.sends (face, octets) → frame_at octets ≡ Ok (AData whole d)
         → WasAskedFor first past reply.was event face whole d }
-    // A Data that is too long to be read is the node's own answer.
+    // A Data that cannot be read as a packet, such as a Data that is too long, is the node's own
+    // answer.
     ensures unread { (first : Policy) (past : Run) (event : PlainEvent) (answer : Answer) (face : ℕ)
         (octets : List ℕ) (reply : MayReply first past event answer)
         → first.held.objects ≡ map.empty → IsRun first past → BringsOctets event
@@ -185,8 +189,8 @@ pub fn every_data_sent_was_asked_for()
 
 /// Law: let no key book have two keys of the same name. Then each allowed command has a greater
 /// SignatureTime than each earlier allowed command of its signer and, if both commands have a
-/// SignatureSeqNum, a greater SignatureSeqNum. It follows that no signature is allowed twice,
-/// whatever else the Interest contains.
+/// SignatureSeqNum, a greater SignatureSeqNum. So no two allowed commands have the same signature,
+/// whatever else their Interests contain.
 pub fn commands_are_allowed_once()
     ensures newer { (first was : Policy) (past : Run) (event : PlainEvent) (whole other : List ℕ)
         (i j : PlainInterest) (r s : Recorded) → KeysAreApart first past
@@ -199,7 +203,8 @@ pub fn commands_are_allowed_once()
         → i.signature ≡ j.signature → ⊥ }
     // Conversely, let no command be recorded before the run. Then a command is fresh if its
     // SignatureTime differs from the node's time by at most 120,000 milliseconds, and the command
-    // is newer than all allowed commands of its signer in the run.
+    // is newer, as in the clause `newer`, than each command of its signer that was allowed in the
+    // run.
     ensures fresh { (first was : Policy) (past : Run) (now : ℕ) (i : PlainInterest) (r : Recorded)
         → first.guard ≡ map.empty → IsPolicyOf first past was → recorded_of i ≡ Some r
         → AreNear r.time (at_moment was now).now
@@ -209,7 +214,8 @@ pub fn commands_are_allowed_once()
         → IsFreshCommand (at_moment was now) i }
 {}
 
-/// Law: a guard that was empty at first records only the times and numbers of allowed commands.
+/// Law: if the replay guard is empty before a run, the guard after the run records only signers,
+/// SignatureTimes and SignatureSeqNums of commands that were allowed in the run.
 pub fn guards_hold_allowed_commands()
     ensures { (first p : Policy) (past : Run) → first.guard ≡ map.empty → IsPolicyOf first past p
         → (records : List Recorded) × (p.guard ≡ table_of records)
@@ -217,8 +223,9 @@ pub fn guards_hold_allowed_commands()
         × AllowedIn first past (AnInterest whole i) × (recorded_of i ≡ Some r)) records }
 {}
 
-/// Law: each object of a repository that was empty at first is a Data that was allowed in an event
-/// of the run. The object is stored under its full name.
+/// Law: if the repository is empty before a run, each object that the repository stores after the
+/// run is a Data that was allowed in an event of the run. The object is stored under the Data's
+/// full name.
 pub fn objects_were_allowed()
     ensures { (first p : Policy) (past : Run) (name : List Field) (octets : List ℕ)
         → first.held.objects ≡ map.empty → IsPolicyOf first past p
@@ -228,17 +235,18 @@ pub fn objects_were_allowed()
 {}
 
 /// Law: each Data that a cache may hold after a run was allowed in an event of the run, at the
-/// moment that is recorded as its arrival. The Data's implicit digest is the hash of its octets.
+/// moment that the cache records as the Data's arrival. The recorded implicit digest is the SHA-256
+/// hash of the Data's octets, and the recorded name and FreshnessPeriod are those of the Data.
 pub fn cached_data_were_allowed()
     ensures { (first : Policy) (past : Run) (c : CachedData) → IsRun first past → MayHold past c
         → (d : PlainData) × AllowedAt first past (AData c.octets d) c.arrival × (c.name ≡ d.name)
         × (c.digest ≡ sha256 c.octets) × (c.freshness ≡ d.freshness) }
 {}
 
-/// Law: the causes in the past of a run determine the records of each key, face by face. The
-/// in-record is that of the latest Interest that the face sent under this key. The out-record is
-/// that of the latest Interest under this key that was sent to the face. If a later cause has ended
-/// a record, the record no longer exists.
+/// Law: the causes in a run (`past_causes`) determine the records of each key, face by face. The
+/// in-record is that of the latest Interest of this key that came from the face and became pending.
+/// The out-record is that of the latest Interest of this key that was sent to the face. If a later
+/// cause has ended a record, the record no longer exists.
 pub fn records_are_read_off_the_run()
     ensures in_records { (past : Run) (key : PlainKey) (face : ℕ)
         → map.get (records_of past key).in_records face
@@ -250,11 +258,11 @@ pub fn records_are_read_off_the_run()
 
 /// Law: an Interest becomes pending exactly if it was passed, nothing was sent back to its face,
 /// and no Nack was sent. An in-record that exists after an event comes from that event's Interest,
-/// or existed before the event. If the answer is valid, there are two cases for a passed Interest.
+/// or existed before the event. For a passed Interest with a valid answer, there are two cases.
 /// Either the Interest becomes pending and is forwarded to other faces, possibly to none. Or one
 /// packet is sent back to the Interest's face: a Nack, or a Data from the cache, the repository or
-/// the node. The two cases require that the numbers in the event's packet are below 256, which is
-/// true of every event of a node.
+/// the node. The clause `answers`, which states the two cases, requires that the numbers in the
+/// event's packet are below 256, which is true of every event of a node.
 pub fn unanswered_interests_wait()
     ensures arrives { (now : ℕ) (event : PlainEvent) (answer : Answer) (key : PlainKey) (face : ℕ)
         (in_record : InRecord) → Contains (causes_of now event answer) (Arrives key face in_record)
@@ -278,11 +286,12 @@ pub fn unanswered_interests_wait()
         ⊎ IsSentBack seen face (token_in event) whole i answer.sends }
 {}
 
-/// Law: let no key book have two keys of the same name, and let a run begin without routes. A next
-/// hop is removed when a remove-nexthop of its name and face is answered with status 200, or when
-/// its face is closed. After the run, a next hop exists exactly if an add-nexthop of its name and
-/// face was answered with status 200, and the next hop was not removed since. The cost of a next
-/// hop was set by the latest add-nexthop of its name and face that was answered with status 200.
+/// Law: let no key book have two keys of the same name, and let a run begin without next hops and
+/// routes. A next hop is removed when a remove-nexthop of its name and face is answered with status
+/// 200, or when its face is closed. After the run, a next hop exists exactly if an add-nexthop of
+/// its name and face was answered with status 200, and the next hop was not removed since the
+/// latest such add-nexthop. The cost of a next hop was set by the latest add-nexthop of its name
+/// and face that was answered with status 200.
 pub fn routes_are_read_off_the_run()
     ensures { (first p : Policy) (past : Run) (name : List Field) (face : ℕ)
         → KeysAreApart first past
@@ -290,14 +299,15 @@ pub fn routes_are_read_off_the_run()
         → map.get (costs_at p.routes name) face ≡ cost_of past name face }
 {}
 
-/// Law: let no key book have two keys of the same name, and let a run begin without routes, at the
-/// moment 0. A registered route ends when an unregister of its name, face and origin is answered
-/// with status 200, when its face is closed, or when a later event comes at or after its deadline.
-/// After the run, a registered route exists exactly if a register of its name, face and origin was
-/// answered with status 200, and the route has not ended since the latest such register. The cost
-/// and flags of the route are those of the latest register of its name, face and origin that was
-/// answered with status 200. The deadline of the route is the time of that register plus the
-/// register's period, at most the greatest u64. A register without a period gives no deadline.
+/// Law: let no key book have two keys of the same name, and let a run begin without next hops and
+/// routes, at the moment 0. A registered route ends when an unregister of its name, face and origin
+/// is answered with status 200, when its face is closed, or when a later event comes at or after
+/// its deadline. After the run, a registered route exists exactly if a register of its name, face
+/// and origin was answered with status 200, and the route has not ended since the latest such
+/// register. The cost and flags of the route are those of the latest register of its name, face and
+/// origin that was answered with status 200. The deadline of the route is the time of that register
+/// plus the register's period, at most the greatest u64. A register without a period gives no
+/// deadline.
 pub fn registered_routes_are_read_off_the_run()
     ensures { (first p : Policy) (past : Run) (name : List Field) (face origin : ℕ)
         → KeysAreApart first past → first.now ≡ 0
@@ -307,9 +317,9 @@ pub fn registered_routes_are_read_off_the_run()
 {}
 
 /// Law: a denial in a valid answer is the decision on the event's packet. The denial gives the rule
-/// that denies the packet, or states that no rule applies. A denied command is answered by a reply
-/// with status 403 that gives the reason and the rule, and a denied Data is not answered. It
-/// follows that the kind in the verdict is the kind of the packet.
+/// that denies the packet, or states that no rule applies. A denied command gets a reply with
+/// status 403. The reply gives the reason and the rule, or says that no rule applies. For a denied
+/// Data, nothing is sent. So the kind in the verdict (Interest or Data) is the kind of the packet.
 pub fn denials_name_their_rule()
     ensures denied { (first : Policy) (past : Run) (event : PlainEvent) (answer : Answer)
         (kind : Kind) (rule : ℕ) (reason : Reason) (reply : MayReply first past event answer)

@@ -19,9 +19,10 @@ use ndn_tlv::Memory;
 use pit_fib::{MAX_FACES, Nacked};
 
 impl State {
-    /// Handles a Nack (NFD Developer's Guide, "Incoming Nack Pipeline"). When each out-record of
-    /// the Interest's key has the reason of a received Nack, each face with an in-record of the key
-    /// gets a Nack with the least of these reasons. The records of the key are then removed.
+    /// Handles a Nack (NFD Developer's Guide, "Incoming Nack Pipeline"). The key of a Nack is the
+    /// key of the Interest in the Nack. When each out-record of the key has the reason of a
+    /// received Nack, each face with an in-record of the key gets a Nack with the least of these
+    /// reasons. Then all records of the key are removed.
     pub fn receive_nack(
         &mut self,
         reason: u64,
@@ -101,8 +102,8 @@ impl State {
     }
 }
 
-/// Returns `room` plus the number of octets for one more Nack, whose Interest has `octets` octets.
-/// Returns `Memory` if the sum overflows.
+/// Returns `room` plus a number of octets that is enough for one more Nack. The Interest in this
+/// Nack has the length `octets`. Returns `Memory` if the sum overflows.
 fn room_with(room: usize, octets: usize) -> Result<usize, Memory>
     ensures { IfOk result (λ sum. sum ≡ room + (octets + LINK_EXTRA)) }
 {

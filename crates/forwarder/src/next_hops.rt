@@ -12,9 +12,9 @@ use pit_fib::{StrategyId, Used};
 use strategies::{Ask, BestRoute, Choice, Multicast, Strategy};
 
 impl State {
-    /// Returns the strategy's choice for an Interest of this name (NFD Developer's Guide,
-    /// "Strategies"). `used` has, for each face, the moment at which an Interest of the same key
-    /// was last sent to the face.
+    /// Returns the choice of the name's strategy for an Interest of this name (NFD Developer's
+    /// Guide, "Strategies"). `used` has, for each face, the moment at which an Interest with the
+    /// same PIT key as this Interest was last sent to the face.
     pub fn choose(&self, name: Name<'_>, used: &Used, ask: Ask) -> Choice
         ensures { result
             ≡ choice_for (policy_of self.entry.now) (components name.entry) used.now ask }

@@ -43,7 +43,8 @@ pub struct NodeParts {
     pub cache: u32,
 }
 
-/// Why a node cannot be made. If there are several faults, the first in this order is reported.
+/// Why a node cannot be made. If there are several faults, `Node::new` returns the one that comes
+/// first in this list.
 #[derive(Clone, Copy, Debug, PartialEq, Eq, Error)]
 pub enum NodeFault {
     #[error("the repository's prefix is empty, or begins with /localhost")]
@@ -145,7 +146,7 @@ impl Node {
     }
 
     /// Returns the keys that the rules refer to. No two keys have the same name, as `KeyBook::len`
-    /// ensures of every key book.
+    /// ensures for every key book.
     pub fn keys(&self) -> &KeyBook
         ensures { result.now ≡ self.now.policy.keys }
     {
@@ -169,9 +170,9 @@ impl Node {
     }
 
     /// Returns whether two nodes agree in the time, the repository's prefix, the open faces, the
-    /// routes, the strategies, the replay guard, the stored Data and the wants. The rules, the keys
-    /// and the version of the lists are not compared. The contract says only what a result `true`
-    /// means.
+    /// routes, the strategies, the replay guard, the stored Data and the wants. The rules, the
+    /// keys, and the version of the lists of routes and strategies are not compared. The contract
+    /// says only what a result `true` means.
     pub fn has_same_tables(&self, other: &Node) -> Result<bool, Memory>
         ensures { IfOk result
             (λ same. IsTrue same → HasSameTables self.now.policy other.now.policy) }
@@ -191,8 +192,8 @@ impl Node {
         }
     }
 
-    /// Returns whether octets that come at this moment are a Data that the repository wants at that
-    /// moment.
+    /// Returns whether the octets are a Data that the repository wants once time has advanced to
+    /// `now`.
     fn wants_packet(&self, now: u64, octets: &[u8]) -> bool
         ensures { result ≡ is_wanted_packet (at_moment self.now.policy now) (frame_at octets.now) }
     {
@@ -208,11 +209,13 @@ impl Node {
     /// Handles one event (NFD Developer's Guide, "Forwarding"): returns the verdict, and appends
     /// the sends to the outbox.
     ///
-    /// New rules and keys replace those in force from the next event on, and change nothing else.
+    /// From the next event on, new rules and keys are in force instead of the old rules and keys.
+    /// An event with new rules and keys advances time, as each event does, and changes nothing
+    /// else.
     ///
     /// If memory runs out, the cache may have dropped Data or changed their order of use; nothing
     /// else changes. These events need no memory: face changes, ticks, new rules, packets on faces
-    /// that are not open, octets that hold no packet, packets out of scope, and Interests of
+    /// that are not open, octets that hold no packet, packets out of scope, and Interests with
     /// HopLimit 0. A Data that the rules do not allow needs no memory, unless the first rule that
     /// applies to the Data has a hyper-relation.
     pub fn step(&mut self, event: Event<'_>, outbox: &mut Outbox) -> Result<Verdict, Memory>
@@ -221,8 +224,9 @@ impl Node {
             (λ verdict. (sends : List Send) × (outbox.new ≡ outbox.old ++ sends)
             × IsStep self.old (plain event.entry)
             (record { verdict = verdict_of verdict; sends = sends }) self.new) }
-        // If the node agrees with a run, appending this event and its answer gives a valid run, and
-        // the new node agrees with this longer run.
+        // Let the node agree with a valid run that began at the moment 0. If this event and its
+        // answer are appended to the run, the longer run is valid, and the node after the step
+        // agrees with the longer run.
         ensures run { IfOk result (λ verdict. let sends = drop (length outbox.old) outbox.new in
             (first : Policy) (past : Run) → first.now ≡ 0 → IsRun first past
             → Stands first past self.old

@@ -22,7 +22,7 @@ use std::marker::Model;
 /// packet adds headers, a token of at most 32 octets, and a Nack with its reason.
 pub const LINK_EXTRA: usize = 70;
 
-/// One send: the face, and the range of its octets.
+/// One send: its face, and the range of its octets.
 #[derive(Clone, Copy)]
 struct Sent {
     face: u64,
@@ -177,8 +177,8 @@ impl Sends {
 
     /// Adds a packet. If there is a token or a Nack reason, the packet is sent in a link packet
     /// (NDNLPv2, "Packet Format"). The link packet has the token, if there is one, and a Nack with
-    /// the reason, if there is one. Without a token and a reason, the packet is sent without a link
-    /// packet.
+    /// the reason, if there is one. If there is neither a token nor a reason, the packet is sent
+    /// without a link packet.
     fn push_lp(
         &mut self,
         face: u64,
@@ -368,8 +368,8 @@ fn written(done: Result<(), WriteFault>) -> Result<bool, Memory>
     }
 }
 
-/// Appends an Interest with its HopLimit, if there is one, decremented. Appends nothing if memory
-/// runs out.
+/// Appends an Interest. The HopLimit of the appended Interest, if there is one, is decremented.
+/// Appends nothing if memory runs out.
 fn put_sent_on(out: &mut Vec<u8>, interest: &Interest<'_>) -> Result<(), Memory>
     requires hops { interest.now.hop_limit ≢ Some 0 }
     ensures ok { OnOk result (out.new.items

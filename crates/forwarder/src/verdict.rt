@@ -43,8 +43,8 @@ pub enum DropReason {
     /// The face that the Nack came on has no out-record with the key and Nonce of the Interest in
     /// the Nack.
     NoPending,
-    /// The list has no segment with the requested number, or its version is not the requested
-    /// version.
+    /// The list has no segment with the requested number, or the list's version is not the
+    /// requested version.
     NoSegment,
     /// The face number is 0.
     BadFace,
