@@ -13,7 +13,7 @@ pub whole_begins : (past : Run) → IsBeginningOf past past
 whole_begins Start = refl
 whole_begins (Then before event answer) = inl refl
 
--- `left` is a prefix of `earlier`, which is the journal without its last event
+-- `left` is a prefix of `earlier`, which is the journal before the last event of a run
 pub record Fewer (left earlier : List PlainEvent) : Type 0 where
   pub rest : List PlainEvent
   pub is : earlier ≡ left ++ rest

@@ -30,8 +30,8 @@ both_allow p packet rule (Denied n reason) apart x (inl y) = sym (ap is_allowed 
 both_allow p packet rule (Denied n reason) apart x (inr y) = absurd (y.2 x.1)
 both_allow p packet rule NoRule apart x y = sym (ap is_allowed (one_decision p.rules p.keys packet (Allowed rule) NoRule apart x.0 y))
 
--- if a decision allows a packet, whether the packet is journalled does not depend on the rule that
--- allows it
+-- if a decision allows a packet, the rule that allows the packet does not influence whether the
+-- packet is journalled
 allowed_as : (p : Policy) (packet : PlainFrame) (said : Decision) → is_allowed said ≡ true → is_journalled_as p packet said ≡ is_journalled_packet p packet
 allowed_as p packet (Allowed rule) is = refl
 allowed_as p packet (Denied rule reason) is = cc is

@@ -1,4 +1,4 @@
--- Replaying the events of a journal leads to the policy of the run.
+-- Replaying the events of a run's journal leads to the policy of the run.
 use Rattle.std.proofs.Common.{◌≡◌, ◌≤◌, ℕ, Bool, true, false, List, [], ◌∷◌, ◌++◌, length, length-append, arith, refl, sym, ap, subst, ◌∙◌}
 use Rattle.std.specs.Prelude.{max}
 use Rattle.hmac_keys.specs.KeyFile.{AreApart}
@@ -69,7 +69,7 @@ pub record Keeps (first p : Policy) (again : Run) (journal : List PlainEvent) : 
 -- In this module, a run is extended by one event.
 module _ (first was p : Policy) (event : PlainEvent) (earlier journal : List PlainEvent) (keys : AreApart was.keys) (brings : BringsKeysApart event) (after : IsAfter was event p)
     (before_keeps : (again : Run) → events_of again ≡ earlier → Keeps first was again earlier) where
-  -- if the event is not journalled, replaying the journal still leads to the policy of the run
+  -- if the event is not journalled, replaying the journal leads to the policy of the extended run
   more_idle : (again : Run) → IsJournalled was event false → journal ≡ earlier → events_of again ≡ journal → Keeps first p again journal
   more_idle again is grows e =
       let k = before_keeps again (e ∙ grows) in
@@ -82,7 +82,7 @@ module _ (first was p : Policy) (event : PlainEvent) (earlier journal : List Pla
       }
 
   -- if the event is journalled, replaying the journal with this event leads to the policy of the
-  -- run
+  -- extended run
   more_last : (again : Run) → IsJournalled was event true → journal ≡ earlier ++ (with_moment (max was.now (moment event)) event ∷ []) → events_of again ≡ journal → Keeps first p again journal
   more_last Start is grows e = absurd (not_empty earlier _ (sym (e ∙ grows)))
   more_last (Then before other answer) is grows e =

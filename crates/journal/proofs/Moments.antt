@@ -8,7 +8,8 @@ use Rattle.forwarder.proofs.LaterMoments.{moments_in_a_row}
 use Rattle.journal.specs.Journal.{AreOneFrom}
 
 -- the policy at the time `now`: the routes and wants that expire by `now` are removed, and the
--- version of the lists grows by the number of removed routes, up to 2^64 - 1
+-- version of the lists of routes and strategies grows by the number of removed routes, but not
+-- above 2^64 - 1
 abbrev with_time : Policy → ℕ → Policy
 with_time p now = record p {
   now = now;

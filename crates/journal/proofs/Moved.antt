@@ -1,5 +1,6 @@
 -- Let the policy at a new time equal the policy at the time of an event. If the event is moved to
--- the new time, its effect is the same, and it is journalled exactly if it was journalled before.
+-- the new time, its effect is the same. The moved event is journalled exactly if the unmoved event
+-- is journalled.
 use Rattle.std.proofs.Common.{◌≡◌, ℕ, Bool, refl, sym, ap, subst, ◌∙◌}
 use Rattle.std.specs.Prelude.{Option, Some, None}
 use Rattle.ndn_packets.specs.Packet.{PlainFrame}

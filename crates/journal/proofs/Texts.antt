@@ -1,4 +1,4 @@
--- The text that a crash leaves of a journal.
+-- What a crash leaves of the text of a journal.
 use Rattle.std.proofs.Common.{◌≡◌, ◌≢◌, ◌⊎◌, inl, inr, ℕ, List, [], ◌∷◌, ◌++◌, append_assoc, refl, sym, ap, subst, ◌∙◌}
 use Rattle.forwarder.specs.Event.{PlainEvent}
 use Rattle.forwarder.specs.Policy.{Policy}
@@ -45,8 +45,8 @@ texts_join (event ∷ journal) added text more h k =
 -- ---- a prefix of a text
 
 -- `left` is the concatenation of `line`, an LF and `more`, and `rest` is `more` followed by `lost`.
--- So `left` is a prefix of the concatenation of `line`, an LF and `rest`, and contains `line` with
--- its LF.
+-- So `left` contains `line` with its LF, and is a prefix of the concatenation of `line`, an LF and
+-- `rest`.
 pub record HoldsLine (line rest left lost : List ℕ) : Type 0 where
   pub more : List ℕ
   pub front : left ≡ line ++ (10 ∷ more)

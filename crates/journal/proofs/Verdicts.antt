@@ -1,5 +1,5 @@
--- The kind of an event, the verdict on it, and whether it brings a wanted Data determine whether
--- the event is journalled.
+-- Three facts determine whether an event is journalled: the kind of the event, the verdict on the
+-- event, and whether the event brings a wanted Data.
 use Rattle.std.proofs.Common.{◌≡◌, ℕ, Bool, true, false, List, [], ◌∷◌, refl, ap, ◌∙◌, Result, Ok, Err}
 use Rattle.std.specs.Prelude.{Option, Some, None, max, nat_le, length, not, ◌==◌, ◌&&◌, if◌then◌else◌}
 use Rattle.sha2.specs.Sha256.{sha256}

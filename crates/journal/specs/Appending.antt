@@ -27,14 +27,14 @@ pub record Steps (old : NodeState) (event : PlainEvent) (wanted : Bool) (verdict
 abbrev pub is_journalled_entry : Entry → Bool → Verdict → Bool
 is_journalled_entry e wanted verdict = is_journalled_where (is_change_entry e) wanted verdict
 
--- the line of the entry with the time `now` if the event of the entry is journalled, otherwise the
--- empty text
+-- the line of the entry at the time `now` if the event of the entry is journalled (`true`),
+-- otherwise the empty text
 abbrev pub added_text : Bool → ℕ → Entry → List ℕ
 added_text true now e = entry_text now e
 added_text false now e = []
 
--- the line of the entry with the time `time` is a line of a script, and it spells each event that
--- the entry stands for at that time
+-- the line of the entry at the time `time` is a line of a script, and it spells each event that the
+-- entry stands for at that time
 abbrev pub IsLineAt : ℕ → Entry → Type 0
 IsLineAt time e =
     (event : PlainEvent) → IsEventOf time e event → IsTextOf (event ∷ []) (entry_text time e)
@@ -58,9 +58,9 @@ pub record CutsLine (text : List ℕ) (new : Option (List ℕ)) (time : ℕ) (e 
   pub parts : entry_text time e ≡ front ++ back
   pub grown : new ≡ Some (text ++ front)
 
--- The event is journalled, but journalling failed: a prefix of the event's line was appended. The
--- prefix may be empty or the whole line. If the old content of the journal is not known (None),
--- nothing is stated.
+-- The event is one that must be journalled, but journalling failed: a prefix of the event's line
+-- was appended. The prefix may be empty or the whole line. If the old content of the journal is not
+-- known (None), nothing is stated.
 abbrev pub FailsToJournal : Option (List ℕ) → Option (List ℕ) → ℕ → Coming → Verdict → Type 0
 FailsToJournal None new time coming verdict = ⊤
 FailsToJournal (Some text) new time coming verdict =

@@ -31,7 +31,7 @@ HasOctets (entry.FaceDown face) = face < 2 ^ 64
 HasOctets entry.Tick = ⊤
 HasOctets (entry.NewRules rules keys) = AreOctets rules.now × AreOctets keys.now
 
--- the line of the entry with the time `now`, including the LF; hexadecimal digits are in lower case
+-- the line of the entry at the time `now`, including the LF; hexadecimal digits are in lower case
 abbrev pub entry_text : ℕ → Entry → List ℕ
 entry_text now (entry.Packet face octets) =
     codes "in " ++ (decimal face ++ (codes " " ++ (decimal now ++ (codes " "

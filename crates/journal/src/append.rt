@@ -12,7 +12,7 @@ use thiserror::Error;
 /// What is needed to journal an event.
 #[derive(Clone, Copy)]
 pub struct Coming<'a> {
-    /// The content of the event's line, except its time.
+    /// The content of the event's line, except the time.
     pub entry: Entry<'a>,
     /// Whether the event brings a Data that the repository wants at the event's time.
     pub is_wanted: bool,
@@ -29,9 +29,9 @@ pub enum AppendFault {
     File,
 }
 
-/// If an event with the verdict `verdict` is journalled, appends the event's line, and succeeds
-/// only when the line survives a crash. The time in the line is `time`, the latest time of any
-/// event so far, in milliseconds since 1970.
+/// If the event in `coming`, whose verdict is `verdict`, is journalled, appends the event's line,
+/// and succeeds only when the line survives a crash. The time in the line is `time`, the latest
+/// time of any event so far, in milliseconds since 1970.
 pub fn append_event<F: JournalFile>(
     alloc: Global,
     file: &mut F,

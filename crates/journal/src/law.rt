@@ -34,9 +34,9 @@ pub fn verdicts_say_what_is_journalled()
         (is_journalled_by event (brings_wanted p event) answer.verdict) }
 {}
 
-/// Law: if a node agrees with a run, and the event of the node's next step is journalled, the step
-/// appends the event to the run's journal and the event's line to the journal's text. If the event
-/// is not journalled, the step appends nothing.
+/// Law: if a node agrees (`Stands`) with a run, and the event of the node's next step is
+/// journalled, the step appends the event to the run's journal and the event's line to the
+/// journal's text. If the event is not journalled, the step appends nothing.
 pub fn journals_grow_by_steps()
     ensures journal { (first : Policy) (past : Run) (old new : NodeState) (event : PlainEvent)
         (answer : Answer) (journal : List PlainEvent) → Stands first past old
@@ -47,8 +47,8 @@ pub fn journals_grow_by_steps()
         (with_moment p.now event) journal) }
     ensures text { (journal added : List PlainEvent) (text more : List ℕ) → IsTextOf journal text
         → IsTextOf added more → IsTextOf (journal ++ added) (text ++ more) }
-    // The text of a run's journal, followed by the text that a step appends, is the text of the
-    // journal of the run extended by this step.
+    // Let a step extend a run. The text of the run's journal, followed by the text that the step
+    // appends, is the text of the extended run's journal.
     ensures both { (first : Policy) (past : Run) (old new : NodeState) (event : PlainEvent)
         (verdict : Verdict) (sends : List Send) (journal : List PlainEvent) (text added : List ℕ)
         → Stands first past old → IsJournalOf first past journal → IsTextOf journal text
@@ -69,10 +69,10 @@ pub fn journals_are_one()
         → IsJournalOf first past a → IsJournalOf first past b → a ≡ b }
 {}
 
-/// Law: let the events of a run's journal be replayed from the first policy of the run. From the
-/// last time of the run on, the policy after the replay is the same as the policy after the run.
-/// The replay is a run with the same journal, so the run can be continued after the replay. The
-/// keys of each key book in the run must have different names.
+/// Law: let the events of the journal of a run `past` be replayed from the first policy of `past`.
+/// From the last time of `past` on, the policy after the replay is the same as the policy after
+/// `past`. The replay is a run with the same journal, so this journal can be continued after the
+/// replay. The keys of each key book in `past` must have different names.
 pub fn journals_keep_policy()
     ensures policy { (first p q : Policy) (past again : Run) (journal : List PlainEvent)
         → KeysAreApart first past → IsPolicyOf first past p → IsJournalOf first past journal
@@ -112,8 +112,8 @@ pub fn crashes_leave_a_beginning()
 {}
 
 /// Law: let a text be the lines of some events and then octets without an LF, as a crash may leave
-/// the text of a journal. Read as a script, the whole lines of the text spell exactly these events,
-/// and no other list of events.
+/// the text of a journal. If the text is read as a script, its whole lines spell exactly these
+/// events, and no other list of events.
 pub fn journal_texts_have_one_reading()
     ensures script { (text : List ℕ) (events : List PlainEvent) → IsCutTextOf events text
         → IsScriptSoFar text events }

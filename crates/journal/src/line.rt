@@ -40,7 +40,7 @@ pub enum LineFault {
     Memory,
 }
 
-/// Returns the journal's line for an entry with the time `now`, including the LF.
+/// Returns the journal's line for an entry at the time `now`, including the LF.
 pub fn line_of(alloc: Global, now: u64, entry: &Entry<'_>) -> Result<String, LineFault>
     ensures text { IfOk result (λ line. string_bytes line ≡ entry_text now entry.now) }
     // The line is a line of a script, and it spells the event of the entry at the time `now`.
@@ -58,8 +58,8 @@ pub fn line_of(alloc: Global, now: u64, entry: &Entry<'_>) -> Result<String, Lin
     Ok(line)
 }
 
-/// Returns the line of an entry with the time `now`, including the LF, even if the line has more
-/// than 20,000 octets.
+/// Returns the line of an entry at the time `now`, including the LF, even if the line has more than
+/// 20,000 octets.
 fn text_of(alloc: Global, now: u64, entry: &Entry<'_>) -> Result<String, AllocError>
     ensures text { IfOk result (λ line. string_bytes line ≡ entry_text now entry.now) }
     ensures octets { OnOk result (HasOctets entry.now) }

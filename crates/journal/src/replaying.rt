@@ -104,9 +104,9 @@ pub(crate) fn whole_line(octets: &[u8]) -> Option<&[u8]>
     if *last == b'\n' { Some(line) } else { None }
 }
 
-#[tactic(auto, using(crate::proofs::Replays::plays_step, crate::proofs::Replays::plays_skipped))]
-/// If a line spells an event, handles the event on a node. Returns whether the line spells an
+/// If a line spells an event, lets a node handle the event. Returns whether the line spells an
 /// event. `number` is the number of the line in the journal.
+#[tactic(auto, using(crate::proofs::Replays::plays_step, crate::proofs::Replays::plays_skipped))]
 fn play_line(
     alloc: Global,
     node: &mut Node,

@@ -5,9 +5,9 @@ use Rattle.std.proofs.lemmas.List.{append-nil}
 use Rattle.node_core.specs.Script.Line.{Lacks}
 use Rattle.journal_shortening.specs.Needed.{KeepsLines, kept_line}
 
--- The loop invariant. Let `more` be those lines of the remaining text `rest` that the flags from
--- index `i` on keep. Then `text` followed by `more` is `old` followed by all lines of the journal
--- that the flags keep.
+-- The loop invariant. Let `more` be those lines of the remaining text `rest` that are kept by the
+-- flags at index `i` and later. Then `text` followed by `more` is `old` followed by all lines of
+-- the journal that the flags keep.
 abbrev pub SoFar : List Bool → List ℕ → List ℕ → ℕ → List ℕ → List ℕ → Type 0
 SoFar flags journal old i rest text =
     (more : List ℕ) → KeepsLines (drop i flags) rest more

@@ -1,5 +1,5 @@
-//! Shorter journals: which lines of a journal a node needs to restore the same tables, and the text
-//! of these lines.
+//! Shorter journals: which lines of a journal a node needs to restore the tables that the whole
+//! journal restores, and the text of these lines.
 #![tactic(auto)]
 
 mod comparing;

@@ -53,7 +53,7 @@ fn needed_by(survey: &mut Survey, now: u64) -> Result<Needed, ShortenFault> {
 }
 
 /// Appends the needed lines of a journal, in order and each with its LF, and then a line `tick`
-/// with the time after the last line. If memory runs out, nothing is appended.
+/// with the time `needed.moment`. If memory runs out, nothing is appended.
 pub fn put_needed(out: &mut Vec<u8>, journal: &[u8], needed: &Needed) -> Result<(), Memory>
     ensures ok { OnOk result (PutsNeeded journal.now needed.now.lines.items needed.now.moment
         out.old.items out.new.items) }

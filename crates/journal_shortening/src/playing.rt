@@ -135,7 +135,8 @@ fn play_event(
     step(node, event, change, &mut desk.outbox)
 }
 
-/// Handles an event on a node.
+/// Lets a node handle an event, and returns what the event changed. `change` is what the event
+/// changes if it takes effect.
 fn step(
     node: &mut Node,
     event: Event<'_>,

@@ -15,7 +15,7 @@ nobody = record { endpoint = V4 (record { ip = record { octets = [] }; port = 0 
 abbrev pub heard_at : List Client → ℕ → ℕ
 heard_at clients k = (slice_index_or clients k nobody).heard
 
--- Of the first `count` clients, the client at index `place` has been silent longest. If several
+-- The client at index `place` has been silent longest among the first `count` clients. If several
 -- clients have been silent equally long, the client at index `place` is the first of these clients.
 pub record IsLongestOf (clients : List Client) (count place : ℕ) : Type 0 where
   pub within : place < count

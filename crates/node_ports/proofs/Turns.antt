@@ -242,7 +242,8 @@ Serves-refused old mid new before between after events refused failed h k =
     let P : ℕ → Type 0 = λ n. Serves old new before after (events + 1) (refused + 1) n in
     subst P (add-zero failed) (Serves-then old mid new before between after events refused failed 0 NoMemory h k)
 
--- limiting n to the greatest u64, adding m and limiting the sum gives the same as limiting n + m
+-- if `n` is limited to the greatest u64, `m` is added, and the sum is limited too, the result is
+-- `n + m`, limited to the greatest u64
 pub count_of-add : (n m : ℕ) → min (count_of n + m) (2 ^ 64 - 1) ≡ count_of (n + m)
 count_of-add n m = omega arith
 
@@ -259,9 +260,9 @@ take-next [] i x h = cc h
 take-next (y ∷ ys) zero x h = let same : y ≡ x = cc h in ap (λ (t : Send). t ∷ []) same
 take-next (y ∷ ys) (suc i) x h = ap (λ (t : List Send). y ∷ t) (take-next ys i x h)
 
--- if `failed` of the first `i` sends failed, and `more` (0 or 1) is the number of failures of the
--- send at index `i`, then `failed + more` of the first `i + 1` sends failed, and the other sends
--- were accepted
+-- Let `failed` be the number of the first `i` sends that failed. Let `more` be 1 if the send at
+-- index `i` failed, and 0 otherwise. Then `failed + more` is the number of the first `i + 1` sends
+-- that failed, and the other sends were accepted.
 pub sent_next : (xs : List Send) (i failed more : ℕ) (x : Send) (y : List Send) (a b c : Option (List Send)) → slice_get xs i ≡ Some x
     → ((taken : List Send) × AreSendsTaken (take i xs) failed taken × Takes a b taken) → AreSendsTaken (x ∷ []) more y → Takes b c y
     → (taken : List Send) × AreSendsTaken (take (i + 1) xs) (failed + more) taken × Takes a c taken

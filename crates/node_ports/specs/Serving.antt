@@ -34,9 +34,9 @@ abbrev pub HasEnded : Option (List PlainEvent) → Type 0
 HasEnded None = ⊤
 HasEnded (Some events) = events ≡ []
 
--- `events` were the first of the events to come, zero or more of them, each with its packet
--- truncated to `size` octets. The other events are still to come. If the events to come are not
--- known, nothing is stated about `events`.
+-- `events` are the first zero or more of the events to come. If an event brings a packet, the
+-- packet is truncated to `size` octets. The other events are still to come. If the events to come
+-- are not known, nothing is stated about `events`.
 abbrev pub GivesAll : Option (List PlainEvent) → Option (List PlainEvent) → ℕ → List PlainEvent
     → Type 0
 GivesAll None new size events = new ≡ None
@@ -44,7 +44,8 @@ GivesAll (Some old) new size events =
     (came left : List PlainEvent) × (old ≡ came ++ left) × (events ≡ map (cut_to size) came)
     × (new ≡ Some left)
 
--- `taken` is the list of sends in order, without `failed` of them
+-- `taken` is the list of sends, in order, with some sends left out; `failed` is the number of sends
+-- that are left out
 abbrev pub AreSendsTaken : List Send → ℕ → List Send → Type 0
 AreSendsTaken [] failed taken = (failed ≡ 0) × (taken ≡ [])
 AreSendsTaken (sent ∷ sends) failed taken =
@@ -83,9 +84,9 @@ KeepsJournal old before events outcomes after =
     × IsJournalOf first (run_from past events outcomes) longer
     × IsTextOf longer longer_text × (after ≡ Some longer_text)
 
--- One event arrived and had this outcome, `failed` of the sends of this event failed, and the port
--- accepted the other sends. The journal and each run of the node are extended as `KeepsJournal` and
--- `ExtendsRuns` state.
+-- One event arrived and had the outcome `done_as`. The number of the event's sends that failed is
+-- `failed`, and the port accepted the other sends. The journal and each run of the node are
+-- extended as `KeepsJournal` and `ExtendsRuns` state.
 pub record Handles (old new : NodeState) (before after : Shown) (done_as : Outcome)
     (failed : ℕ) : Type 0 where
   pub event : PlainEvent
@@ -149,9 +150,10 @@ IsTurn old new before after sends turn.Unwritten =
 IsTurn old new before after sends turn.End =
     EndsNext before after × (new ≡ old) × (sends ≡ [])
 
--- `events` events arrived, memory ran out for `refused` of them, and `failed` sends failed. If the
--- old node agrees (`Stands`) with a valid run from a policy whose time is 0, then this run,
--- extended by the answered events, is valid, and the new node agrees with the extended run.
+-- The number of events that arrived is `events`. The number of these events for which memory ran
+-- out is `refused`. The number of sends that failed is `failed`. If the old node agrees (`Stands`)
+-- with a valid run from a policy whose time is 0, then this run, extended by the answered events,
+-- is valid, and the new node agrees with the extended run.
 pub record Serves (old new : NodeState) (before after : Shown)
     (events refused failed : ℕ) : Type 0 where
   pub arrivals : List PlainEvent

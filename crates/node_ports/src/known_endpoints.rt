@@ -72,7 +72,7 @@ impl KnownEndpoints {
         self.peers.get(place)
     }
 
-    /// Decides what to do with a datagram from `endpoint` that arrives at `now`.
+    /// Decides what to do with a datagram that arrives from `endpoint` at the time `now`.
     pub fn meet(&mut self, endpoint: SocketAddr, now: u64) -> Met
         ensures { Meets self.old self.new endpoint now result }
     {

@@ -47,7 +47,7 @@ pub enum PortFault {
     Failed,
 }
 
-/// A source of arrivals that also sends packets. A port counts its failed calls: whenever `next` or
+/// A port returns arrivals and sends packets. A port counts its failed calls: whenever `next` or
 /// `send` fails, the count increases, unless it is the greatest u64.
 pub trait Ports {
     // The number of failed calls, at most the greatest u64.

@@ -119,8 +119,8 @@ pub fn serve<P: Ports>(
 /// Lets a node handle the next arrival of a port.
 ///
 /// If the result is `Done`, the outbox contains exactly the event's sends, including those that
-/// failed. If the result is not `Done`, the outbox is empty. The only fault is `Next` with `after`
-/// 0. If the fault `Next` is returned, the node is unchanged.
+/// failed. If the result is not `Done`, the outbox is empty. The only fault is `Next { after: 0 }`.
+/// If this fault is returned, the node is unchanged.
 pub fn serve_turn<P: Ports>(
     node: &mut Node,
     ports: &mut P,

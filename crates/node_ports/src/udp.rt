@@ -119,11 +119,11 @@ impl<M: Moments> UdpPorts<M> {
 
     /// Binds the endpoint `listen`. The peers' faces are opened in the first turns: the first
     /// `local` faces are Local, the others Far. One socket and no heap memory are used. There are
-    /// at most 64 peers, all of the address family of `listen`. If an endpoint is twice in `peers`,
-    /// only the first of its two faces gets its datagrams. No face closes until `close_after` is
-    /// called. Datagrams from endpoints that are not peers are accepted until `ignore_strangers` is
-    /// called. A Local peer may send commands, so such a peer should have a loopback address. Fails
-    /// if the endpoint `listen` cannot be bound.
+    /// at most 64 peers, and each peer must have the same address family as `listen`. If an
+    /// endpoint is twice in `peers`, only the first of its two faces gets its datagrams. No face
+    /// closes until `close_after` is called. Datagrams from endpoints that are not peers are
+    /// accepted until `ignore_strangers` is called. A Local peer may send commands, so such a peer
+    /// should have a loopback address. Fails if the endpoint `listen` cannot be bound.
     pub fn bind_at(
         rt: &impl Net,
         listen: SocketAddr,
@@ -159,8 +159,8 @@ impl<M: Moments> UdpPorts<M> {
     /// least 10,000 milliseconds.
     ///
     /// A face closes only when a datagram has arrived from some endpoint. The face closes before
-    /// that datagram is handled. At most one face closes in each turn. If the turn before opened a
-    /// face for a datagram, that datagram arrives on the new face before any face closes.
+    /// that datagram is handled. At most one face closes in each turn. If the previous turn opened
+    /// a face for a datagram, that datagram arrives on the new face before any face closes.
     pub fn close_after(&mut self, idle: u64)
         ensures { self.new ≡ closes_after idle self.old }
     {
@@ -175,7 +175,8 @@ impl<M: Moments> UdpPorts<M> {
         self.accepts_strangers = false;
     }
 
-    /// Returns the number of datagrams that `ignore_strangers` dropped, at most the greatest u64.
+    /// Returns the number of datagrams that were dropped because of `ignore_strangers`, at most the
+    /// greatest u64.
     pub fn strangers(&self) -> u64
         ensures { result ≡ self.now.strangers }
     {
@@ -387,8 +388,8 @@ impl<M: Moments> UdpPorts<M> {
         self.socket.recv_from(buffer).ok()
     }
 
-    /// Returns the next arrival: the opening of a peer's face, a waiting datagram, or a datagram
-    /// that is received now. Returns `None` if `receive` returns `None`.
+    /// Returns the next arrival: the opening of a peer's face, or an arrival due to a datagram that
+    /// waited or is received now. Returns `None` if `receive` returns `None`.
     fn take(&mut self, buffer: &mut [u8], is_brief: bool) -> Option<Arrival>
         ensures fits { IfSome result (LiesWithin (length buffer.new)) }
         ensures gives { IfSome result (UdpGives self.old self.new buffer.new) }
