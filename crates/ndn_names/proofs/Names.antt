@@ -107,7 +107,8 @@ filter_map-ok es cs e = ap (filter_map result_ok) e ∙ filter_map-read cs
 
 -- ---- reading octets as a name
 
--- if octets are read as a name, they are the TLV-VALUE of this name
+-- if reading `value` as a name gives the components `cs`, then `value` is the TLV-VALUE of the name
+-- with these components
 pub name_found : (value : List ℕ) (cs : List Field) → IsBytes value → name_at value ≡ Ok cs → IsNameValue value cs
 unfolding name_at
 name_found value cs fits e =
@@ -115,7 +116,7 @@ name_found value cs fits e =
     let whole = elements_read value cs fits read.0 in
     (whole, (omega (arith, read.1), read.2))
 
--- the TLV-VALUE of a name is read as this name
+-- reading the TLV-VALUE of a name gives the components of this name
 pub name_again : (value : List ℕ) (cs : List Field) → IsNameValue value cs → name_at value ≡ Ok cs
 unfolding name_at
 name_again value cs h =
@@ -133,15 +134,15 @@ components_of-found value cs fits e =
 
 -- ---- reading a name in a loop
 
--- If `value` is read as a name, the result is some components followed by the components that
--- `components_after n` returns for `rest`. If `components_after n` returns a fault for `rest`, the
--- result is this fault.
+-- Reading `value` as a name gives some components followed by the components that
+-- `components_after n` returns for `rest`, or the fault that `components_after n` returns for
+-- `rest`.
 abbrev pub IsOn : ℕ → List ℕ → List ℕ → Type 0
 IsOn n rest value = (front : List Field) × (name_at value ≡ (components_after n (elements_of rest) >>= λ cs. Ok (front ++ cs)))
 
--- If `value` is read as a name, the result is the components `front` followed by the components
--- that `components_after n` returns for `rest`. If `components_after n` returns a fault for `rest`,
--- the result is this fault.
+-- Reading `value` as a name gives the components `front` followed by the components that
+-- `components_after n` returns for `rest`, or the fault that `components_after n` returns for
+-- `rest`.
 abbrev pub Reads : ℕ → List ℕ → List ℕ → List Field → Type 0
 Reads n rest value front = name_at value ≡ (components_after n (elements_of rest) >>= λ cs. Ok (front ++ cs))
 

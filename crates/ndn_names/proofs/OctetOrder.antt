@@ -198,7 +198,7 @@ element_first f x =
     let p = first_octet f.0 ((spelling (length f.1) ++ f.1) ++ x) in
     (p.0, p.1, append_assoc (spelling f.0) (spelling (length f.1) ++ f.1) x ∙ p.2)
 
--- the octets of two names compare as the names do
+-- the lexicographic order of the octets of two names is the canonical order of the two names
 pub octets_cmp : (a b : List Field) → AllByRecursion IsField a → AllByRecursion IsField b → slice_cmp nat_cmp (octets_of a) (octets_of b) ≡ name_cmp a b
 octets_cmp [] [] p q = refl
 octets_cmp [] (g ∷ b) p q = ap (slice_cmp nat_cmp []) (element_first g (octets_of b)).2

@@ -47,7 +47,7 @@ each_again n (piece ∷ pieces) (c ∷ cs) each few are =
 
 -- ---- the pieces between slashes
 
--- the text of these pieces, with a slash before each
+-- the text that consists of the pieces, with a slash before each piece
 abbrev joined : List (List ℕ) → List ℕ
 joined pieces = flat_map (λ p. codes "/" ++ p) pieces
 
@@ -86,7 +86,7 @@ pieces_none (o ∷ text) e =
     front_some o [] e = absurd cc
     front_some o (piece ∷ pieces) e = absurd cc
 
--- no piece contains a slash
+-- no piece of a text contains a slash
 pub pieces_lack : (text : List ℕ) → AllByRecursion (Lacks 47) (pieces_of text)
 pieces_lack [] = tt
 pieces_lack (o ∷ text) =

@@ -57,7 +57,7 @@ prefix_shown octets rest n i h g left le ge =
     ((AllByRecursion-take IsField n cs h.0.0, f.1), (omega (arith, length-take-le n cs), AllByRecursion-take IsComponent n cs h.1.1)) in
     (f.0, shown.0, shown.1)
 
--- a name is a prefix of another name if its octets are a prefix of the octets of the other name
+-- the name `cs` is a prefix of the name `ds` if the octets of `cs` are a prefix of those of `ds`
 pub begins_with : (cs ds : List Field) (rest : List ℕ) → AllByRecursion IsField cs → AllByRecursion IsField ds → octets_of ds ≡ octets_of cs ++ rest → IsPrefix cs ds
 begins_with [] ds rest h g e = (ds, refl)
 begins_with (c ∷ cs) [] rest h g e =

@@ -16,8 +16,8 @@ use Rattle.ndn_names.specs.TypeName.{shortest_number}
 abbrev pub least_of : ℕ → ℕ
 least_of len = cond (eqb len 1) 0 (cond (eqb len 2) (2 ^ 8) (cond (eqb len 4) (2 ^ 16) (2 ^ 32)))
 
--- octets are the shortest encoding of their number if the number is at least `least_of` their
--- length
+-- if `value` encodes the number n, and n is at least `least_of (length value)`, then `value` is the
+-- shortest encoding of n
 shortest_from : (value : List ℕ) (n : ℕ) → IsNni value n → least_of (length value) ≤ n → shortest_nni n ≡ value
 unfolding shortest_nni
 shortest_from value n (inl p) le = rw (p.1, lt-ltb n (2 ^ 8) p.0) refl
@@ -43,8 +43,8 @@ not_shortest value n (inr (inr (inr p))) lt e =
     let small : n < 2 ^ 32 = rw p.1 at lt in
     omega (arith, length-shortest_four n small, ap length e, ap length p.1)
 
--- if a value encodes the number n, the value is the shortest encoding of n exactly if n is at least
--- `least_of` the value's length
+-- if `value` encodes the number n, then `value` is the shortest encoding of n exactly if n is at
+-- least `least_of (length value)`
 tested : (value : List ℕ) (n : ℕ) → nni_at value ≡ Ok n → IsNni value n → then_some (leb (least_of (length value)) n) n ≡ shortest_number value
 tested value n is nni =
     elim (cases_lt n (least_of (length value))) [
@@ -52,8 +52,8 @@ tested value n is nni =
       | inr le ↦ rw (is, le-leb (least_of (length value)) n le, (bytes_eq-Decides (shortest_nni n) value).1 (shortest_from value n nni le)) refl
     ]
 
--- if a value is read as the number n, `shortest_number` of this value is n if n is at least
--- `least_of` the value's length, and `None` otherwise
+-- Let reading `value` give the number n. If n is at least `least_of (length value)`, then
+-- `shortest_number value` is n. If n is less, `shortest_number value` is `None`.
 pub shortest_number-is : (value : List ℕ) (r : Result ℕ TlvFault) (n least : ℕ) → r ≡ nni_at value → IfOk r (IsNni value) → Some n ≡ result_ok r → least ≡ least_of (length value)
     → then_some (leb least n) n ≡ shortest_number value
 shortest_number-is value (Ok m) n least e nni is l =

@@ -25,9 +25,10 @@ abbrev pub FindsFirst : ℕ → List Field → Option FirstOfType → Type 0
 FindsFirst kind cs None = NoneOfType kind cs
 FindsFirst kind cs (Some first) = IsFirstOfType kind cs first
 
--- The search result after one more component of the searched type is read. If a component was found
--- before, the result is that component, marked as not the only one. If no component was found
--- before, the result is the new component, marked as the only one.
+-- `first` is the search result once one more component of the searched type has been read. If a
+-- component was found before, `first` is that component, marked as not the only one. If no
+-- component was found before, `first` is the new component, marked as the only one, and `is_last`
+-- tells whether the new component is the last one.
 abbrev pub Further : Option FirstOfType → List ℕ → Bool → FirstOfType → Type 0
 Further None value is_last first =
     (first.value.now ≡ value) × (first.is_only ≡ true) × (first.is_last ≡ is_last)

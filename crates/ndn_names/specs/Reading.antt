@@ -22,7 +22,7 @@ abbrev pub component_at : Result Field TlvFault → Result Field NameFault
 component_at (Err fault) = Err BadComponent
 component_at (Ok c) = component_of c
 
--- the octets begin with the component `c`, and the elements after it are those of `rest`
+-- the octets begin with the component `c`, and the elements after `c` are those of `rest`
 abbrev pub IsFirst : List ℕ → Field → List ℕ → Type 0
 IsFirst octets c rest =
     (elements_of octets ≡ Ok c ∷ elements_of rest) × (component_of c ≡ Ok c)

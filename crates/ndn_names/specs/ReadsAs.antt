@@ -53,7 +53,7 @@ IsTyped piece c =
     × IsValueText text c.1
 
 -- the piece is the type name of a digest, an equals sign, and 64 hexadecimal digits that encode the
--- value
+-- value of `c`
 abbrev pub IsDigest : List ℕ → Field → Type 0
 IsDigest piece c =
     (type_name text : List ℕ) × (piece ≡ type_name ++ 61 ∷ text)
@@ -61,8 +61,8 @@ IsDigest piece c =
     × (length text ≡ 64) × IsHex text c.1
 
 -- The piece has three parts: the type name of a type whose values are numbers; an equals sign; a
--- number below 2^64 in decimal digits. The value is the shortest NonNegativeInteger encoding of
--- this number.
+-- number below 2^64 in decimal digits. The value of `c` is the shortest NonNegativeInteger encoding
+-- of this number.
 abbrev pub IsNumbered : List ℕ → Field → Type 0
 IsNumbered piece c =
     (type_name text : List ℕ) × (piece ≡ type_name ++ 61 ∷ text)

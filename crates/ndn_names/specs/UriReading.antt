@@ -28,8 +28,8 @@ before o others = do
   octets ← others
   Ok (o ∷ octets)
 
--- the octets that hexadecimal digits encode, or the fault `BadUri` if the text is not pairs of such
--- digits
+-- the octets that hexadecimal digits encode, or the fault `BadUri` if the text does not consist of
+-- pairs of hexadecimal digits
 abbrev pub hex_in : List ℕ → Result (List ℕ) NameFault
 hex_in [] = Ok []
 hex_in (high ∷ []) = Err BadUri
@@ -65,15 +65,15 @@ plain_in kind text = do
   value ← unpadded octets
   component_of (kind, value)
 
--- the number below 2^64 that a text represents in decimal digits, without a sign, or the fault
--- `BadUri`
+-- the number below 2^64 that a text represents in decimal digits, without a sign; the result is the
+-- fault `BadUri` if the text represents no such number
 abbrev pub number_in : List ℕ → Result ℕ NameFault
 number_in text =
     if all_ascii_digits text && (nat_lt 0 (length text) && nat_lt (digits_value 10 text) (2 ^ 64))
     then Ok (digits_value 10 text) else Err BadUri
 
--- the type number from 1 to 65535 that a text represents in decimal digits, without leading zeros,
--- or the fault `BadUri`
+-- the type number from 1 to 65535 that a text represents in decimal digits, without leading zeros;
+-- the result is the fault `BadUri` if the text represents no such type number
 abbrev pub type_in : List ℕ → Result ℕ NameFault
 type_in type_name = do
   kind ← number_in type_name
@@ -142,12 +142,12 @@ abbrev pub pieces_of : List ℕ → List (List ℕ)
 pieces_of [] = []
 pieces_of (o ∷ text) = if o == 47 then [] ∷ pieces_of text else at_front o (pieces_of text)
 
--- the text without the scheme `ndn:`, if the text begins with this scheme
+-- the text without the scheme `ndn:` if the text begins with this scheme, otherwise the whole text
 abbrev pub without_scheme : List ℕ → List ℕ
 without_scheme text = if bytes_eq (take 4 text) (codes "ndn:") then drop 4 text else text
 
--- the name of a URI, read from the text after its first slash; if this text is itself a single
--- slash, the name is empty
+-- The name of a URI, or the first fault. `text` is the part of the URI after the first slash of the
+-- path. If `text` is itself a single slash, the name is empty.
 abbrev pub name_after_slash : List ℕ → Result (List Field) NameFault
 name_after_slash text = components_in 0 (if bytes_eq text (codes "/") then [] else pieces_of text)
 

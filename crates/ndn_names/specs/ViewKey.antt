@@ -34,7 +34,7 @@ component_view_cmp = on field_of component_cmp
 pub component_view_cmp-total : IsTotalOrder component_view_cmp
 component_view_cmp-total = on_total field_of component_cmp-total
 
--- what a component writes to a hasher: its type and its octets
+-- what a component writes to a hasher: its type and the octets of its value
 abbrev pub component_writes : Field → HashWrites
 component_writes c = u16 c.0 ++ slice u8 c.1
 

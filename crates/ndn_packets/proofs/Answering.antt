@@ -45,7 +45,7 @@ full_name_is name asked digest value kind len p longer place last =
     first_is : (x y : Field) → x ∷ [] ≡ y ∷ [] → x ≡ y
     first_is x y e = cc
 
--- each prefix of `name ++ x ∷ []` is this whole name or a prefix of `name`
+-- each prefix of `name ++ x ∷ []` is either `name ++ x ∷ []` itself or a prefix of `name`
 prefix_of_full : (asked name : List Field) (x : Field) → IsPrefix asked (name ++ x ∷ []) → IsPrefix asked name ⊎ (asked ≡ name ++ x ∷ [])
 prefix_of_full [] name x p = inl (name, refl)
 prefix_of_full (c ∷ asked) [] x p = inr (alone p.0 p.1)
@@ -68,7 +68,7 @@ prefix_of_full (c ∷ asked) (d ∷ name) x p =
     ]
 
 -- if the Interest's name is the Data's name followed by an implicit digest, the Data answers the
--- Interest exactly if this digest is correct
+-- Interest exactly if this digest is the digest of the Data
 pub answers_by_digest : (name asked : List Field) (digest value : List ℕ) (flag r : Bool) → asked ≡ full_name name value → IsTrue r ↔ (value ≡ digest) → IsTrue r ↔ Answers name digest asked flag
 answers_by_digest name asked digest value flag r is same = (
   λ t. inr (inl (is ∙ ap (λ (d : List ℕ). full_name name d) (same.0 t))),

@@ -89,7 +89,7 @@ framed_sized text f e =
           subst (λ (g : PlainFramed). IfSome g.token IsToken) (ok_is (framed_with None q.0) f q.2) tt
     ] b.2
 
--- if `token_at` finds the PIT token `t` in `text`, then `text` is read as a frame with the PIT
+-- if `token_at` finds the PIT token `t` in `text`, then reading `text` gives a frame with the PIT
 -- token `t`
 pub framed_of_token : (text t : List ℕ) → token_at text ≡ Some t → (f : PlainFramed) × (framed_at text ≡ Ok f) × (f.token ≡ Some t)
 unfolding token_at

@@ -90,10 +90,10 @@ data_covers text value covered from d h outer mark is =
 
 -- ---- the positions of the parameters and of the signature in the TLV-VALUE of an Interest
 
--- `value` is the TLV-VALUE of an Interest. Its suffix `from_parameters` begins at the first
--- ApplicationParameters. Its suffix `from_info` begins at the first InterestSignatureInfo after the
--- ApplicationParameters. Its suffix `from_signature` begins at the first InterestSignatureValue
--- after this InterestSignatureInfo.
+-- `value` is the TLV-VALUE of an Interest. The suffix `from_parameters` of `value` begins at the
+-- first ApplicationParameters. The suffix `from_info` of `value` begins at the first
+-- InterestSignatureInfo after these ApplicationParameters. The suffix `from_signature` of `value`
+-- begins at the first InterestSignatureValue after this InterestSignatureInfo.
 record IsCutAt (value from_parameters from_info from_signature : List ℕ) : Type 0 where
   early : List ℕ
   to_info : List ℕ
@@ -214,9 +214,9 @@ has_signed parameters None value signature h some = let none : IsSome {T = Plain
 has_signed parameters (Some v) None signature h some = let none : IsSome {T = PlainSignature} None = subst IsSome h.2 some in absurd cc
 has_signed parameters (Some v) (Some w) signature h some = (has_following 44 (optional 36 parameters) _ (inl refl), has_following 46 (optional 36 parameters) _ (inr (inl refl)))
 
--- In this module, `all_fields` are the fields of an Interest, and `back` are its fields after the
--- HopLimit. If `all_fields` has an InterestSignatureInfo and an InterestSignatureValue, both are in
--- `back`.
+-- In this module, `all_fields` are the fields of an Interest after the Name, and `back` are the
+-- fields after the HopLimit. If `all_fields` has an InterestSignatureInfo and an
+-- InterestSignatureValue, both are in `back`.
 module _ (prefix fresh : Bool) (hint : Option (List ℕ)) (nonce : List ℕ) (lifetime hop : Option (List ℕ)) (back : List Field) where
   abbrev all_fields : List Field
   all_fields = flag 33 prefix ++ (flag 18 fresh ++ (optional 30 hint ++ ((10, nonce) ∷ (optional 12 lifetime ++ (optional 34 hop ++ back)))))
@@ -583,8 +583,8 @@ digest_len : (digest : List ℕ) → length digest ≡ 32 → length (element (2
 unfolding spelling
 digest_len digest is = rw is (ap (λ n. suc (suc n)) is)
 
--- if the signature of an Interest covers two parts, the TLV-VALUE of its name has at least 34
--- octets, and the first part is this TLV-VALUE without its last 34 octets
+-- if the signature of an Interest covers two parts, the TLV-VALUE of the Interest's name has at
+-- least 34 octets, and the first part is this TLV-VALUE without its last 34 octets
 pub first_is_front : (octets text first second : List ℕ) (name : List Field) → IsNameValue octets name → CoversInterest name text first second → (34 ≤ length octets) × (first ≡ take (length octets - 34) octets)
 first_is_front octets text first second name h c =
     let digest : length c.digest ≡ 32 = (all_front IsComponent c.components ((2, c.digest) ∷ []) (subst (AllByRecursion IsComponent) c.named h.1.1)).1.0.2 (omega arith) in
@@ -593,8 +593,8 @@ first_is_front octets text first second name h c =
     let front : length first ≡ length octets - 34 = omega arith in
     (omega arith, sym (ap (take (length octets - 34)) all ∙ take_at first (element (2, c.digest)) (length octets - 34) front))
 
--- if `IsSignedAt` holds for the octets `rest` after the Name of an Interest, it also holds for the
--- whole TLV-VALUE `value`
+-- if `IsSignedAt` holds for `rest`, the octets after the Name of an Interest, `IsSignedAt` also
+-- holds for `value`, the whole TLV-VALUE of the Interest
 pub noted_after : (value rest p v : List ℕ) → ((kind : ℕ) → kind ≢ 7 → from_first kind value ≡ from_first kind rest) → IsSignedAt rest p v → IsSignedAt value p v
 noted_after value rest p v place at = (at.0, place 36 (eqb-false 36 7 refl) ∙ at.1, at.2, at.3)
 

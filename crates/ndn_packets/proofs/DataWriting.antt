@@ -76,7 +76,7 @@ signed_is_long signed name meta content n m value p q =
     let joined : octets (fields ++ (23, value) ∷ []) ≡ octets fields ++ element (23, value) = flat_map-append element fields ((23, value) ∷ []) ∙ ap (λ (x : List ℕ). octets fields ++ x) (append-nil (element (23, value))) in
     subst (λ (x : List ℕ). IsLength (min (n + m) (2 ^ 64 - 1)) x) (sym joined) (sum_is_long n m (octets fields) (element (23, value)) p q)
 
--- the lengths of the parts of a Data add up to its length
+-- the lengths of the parts of a Data add up to the length of the Data
 pub packet_parts : (len : ℕ) (covered : List Field) (value : List ℕ) → IsLength len (octets (covered ++ (23, value) ∷ [])) → length (element (6, octets (covered ++ (23, value) ∷ []))) < 2 ^ 63
     → length (element (6, octets (covered ++ (23, value) ∷ []))) ≡ length (spelling 6 ++ spelling len) + (length (octets covered) + length (element (23, value)))
 packet_parts len covered value long small =

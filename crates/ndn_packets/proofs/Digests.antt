@@ -31,8 +31,9 @@ digests_kind (c ∷ name) =
       | false ↦ λ _. digests_kind name
     ] refl
 
--- Without ApplicationParameters, a name must have no digest of parameters. With
--- ApplicationParameters, a name must have exactly one digest of parameters, which is `right`.
+-- `digests` are the digests of parameters in the name of an Interest. If the Interest has no
+-- ApplicationParameters, `digests` is empty. If the Interest has ApplicationParameters, `digests`
+-- has exactly one component, and the value of this component is `right`.
 abbrev AreRight : Option (List ℕ) → List Field → List ℕ → Type 0
 AreRight None digests right = digests ≡ []
 AreRight (Some parameters) digests right = digests ≡ (2, right) ∷ []

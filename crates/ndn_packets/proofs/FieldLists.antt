@@ -159,7 +159,7 @@ fields_in ignores schema (e ∷ plain) fields (inl h) =
     subst (InSchema schema) (sym h.3) (subst (λ (ks : List ℕ). InSchema ks (e ∷ h.1)) (sym h.2.1) inside)
 fields_in ignores schema (e ∷ plain) fields (inr h) = fields_in ignores schema plain fields h.2
 
--- `t` is the state after an optional field is read in state `s`
+-- reading an optional field in state `s` ends in state `t`
 abbrev pub Took : {S : Type 0} → (S → Field → Result S PacketFault) → S → ℕ → Option (List ℕ) → S → Type 0
 Took take s kind None t = t ≡ s
 Took take s kind (Some value) t = take s (kind, value) ≡ Ok t

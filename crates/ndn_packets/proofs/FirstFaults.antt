@@ -20,8 +20,8 @@ bad A d = Err d
 pub err_is : (A : Type 0) (d f : PacketFault) → bad A d ≡ bad A f → f ≡ d
 err_is A d f e = cc
 
--- if the reader reports the first fault of `elements`, it also reports the first fault of the field
--- `x` followed by `elements`
+-- a reader that reports the first fault of `elements` also reports the first fault of the list
+-- `Ok x ∷ elements`, where `x` is a field
 first_or_later : {S : Type 0} (take : S → Field → Result S PacketFault) (ignores : ℕ → Bool) (schema later : List ℕ) (s : S) (x : Field) (elements : List (Result Field TlvFault)) (fault : PacketFault)
     → IsSchemaAfter x.0 schema (Some later) → (r : Result S PacketFault) → take s x ≡ r → (r >>= λ t. read_fields take t (fields_from ignores later elements)) ≡ Err fault
     → ((t : S) → read_fields take t (fields_from ignores later elements) ≡ Err fault → FirstFault take ignores later t elements fault)

@@ -51,8 +51,8 @@ alone_again text e is = rw is refl
 
 -- ---- the fault of reading one packet
 
--- if reading a packet returns a fault, then either the packet is too long, or the fault is in its
--- TLV-VALUE
+-- if reading a packet returns a fault, then either the packet is too long, or the fault is in the
+-- TLV-VALUE of the packet
 long_found : {A : Type 0} (text : List ℕ) (r : Result A PacketFault) (fault : PacketFault) (P : Type 0) → (r ≡ Err fault → P) → cond (ltb 8800 (length text)) (bad A TooLong) r ≡ Err fault → LongOr text fault P
 long_found {A} text r fault P found e =
     elim (ltb 8800 (length text)) as (λ b. ltb 8800 (length text) ≡ b → cond b (bad A TooLong) r ≡ Err fault → LongOr text fault P) [
@@ -104,8 +104,8 @@ packet_fault_again text e fault (inr (inr h)) = rw (ne_eqb e.0 5 h.0, ne_eqb e.0
 
 -- ---- the fault of reading the packet in a Fragment
 
--- The result of reading a Fragment that is exactly one element. With a Nack reason, this element
--- must be an Interest.
+-- The result of reading a Fragment that is exactly one element. If there is a Nack reason, this
+-- element must be an Interest.
 abbrev inside : Option ℕ → List ℕ → Field → Result PlainFrame PacketFault
 inside None text = packet_of text
 inside (Some reason) text = nacked_of reason text
@@ -419,8 +419,8 @@ header_fault_again s headers e fault met (inr h) =
 
 -- ---- where the reading of a link packet stops with a fault
 
--- `elements` consist of accepted header fields and then of `rest`, and reading stops with `fault`
--- at the start of `rest`
+-- The list `elements` consists of accepted header fields, followed by `rest`. Reading `elements` in
+-- state `s` stops with `fault` at the start of `rest`.
 record Stops (s : LinkSoFar) (elements : List (Result Field TlvFault)) (fault : PacketFault) : Type 0 where
   headers : List Field
   rest : List (Result Field TlvFault)
@@ -463,8 +463,8 @@ token_among (h ∷ headers) few =
     none_more [] few = refl
     none_more (f ∷ hs) few = absurd (omega arith)
 
--- if `elements` have the fault `fault` after the header fields that led to state `s`, then reading
--- `elements` in state `s` stops at the start of `elements`
+-- If `fault` is the fault of `elements` whenever the header fields before `elements` lead to state
+-- `s`, then reading `elements` in state `s` stops at the start of `elements`.
 stops_here : (s : LinkSoFar) (elements : List (Result Field TlvFault)) (fault : PacketFault) → ((before : List Field) → Met s before → AfterHeaders before s.nack elements fault) → Stops s elements fault
 stops_here s elements fault h =
     record { headers = []; rest = elements; last = s; all = refl; allowed = λ fits. (tt, no_more s); met = λ before m. subst (Met s) (sym (append-nil before)) m; here = h }
@@ -528,8 +528,8 @@ link_again_to s before (e ∷ headers) rest token nack fault met allowed r h =
     rw (a.no_fragment, a.taken) (link_again_to a.after (before ++ e ∷ []) headers rest token nack fault (one_more_met s a.after before e met a.taken) allowed.1 a.left
     (subst (λ (hs : List Field). AfterHeaders hs nack rest fault) (sym (append_assoc before (e ∷ []) headers)) h))
 
--- if a TLV-VALUE consists of octets, the TLV-VALUE of its first element and the input after this
--- element consist of octets too
+-- if `value` consists of octets, the TLV-VALUE of the first element in `value` and the input after
+-- this element consist of octets too
 first_bytes : (value : List ℕ) (h : Field) (items : List (Result Field TlvFault)) (r : Result (Field × List ℕ) TlvFault) → element_at value ≡ r → IsBytes value → elements_of value ≡ read h ∷ items
     → (after : List ℕ) × IsBytes h.1 × IsBytes after × (elements_of after ≡ items)
 first_bytes value h items (Ok (f, after)) is fits e =

@@ -33,8 +33,8 @@ digest_octets : (digest : List ℕ) → length digest ≡ 32 → element (1, dig
 unfolding spelling
 digest_octets digest len = ap (λ (n : ℕ). spelling 1 ++ (spelling n ++ digest)) len
 
--- the octets of a full name are the octets of its name followed by the digest component, and all
--- components of the full name are valid
+-- the octets of a full name are the octets of the name, followed by the octets of the digest
+-- component; all components of the full name are valid
 pub full_octets : (value digest : List ℕ) (name : List Field) → IsNameValue value name → length digest ≡ 32
     → (octets_of (full_name name digest) ≡ value ++ 1 ∷ 32 ∷ digest) × AllByRecursion IsField (full_name name digest)
 full_octets value digest name h len =
@@ -43,8 +43,8 @@ full_octets value digest name h len =
       fields_more name (1, digest) h.0.0 (omega arith, omega arith, digest_len),
     )
 
--- if `full` is the TLV-VALUE of a name followed by a digest component, `full` encodes the full name
--- with this name and this digest
+-- if `full` is `value ++ element (1, digest)`, where `value` is the TLV-VALUE of a name, then
+-- `full` encodes the full name with this name and this digest
 pub made : (value digest full : List ℕ) (name : List Field) → IsNameValue value name → components_of value ≡ name → length digest ≡ 32
     → full ≡ value ++ element (1, digest) → (name_in full ≡ name) × (digest_in full ≡ digest) × IsFullName full
 made value digest full name h shown len is =
@@ -95,8 +95,8 @@ fields_front [] f h = tt
 fields_front (c ∷ name) f h = (h.0, fields_front name f h.1)
 
 -- `is_full`: the octets of a name equal those of a full name exactly if the two names are equal.
--- `is_front`: the octets of a name equal those of a full name without its digest component exactly
--- if the name is the full name without this component.
+-- `is_front`: removing the digest component from a full name leaves a shorter name; the octets of a
+-- name equal those of the shorter name exactly if the name equals the shorter name.
 pub is_full : (u value : List ℕ) (name : List Field) → IsFullName u → IsNameValue value name → (value ≡ u) ↔ (name ≡ full_name_in u)
 is_full u value name h g = (
   λ e. one_name name (full_name_in u) g.0.0 h.fields (sym g.0.1 ∙ e ∙ h.whole),

@@ -70,8 +70,9 @@ interest_second_read i = held (option_map (λ c. c.now) i.covered) i.covers
 pub parts_none : (i : Interest) → i.covered ≡ None → (first second : List ℕ) → CoversInterest (components i.name) i.whole.now first second → ⊥
 parts_none i none = subst (λ (covered : Option (List ℕ)). HoldsSecond (components i.name) i.whole.now covered) (ap (option_map (λ c. c.now)) none) (interest_second_read i)
 
--- if the field `covered` of an Interest in memory has a value, this value is the second part that
--- the signature covers, and the first part is the TLV-VALUE of the name without its last 34 octets
+-- If the field `covered` of an Interest in memory has a value, this value is the second of the two
+-- parts that the signature covers. The first part is the TLV-VALUE of the name, without the last 34
+-- octets of this TLV-VALUE.
 pub parts_some : (i : Interest) (octets second : List ℕ) → option_map (λ c. c.now) i.covered ≡ Some second → IsNameValue octets (components i.name)
     → (34 ≤ length octets) × CoversInterest (components i.name) i.whole.now (take (length octets - 34) octets) second
 parts_some i octets second some named =

@@ -32,7 +32,7 @@ hop_octets : (limit : ℕ) → element (34, limit ∷ []) ≡ 34 ∷ 1 ∷ limit
 unfolding spelling
 hop_octets limit = refl
 
--- the octets of an Interest before its HopLimit, and from its HopLimit on
+-- the octets of an Interest before its HopLimit, and the octets from its HopLimit on
 module _ (name_value : List ℕ) (front back : List Field) where
   abbrev elements_with : ℕ → List Field
   elements_with limit = front ++ (34, limit ∷ []) ∷ back

@@ -25,7 +25,8 @@ octets_following : (name : List Field) (digest : List ℕ) → octets (name ++ (
 octets_following name digest =
     flat_map-append element name ((2, digest) ∷ []) ∙ ap (λ (x : List ℕ). octets name ++ x) (append-nil (element (2, digest)))
 
--- the name `name`, followed by the digest of `fields` if there are any fields
+-- if there are any fields, the result is `name` followed by the digest of `fields`; if there are no
+-- fields, the result is `name`
 abbrev pub with_digest : List Field → List Field → List Field
 with_digest name fields = name_with (sha256 (octets fields)) name fields
 

@@ -226,11 +226,12 @@ interest_fields plain fields t fit recognised taken =
 nonce_there : (value : Option (List ℕ)) (nonce : List ℕ) → value ≡ Some nonce → IsFour value → length nonce ≡ 4
 nonce_there value nonce is four = subst IsFour is four
 
--- the digest that the name of the Interest must have
+-- the digest of parameters that the name of an Interest must have if the Interest has
+-- ApplicationParameters
 abbrev right_digest : List (Result Field TlvFault) → List ℕ
 right_digest later = sha256 (octets_of_read (parameters_on later))
 
--- the result of the last step of reading an Interest, which checks the digest of parameters
+-- the result of the last step of reading an Interest; this step checks the digest of parameters
 abbrev unless_digest : List Field → List (Result Field TlvFault) → InterestSoFar → List ℕ → Result PlainInterest PacketFault
 unless_digest name later t nonce = on_option (λ fault. Err fault) (good (interest_made name t nonce)) (digest_fault t.parameters (digests_in name) (right_digest later))
 
@@ -356,7 +357,7 @@ signature_again None value signature h = (None, refl, sym h)
 signature_again (Some v) None signature h = (Some h.0, (h.0, h.1, refl), sym h.2)
 signature_again (Some v) (Some w) signature h = (Some h.0, (h.0, h.1, refl), sym h.2)
 
--- reading the fields of an Interest in the grammar ends in the state that has the values of these
+-- reading the fields of an Interest of the grammar ends in the state that has the values of these
 -- fields
 fields_computed : (prefix fresh : Bool) (hint : Option (List ℕ)) (nonce : List ℕ) (lifetime hop parameters info value : Option (List ℕ)) (number limit : Option ℕ) (said : Option PlainSignatureInfo) → length nonce ≡ 4
     → IsNumber lifetime number → IsOctet hop limit → MayBeBytes info → SaysInfo info said

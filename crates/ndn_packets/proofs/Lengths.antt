@@ -78,8 +78,8 @@ info_after_octets old kind len signed time seq =
     regrouped : (a b c d e : List ℕ) → (((a ++ b) ++ c) ++ d) ++ e ≡ a ++ (((b ++ c) ++ d) ++ e)
     regrouped a b c d e = simp append_assoc
 
--- if the result has fewer than 2^63 octets, appending the parts of a SignatureInfo appends the
--- whole SignatureInfo
+-- Let `new` be `old`, followed by the parts of a SignatureInfo. If `new` has fewer than 2^63
+-- octets, `new` is `old`, followed by the whole SignatureInfo.
 pub info_put : (old : List ℕ) (kind len : ℕ) (signed : Sign) (time seq : Option ℕ) (new : List ℕ) → IsLength len (octets (info_fields signed time seq)) → new ≡ info_after old kind len signed time seq → length new < 2 ^ 63
     → new ≡ old ++ element (kind, octets (info_fields signed time seq))
 info_put old kind len signed time seq new long is small =
@@ -88,7 +88,7 @@ info_put old kind len signed time seq new long is small =
     let whole = is ∙ info_after_octets old kind len signed time seq in
     whole ∙ element_put old kind len info (in_memory_is_exact len info long (omega (arith, ap length whole, length-append header info)))
 
--- the lengths of the parts of a SignatureInfo add up to its length
+-- the lengths of the parts of a SignatureInfo add up to the length of the SignatureInfo
 pub info_parts : (kind len : ℕ) (signed : Sign) (time seq : Option ℕ) → IsLength len (octets (info_fields signed time seq)) → length (element (kind, octets (info_fields signed time seq))) < 2 ^ 63
     → length (element (kind, octets (info_fields signed time seq))) ≡ length (spelling kind ++ spelling len)
     + (length (element (27, shortest_nni (kind_of signed))) + (length (octets (optional 28 (locator_value signed))) + (length (octets (number 40 time)) + length (octets (number 42 seq)))))

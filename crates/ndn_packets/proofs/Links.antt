@@ -275,7 +275,8 @@ header_again s e headers token nack (inr (inr (inr (inr (inr is))))) = ignored_a
 
 -- ---- the elements of a link packet
 
--- the content of a link packet with an optional token, an optional Nack and an optional Fragment
+-- what reading a link packet returns, given its PIT token, its Nack reason and its Fragment; each
+-- of the three may be absent
 abbrev pub held : Option (List ℕ) → Option ℕ → Option (List ℕ) → Result PlainFramed PacketFault
 held token nack None = no_fragment token nack
 held token nack (Some text) = fragment_at nack text >>= λ frame. good (framed_with token frame)

@@ -14,8 +14,9 @@ use Rattle.ndn_packets.specs.Covered.{from_first, IsSignedAt}
 use Rattle.ndn_packets.proofs.Steps.{some_is, none_is_not_some}
 use Rattle.ndn_packets.proofs.Cuts.{next_is, next_other}
 
--- if an element is not a field, and type `kind` may still come, the first element of type `kind`
--- comes after this element
+-- if `octets` begin with an element that is not a field, and a field of type `kind` may still come,
+-- then `from_first kind` returns the same for `octets` and for `after`, the octets after this
+-- element
 pub skipped : (kind k : ℕ) (schema whole value octets after : List ℕ) → None ≡ schema_after k schema → schema ≡ whole → IsSome (schema_after kind whole) → Ok ((k, value), after) ≡ element_at octets → from_first kind octets ≡ from_first kind after
 skipped kind k schema whole value octets after none same comes read =
     next_other kind octets (k, value) after read
@@ -42,8 +43,8 @@ pub record Ahead (P : ℕ → Type 0) (kind : ℕ) (later schema : List ℕ) : T
   pub others : AllByRecursion P front
 
 module _ (P : ℕ → Type 0) (kind : ℕ) (later : List ℕ) (m : IsMark P kind later) where
-  -- if a field of a type other than `kind` comes next, its type satisfies `P`, and `kind` may still
-  -- come after it
+  -- if the next field has the type `k` and `k` is not `kind`, then `k` satisfies `P`, and a field
+  -- of type `kind` may still come after this field
   other_met : (k : ℕ) (front after : List ℕ) → AllByRecursion P front → k ≢ kind → schema_after k (front ++ kind ∷ later) ≡ Some after → P k × Ahead P kind later after
   other_met k [] after all other e =
       elim (needs_previous_field k) as (λ b. needs_previous_field k ≡ b → cond b None (schema_after k later) ≡ Some after → P k × Ahead P kind later after) [
@@ -157,7 +158,7 @@ data_value text before after e (Some value) from here a b c h = absurd (nothing_
 
 -- ---- what the reader of an Interest has found so far
 
--- a type other than ApplicationParameters that does not need the previous field
+-- a type that is not ApplicationParameters and does not need the previous field
 abbrev IsFront : ℕ → Type 0
 IsFront k = (k ≢ 36) × (needs_previous_field k ≡ false)
 

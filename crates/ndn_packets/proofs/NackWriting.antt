@@ -12,7 +12,7 @@ link_put old headers packet value_len is =
     append_assoc (old ++ (spelling 100 ++ spelling value_len)) headers (element (80, packet))
     ∙ element_put old 100 value_len (headers ++ element (80, packet)) is
 
--- the lengths of the parts of a link packet add up to its length
+-- the lengths of the parts of a link packet add up to the length of the link packet
 pub link_parts : (headers packet : List ℕ) (value_len : ℕ) → value_len ≡ length (headers ++ element (80, packet))
     → length (element (100, headers ++ element (80, packet))) ≡ length (spelling 100 ++ spelling value_len) + (length headers + length (element (80, packet)))
 link_parts headers packet value_len is =
@@ -33,7 +33,7 @@ nack_value reason interest = nack_field reason ++ element (80, interest)
 nack_text_is : (reason : ℕ) (interest : List ℕ) → nack_text reason interest ≡ element (100, nack_value reason interest)
 nack_text_is reason interest = simp append-nil
 
--- the lengths of the parts of a link packet with a Nack add up to its length
+-- the lengths of the parts of a link packet with a Nack add up to the length of this link packet
 pub nack_parts : (reason : ℕ) (interest : List ℕ) (value_len : ℕ) → value_len ≡ length (nack_value reason interest)
     → length (nack_text reason interest) ≡ length (spelling 100 ++ spelling value_len) + (length (nack_field reason) + length (element (80, interest)))
 nack_parts reason interest value_len is = ap length (nack_text_is reason interest) ∙ link_parts (nack_field reason) interest value_len is

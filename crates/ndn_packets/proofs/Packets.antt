@@ -53,7 +53,7 @@ data_of_found text value d fits outer e =
     let g = guard_ok (ltb 8800 (length text)) TooLong (data_at value) d e in
     data_found text value d (record { outer = outer; short = ltb-false _ _ g.0; octets = fits }) g.1
 
--- `f` is an Interest or a Data with the octets `text`
+-- `f` is an Interest or a Data, and the octets of this packet are `text`
 abbrev IsPacketOf : List ℕ → PlainFrame → Type 0
 IsPacketOf text f = ((i : PlainInterest) × IsInterest text i × (AnInterest text i ≡ f)) ⊎ ((d : PlainData) × IsData text d × (AData text d ≡ f))
 

@@ -30,7 +30,7 @@ number_taken v made t fits took =
     let b = bind_ok (nni_value_at v) (λ n. good (made n)) t took in
     (b.0, number_found v b.0 fits b.1, sym (ok_is (made b.0) t b.2))
 
--- `t` is the state after fields with these values are read
+-- the parts of the state `t` are what the TLV-VALUEs of the four optional fields encode
 record Says (kind_value locator_value time_value seq_value : Option (List ℕ)) (t : InfoSoFar) : Type 0 where
   kind : IsNumber kind_value t.kind
   locator : IsLocator locator_value t.locator

@@ -68,7 +68,8 @@ IsBytes-value f rest h = IsBytes-back (spelling (length f.1)) f.1 (IsBytes-back 
 pub IsBytes-inside : (text value : List ℕ) (kind : ℕ) → IsBytes text → IsElement text kind value → IsBytes value
 IsBytes-inside text value kind fits outer = IsBytes-back (spelling (length value)) value (IsBytes-back (spelling kind) (spelling (length value) ++ value) (subst IsBytes outer.1 fits))
 
--- `text` is exactly one element, and has at most 8,800 octets
+-- `text` is exactly one element, which has the type `kind` and the value `value`; `text` has at
+-- most 8,800 octets
 pub record IsOne (text : List ℕ) (kind : ℕ) (value : List ℕ) : Type 0 where
   pub outer : IsElement text kind value
   pub short : length text ≤ 8800

@@ -11,7 +11,7 @@ use Rattle.ndn_packets.specs.FrameReading.{only_element, interest_of, data_of, p
 use Rattle.ndn_packets.proofs.Packets.{framed_of_frame}
 use Rattle.ndn_packets.proofs.Steps.{bind_ok, guard_ok, err_is_not_ok, ok_is}
 
--- the frame is an Interest or a Data with these received octets
+-- the frame is an Interest or a Data, and the received octets of this packet are `text`
 abbrev Holds : PlainFrame → List ℕ → Type 0
 Holds (AnInterest whole i) text = whole ≡ text
 Holds (AData whole d) text = whole ≡ text
@@ -128,6 +128,7 @@ data_alone text whole d e = (packet_alone whole (AData whole d) (frame_alone tex
 pub data_short : (text whole : List ℕ) (d : PlainData) → frame_at text ≡ Ok (AData whole d) → length whole ≤ 8800
 data_short text whole d e = (packet_alone whole (AData whole d) (frame_alone text whole (AData whole d) e refl)).1
 
--- the received octets of a Data are one element, which is the Data
+-- if a frame is read as the Data `d` with the octets `whole`, then `whole` is exactly one element,
+-- and reading this element as a packet gives the same Data
 pub data_packet : (text whole : List ℕ) (d : PlainData) → frame_at text ≡ Ok (AData whole d) → (only_element whole >>= packet_of whole) ≡ Ok (AData whole d)
 data_packet text whole d e = frame_alone text whole (AData whole d) e refl

@@ -1,4 +1,4 @@
--- A link packet with a PIT token that is wrapped around octets.
+-- Wrapping a link packet, which has a PIT token, around octets.
 use Rattle.std.proofs.Common.{◌≡◌, ℕ, ◌+◌, ◌-◌, ◌≤◌, List, ◌++◌, length, take, drop, Some, None, refl, sym, ap, ◌∙◌, append_assoc, append-nil, arith}
 use Rattle.std.proofs.lemmas.List.{length-append, length-drop, take-append-le, drop-append-le}
 use Rattle.std.proofs.Math.Seq.{drop-append_seam, take-append_seam}
@@ -9,7 +9,7 @@ use Rattle.ndn_packets.specs.Writing.{lp_text, link_start}
 
 pub ruleset start_lengths = (header_lengths, element_fits, length-append)
 
--- the start of the link packet followed by the packet is the whole link packet
+-- what `link_start` returns, followed by `packet`, is the whole link packet around `packet`
 start_whole : (token packet : List ℕ) → link_start token (length packet) ++ packet ≡ lp_text (Some token) None packet
 start_whole token packet =
     let value = element (98, token) ++ element (80, packet) in

@@ -1,5 +1,5 @@
--- Lengths of elements; appending an element in parts; and that octets which begin with `front` also
--- begin with what `front` begins with.
+-- Lengths of elements, and appending an element in parts. Octets that begin with `front` also begin
+-- with each prefix of `front`.
 use Rattle.std.proofs.Common.{◌≡◌, ℕ, ◌+◌, ◌<◌, ◌≤◌, List, ◌++◌, length, take, sym, ap, ◌∙◌, append_assoc, arith}
 use Rattle.std.proofs.lemmas.List.{length-append, take-take, take_at}
 use Rattle.ndn_tlv.specs.Number.{shortest_nni, spelling}
