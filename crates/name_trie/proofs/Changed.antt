@@ -18,7 +18,7 @@ use Rattle.name_trie.specs.Changes.{Joins, Starts, Cuts, IsBare, Sets, Turns, La
 use Rattle.name_trie.proofs.Revised.{equal, get-revise}
 use Rattle.name_trie.proofs.Walks.{walk_none}
 
--- ---- an index, or None if it is k
+-- ---- an index, or None if the index is k
 
 pub unless_is_self : (k : ℕ) → unless_is k k ≡ None
 unless_is_self k = ap (λ b. cond b None (Some k)) (eq-eqb k k refl)
@@ -106,7 +106,7 @@ module _ {V : Type 0} (h : Heap V) where
         let way = sound.reach k up_k.0 up_k.1 in
         subst (λ (q : List Field). length q ≤ 64) (one_walk way.0 p k way.2 e) way.1
 
--- ---- walks and lookups after a node without a value and without children is removed
+-- ---- walks and lookups after the removal of a node that has neither a value nor children
 
 module _ {V : Type 0} (k : ℕ) (h : Heap V) (root : Option ℕ) (h' : Heap V) (root' : Option ℕ) (lacks : Lacks k h root h' root') where
   down_lacks : (o : Option ℕ) (c : Field) → down h' (unless k o) c ≡ unless k (down h o c)
@@ -339,7 +339,7 @@ module _ {V : Type 0} (k : ℕ) (h h' : Heap V) (starts : Starts k h h') (sound 
         (λ ne. absurd (let way = sound.reach j u (sym (started_up j ne) ∙ e) in let none = walk_none h way.0 in cc));
   }
 
--- ---- a node without a value and without children is removed
+-- ---- a node that has neither a value nor children is removed
 
 module _ {V : Type 0} (k : ℕ) (o : Option ℕ) (h h' : Heap V) (root : Option ℕ) (cuts : Cuts k o h h') (sound : Sound h root) (bare : IsBare h k) where
   cut_children : Node V → Node V

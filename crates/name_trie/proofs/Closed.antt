@@ -17,7 +17,8 @@ use Rattle.name_trie.proofs.Counts.{len_fewer, len_set, not_empty as not_zero}
 use Rattle.name_trie.proofs.Changed.{same_or, one_walk, set_turns, there_by_up}
 use Rattle.name_trie.proofs.Walks.{get-table, get-table_long, same_table, put_table, remove_table, by_length}
 
--- if the node in `o` has a value (its field `value` is not None), then `o` is not None
+-- if the field `value` of the optional node `o` can be read and is not None, then `o` is not None,
+-- so the field `parent` of `o` can be read too
 pub up_of : {V : Type 0} (o : Option (Node V)) (x : V) → option_and_then (λ n. n.value) o ≡ Some x → (u : Option ℕ) × (option_map (λ n. n.parent) o ≡ Some u)
 up_of None x e = absurd cc
 up_of (Some n) x e = (n.parent, refl)

@@ -1,5 +1,5 @@
--- Lookups in a flattened map, and its number of keys. Flattening turns a map from names to rows
--- into a map from keys.
+-- Lookups in a flattened map, and the number of keys in this map. Flattening turns a map from names
+-- to rows into a map from keys.
 use Rattle.std.proofs.Common.{◌≡◌, ℕ, suc, ◌+◌, Bool, true, false, cond, List, [], ◌∷◌, ◌++◌, map, length, refl, sym, ap, subst, ◌∙◌, arith, length-append}
 use lib.Dec.{T}
 use Rattle.std.specs.Prelude.{Option, None, Some, ◌&&◌}
@@ -33,7 +33,7 @@ no_row : {X : Type 0} (b : Bool) → ◌≡◌ {A = Option X} None (cond b None 
 no_row true = refl
 no_row false = refl
 
--- a key is made of a name and an inner key, and keys are compared by name, then by inner key
+-- `key` makes a key from a name and an inner key; keys are compared by name, then by inner key
 pub record MakesKeys {N F K : Type 0} (R : N → N → Ordering) (S : F → F → Ordering) (Q : K → K → Ordering) (key : N → F → K) (name : K → N) (rest : K → F) : Type 0 where
   pub ties : (k : K) (n : N) (f : F) → eq_by_cmp Q k (key n f) ≡ (eq_by_cmp R (name k) n && eq_by_cmp S (rest k) f)
   pub by_name : (n m : N) (f g : F) → R n m ≡ Less → Q (key n f) (key m g) ≡ Less
@@ -90,7 +90,8 @@ module _ {N F K X : Type 0} {R : N → N → Ordering} {S : F → F → Ordering
         or_none None = refl
         or_none (Some x) = refl
 
-    -- in the flattened map, the value of a key is the value of its inner key in the row of its name
+    -- in the flattened map, the value of a key is the value of the key's inner key in the row of
+    -- the key's name
     pub get-flatten : (t : FinMap R (FinMap S X)) (k : K) → get (flatten Q key t) k ≡ option_and_then (λ r. get r (rest k)) (get t (name k))
     unfolding flatten
     get-flatten t k =
@@ -117,7 +118,7 @@ pub below_less : {K X : Type 0} {R : K → K → Ordering} → IsTotalOrder R �
 below_less o x y [] p h = tt
 below_less {R = R} o x y (e ∷ es) p h = both_of _ _ (less_so (R x e.0) (o.trans x y e.0 p (is_less _ (first_of _ _ h)))) (below_less o x y es p (second_of _ _ h))
 
--- ---- the total size of all values after one of them changes
+-- ---- the total size of all values after one value changes
 
 module _ {N V : Type 0} {R : N → N → Ordering} (order : IsTotalOrder R) (anti : IsAntisymmetric R) (size : V → ℕ) where
   pub total_put : (k : N) (v : V) (es : List (N × V)) → T (is_sorted R es) → total size (put R k v es) + size_of size (find R k es) ≡ total size es + size v
@@ -129,12 +130,12 @@ module _ {N V : Type 0} {R : N → N → Ordering} (order : IsTotalOrder R) (ant
         | Greater ↦ λ _. omega (arith, total_put k v es (second_of _ _ h))
       ] refl
 
-  -- inserting a value adds its size to the total size, and subtracts the size of the key's old
-  -- value
+  -- inserting a value adds the size of this value to the total size, and subtracts the size of the
+  -- old value of the key
   pub total-insert : (t : FinMap R V) (k : N) (v : V) → total size (entries (insert t k v)) + size_of size (get t k) ≡ total size (entries t) + size v
   total-insert t k v = (λ i. total size (entries-insert order t k v i) + size_of size (get-entries t k i)) ∙ total_put k v (entries t) (entries_sorted t)
 
-  -- removing a key subtracts the size of its value from the total size
+  -- removing a key subtracts the size of the key's value from the total size
   pub total-remove : (t : FinMap R V) (k : N) → total size (entries (remove t k)) + size_of size (get t k) ≡ total size (entries t)
   total-remove t k =
       elim (get t k) as (λ o. get t k ≡ o → total size (entries (remove t k)) + size_of size o ≡ total size (entries t)) [

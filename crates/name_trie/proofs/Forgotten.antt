@@ -1,4 +1,4 @@
--- The rows of a node after a child's row is removed.
+-- Removing a child's row from the rows of a node.
 use Rattle.std.proofs.Common.{◌≡◌, ◌≢◌, ℕ, zero, suc, ◌<◌, true, false, cond, List, [], ◌∷◌, ◌++◌, length, get_or, take, drop, refl, sym, ap, ◌∙◌, arith}
 use lib.Dec.{T}
 use Rattle.std.specs.Prelude.{None, Some}

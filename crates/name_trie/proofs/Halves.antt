@@ -29,8 +29,8 @@ module _ {K X : Type 0} {R : K → K → Ordering} (total : IsTotalOrder R) wher
   upto k (e ∷ rows) (suc at) row lt is sorted gt =
       (lower total k e.0 row.0 (below_at e.0 rows at row (omega arith) is (first_of _ _ sorted)) gt, upto k rows at row (omega arith) is (second_of _ _ sorted) gt)
 
-  -- if the row at index `at` of sorted rows has the key, all rows before this row are less than the
-  -- key
+  -- if the row at index `at` of sorted rows has the key `k`, all rows before this row are less than
+  -- the key `k`
   before : (k : K) (rows : List (K × X)) (at : ℕ) (row : K × X) → at < length rows → row ≡ get_or rows at row → T (is_sorted R rows) → R k row.0 ≡ Equal → AllLower R k (take at rows)
   before k [] at row lt is sorted tie = absurd (omega arith)
   before k (e ∷ rows) zero row lt is sorted tie = tt
@@ -53,9 +53,9 @@ row_at (e ∷ rows) zero lt = (e, refl)
 row_at (e ∷ rows) (suc at) lt = row_at rows at (omega arith)
 
 module _ {K X : Type 0} {R : K → K → Ordering} (total : IsTotalOrder R) where
-  -- in sorted rows, if all rows before index `at` are less than the key, and the row at index `at`
-  -- is greater than the key or missing, no row has the key, and `put` inserts a new row at index
-  -- `at`
+  -- In sorted rows, let all rows before index `at` be less than the key. Let the row at index `at`
+  -- be greater than the key, or missing. Then no row has the key, and `put` inserts a new row at
+  -- index `at`.
   pub gap_is : (k : K) (rows : List (K × X)) (at : ℕ) → at ≤ length rows → AllLower R k (take at rows)
       → ((row : K × X) → at < length rows → row ≡ get_or rows at row → R k row.0 ≡ Less) → T (is_sorted R rows)
       → (at ≤ length rows) × ((v : X) → put R k v rows ≡ insert rows at (k, v)) × (find R k rows ≡ None)

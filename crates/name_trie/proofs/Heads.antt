@@ -1,4 +1,5 @@
--- Comparing lists of octets by their heads: the first octets as a big-endian number.
+-- Comparing lists of octets by their heads. The head of a list is the big-endian number that the
+-- first octets of the list encode.
 use Rattle.std.proofs.Common.{◌≡◌, ℕ, zero, suc, ◌+◌, ◌*◌, ◌^◌, ◌<◌, ◌≤◌, List, [], ◌∷◌, length, refl, sym, ap, subst, ◌∙◌, add-one, arith}
 use Rattle.std.proofs.Math.Nat.{pow-succ', pow-le-pow_right}
 use Rattle.std.proofs.lemmas.List.{get_or_past}
@@ -35,8 +36,8 @@ pub next : (n : ℕ) (octets : List ℕ) → head (n + 1) octets ≡ head n octe
 unfolding head
 next n octets = rw add-one refl
 
--- if a list has at most n octets, the head of its first n + 1 octets is the head of its first n
--- octets times 256, since missing octets count as zero
+-- if a list has at most n octets, the head of its first n + 1 octets is 256 times the head of its
+-- first n octets, since missing octets count as zero
 pub past : (n : ℕ) (octets : List ℕ) → length octets ≤ n → head (n + 1) octets ≡ head n octets * 256
 past n octets le =
     let none : slice_index octets n ≡ 0 = get_or_past octets n 0 le in

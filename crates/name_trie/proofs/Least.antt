@@ -19,7 +19,8 @@ module _ {K X : Type 0} (R : K → K → Ordering) (change : X → Option X) whe
   unfolding revise
   entries-revise m = entries-from_sorted R (revised change (entries m)) (sorted_revised R change (entries m) (entries_sorted m))
 
-  -- after each value is changed, a lookup finds the value that `change` made of the old value
+  -- once `change` has been applied to all values, a lookup finds what `change` makes of the old
+  -- value, or nothing if there was no old value or if `change` removes this value
   pub get-each : IsAntisymmetric R → (m : FinMap R X) (k : K) → option_and_then (λ (n : FinMap R X). get n k) (each change m) ≡ option_and_then change (get m k)
   get-each anti m k =
       elim (eqb (len (revise change m)) 0) as (λ b. eqb (len (revise change m)) 0 ≡ b → option_and_then (λ (n : FinMap R X). get n k) (cond b None (Some (revise change m))) ≡ option_and_then change (get m k)) [

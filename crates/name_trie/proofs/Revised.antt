@@ -1,4 +1,4 @@
--- Rows after their values are changed, and some of them removed.
+-- Changing the values of rows, where a change may remove the row of the value.
 use Rattle.std.proofs.Common.{◌≡◌, Bool, true, false, cond, List, [], ◌∷◌, refl, sym, ap, subst, ◌∙◌}
 use lib.Dec.{T}
 use Rattle.std.specs.Prelude.{Option, None, Some, option_and_then, ◌&&◌}
@@ -28,7 +28,7 @@ module _ {K X Y : Type 0} (R : K → K → Ordering) (change : X → Option Y) w
       let rest = sorted_revised es (second_of _ _ h) in
       elim (change e.1) as (λ o. T (is_sorted R (with_entry e.0 o (revised change es)))) [ None ↦ rest | (Some x) ↦ both_of _ _ (below_revised e.0 es (first_of _ _ h)) rest ]
 
--- ---- the map after each value is changed or removed
+-- ---- changing or removing each value of a map
 
 pub revise-empty : {K X Y : Type 0} (R : K → K → Ordering) (change : X → Option Y) → revise change (empty {X = X} {R = R}) ≡ empty
 unfolding revise

@@ -1,4 +1,4 @@
--- The timers after a value has changed.
+-- How the timers follow a change of a value.
 use Rattle.std.proofs.Common.{◌≡◌, ◌≢◌, ℕ, zero, suc, ◌+◌, ◌-◌, ◌<◌, ◌≤◌, Bool, true, false, cond, not, eqb, refl, sym, ap, ◌∙◌, arith}
 use Rattle.std.specs.Prelude.{◌&&◌, ◌||◌, Option, None, Some, IsSome, nat_le}
 use Rattle.std.specs.Option.{option_map, option_and_then, option_eq}
@@ -79,8 +79,8 @@ pub same_timers : {V : Type 0} (timer : V → ℕ) (h h' : Heap V) (timers : Tim
 same_timers timer h h' timers same was t = was t ∙ ap (λ o. rings (option_map timer o) t.deadline) (sym (same t.key))
 
 module _ {V : Type 0} (timer : V → ℕ) (k : ℕ) (h h' : Heap V) (others : (j : ℕ) → j ≢ k → value h' j ≡ value h j) (timers : TimerSet) (was : IsTimed timer h timers) where
-  -- if only the value of the node k changes, stopping its old timer and starting its new timer
-  -- gives each value its timer again
+  -- Let only the value of the node k change. Stopping the old timer of k, and starting the new
+  -- timer of k, makes the timers those of the changed values (`IsTimed`).
   pub retimed : IsTimed timer h' (started k (timer_at timer h' k) (stopped k (timer_at timer h k) timers))
   retimed t =
       let o = timer_at timer h k in
@@ -91,7 +91,8 @@ module _ {V : Type 0} (timer : V → ℕ) (k : ℕ) (h h' : Heap V) (others : (j
       (λ ne. started_elsewhere k o' (stopped k o timers) t ne ∙ stopped_elsewhere k o timers t ne ∙ was t
       ∙ ap (λ w. rings (option_map timer w) t.deadline) (sym (others t.key ne)))
 
--- if a node's value has the deadline d, the set contains the timer of this node with the deadline d
+-- if a node's value has the deadline d, the set of timers contains the timer of this node with the
+-- deadline d
 pub timer_there : {V : Type 0} (timer : V → ℕ) (h : Heap V) (timers : TimerSet) → IsTimed timer h timers → (k d : ℕ) → timer_at timer h k ≡ Some d → contains timers (timer_for k d) ≡ true
 timer_there timer h timers was k d e = was (timer_for k d) ∙ ap (λ o. rings o d) e ∙ eq-eqb d d refl
 

@@ -81,7 +81,7 @@ module _ {W V : Type 0} (past : W → V → W) (before : W) (h : Heap V) (k : �
       taken_moved past past (taken past before (value h k)) (lookup h (Some k)) (lookup h (child h k row.0)) (row.0 ∷ []) [] q (λ p. refl)
       ∙ (λ i. known_at past (own i) (lookup h (next i)) q)
 
--- ---- the names under a node that are shown
+-- ---- the names that are shown at a node and below the node
 
 module _ {S W V : Type 0} (show : S → List ℕ → W → S) where
   shown_first : (s : S) (front : List ℕ) (known : List Field → W) (past : W → V → W) (before : W) (o : Option V) (es : List (List Field × V)) → known [] ≡ taken past before o

@@ -27,8 +27,8 @@ module _ {V : Type 0} (size : V → ℕ) where
 
   module _ (k : ℕ) (v : Option V) (h h' : Heap V) (turns : Turns k v h h') (root : Option ℕ) (sound : Sound h root) where
     -- Let the name `q` lead to the node k, and let `len` be the total size before the value of k
-    -- changes. If `len'` is `len` with the size of the old value replaced by the size of the new
-    -- value, then `len'` is the total size after the change.
+    -- changes. Let `len'` be `len` with the size of the new value in place of the size of the old
+    -- value. Then `len'` is the total size after the change.
     pub counted_at : (q : List Field) → length q ≤ 64 → walk h root q ≡ Some k → (len len' : ℕ) → Recounts (size_at size h k) (size_of size v) len len' → IsCounted size h root len → IsCounted size h' root len'
     counted_at q le at len len' recounts is =
         let table : table_of h' root ≡ with_value (table_of h root) q v = with_value_table h h' root root q v le (lookup_turned k v h h' turns root sound q at) in

@@ -37,13 +37,15 @@ longest_within table name (suc n) =
 abbrev pub longest : {X : Type 0} → ByName X → List Field → Option X
 longest table name = longest_within table name (length name)
 
--- the first n components of the name are its longest prefix with a value
+-- the prefix that consists of the first n components is the longest prefix of the name that has a
+-- value
 abbrev pub IsLongest : {X : Type 0} → ByName X → List Field → ℕ → Type 0
 IsLongest table name n =
     (n ≤ length name) × IsSome (get table (take n name))
     × ((m : ℕ) → n < m → m ≤ length name → get table (take m name) ≡ None)
 
--- the map after the value of a name is set to a new value, or removed if the new value is None
+-- `table` with the value x for `name` if the optional value is Some x, and `table` without `name`
+-- if the optional value is None
 abbrev pub with_value : {X : Type 0} → ByName X → List Field → Option X → ByName X
 with_value table name None = remove table name
 with_value table name (Some x) = insert table name x

@@ -35,7 +35,7 @@ module _ {V : Type 0} where
     pub leaf : (c : Field) → child h k c ≡ None
     pub bare : value h k ≡ None
 
-  -- The node k, whose optional parent is o, is removed. If o is a node, the links from o to k are
+  -- The node k, whose optional parent is o, is removed. If o is Some p, the links from p to k are
   -- removed too. No other node changes.
   pub record Cuts (k : ℕ) (o : Option ℕ) (h h' : Heap V) : Type 0 where
     pub was : up h k ≡ Some o
@@ -45,7 +45,7 @@ module _ {V : Type 0} where
         (λ (m : Node V). record m { children = revise (unless_is k) m.children }) (h p)
     pub others : (j : ℕ) → j ≢ k → o ≢ Some j → h' j ≡ h j
 
-  -- The value of the existing node k is set to v, and nothing else changes.
+  -- The value of the existing node k is set to the optional value v, and nothing else changes.
   pub record Sets (k : ℕ) (v : Option V) (h h' : Heap V) : Type 0 where
     pub node : Node V
     pub there : h k ≡ Some node
@@ -74,7 +74,7 @@ module _ {V : Type 0} where
   KeepsWalks h root h' root' =
       (q : List Field) (k : ℕ) → walk h root q ≡ Some k → walk h' root' q ≡ Some k
 
--- some name of fewer than 64 components leads to the node `at`
+-- some name of fewer than 64 components leads from `root` to the node `at`
 abbrev pub HasRoomBelow : {V : Type 0} → Heap V → Option ℕ → ℕ → Type 0
 HasRoomBelow h root at = (front : List Field) × (length front < 64) × (walk h root front ≡ Some at)
 
@@ -83,7 +83,7 @@ abbrev pub IsHeld : {V : Type 0} → Heap V → Option ℕ → Option (List Fiel
 IsHeld h root None = Unit {0}
 IsHeld h root (Some p) = walk h root p.0 ≡ Some p.1
 
--- The value of the node k is v afterwards, and nothing else changes.
+-- The value of the node k becomes the optional value v, and nothing else changes.
 pub record Turns {V : Type 0} (k : ℕ) (v : Option V) (h h' : Heap V) : Type 0 where
   pub links : (a : ℕ) (c : Field) → child h' a c ≡ child h a c
   pub ups : (a : ℕ) → up h' a ≡ up h a

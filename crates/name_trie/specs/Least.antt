@@ -1,4 +1,4 @@
--- Maps that are removed once they are empty, and the least deadline of their values.
+-- Maps that are removed once they have no entry, and the least deadline of the values in a list.
 use Rattle.std.specs.Prelude.{ℕ, List, [], ◌∷◌, Option, None, Some, min, nat_eq, if◌then◌else◌}
 use Rattle.std.specs.declared.cmp.Ordering.{Ordering}
 use Rattle.std.specs.FinMap.{FinMap, len}
@@ -7,8 +7,8 @@ use Rattle.name_trie.specs.ByName.{revise}
 abbrev pub nonempty : {K X : Type 0} {R : K → K → Ordering} → FinMap R X → Option (FinMap R X)
 nonempty m = if nat_eq (len m) 0 then None else Some m
 
--- the map with `change` applied to each value, where a value for which `change` gives None is
--- removed; None if no value is left
+-- the map with `change` applied to each value; an entry for which `change` gives None is removed,
+-- and the result is None if no entry is left
 abbrev pub each : {K X : Type 0} {R : K → K → Ordering} → (X → Option X) → FinMap R X
     → Option (FinMap R X)
 each change m = nonempty (revise change m)

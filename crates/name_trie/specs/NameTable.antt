@@ -1,4 +1,4 @@
--- A map from names to values, and the name of the prepared call.
+-- A map from names to values, and the name for which a call is prepared.
 use Rattle.std.specs.Prelude.{List, Option, refl}
 use Rattle.std.specs.Coded.{Coded, code_by, coded×, coded_option}
 use Rattle.std.specs.FinMap as map
@@ -8,7 +8,7 @@ use Rattle.name_trie.specs.ByName.{ByName}
 
 pub record NameTable (X : Type 0) : Type 0 where
   pub table : ByName X
-  -- the name of the prepared call, if there is one
+  -- the name for which a call is prepared, if there is such a call
   pub prepared : Option (List Field)
 
 abbrev pub name_table_code : {X : Type 0} → Coded X → Coded (NameTable X)

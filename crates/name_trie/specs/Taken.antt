@@ -1,4 +1,4 @@
--- How a visitor changes or removes the values of a name and of its prefixes.
+-- How a visitor changes or removes the values of a name and of the name's prefixes.
 use Rattle.std.specs.Prelude.{List, [], ◌∷◌, ◌++◌, Option, None, Some, if◌then◌else◌}
 use Rattle.std.specs.Ordering.{eq_by_cmp}
 use Rattle.ndn_tlv.specs.Element.{Field}
@@ -18,9 +18,8 @@ taken_along own below s value front [] = taken own s (value front)
 taken_along own below s value front (c ∷ rest) =
     taken_along own below (taken below s (value front)) value (front ++ c ∷ []) rest
 
--- `changed_along own below q name` is the change of the value of the name `q` by a walk along
--- `name`: `below` if `q` is a proper prefix of `name`, `own` if `q` equals `name`, and no change
--- otherwise
+-- `changed_along own below q name` is what a walk along `name` does to the value of the name `q`:
+-- `below` if `q` is a proper prefix of `name`, `own` if `q` equals `name`, and no change otherwise
 abbrev pub changed_along : {V : Type 0} → (own below : V → Option V) → List Field → List Field
     → V → Option V
 changed_along own below [] [] = own

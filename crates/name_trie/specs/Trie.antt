@@ -35,7 +35,7 @@ module _ {V : Type 0} (h : Heap V) where
   abbrev pub up : ℕ → Option (Option ℕ)
   up k = option_map (λ n. n.parent) (h k)
 
-  -- the children of the node k with their components; none if there is no node k
+  -- the children of the node k with their components; the empty list if there is no node k
   abbrev pub links : ℕ → List (Field × ℕ)
   links k = links_of (h k)
 
@@ -69,8 +69,9 @@ last_on h None q best = best
 last_on h (Some k) [] best = option_or (value h k) best
 last_on h (Some k) (c ∷ cs) best = last_on h (child h k c) cs (option_or (value h k) best)
 
--- If a node has a link to a child, the node is the child's parent, and has no other link to this
--- child. The root has no parent. For each node, some name of at most 64 components leads to it.
+-- If a node has a link to a child, the node is the parent of the child, and has no other link to
+-- this child. The root has no parent. For each node, some name of at most 64 components leads from
+-- the root to this node.
 pub record Sound {V : Type 0} (h : Heap V) (root : Option ℕ) : Type 0 where
   pub back : (a : ℕ) (c : Field) (k : ℕ) → child h a c ≡ Some k → up h k ≡ Some (Some a)
   pub once : (a : ℕ) (c d : Field) (k : ℕ) → child h a c ≡ Some k → child h a d ≡ Some k → c ≡ d
@@ -78,6 +79,6 @@ pub record Sound {V : Type 0} (h : Heap V) (root : Option ℕ) : Type 0 where
   pub reach : (k : ℕ) (u : Option ℕ) → up h k ≡ Some u
       → (q : List Field) × (length q ≤ 64) × (walk h root q ≡ Some k)
 
--- the rows with `front` before each name
+-- the rows with `front` in front of the name of each row
 abbrev pub named : {V : Type 0} → List Field → List (List Field × V) → List (List Field × V)
 named front rs = map (λ r. (front ++ r.0, r.1)) rs

@@ -29,8 +29,8 @@ pub fn take_value<V>(nodes: &mut Slab<Node<V>>, k: usize) -> Option<V>
     nodes.get_mut(k)?.value.take()
 }
 
-/// Changes or removes a node's value, if it has one, as `how` says. Returns whether the value was
-/// removed.
+/// Changes or removes the value of node `k`, if the node has a value, as the rule `how` says.
+/// Returns whether the value was removed.
 pub fn change_at<V: Drop, C: Change<V>>(nodes: &mut Slab<Node<V>>, k: usize, how: &C) -> bool
     ensures turns { Turns k (option_and_then (C.change how.now) (value_in (get nodes.old) k))
         (get nodes.old) (get nodes.new) }
@@ -47,8 +47,8 @@ pub fn change_at<V: Drop, C: Change<V>>(nodes: &mut Slab<Node<V>>, k: usize, how
     false
 }
 
-/// Removes all nodes that have neither a value nor children, and then their ancestors that are left
-/// with neither. The node `kept` is never removed.
+/// Removes each node that has neither a value nor children. Also removes each ancestor that has no
+/// value and loses all its children in this way. Never removes the node `kept`.
 pub fn prune_all<V: Drop>(nodes: &mut Slab<Node<V>>, root: &mut Option<usize>, kept: Option<usize>)
     requires { Sound (get nodes.old) root.old }
     ensures sound { Sound (get nodes.new) root.new }
@@ -63,7 +63,7 @@ pub fn prune_all<V: Drop>(nodes: &mut Slab<Node<V>>, root: &mut Option<usize>, k
     }
 }
 
-/// Changes or removes each value, as `how` says. Returns the number of removed values.
+/// Changes or removes each value, as the rule `how` says. Returns the number of removed values.
 pub fn change_all<V: Drop, C: Change<V>>(
     nodes: &mut Slab<Node<V>>,
     root: &mut Option<usize>,

@@ -16,7 +16,7 @@ use std::alloc::Global;
 use std::cmp::Ordering;
 use std::marker::Model;
 
-/// The indexes of a node's children, in canonical order of their components.
+/// The indexes of a node's children, in canonical order of the children's components.
 #[derive(Drop)]
 pub struct Children {
     rows: Rows<(ComponentBuf, usize)>,
@@ -65,14 +65,14 @@ impl Children {
         }
     }
 
-    /// Returns the components of the children with their indexes, in canonical order.
+    /// Returns the component and the index of each child, in canonical order of the components.
     pub fn rows(&self) -> &[(ComponentBuf, usize)]
         ensures { result.now ≡ map.entries self.now }
     {
         self.rows.as_slice()
     }
 
-    /// Returns the child for a component.
+    /// Returns the index of the child for `component`, or `None` if there is no such child.
     pub fn get(&self, component: Component<'_>) -> Option<usize>
         ensures { result ≡ map.get self.now (field_of component.entry) }
     {
@@ -83,7 +83,8 @@ impl Children {
         }
     }
 
-    /// Adds a child for a component that has no child yet.
+    /// Adds the child with the index `child` for `component`. There must be no child for
+    /// `component` yet.
     pub fn insert(
         &mut self,
         alloc: Global,
@@ -101,8 +102,8 @@ impl Children {
         Ok(())
     }
 
-    /// Removes the row of `child`, if there is one. At most one component may have this child. The
-    /// search begins at the position that `hint` gives.
+    /// Removes the row of `child`, if there is such a row. At most one row may have this child. The
+    /// search for the row begins at the position that `hint` gives.
     pub fn forget(&mut self, child: usize, hint: &Hint)
         requires { (c d : Field) → map.get self.old c ≡ Some child → map.get self.old d ≡ Some child
             → c ≡ d }
@@ -115,7 +116,7 @@ impl Children {
 }
 
 /// Returns the index of the first row that is not before `hint`, or the number of rows if all rows
-/// are before `hint`. If there are fewer than two rows, returns 0.
+/// are before `hint`. Exception: returns 0 if there are fewer than two rows.
 fn start_of(rows: &[(ComponentBuf, usize)], hint: &Hint) -> usize
     ensures { result ≤ length rows.now }
 {
@@ -135,8 +136,8 @@ fn start_of(rows: &[(ComponentBuf, usize)], hint: &Hint) -> usize
     low
 }
 
-/// Searches `rows[from..to]` for a child's row. Returns the index of the row in `rows`, or `None`
-/// if the child is not found.
+/// Searches `rows[from..to]` for the row of `child`. Returns the index of this row in `rows`, or
+/// `None` if no row in `rows[from..to]` has this child.
 fn row_within(rows: &[(ComponentBuf, usize)], child: usize, from: usize, to: usize) -> Option<usize>
     requires { to ≤ length rows.now }
     ensures found { IfSome result (λ at. (at < length rows.now)
@@ -151,8 +152,9 @@ fn row_within(rows: &[(ComponentBuf, usize)], child: usize, from: usize, to: usi
     None
 }
 
-/// Returns the index of a child's row. The search runs from the position that `hint` gives to the
-/// end, and then over the rows before this position.
+/// Returns the index of the row of `child`, or `None` if there is no such row. The search begins at
+/// the position that `hint` gives, and runs to the end of `rows`. Then the search covers the rows
+/// before this position.
 fn row_of(rows: &[(ComponentBuf, usize)], child: usize, hint: &Hint) -> Option<usize>
     ensures found { IfSome result (λ at. (at < length rows.now)
         × HoldsAt (λ row. row.1 ≡ child) rows.now at) }
@@ -165,7 +167,8 @@ fn row_of(rows: &[(ComponentBuf, usize)], child: usize, hint: &Hint) -> Option<u
     }
 }
 
-/// Returns the index of a component's row, or the index at which to insert it.
+/// Returns `Ok` with the index of the row of `component`. If there is no such row, returns `Err`
+/// with the index at which a row for `component` belongs.
 #[inline(always)]
 fn place_of(rows: &[(ComponentBuf, usize)], component: Component<'_>) -> Result<usize, usize>
     requires { T (map.is_sorted component_cmp rows.now) }

@@ -15,7 +15,8 @@ use slab::Slab;
 use std::alloc::Global;
 use timers::Timers;
 
-/// Removes the nodes that exist only for the reserved name, but never the node `kept`.
+/// Removes the nodes that exist only for the reserved name in `held`, if there is one. Never
+/// removes the node `kept`.
 pub fn release<V: Drop>(
     nodes: &mut Slab<Node<V>>,
     root: &mut Option<usize>,
@@ -36,8 +37,8 @@ pub fn release<V: Drop>(
     }
 }
 
-/// Returns a copy of a name and the index of the name's node. A missing node is created. Reserves
-/// memory for one more timer.
+/// Returns a copy of `name` and the index of the node of `name`. Missing nodes are created, as by
+/// `make_path`. Reserves memory for one more timer.
 pub fn hold<V: Drop>(
     alloc: Global,
     nodes: &mut Slab<Node<V>>,
@@ -74,7 +75,7 @@ pub fn held_node(held: &Option<(NameBuf, usize)>) -> Option<usize>
     }
 }
 
-/// Returns the node that a reservation returned, or `None` if the reservation failed.
+/// Returns the node in `made`, which is a result of `hold`, or `None` if `made` is an error.
 pub fn node_held(made: &Result<(NameBuf, usize), Memory>) -> Option<usize>
     ensures ok { IfOk made.now (λ p. result ≡ Some p.1) }
     ensures err { OnErr made.now (result ≡ None) }
@@ -85,7 +86,7 @@ pub fn node_held(made: &Result<(NameBuf, usize), Memory>) -> Option<usize>
     }
 }
 
-/// Returns the reserved node if `name` is the reserved name.
+/// Returns the reserved node if `name` is the reserved name, and `None` otherwise.
 fn held_for(held: &Option<(NameBuf, usize)>, name: Name<'_>) -> Option<usize>
     ensures yes { IfSome result (λ k. held.now ≡ Some (components name.entry, k)) }
     ensures no { result ≡ None → (k : ℕ) → held.now ≡ Some (components name.entry, k) → ⊥ }
@@ -98,7 +99,7 @@ fn held_for(held: &Option<(NameBuf, usize)>, name: Name<'_>) -> Option<usize>
     None
 }
 
-/// Returns the node of a name, as `find` does, but without a walk if the name is the reserved one.
+/// Returns the same node as `find` for `name`, but makes no walk if `name` is the reserved name.
 pub fn node_of<V>(
     nodes: &Slab<Node<V>>,
     root: Option<usize>,
@@ -114,7 +115,8 @@ pub fn node_of<V>(
     find(nodes, root, name)
 }
 
-/// Ends the reservation, unless it is for this name. Returns the reservation that remains.
+/// Ends the reservation `held`, unless this reservation is for `name`. Returns the reservation that
+/// remains, if any.
 pub fn release_other<V: Drop>(
     nodes: &mut Slab<Node<V>>,
     root: &mut Option<usize>,
@@ -139,8 +141,8 @@ pub fn release_other<V: Drop>(
     None
 }
 
-/// Returns the node of a name. Missing nodes are created, as by `make_path`. If a node is reserved,
-/// it must be the node of this name, and is returned without a walk.
+/// Returns the node of `name`. Missing nodes are created, as by `make_path`. If a name is reserved,
+/// it must be `name`. The reserved node is then returned without a walk.
 fn path_to<V: Drop>(
     alloc: Global,
     nodes: &mut Slab<Node<V>>,
@@ -166,7 +168,7 @@ fn path_to<V: Drop>(
     }
 }
 
-/// Reserves memory for one more timer, if the node has no value.
+/// Reserves memory for one more timer, if node `k` has no value.
 fn reserve_for<V>(nodes: &Slab<Node<V>>, timers: &mut Timers, k: usize) -> Result<(), Memory>
     ensures timers { timers.new.timers ≡ timers.old.timers }
     ensures capacity { timers.old.capacity ≤ timers.new.capacity }
@@ -182,8 +184,8 @@ fn reserve_for<V>(nodes: &Slab<Node<V>>, timers: &mut Timers, k: usize) -> Resul
     Ok(())
 }
 
-/// Returns the node of a name. A missing node is created. If the node has no value, memory for one
-/// more timer is reserved. No name other than `name` may be reserved.
+/// Returns the node of `name`. Missing nodes are created, as by `make_path`. If the node of `name`
+/// has no value, memory for one more timer is reserved. No name other than `name` may be reserved.
 pub fn place_for<V: Drop>(
     alloc: Global,
     nodes: &mut Slab<Node<V>>,

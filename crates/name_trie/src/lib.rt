@@ -1,4 +1,5 @@
-//! Values by name, in a trie. A lookup, a change or a longest prefix match takes one walk.
+//! Values by name, in a trie. A lookup, a change of one value or a longest prefix match takes at
+//! most one walk from the root of the trie.
 #![tactic(auto)]
 
 mod becomes;

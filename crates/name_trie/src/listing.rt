@@ -10,7 +10,7 @@ use ndn_tlv::Memory;
 use slab::Slab;
 use std::alloc::Global;
 
-/// Returns the name `front` extended by one component.
+/// Returns the name `front`, extended by `component`.
 fn extended(alloc: Global, front: &NameBuf, component: Component<'_>) -> Result<NameBuf, Memory>
     ensures { IfOk result (λ name. name ≡ front.now ++ field_of component.entry ∷ []) }
 {
@@ -21,7 +21,7 @@ fn extended(alloc: Global, front: &NameBuf, component: Component<'_>) -> Result<
     Ok(name)
 }
 
-/// Appends the row of a node, if it has a value.
+/// Appends a row with the name `front` and the value of `node` to `list`, if the node has a value.
 fn list_value<'a, V>(
     alloc: Global,
     node: &'a Node<V>,
@@ -39,8 +39,8 @@ fn list_value<'a, V>(
     Ok(())
 }
 
-/// Appends the rows of a node and of the nodes below it. `depth` is the number of levels to list,
-/// including the node itself.
+/// Appends to `list` the rows of node `at`, whose name is `front`, and of the nodes below this
+/// node. `depth` is the number of levels to list. Node `at` is the first of these levels.
 pub fn list_below<'a, V>(
     alloc: Global,
     nodes: &'a Slab<Node<V>>,
@@ -67,7 +67,7 @@ pub fn list_below<'a, V>(
     Ok(())
 }
 
-/// Returns the rows of a trie, in canonical order.
+/// Returns the rows of a trie, in canonical order of their names.
 pub fn list<'a, V>(
     alloc: Global,
     nodes: &'a Slab<Node<V>>,

@@ -8,8 +8,8 @@ use crate::node::{Node, child_of, value_of};
 use ndn_names::Name;
 use slab::Slab;
 
-/// A visitor of the values of a name and of its prefixes. The visitor may store references to the
-/// values.
+/// A visitor that looks at the values of a name and of the name's prefixes. The visitor may store
+/// references to the values.
 pub trait Look<'a, V> {
     /// The visitor after it has looked at a value. The Boolean is `true` for the value of the name
     /// itself.
@@ -21,7 +21,7 @@ pub trait Look<'a, V> {
         ensures { self.new ≡ seen is_own self.old value.now };
 }
 
-/// Looks at a node's value, if it has one.
+/// Lets the visitor `look` look at the value of node `at`, if the node has a value.
 fn look_at<'a, V, L: Look<'a, V>>(nodes: &'a Slab<Node<V>>, at: usize, is_own: bool, look: &mut L)
     ensures { look.new ≡ taken (L.seen is_own) look.old (value_in (get nodes.now) at) }
 {
@@ -30,8 +30,8 @@ fn look_at<'a, V, L: Look<'a, V>>(nodes: &'a Slab<Node<V>>, at: usize, is_own: b
     }
 }
 
-/// Looks at the values of a name's proper prefixes, the shortest first, and then at the value of
-/// the name.
+/// Lets the visitor `look` look at the values of the proper prefixes of `name`, the shortest first,
+/// and then at the value of `name`.
 pub fn look_along<'a, V, L: Look<'a, V>>(
     nodes: &'a Slab<Node<V>>,
     root: Option<usize>,

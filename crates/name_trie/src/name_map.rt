@@ -16,7 +16,7 @@ use ndn_tlv::Memory;
 use std::alloc::Global;
 use std::marker::Model;
 
-/// A map from names to values, in canonical order.
+/// A map from names to values. The names are in canonical order.
 #[derive(Drop)]
 pub struct NameMap<V> {
     trie: NameTrie<V>,
@@ -62,9 +62,9 @@ impl<V: Drop> NameMap<V> {
         self.trie.get(name)
     }
 
-    /// Sets the value of a name. Each call of `put`, even one that fails, ends the preparation by
-    /// `prepare`. Returns `Memory` only for a name that has no value and is not prepared. On
-    /// `Memory`, the values are unchanged.
+    /// Sets the value of a name. Each call of `put`, even a call that fails, ends the preparation
+    /// that `prepare` made. Returns `Memory` only for a name that has no value and is not prepared.
+    /// If the result is `Memory`, the values are unchanged.
     pub fn put(&mut self, name: Name<'_>, value: V) -> Result<(), Memory>
         requires { IsSome (map.get self.old.table (components name))
             ⊎ (map.len self.old.table + 1 < 2 ^ 64) }
@@ -81,7 +81,8 @@ impl<V: Drop> NameMap<V> {
         Ok(())
     }
 
-    /// Prepares one `put` or `put_with` of this name, so that the call cannot run out of memory.
+    /// Prepares one `put` or `put_with` of `name`, so that this `put` or `put_with` cannot run out
+    /// of memory.
     pub fn prepare(&mut self, name: Name<'_>) -> Result<(), Memory>
         ensures table { self.new.table ≡ self.old.table }
         ensures ok { OnOk result (self.new.prepared ≡ Some (components name.entry)) }
@@ -90,7 +91,7 @@ impl<V: Drop> NameMap<V> {
         self.trie.prepare(name)
     }
 
-    /// Cancels the prepared call.
+    /// Ends the preparation, if a call is prepared.
     pub fn forget_prepared(&mut self)
         ensures table { self.new.table ≡ self.old.table }
         ensures prepared { self.new.prepared ≡ None }
@@ -126,7 +127,7 @@ impl<V: Drop> NameMap<V> {
 }
 
 impl<V: Drop> NameMap<V> {
-    /// Changes or removes the value of a name, if it has one, as `how` says.
+    /// Changes or removes the value of `name`, if this name has a value, as the rule `how` says.
     pub fn change<C: Change<V>>(&mut self, name: Name<'_>, how: &C)
         ensures table { self.new.table ≡ with_value self.old.table (components name.entry)
             (option_and_then (C.change how.now) (map.get self.old.table (components name.entry))) }
@@ -135,7 +136,7 @@ impl<V: Drop> NameMap<V> {
         self.len -= usize::from(self.trie.change(name, how));
     }
 
-    /// Changes or removes each value, as `how` says.
+    /// Changes or removes each value, as the rule `how` says.
     pub fn change_all<C: Change<V>>(&mut self, how: &C)
         ensures table { self.new.table ≡ revise (C.change how.now) self.old.table }
         ensures prepared { self.new.prepared ≡ self.old.prepared }
@@ -143,8 +144,8 @@ impl<V: Drop> NameMap<V> {
         self.len -= self.trie.change_all(how);
     }
 
-    /// Sets the value of a name to the value that `how` computes from the old one, which may be
-    /// absent.
+    /// Sets the value of `name` to the value that the rule `how` computes from the old value of
+    /// `name`, which may be absent.
     pub fn put_with<B: Becomes<V> + Drop>(&mut self, name: Name<'_>, how: B) -> Result<(), Memory>
         requires { IsSome (map.get self.old.table (components name))
             ⊎ (map.len self.old.table + 1 < 2 ^ 64) }
@@ -164,8 +165,9 @@ impl<V: Drop> NameMap<V> {
 }
 
 impl<V: Drop> NameMap<V> {
-    /// Shows the visitor `see` the values of a name's proper prefixes, the shortest first, and then
-    /// the value of the name. Adds one to `steps` for each search among the children of a node.
+    /// Passes to the visitor `see` the values of the proper prefixes of `name`, the shortest first,
+    /// and then the value of `name`. Adds one to `steps` for each search among the children of a
+    /// node.
     pub fn see_along<S: See<V>>(&self, name: Name<'_>, steps: &mut u64, see: &mut S)
         requires { steps.old + 64 < 2 ^ 64 }
         ensures seen { see.new ≡ taken_along S.seen S.seen see.old
@@ -176,15 +178,16 @@ impl<V: Drop> NameMap<V> {
         self.trie.see_along(name, steps, see);
     }
 
-    /// Shows the visitor `see` all values, in the canonical order of their names.
+    /// Passes all values to the visitor `see`, in the canonical order of their names.
     pub fn see_all<S: See<V>>(&self, see: &mut S)
         ensures { see.new ≡ fold S.seen see.old (map.values self.now.table) }
     {
         self.trie.see_all(see);
     }
 
-    /// Shows the visitor `show` all names that have a value, in canonical order, each with the
-    /// state of the walk at that name. On `Err`, some of the names may have been shown.
+    /// Passes to the visitor `show` all names that have a value, in canonical order. Each name is
+    /// passed with the state of the walk at this name. If the result is `Err`, some of the names
+    /// may have been passed.
     pub fn show_all<W: Carry<V> + Drop, S: Show<W>>(
         &self,
         before: &W,

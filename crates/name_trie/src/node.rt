@@ -15,7 +15,7 @@ use ndn_tlv::Memory;
 use slab::Slab;
 use std::alloc::Global;
 
-/// A node of a trie. Each node represents the prefix that leads from the root to this node.
+/// A node of a trie. A node represents the name whose components lead from the root to this node.
 #[derive(Drop)]
 pub struct Node<V> {
     /// The index of the parent node.
@@ -26,7 +26,7 @@ pub struct Node<V> {
     pub value: Option<V>,
 }
 
-/// Returns the child of a node for a component.
+/// Returns the child of node `at` for `component`.
 pub fn child_of<V>(nodes: &Slab<Node<V>>, at: usize, component: Component<'_>) -> Option<usize>
     ensures { result ≡ child (get nodes.now) at (field_of component.entry) }
 {
@@ -143,7 +143,7 @@ pub fn cut<V: Drop>(nodes: &mut Slab<Node<V>>, k: usize) -> Option<usize>
     node.parent
 }
 
-/// Returns the index `key`, or `None` if it is `k`.
+/// Returns the index `key`, or `None` if `key` is `k`.
 fn without(key: Option<usize>, k: usize) -> Option<usize>
     ensures { result ≡ unless k key }
 {
@@ -153,9 +153,8 @@ fn without(key: Option<usize>, k: usize) -> Option<usize>
     }
 }
 
-/// Removes the node `from` if it has neither a value nor children, and then, from there up to the
-/// root, each ancestor that is left with neither. Stops at the first node that has a value or
-/// children, and before the node `kept`.
+/// Removes the node with the index `from`, then its parent, and so on up to the root. Stops before
+/// the node `kept`, and before the first node that has a value or still has children.
 pub fn prune<V: Drop>(
     nodes: &mut Slab<Node<V>>,
     root: &mut Option<usize>,
@@ -205,7 +204,7 @@ fn start<V: Drop>(
     Ok(k)
 }
 
-/// Returns the child of a node for a component. If the node has no such child, a child without a
+/// Returns the child of node `at` for `component`. If the node has no such child, a child without a
 /// value is created.
 fn step<V: Drop>(
     alloc: Global,

@@ -18,7 +18,7 @@ pub trait See<V> {
         ensures { self.new ≡ seen self.old value.now };
 }
 
-/// Shows the visitor `see` a node's value, if it has one.
+/// Passes the value of node `at` to the visitor `see`, if the node has a value.
 fn see_at<V, S: See<V>>(nodes: &Slab<Node<V>>, at: usize, see: &mut S)
     ensures { see.new ≡ taken S.seen see.old (value_in (get nodes.now) at) }
 {
@@ -27,8 +27,8 @@ fn see_at<V, S: See<V>>(nodes: &Slab<Node<V>>, at: usize, see: &mut S)
     }
 }
 
-/// Shows the visitor `see` the values of a name's proper prefixes, the shortest first, and then the
-/// value of the name. Adds one to `steps` for each search among the children of a node.
+/// Passes to the visitor `see` the values of the proper prefixes of `name`, the shortest first, and
+/// then the value of `name`. Adds one to `steps` for each search among the children of a node.
 pub fn see_along<V, S: See<V>>(
     nodes: &Slab<Node<V>>,
     root: Option<usize>,
@@ -54,8 +54,8 @@ pub fn see_along<V, S: See<V>>(
     }
 }
 
-/// Shows the visitor `see` the values of a node and of the nodes below it. `depth` is the number of
-/// levels to show, including the node itself.
+/// Passes to the visitor `see` the values of node `at` and of the nodes below this node. `depth` is
+/// the number of levels to show. Node `at` is the first of these levels.
 fn see_below<V, S: See<V>>(nodes: &Slab<Node<V>>, at: usize, depth: usize, see: &mut S)
     ensures { see.new ≡ fold S.seen see.old
         (map (λ r. r.1) (rows (get nodes.now) depth (Some at))) }
@@ -74,7 +74,7 @@ fn see_below<V, S: See<V>>(nodes: &Slab<Node<V>>, at: usize, depth: usize, see: 
     }
 }
 
-/// Shows the visitor `see` all values, in the canonical order of their names.
+/// Passes all values to the visitor `see`, in the canonical order of their names.
 pub fn see_all<V, S: See<V>>(nodes: &Slab<Node<V>>, root: Option<usize>, see: &mut S)
     ensures { see.new ≡ fold S.seen see.old (map (λ r. r.1) (rows (get nodes.now) 65 root)) }
 {

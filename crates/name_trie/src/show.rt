@@ -12,8 +12,8 @@ use ndn_tlv::{Memory, put_header};
 use slab::Slab;
 use std::alloc::Global;
 
-/// The state of a walk at a name. The walk updates the state with each value on the way from the
-/// root to the name.
+/// The state that a walk over a trie has at a name. The walk updates the state with each value on
+/// the way from the root to the name.
 pub trait Carry<V> {
     /// The state after an update with a value.
     ghost past: { Self → V → Self };
@@ -28,12 +28,13 @@ pub trait Show<X> {
     /// The visitor after it has been shown a name.
     ghost shown: { Self → List ℕ → X → Self };
 
-    /// Shows the visitor a name, given by its octets, with the value `of_name`.
+    /// Shows the visitor a name and the value `of_name`. The slice `name` contains the octets of
+    /// the name.
     fn show(&mut self, name: &[u8], of_name: &X) -> Result<(), Memory>
         ensures { OnOk result (self.new ≡ shown self.old name.now of_name.now) };
 }
 
-/// Returns the state `before`, updated with a value, or `None` if there is no value.
+/// Returns the state `before`, updated with `value`, or `None` if `value` is `None`.
 fn past_value<V, W: Carry<V> + Drop>(before: &W, value: &Option<V>) -> Option<W>
     ensures { result ≡ option_map (W.past before.now) value.now }
 {
@@ -43,8 +44,8 @@ fn past_value<V, W: Carry<V> + Drop>(before: &W, value: &Option<V>) -> Option<W>
     }
 }
 
-/// Shows a name with the state `past`, unless `past` is `None`. Returns the state at the name:
-/// `past`, or `before` if `past` is `None`.
+/// Passes `name` and the state `past` to the visitor `show`, unless `past` is `None`. Returns the
+/// state at the name: `past`, or `before` if `past` is `None`.
 fn show_name<'a, W, S: Show<W>>(
     past: &'a Option<W>,
     before: &'a W,
@@ -63,7 +64,8 @@ fn show_name<'a, W, S: Show<W>>(
     }
 }
 
-/// Appends the octets of a component. If memory runs out, some octets may have been appended.
+/// Appends the octets of `component` to `name`. If memory runs out, some of these octets may have
+/// been appended.
 fn put_component(name: &mut Vec<u8>, component: Component<'_>) -> Result<(), Memory>
     ensures { OnOk result
         (name.new.items ≡ name.old.items ++ element (field_of component.entry)) }
@@ -73,8 +75,9 @@ fn put_component(name: &mut Vec<u8>, component: Component<'_>) -> Result<(), Mem
     Ok(())
 }
 
-/// Shows the names that have a value, at a node and below it. `depth` is the number of levels to
-/// show, including the node itself. `name` contains the octets of the node's name.
+/// Passes to the visitor `show` the names that have a value: the name of node `at`, and the names
+/// of the nodes below node `at`. `depth` is the number of levels to show. Node `at` is the first of
+/// these levels. `name` contains the octets of the name of node `at`.
 fn show_below<V, W: Carry<V> + Drop, S: Show<W>>(
     nodes: &Slab<Node<V>>,
     at: usize,
@@ -105,8 +108,8 @@ fn show_below<V, W: Carry<V> + Drop, S: Show<W>>(
     Ok(())
 }
 
-/// Shows the visitor `show` all names that have a value, in canonical order, each with the state of
-/// the walk at that name.
+/// Passes to the visitor `show` all names that have a value, in canonical order. Each name is
+/// passed with the state of the walk at this name.
 pub fn show_all<V, W: Carry<V> + Drop, S: Show<W>>(
     alloc: Global,
     nodes: &Slab<Node<V>>,

@@ -16,14 +16,14 @@ use ndn_names::Name;
 use slab::Slab;
 use timers::Timers;
 
-/// A visitor that changes or removes the values of a name and of its prefixes.
+/// A visitor that changes or removes the values of a name and of the name's prefixes.
 pub trait Take<V> {
     /// The visitor after it has visited a value. The Boolean is `true` for the value of the name
     /// itself.
     ghost taken: { Bool → Self → V → Self };
 
-    /// The value after the visit, or None if it is removed. The Boolean is `true` for the value of
-    /// the name itself.
+    /// The value after the visit, or `None` if the visit removes the value. The Boolean is `true`
+    /// for the value of the name itself.
     ghost left: { Bool → V → Option V };
 
     /// Visits a value. `is_own` is true for the value of the name itself, and false for the value
@@ -33,7 +33,7 @@ pub trait Take<V> {
         ensures left { result ≡ left is_own value };
 }
 
-/// Lets the visitor `how` change or remove a node's value, if it has one.
+/// Lets the visitor `how` change or remove the value of node `k`, if the node has a value.
 fn take_from<V: Drop, T: Take<V>>(nodes: &mut Slab<Node<V>>, k: usize, is_own: bool, how: &mut T)
     ensures turns { Turns k (option_and_then (T.left is_own) (value_in (get nodes.old) k))
         (get nodes.old) (get nodes.new) }
@@ -48,8 +48,8 @@ fn take_from<V: Drop, T: Take<V>>(nodes: &mut Slab<Node<V>>, k: usize, is_own: b
     set_value(nodes, k, Some(left));
 }
 
-/// Lets the visitor `how` change or remove a node's value, if it has one. Updates the node's timer
-/// and the total size.
+/// Lets the visitor `how` change or remove the value of node `k`, if the node has a value. Updates
+/// the timer of this node and the total size `len`.
 pub fn take_at<V: Timed + Drop, T: Take<V>>(
     nodes: &mut Slab<Node<V>>,
     timers: &mut Timers,
@@ -80,16 +80,16 @@ pub fn take_at<V: Timed + Drop, T: Take<V>>(
     *len = recount(*len, was, is);
 }
 
-/// The last node on the walk along a name, and whether it is the node of the whole name.
+/// The last node on the walk along a name, and whether this node is the node of the whole name.
 #[derive(Clone, Copy)]
 pub struct End {
     pub at: usize,
     pub is_whole: bool,
 }
 
-/// Lets the visitor `how` change or remove the values of a name's proper prefixes, the shortest
-/// first, and then the value of the name. Returns the end of the walk, or `None` if there is no
-/// root. Nodes that are left without a value are not removed.
+/// Lets the visitor `how` change or remove the values of the proper prefixes of `name`, the
+/// shortest first, and then the value of `name`. Returns the end of the walk, or `None` if there is
+/// no root. No node is removed, even if the node loses its value.
 pub fn take_along<V: Timed + Drop, T: Take<V>>(
     nodes: &mut Slab<Node<V>>,
     root: Option<usize>,

@@ -13,7 +13,7 @@ use crate::node::{Node, prune, set_value, value_of};
 use slab::Slab;
 use timers::{Timer, Timers};
 
-/// A value with a deadline and a size, which is the number of entries that the value counts as.
+/// A value with a deadline and a size. The size is the number of entries that the value counts as.
 pub trait Timed {
     ghost timer: { Self → ℕ };
 
@@ -34,7 +34,7 @@ pub fn timer_at<V: Timed>(nodes: &Slab<Node<V>>, k: usize) -> Option<u64>
     Some(value.timer())
 }
 
-/// Returns the number of entries that a node's value counts as.
+/// Returns the number of entries that a node's value counts as, or 0 if the node has no value.
 pub fn size_at<V: Timed>(nodes: &Slab<Node<V>>, k: usize) -> usize
     ensures { result ≡ size_in V.size (get nodes.now) k }
 {
@@ -44,15 +44,16 @@ pub fn size_at<V: Timed>(nodes: &Slab<Node<V>>, k: usize) -> usize
     }
 }
 
-/// Returns the total size `len` after the size of one value changes from `was` to `is`. The total
-/// wraps on overflow, so it needs no bound.
+/// Returns the new total size if the size of one value changes from `was` to `is`. `len` is the old
+/// total size. The total wraps on overflow, so the total needs no bound.
 pub fn recount(len: usize, was: usize, is: usize) -> usize
     ensures { Recounts was is len result }
 {
     len.wrapping_sub(was).wrapping_add(is)
 }
 
-/// Removes a node's timer.
+/// Removes the timer of node `key`. `old` is the deadline of this timer, or `None` if there is no
+/// timer.
 fn stop(timers: &mut Timers, key: usize, old: Option<u64>)
     ensures timers { timers.new.timers ≡ stopped key old timers.old.timers }
     ensures room { (d : ℕ) → old ≡ Some d
@@ -66,7 +67,8 @@ fn stop(timers: &mut Timers, key: usize, old: Option<u64>)
     }
 }
 
-/// Inserts a node's timer. Memory for this timer must be reserved.
+/// Inserts a timer for node `key` with the deadline `new`, or no timer if `new` is `None`. Memory
+/// for this timer must be reserved.
 fn start(timers: &mut Timers, key: usize, new: Option<u64>)
     requires { IsSome new → set.len timers.old.timers < timers.old.capacity }
     ensures timers { timers.new.timers ≡ started key new timers.old.timers }
@@ -77,7 +79,8 @@ fn start(timers: &mut Timers, key: usize, new: Option<u64>)
     }
 }
 
-/// Replaces a node's old timer by its new one. There must be an old timer if there is a new one.
+/// Replaces the timer of node `key`, whose deadline is `old`, by a timer with the deadline `new`.
+/// `None` means that there is no timer. If `old` is `None`, `new` must be `None` too.
 pub fn retime(timers: &mut Timers, key: usize, old: Option<u64>, new: Option<u64>)
     requires had { IsSome new → IsSome old }
     requires there { (d : ℕ) → old ≡ Some d
@@ -93,7 +96,8 @@ pub fn retime(timers: &mut Timers, key: usize, old: Option<u64>, new: Option<u64
     start(timers, key, new);
 }
 
-/// Changes or removes a node's value, if it has one, and updates its timer and the total size.
+/// Changes or removes the value of node `k`, if the node has a value, as the rule `how` says.
+/// Updates the timer of this node and the total size `len`.
 pub fn change_timed<V: Timed + Drop, C: Change<V>>(
     nodes: &mut Slab<Node<V>>,
     timers: &mut Timers,
@@ -121,9 +125,9 @@ pub fn change_timed<V: Timed + Drop, C: Change<V>>(
     *len = recount(*len, was, is);
 }
 
-/// Changes or removes every value whose deadline is `now` or earlier, as `how` says. `how` must
-/// keep all other values unchanged, and each value that it returns must have a deadline later than
-/// `now`.
+/// Changes or removes every value whose deadline is `now` or earlier, as the rule `how` says. `how`
+/// must keep all other values unchanged. Each value that `how` returns must have a deadline later
+/// than `now`.
 pub fn expire<V: Timed + Drop, C: Change<V>>(
     nodes: &mut Slab<Node<V>>,
     root: &mut Option<usize>,
@@ -156,7 +160,7 @@ pub fn expire<V: Timed + Drop, C: Change<V>>(
     }
 }
 
-/// Removes and returns a node's value, and removes its timer.
+/// Removes and returns the value of node `k`, and removes the timer of this node.
 fn take_timed<V: Timed + Drop>(
     nodes: &mut Slab<Node<V>>,
     timers: &mut Timers,
@@ -175,7 +179,8 @@ fn take_timed<V: Timed + Drop>(
     take_value(nodes, k)
 }
 
-/// Sets the value of a node that has none, and inserts its timer.
+/// Sets the value of node `k`, which must have no value yet, and inserts the timer of the new
+/// value.
 fn put_timed<V: Timed + Drop>(nodes: &mut Slab<Node<V>>, timers: &mut Timers, k: usize, value: V)
     requires timed { IsTimed V.timer (get nodes.old) timers.old.timers }
     requires node { IsSome (get nodes.old k) }
@@ -190,9 +195,9 @@ fn put_timed<V: Timed + Drop>(nodes: &mut Slab<Node<V>>, timers: &mut Timers, k:
     start(timers, k, new);
 }
 
-/// Sets the value of a node to the value that `how` computes from the old one, which may be absent.
-/// Updates the node's timer and the total size. If the node has no value, memory for one more timer
-/// must be reserved.
+/// Sets the value of node `k` to the value that the rule `how` computes from the old value of the
+/// node, which may be absent. Updates the timer of the node and the total size `len`. If the node
+/// has no value before the call, memory for one more timer must be reserved.
 pub fn replace_at<V: Timed + Drop, B: Becomes<V> + Drop>(
     nodes: &mut Slab<Node<V>>,
     timers: &mut Timers,
@@ -217,7 +222,7 @@ pub fn replace_at<V: Timed + Drop, B: Becomes<V> + Drop>(
     *len = recount(*len, was, is);
 }
 
-/// Changes or removes each value, as `how` says.
+/// Changes or removes each value, as the rule `how` says.
 pub fn change_all_timed<V: Timed + Drop, C: Change<V>>(
     nodes: &mut Slab<Node<V>>,
     root: &mut Option<usize>,

@@ -27,15 +27,17 @@ pub struct TimedMap<V: Timed> {
     alloc: Global,
     nodes: Slab<Node<V>>,
     root: Option<usize>,
-    // The reserved name, which is the name of the last prepared call, and its node. The reserved
-    // node is not removed, and calls for the reserved name find this node without a walk.
+    // The reserved name and the node of this name. The name for which a call was prepared last
+    // stays reserved until the next `prepare`, or until a `put_with` of another name. The reserved
+    // node is not removed. `get`, `change` and `put_with` of the reserved name find this node
+    // without a walk.
     held: Option<(NameBuf, usize)>,
     // Whether a call is prepared and has not been made yet.
     is_ready: bool,
     // The timers, one for each value. While a call is prepared, memory is reserved for one more
     // timer.
     timers: Timers,
-    // The total size of all values, which wraps at 2^64.
+    // The total size of all values, modulo 2^64.
     len: usize,
 }
 
@@ -95,7 +97,7 @@ impl<V: Timed + Drop> TimedMap<V> {
         value_of(&self.nodes, k)
     }
 
-    /// Returns the value of a name extended by one component.
+    /// Returns the value of the name that extends `name` by `component`.
     pub fn get_below(&self, name: Name<'_>, component: Component<'_>) -> Option<&V>
         ensures { option_map (λ v. v.now) result ≡ map.get self.now.table
             (components name.entry ++ field_of component.entry ∷ []) }
@@ -105,8 +107,8 @@ impl<V: Timed + Drop> TimedMap<V> {
         value_of(&self.nodes, k)
     }
 
-    /// Returns whether an extension of the name by one component, with a type number of at most
-    /// `kind`, may have a value.
+    /// Returns whether some extension of `name` by one component, whose type number is at most
+    /// `kind`, may have a value. If the result is false, no such extension has a value.
     pub fn has_below(&self, name: Name<'_>, kind: u16) -> bool
         ensures { result ≡ false → (c : Field) → c.0 ≤ kind
             → map.get self.now.table (components name.entry ++ c ∷ []) ≡ None }
@@ -117,8 +119,8 @@ impl<V: Timed + Drop> TimedMap<V> {
         }
     }
 
-    /// Looks at the values of a name's proper prefixes, the shortest first, and then at the value
-    /// of the name, in one walk.
+    /// Lets the visitor `look` look at the values of the proper prefixes of `name`, the shortest
+    /// first, and then at the value of `name`, all in one walk.
     pub fn look_along<'a, L: Look<'a, V>>(&'a self, name: Name<'_>, look: &mut L)
         ensures { look.new ≡ taken_along (L.seen true) (L.seen false) look.old
             (map.get self.now.table) [] (components name.entry) }
@@ -126,8 +128,8 @@ impl<V: Timed + Drop> TimedMap<V> {
         look_along(&self.nodes, self.root, name, look);
     }
 
-    /// Sets the value of a name to the value that `how` computes from the old one, which may be
-    /// absent.
+    /// Sets the value of `name` to the value that the rule `how` computes from the old value of
+    /// `name`, which may be absent.
     pub fn put_with<B: Becomes<V> + Drop>(&mut self, name: Name<'_>, how: B) -> Result<(), Memory>
         ensures ok { OnOk result (self.new.table ≡ map.insert self.old.table
             (components name.entry)
@@ -152,7 +154,7 @@ impl<V: Timed + Drop> TimedMap<V> {
         Ok(())
     }
 
-    /// Prepares one `put_with` of this name, so that the call cannot run out of memory.
+    /// Prepares one `put_with` of `name`, so that this `put_with` cannot run out of memory.
     pub fn prepare(&mut self, name: Name<'_>) -> Result<(), Memory>
         ensures table { self.new.table ≡ self.old.table }
         ensures ok { OnOk result (self.new.prepared ≡ Some (components name.entry)) }
@@ -174,9 +176,9 @@ impl<V: Timed + Drop> TimedMap<V> {
         Ok(())
     }
 
-    /// Changes or removes the values whose deadline is `now` or earlier, as `how` says. `how` must
-    /// keep all other values unchanged, and each value that it returns must have a deadline later
-    /// than `now`.
+    /// Changes or removes every value whose deadline is `now` or earlier, as the rule `how` says.
+    /// `how` must keep all other values unchanged. Each value that `how` returns must have a
+    /// deadline later than `now`.
     pub fn expire<C: Change<V>>(&mut self, now: u64, how: &C)
         requires idle { (v : V) → now < V.timer v → C.change how.now v ≡ Some v }
         requires later { (v w : V) → C.change how.now v ≡ Some w → now < V.timer w }
@@ -195,7 +197,7 @@ impl<V: Timed + Drop> TimedMap<V> {
         );
     }
 
-    /// Changes or removes each value, as `how` says.
+    /// Changes or removes each value, as the rule `how` says.
     pub fn change_all<C: Change<V>>(&mut self, how: &C)
         ensures table { self.new.table ≡ revise (C.change how.now) self.old.table }
         ensures prepared { self.new.prepared ≡ self.old.prepared }
@@ -211,7 +213,7 @@ impl<V: Timed + Drop> TimedMap<V> {
         );
     }
 
-    /// Changes or removes the value of a name, if it has one, as `how` says.
+    /// Changes or removes the value of `name`, if this name has a value, as the rule `how` says.
     pub fn change<C: Change<V>>(&mut self, name: Name<'_>, how: &C)
         ensures table { self.new.table ≡ with_value self.old.table (components name.entry)
             (option_and_then (C.change how.now) (map.get self.old.table (components name.entry))) }
@@ -225,9 +227,10 @@ impl<V: Timed + Drop> TimedMap<V> {
         prune(&mut self.nodes, &mut self.root, k, kept);
     }
 
-    /// Lets the visitor `how` change or remove the values of a name's proper prefixes, the shortest
-    /// first, and then the value of the name, in one walk. Returns whether an extension of the name
-    /// by one component, with a type number of at most `kind`, may have a value.
+    /// Lets the visitor `how` change or remove the values of the proper prefixes of `name`, the
+    /// shortest first, and then the value of `name`, all in one walk. Returns whether some
+    /// extension of `name` by one component, whose type number is at most `kind`, may have a value.
+    /// If the result is false, no such extension has a value.
     pub fn take_along<T: Take<V>>(&mut self, name: Name<'_>, kind: u16, how: &mut T) -> bool
         ensures changed { (q : List Field) → map.get self.new.table q ≡ option_and_then
             (changed_along (T.left true) (T.left false) q (components name.entry))
@@ -254,8 +257,8 @@ impl<V: Timed + Drop> TimedMap<V> {
         below
     }
 
-    /// Lets the visitor `how` change or remove the value of `name` extended by `component`. The
-    /// visitor is called with `is_own` set to true.
+    /// Lets the visitor `how` change or remove the value of the name that extends `name` by
+    /// `component`. The visitor is called with `is_own` set to true.
     pub fn take_below<T: Take<V>>(&mut self, name: Name<'_>, component: Component<'_>, how: &mut T)
         ensures table { self.new.table ≡ with_value self.old.table
             (components name.entry ++ field_of component.entry ∷ [])

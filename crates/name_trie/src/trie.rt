@@ -31,8 +31,8 @@ pub struct NameTrie<V> {
     alloc: Global,
     nodes: Slab<Node<V>>,
     root: Option<usize>,
-    // The reserved name, which is the name of the prepared call, and its node. The reserved node is
-    // not removed.
+    // The reserved name, for which a call is prepared, and the node of this name. The reserved node
+    // is not removed.
     held: Option<(NameBuf, usize)>,
 }
 
@@ -56,7 +56,7 @@ impl<V> Model for NameTrie<V> {
         × IsTidy (get m.nodes) (option_map (λ p. p.1) m.held) };
 }
 
-/// Sets the value of a name. Returns whether the name had no value.
+/// Sets the value of a name. Returns whether the name had no value before.
 fn put_value<V: Drop>(
     alloc: Global,
     nodes: &mut Slab<Node<V>>,
@@ -81,8 +81,8 @@ fn put_value<V: Drop>(
     Ok(is_new)
 }
 
-/// Sets the value of a name to the value that `how` computes from the old one, which may be absent.
-/// Returns whether the name had no value.
+/// Sets the value of `name` to the value that the rule `how` computes from the old value of `name`,
+/// which may be absent. Returns whether `name` had no value before.
 fn put_value_with<V: Drop, B: Becomes<V> + Drop>(
     alloc: Global,
     nodes: &mut Slab<Node<V>>,
@@ -143,9 +143,10 @@ impl<V: Drop> NameTrie<V> {
         longest(&self.nodes, self.root, name)
     }
 
-    /// Sets the value of a name. Returns whether the name had no value. Each call of `put`, even
-    /// one that fails, ends the preparation by `prepare`. Returns `Memory` only for a name that has
-    /// no value and is not prepared. On `Memory`, the values are unchanged.
+    /// Sets the value of a name. Returns whether the name had no value before. Each call of `put`,
+    /// even a call that fails, ends the preparation that `prepare` made. Returns `Memory` only for
+    /// a name that has no value and is not prepared. If the result is `Memory`, the values are
+    /// unchanged.
     pub fn put(&mut self, name: Name<'_>, value: V) -> Result<bool, Memory>
         ensures added { IfOk result (λ is_new. is_new
             ≡ is_none (map.get self.old.table (components name.entry))) }
@@ -162,7 +163,8 @@ impl<V: Drop> NameTrie<V> {
         result
     }
 
-    /// Prepares one `put` or `put_with` of this name, so that the call cannot run out of memory.
+    /// Prepares one `put` or `put_with` of `name`, so that this `put` or `put_with` cannot run out
+    /// of memory.
     pub fn prepare(&mut self, name: Name<'_>) -> Result<(), Memory>
         ensures table { self.new.table ≡ self.old.table }
         ensures ok { OnOk result (self.new.prepared ≡ Some (components name.entry)) }
@@ -175,7 +177,7 @@ impl<V: Drop> NameTrie<V> {
         Ok(())
     }
 
-    /// Cancels the prepared call.
+    /// Ends the preparation, if a call is prepared.
     pub fn forget_prepared(&mut self)
         ensures table { self.new.table ≡ self.old.table }
         ensures prepared { self.new.prepared ≡ None }
@@ -203,8 +205,8 @@ impl<V: Drop> NameTrie<V> {
 }
 
 impl<V: Drop> NameTrie<V> {
-    /// Changes or removes the value of a name, if it has one, as `how` says. Returns whether the
-    /// value was removed.
+    /// Changes or removes the value of `name`, if this name has a value, as the rule `how` says.
+    /// Returns whether the value was removed.
     pub fn change<C: Change<V>>(&mut self, name: Name<'_>, how: &C) -> bool
         ensures table { self.new.table ≡ with_value self.old.table (components name.entry)
             (option_and_then (C.change how.now) (map.get self.old.table (components name.entry))) }
@@ -220,7 +222,7 @@ impl<V: Drop> NameTrie<V> {
         went
     }
 
-    /// Changes or removes each value, as `how` says. Returns the number of removed values.
+    /// Changes or removes each value, as the rule `how` says. Returns the number of removed values.
     pub fn change_all<C: Change<V>>(&mut self, how: &C) -> usize
         ensures table { self.new.table ≡ revise (C.change how.now) self.old.table }
         ensures prepared { self.new.prepared ≡ self.old.prepared }
@@ -230,8 +232,8 @@ impl<V: Drop> NameTrie<V> {
         change_all(&mut self.nodes, &mut self.root, kept, how)
     }
 
-    /// Sets the value of a name to the value that `how` computes from the old one, which may be
-    /// absent. Returns whether the name had no value.
+    /// Sets the value of `name` to the value that the rule `how` computes from the old value of
+    /// `name`, which may be absent. Returns whether `name` had no value before.
     pub fn put_with<B: Becomes<V> + Drop>(&mut self, name: Name<'_>, how: B) -> Result<bool, Memory>
         ensures added { IfOk result (λ is_new. is_new
             ≡ is_none (map.get self.old.table (components name.entry))) }
@@ -251,8 +253,9 @@ impl<V: Drop> NameTrie<V> {
 }
 
 impl<V: Drop> NameTrie<V> {
-    /// Shows the visitor `see` the values of a name's proper prefixes, the shortest first, and then
-    /// the value of the name. Adds one to `steps` for each search among the children of a node.
+    /// Passes to the visitor `see` the values of the proper prefixes of `name`, the shortest first,
+    /// and then the value of `name`. Adds one to `steps` for each search among the children of a
+    /// node.
     pub fn see_along<S: See<V>>(&self, name: Name<'_>, steps: &mut u64, see: &mut S)
         requires { steps.old + 64 < 2 ^ 64 }
         ensures seen { see.new ≡ taken_along S.seen S.seen see.old
@@ -263,15 +266,15 @@ impl<V: Drop> NameTrie<V> {
         see_along(&self.nodes, self.root, name, steps, see);
     }
 
-    /// Shows the visitor `see` all values, in the canonical order of their names.
+    /// Passes all values to the visitor `see`, in the canonical order of their names.
     pub fn see_all<S: See<V>>(&self, see: &mut S)
         ensures { see.new ≡ fold S.seen see.old (map.values self.now.table) }
     {
         see_all(&self.nodes, self.root, see);
     }
 
-    /// Shows the visitor `show` all names that have a value, in canonical order, each with the
-    /// state of the walk at that name.
+    /// Passes to the visitor `show` all names that have a value, in canonical order. Each name is
+    /// passed with the state of the walk at this name.
     pub fn show_all<W: Carry<V> + Drop, S: Show<W>>(
         &self,
         before: &W,

@@ -44,8 +44,8 @@ step-requires-clause-room g c =
     let whole : path.0 ++ (x ∷ rest) ≡ components c.args.name = ap (λ l. path.0 ++ l) (sym c.in-Some.ensures.steps) ∙ path.1 in
     (path.0, omega (arith, length-append path.0 (x ∷ rest), ap length whole, c.args.name.spelled.1.0), path.2)
 
--- if the whole name led to a node before the call, the child for the next component exists, and the
--- components after the next component lead from this child to a node
+-- if the whole name led to a node before the call, then the child for the next component exists,
+-- and the components after the next component lead from this child to a node
 next_known : (g : given.Over) (c : After-step g) → IsSome (walk (get c.args.nodes.now) c.args.root.now (components c.args.name))
     → IsSome (walk (get c.loop-component.nodes) (child (get c.loop-component.nodes) c.loop-component.at (field_of c.in-Some.component)) (components_left c.next.new.self))
 next_known g c some =

@@ -17,8 +17,8 @@ put_timed-requires-clause-node g c =
 pub put_timed-requires-clause-empty : goal.put_timed-requires-clause-empty
 put_timed-requires-clause-empty g c = c.take_timed-old.ensures.turns.here
 
--- memory for the timer is available: it was reserved if the node had no value, and it was freed by
--- removing the old timer if the node had a value
+-- memory for the timer is available: the memory was reserved if the node had no value, and removing
+-- the old timer freed the memory if the node had a value
 pub put_timed-requires-clause-room : goal.put_timed-requires-clause-room
 put_timed-requires-clause-room g c =
     elim c.take_timed-old.result as (λ o. c.take_timed-old.result ≡ o → set.len c.take_timed-old.new.timers.timers < c.take_timed-old.new.timers.capacity) [
