@@ -18,7 +18,8 @@ use ndn_tlv::{nni_len, put_nni};
 pub enum ValueText<'a> {
     /// The octets of the value themselves.
     Plain(&'a [u8]),
-    /// Octets and percent escapes. The octets that they encode begin with the value.
+    /// A text that may have percent escapes. The octets that this text encodes begin with the
+    /// value.
     Escaped(&'a [u8]),
     /// Two hexadecimal digits for each octet of the value.
     Hexadecimal(&'a [u8]),

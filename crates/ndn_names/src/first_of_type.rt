@@ -43,8 +43,9 @@ pub(crate) fn first_of_type(octets: &[u8], kind: u16) -> Result<Option<FirstOfTy
     Ok(found)
 }
 
-/// Returns the search result after reading one more component of the type that is searched for.
-/// `found` is the search result before this component.
+/// Adds one more component of the searched type to the search result `found`, and returns the new
+/// search result. `value` is the TLV-VALUE of this component. `is_last` tells whether this
+/// component is the last one of the name.
 #[inline(always)]
 fn with_another<'a>(
     found: Option<FirstOfType<'a>>,

@@ -65,8 +65,8 @@ impl<'a> Name<'a> {
         Ok(Name { octets: value })
     }
 
-    /// Reads a name as `read` does. Returns the name, and its first component of type `kind` or
-    /// `None` if no component has this type.
+    /// Reads a name as `read` does. Returns the name and its first component of type `kind`. The
+    /// second result is `None` if no component has this type.
     #[inline(always)]
     pub fn read_finding(
         value: &'a [u8],

@@ -61,9 +61,9 @@ impl NameBuf {
 
     /// Appends a component with the type `kind` and the value `value`.
     ///
-    /// If the component is refused, the name does not change, and the first fault in this order is
-    /// returned: `TooManyComponents` if the name has 64 components, `BadComponent` for type 0,
-    /// `BadDigestLength`, `Memory`.
+    /// If the component cannot be appended, the name does not change. In this case, the first fault
+    /// that applies is returned, in this order: `TooManyComponents` if the name has 64 components,
+    /// `BadComponent` for type 0, `BadDigestLength`, `Memory`.
     pub fn append(&mut self, kind: u16, value: &[u8]) -> Result<(), NameFault>
         ensures ok { OnOk result (self.new ≡ self.old ++ (kind, value.now) ∷ []) }
         ensures err { OnErr result (self.new ≡ self.old) }

@@ -165,7 +165,7 @@ fn paths_are_equal(a: &str, b: &str) -> bool
 }
 
 /// Returns whether two URI texts read as the same name, even if their spellings differ. Nothing is
-/// allocated. A text that `NameBuf::from_uri` refuses is not equal to any text.
+/// allocated. If `a` or `b` does not read as a name, the result is false.
 pub fn uris_are_equal(a: &str, b: &str) -> bool
     ensures { IsTrue result ↔ ((cs : List Field) × ReadsAs a.now cs × ReadsAs b.now cs) }
 {

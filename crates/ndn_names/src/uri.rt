@@ -119,7 +119,8 @@ impl NameBuf {
         ensures reads_back { IfOk result (λ text. ReadsAs (string_bytes text) self.now) }
     {
         // The proof of `reads_back` uses the contract of `as_octets`: the returned octets are the
-        // TLV-VALUE of the name. They are below 256, so the octets of all values are below 256.
+        // TLV-VALUE of the name. These octets are below 256, so the octets in the values of all
+        // components are below 256.
         let octets = self.view().as_octets();
         Ok(Name { octets }.to_string(alloc)?)
     }

@@ -21,8 +21,9 @@ const SPARE: usize = 16;
 /// Reads the URI text of one component, for example `A` or `seg=5`. Returns the type and the value
 /// of the component.
 ///
-/// Returns the same faults as `NameBuf::from_uri` for the component: `BadDigestLength` for `1=` or
-/// `2=` with other than 32 octets, and `BadUri` for everything else, including a slash. Returns
+/// Returns the same faults as `NameBuf::from_uri` for the component. A text with a slash has the
+/// fault `BadUri`. Without a slash, the fault is `BadDigestLength` if the text after `1=` or `2=`
+/// encodes a value that does not have 32 octets. Every other fault of the text is `BadUri`. Returns
 /// `Memory` only if the text reads as a component.
 pub fn component_from_uri(alloc: Global, text: &str) -> Result<(u16, Vec<u8>), NameFault>
     // The text reads as the returned component.
@@ -55,7 +56,8 @@ fn read_component(alloc: Global, text: &str) -> Result<(u16, Vec<u8>), NameFault
     Ok((component.kind, value))
 }
 
-/// Returns the text without the scheme `ndn:`, if the text begins with this scheme.
+/// Returns the text without the scheme `ndn:` at its start. A text that does not begin with this
+/// scheme is returned unchanged.
 fn without_scheme(text: &str) -> &str
     ensures { result.now ≡ read.without_scheme text.now }
 {
@@ -75,8 +77,8 @@ pub(crate) fn first_piece(text: &str) -> (&str, &str)
     }
 }
 
-/// Returns the number of components in the name that the pieces between slashes read as. Returns
-/// the first fault if the pieces are not a name.
+/// Returns the number of components in the name that the pieces of `text` between slashes read as.
+/// Returns the first fault if the pieces are not a name.
 fn count_pieces(text: &str) -> Result<usize, NameFault>
     ensures { let name_in = read.components_in 0 (read.pieces_of text.now) in
         MatchResult result (λ n. (cs : List Field) × (name_in ≡ Ok cs) × (n ≡ length cs))
@@ -96,7 +98,7 @@ fn count_pieces(text: &str) -> Result<usize, NameFault>
     Ok(count)
 }
 
-/// Appends the TLV-VALUE of the name that the pieces between slashes read as.
+/// Appends the TLV-VALUE of the name that the pieces of `text` between slashes read as.
 fn put_pieces(out: &mut Vec<u8>, text: &str) -> Result<(), NameFault>
     ensures { let name_in = read.components_in 0 (read.pieces_of text.now) in
         MatchResult result (λ _. read.Adds octets_of name_in out.old.items out.new.items)
@@ -116,7 +118,7 @@ fn put_pieces(out: &mut Vec<u8>, text: &str) -> Result<(), NameFault>
     Ok(())
 }
 
-/// Appends the component that a piece reads as, including its type and length.
+/// Appends the component that `piece` reads as, including the type and length of the component.
 fn put_component(out: &mut Vec<u8>, piece: &str) -> Result<(), NameFault>
     ensures { let found = read.component_in piece.now in
         MatchResult result (λ _. read.Adds element found out.old.items out.new.items)
@@ -192,9 +194,9 @@ impl NameBuf {
     /// scheme `ndn:` and end with a slash.
     ///
     /// Returns the first fault in text order. The fault of the 65th component is always
-    /// `TooManyComponents`. The fault of `1=` or `2=` with other than 32 octets is
-    /// `BadDigestLength`. Every other fault of the text is `BadUri`. Returns `Memory` only if the
-    /// text reads as a name.
+    /// `TooManyComponents`. The fault of an earlier component is `BadDigestLength` if the
+    /// component's text after `1=` or `2=` encodes a value that does not have 32 octets. Every
+    /// other fault of the text is `BadUri`. Returns `Memory` only if the text reads as a name.
     pub fn from_uri(alloc: Global, text: &str) -> Result<NameBuf, NameFault>
         // The text reads as the returned name.
         ensures found { IfOk result (λ name. ReadsAs text.now name) }

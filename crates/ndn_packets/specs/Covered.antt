@@ -10,8 +10,8 @@ use Rattle.ndn_names.specs.declared.first_of_type.FirstOfType.{FirstOfType}
 use Rattle.ndn_packets.specs.Packet.{PlainSignature, PlainFrame, AnInterest, AData, ANack, Idle}
 use Rattle.ndn_packets.specs.declared.types.TheConstants.{APPLICATION_PARAMETERS, DATA, INTEREST, INTEREST_SIGNATURE_INFO, INTEREST_SIGNATURE_VALUE, SIGNATURE_VALUE}
 
--- The octets are cut before the first element of type `kind`. `before` consists of whole elements
--- of other types. `from` begins with the element of type `kind`.
+-- `octets` are `before` followed by `from`. `before` consists of whole elements, none of which has
+-- type `kind`. `from` begins with an element of type `kind`.
 pub record IsCut (kind : ℕ) (octets before from : List ℕ) : Type 0 where
   pub others : List Field
   pub value : List ℕ
@@ -35,20 +35,20 @@ from_within (suc n) kind octets =
 unfoldable pub from_first : ℕ → List ℕ → Option (List ℕ)
 from_first kind octets = from_within (length octets) kind octets
 
--- The signature of a Data covers the octets from the Name of the Data up to, but not including, the
--- SignatureValue.
+-- `covered` are the octets that the signature of the Data `text` covers: the octets from the Name
+-- of the Data up to, but not including, the SignatureValue.
 pub record CoversData (text covered : List ℕ) : Type 0 where
   pub value : List ℕ
   pub from_signature : List ℕ
   pub outer : IsElement text DATA value
   pub cut : IsCut SIGNATURE_VALUE value covered from_signature
 
--- The signature of an Interest covers two parts. The first part is the components of the name
--- before the digest of parameters, which is the last component. The second part is the octets from
--- the ApplicationParameters up to, but not including, the InterestSignatureValue. If the Interest
--- has several ApplicationParameters elements, the first of them counts. After these
--- ApplicationParameters, the first InterestSignatureInfo counts. After this InterestSignatureInfo,
--- the first InterestSignatureValue counts.
+-- The signature of the Interest `text` covers two parts. The first part, `first`, is the components
+-- of `name` before the digest of parameters, which is the last component of `name`. The second
+-- part, `second`, is the octets from the ApplicationParameters up to, but not including, the
+-- InterestSignatureValue. If the Interest has several ApplicationParameters elements, the first of
+-- them counts. After these ApplicationParameters, the first InterestSignatureInfo counts. After
+-- this InterestSignatureInfo, the first InterestSignatureValue counts.
 pub record CoversInterest (name : List Field) (text first second : List ℕ) : Type 0 where
   pub components : List Field
   pub digest : List ℕ
@@ -76,7 +76,7 @@ Covered (ANack reason whole i) first second = ⊥
 Covered Idle first second = ⊥
 
 -- the two parts are the octets that the signature of the packet covers; if there are no parts, the
--- signature covers nothing
+-- packet has no covered octets
 abbrev pub AreParts : PlainFrame → Option Parts → Type 0
 AreParts packet None = (first second : List ℕ) → Covered packet first second → ⊥
 AreParts packet (Some parts) = Covered packet parts.first.now parts.second.now
@@ -113,8 +113,8 @@ pub record EndsAtSignature (name : List Field) (value text first second : List �
 
 -- ---- the covered octets that a reader finds
 
--- `second` is the second part that the signature of an Interest with this name covers; if `second`
--- is absent, the signature covers nothing
+-- `second` is the second part of the octets that the signature of the Interest `text` covers; the
+-- name of this Interest is `name`; if `second` is absent, the Interest has no covered octets
 abbrev pub HoldsSecond : List Field → List ℕ → Option (List ℕ) → Type 0
 HoldsSecond name text None = (first second : List ℕ) → CoversInterest name text first second → ⊥
 HoldsSecond name text (Some second) = (first : List ℕ) × CoversInterest name text first second
@@ -129,9 +129,9 @@ IsSignedAt octets from_parameters from_value =
     × (from_first INTEREST_SIGNATURE_INFO from_parameters ≡ Some from_info)
     × (from_first INTEREST_SIGNATURE_VALUE from_info ≡ Some from_value)
 
--- the octets `from_parameters` without the octets `from_value` at their end; or `None` if the
--- Interest has no signature, or if the first digest of parameters in its name is missing or is not
--- the last component
+-- the octets `from_parameters` without the octets `from_value` at their end; or `None` in three
+-- cases: the Interest has no signature, its name has no digest of parameters, or the first digest
+-- of parameters is not the last component of the name
 abbrev pub second_part : Option PlainSignature → Option FirstOfType → List ℕ → List ℕ
     → Option (List ℕ)
 second_part None digest from_parameters from_value = None

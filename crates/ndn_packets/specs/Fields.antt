@@ -6,7 +6,7 @@ use Rattle.std.specs.List.{AllByRecursion}
 use Rattle.ndn_tlv.specs.Element.{Field}
 use Rattle.ndn_packets.specs.declared.types.TheConstants.{APPLICATION_PARAMETERS, CAN_BE_PREFIX, CONTENT, CONTENT_TYPE, FINAL_BLOCK_ID, FORWARDING_HINT, FRESHNESS_PERIOD, HOP_LIMIT, INTEREST_LIFETIME, INTEREST_SIGNATURE_INFO, INTEREST_SIGNATURE_VALUE, KEY_LOCATOR, META_INFO, MUST_BE_FRESH, NONCE, SIGNATURE_INFO, SIGNATURE_NONCE, SIGNATURE_SEQ_NUM, SIGNATURE_TIME, SIGNATURE_TYPE, SIGNATURE_VALUE, VALIDITY_PERIOD}
 
--- the types of elements that are ignored if they are not fields: even types from 32 on
+-- the even types from 32 on; an element of such a type is ignored if the element is not a field
 abbrev pub is_even_high : ℕ → Bool
 is_even_high kind = nat_le 32 kind && (kind % 2 == 0)
 
@@ -41,9 +41,9 @@ info_schema =
 abbrev pub needs_previous_field : ℕ → Bool
 needs_previous_field kind = kind == INTEREST_SIGNATURE_INFO || kind == INTEREST_SIGNATURE_VALUE
 
--- A field of type `kind` may come next, where `schema` lists the types that may still come. `later`
--- are the types after `kind` in `schema`. If `kind` needs the previous field, `kind` must be the
--- first type in `schema`.
+-- `schema` lists the types of the fields that may still come. A field of type `kind` may come next.
+-- `later` are the types after `kind` in `schema`. If `needs_previous_field` is true of `kind`,
+-- `kind` must be the first type in `schema`.
 abbrev pub Counts : ℕ → List ℕ → List ℕ → Type 0
 Counts kind later schema =
     (front : List ℕ) × (schema ≡ front ++ kind ∷ later) × AllByRecursion (λ k. k ≢ kind) front
@@ -51,8 +51,8 @@ Counts kind later schema =
 
 -- `fields` are the fields of a schema among `elements`. An element is a field if the schema lists
 -- its type after the types of all earlier fields. If `needs_previous_field` is true of the type of
--- an element, the schema must list this type directly after the type of the last earlier field.
--- Every element that is not a field must have a type that is ignored.
+-- an element, the element is a field only if the schema lists this type directly after the type of
+-- the last earlier field. Every element that is not a field must have a type that is ignored.
 abbrev pub Fields : (ℕ → Bool) → List ℕ → List Field → List Field → Type 0
 Fields ignores schema [] fields = fields ≡ []
 Fields ignores schema (e ∷ elements) fields =

@@ -8,8 +8,9 @@ use Rattle.ndn_packets.specs.declared.fault.PacketFault.TheVariants.{Tlv, Critic
 use Rattle.ndn_packets.specs.Fields.{Counts}
 use Rattle.ndn_packets.specs.Reading.{fields_from, read_fields}
 
--- Each element is either ignored, or a field of the schema whose value `take` accepts. After the
--- elements, the types in `later` may still come, and `t` is the state.
+-- Each element is either ignored, or is a field of the schema. `take` accepts every one of these
+-- fields. `later` lists the types that may still come after the last element. `t` is the state
+-- after the last element.
 abbrev pub Passes : {S : Type 0} → (S → Field → Result S PacketFault) → (ℕ → Bool) → List ℕ → S
     → List Field → List ℕ → S → Type 0
 Passes take ignores schema s [] later t = (later ≡ schema) × (t ≡ s)
@@ -19,7 +20,8 @@ Passes {S} take ignores schema s (e ∷ elements) later t =
     ⊎ (((next : List ℕ) → Counts e.0 next schema → ⊥) × (ignores e.0 ≡ true)
     × Passes take ignores schema s elements later t)
 
--- All elements can be read and satisfy `Passes`, and `t` is the state after them.
+-- All elements can be read, and `plain` is the list of these elements. They satisfy `Passes`, and
+-- `t` is the state after the last element.
 abbrev pub AllPass : {S : Type 0} → (S → Field → Result S PacketFault) → (ℕ → Bool) → List ℕ → S
     → List (Result Field TlvFault) → List Field → S → Type 0
 AllPass {S} take ignores schema s elements plain t =

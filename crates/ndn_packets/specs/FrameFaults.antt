@@ -1,4 +1,4 @@
--- The first fault of a frame, defined by the elements of the frame and without `framed_at`
+-- The first fault of a frame. The definitions use the elements of the frame, but not `framed_at`
 -- (NDNLPv2, "Packet Format", "Fragmentation", "Network Nack", "PIT Token").
 use Rattle.std.specs.Prelude.{◌≡◌, ◌≢◌, ◌⊎◌, ℕ, ◌<◌, ◌≤◌, List, [], ◌∷◌, ◌++◌, length, map, Option, None, Some, IsSome, Result, Ok, Err, IsErr, false}
 use Rattle.std.specs.List.{AllByRecursion}

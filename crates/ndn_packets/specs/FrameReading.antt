@@ -76,8 +76,8 @@ no_headers_yet = record {
 abbrev pub is_token : List ℕ → Bool
 is_token value = nat_le 1 (length value) && nat_le (length value) 32
 
--- whether a header field is refused: a known field may come once only, a token has 1 to 32 octets,
--- and `is_ignored_header` must be true of the type of an unknown field
+-- whether a header field is refused: a known field may come only once, a PIT token must have 1 to
+-- 32 octets, and `is_ignored_header` must be true of the type of an unknown field
 abbrev pub is_refused_header : LinkSoFar → Field → Bool
 is_refused_header s h =
     if h.0 == SEQUENCE then s.sequence else (
@@ -92,8 +92,8 @@ is_refused_header s h =
 abbrev pub at_most : ℕ → List ℕ → LinkSoFar → Result LinkSoFar PacketFault
 at_most limit value s = nni_value_at value >>= λ n. if nat_lt limit n then Err Fragmented else Ok s
 
--- the state after one more header field that is not refused, or the fault in the value of this
--- field
+-- adding the header field `h`, which is not refused, to the state `s` gives the new state, or the
+-- fault in the value of `h`
 abbrev pub with_header : LinkSoFar → Field → Result LinkSoFar PacketFault
 with_header s h =
     if h.0 == SEQUENCE then Ok (record s { sequence = true }) else (

@@ -14,7 +14,8 @@ use Rattle.ndn_packets.specs.declared.types.TheConstants.{APPLICATION_PARAMETERS
 
 -- The text is one element of type `kind`. The text has at most 8,800 octets. The value of the
 -- element begins with a Name whose value is `name_value`. `fields` are the fields of the schema
--- among the elements after the Name. All other elements are ignored.
+-- among the elements after the Name. An element after the Name that is not a field must have a type
+-- that is ignored.
 pub record IsPacket (text : List ℕ) (kind : ℕ) (ignores : ℕ → Bool) (schema : List ℕ)
     (name_value : List ℕ) (fields : List Field) : Type 0 where
   pub value : List ℕ
@@ -25,13 +26,14 @@ pub record IsPacket (text : List ℕ) (kind : ℕ) (ignores : ℕ → Bool) (sch
   pub short : length text ≤ 8800
   pub octets : (i : ℕ) → slice_index text i < 256
 
--- if there is a value, it encodes the number n as a NonNegativeInteger; without a value, n is
--- `None`
+-- If there is a value, the value encodes a number as a NonNegativeInteger, and `n` is this number.
+-- If there is no value, `n` is `None`.
 abbrev pub IsNumber : Option (List ℕ) → Option ℕ → Type 0
 IsNumber None n = n ≡ None
 IsNumber (Some value) n = (k : ℕ) × IsNni value k × (n ≡ Some k)
 
--- if there is a value, it is one octet, and n is this octet; without a value, n is `None`
+-- If there is a value, the value is one octet, and `n` is this octet. If there is no value, `n` is
+-- `None`.
 abbrev pub IsOctet : Option (List ℕ) → Option ℕ → Type 0
 IsOctet None n = n ≡ None
 IsOctet (Some value) n = (k : ℕ) × (value ≡ k ∷ []) × (n ≡ Some k)

@@ -14,9 +14,10 @@ use Rattle.ndn_packets.specs.declared.types.TheConstants.{HOP_LIMIT}
 abbrev pub HasHopLimit : List ℕ → ℕ → Type 0
 HasHopLimit text limit = (i : PlainInterest) × IsInterest text i × (i.hop_limit ≡ Some limit)
 
--- The index of the HopLimit's octet in the Interest `text`. The octets `from` are the end of `text`
--- that begins with the HopLimit element. The HopLimit's octet is the third octet of this element,
--- after the type and the length. If there is no HopLimit, the result is the length of `text`.
+-- The index of the HopLimit's octet in the Interest `text`. The octets `from` are the octets of
+-- `text` from the start of the HopLimit element to the end. The HopLimit's octet is the third octet
+-- of this element, after the type and the length. If there is no HopLimit, the result is the length
+-- of `text`.
 abbrev pub place_from : List ℕ → Option (List ℕ) → ℕ
 place_from text None = length text
 place_from text (Some from) = (length text - length from) + 2

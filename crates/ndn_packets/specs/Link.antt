@@ -50,13 +50,14 @@ IsHeader h =
 abbrev pub headers_of : ℕ → List Field → List Field
 headers_of kind headers = filter (λ h. h.0 == kind) headers
 
--- the reason of the Nack among the header fields, if there is a Nack
+-- the optional number is the reason of the Nack among the header fields, or `None` if there is no
+-- Nack
 abbrev pub IsNackOf : List Field → Option ℕ → Type 0
 IsNackOf headers None = headers_of NACK headers ≡ []
 IsNackOf headers (Some reason) =
     (value : List ℕ) × (headers_of NACK headers ≡ (NACK, value) ∷ []) × IsNack value reason
 
--- the PIT token among the header fields, if there is one
+-- `token` is the PIT token among the header fields, or `None` if there is no PIT token
 abbrev pub IsTokenOf : List Field → Option (List ℕ) → Type 0
 IsTokenOf headers token = headers_of PIT_TOKEN headers ≡ optional PIT_TOKEN token
 
@@ -75,9 +76,9 @@ pub record IsLinkPacket (text : List ℕ) (token : Option (List ℕ)) (nack : Op
   pub short : length text ≤ 9000
   pub octets : (i : ℕ) → slice_index text i < 256
 
--- A frame with an optional PIT token. An Interest or a Data alone is a frame without a token. Every
--- other frame is a link packet. A link packet contains a Data, an Interest, an Interest and a Nack,
--- or neither a Fragment nor a Nack.
+-- The octets `text` are this frame, with the optional PIT token `token`. An Interest or a Data
+-- alone is a frame without a token. Every other frame is a link packet. A link packet contains a
+-- Data, an Interest, an Interest and a Nack, or neither a Fragment nor a Nack.
 abbrev pub IsFrameWith : List ℕ → Option (List ℕ) → PlainFrame → Type 0
 IsFrameWith text token (AnInterest whole i) =
     IsInterest whole i

@@ -42,15 +42,16 @@ pub record PlainData : Type 0 where
   pub content : Option (List ℕ)
   pub signature : PlainSignature
 
--- The content of a frame: a packet with its received octets, or nothing. The received octets are
--- the packet's own element, without the link packet around it.
+-- The content of a frame: an Interest, a Data, a Nack for an Interest, or nothing. `whole` is the
+-- received octets of the Interest or of the Data: the packet's own element, without the link packet
+-- around the packet.
 pub data PlainFrame : Type 0 where
   AnInterest : (whole : List ℕ) (interest : PlainInterest) → PlainFrame
   AData : (whole : List ℕ) (packet : PlainData) → PlainFrame
   ANack : (reason : ℕ) (whole : List ℕ) (interest : PlainInterest) → PlainFrame
   Idle : PlainFrame
 
--- a frame with its PIT token, if it has one
+-- a frame and its PIT token; `token` is `None` if the frame has no PIT token
 pub record PlainFramed : Type 0 where
   pub token : Option (List ℕ)
   pub frame : PlainFrame
@@ -58,7 +59,7 @@ pub record PlainFramed : Type 0 where
 abbrev pub framed_with : Option (List ℕ) → PlainFrame → PlainFramed
 framed_with token frame = record { token = token; frame = frame }
 
--- an Interest as a frame, or a Nack for the Interest if a reason is given
+-- if a reason is given, the Nack with this reason for the Interest; otherwise, the Interest itself
 abbrev pub interest_frame : Option ℕ → List ℕ → PlainInterest → PlainFrame
 interest_frame None whole i = AnInterest whole i
 interest_frame (Some reason) whole i = ANack reason whole i

@@ -49,7 +49,7 @@ NameFault (Ok e ∷ later) fault =
     ((e.0 ≢ NAME) × (fault ≡ NoName))
     ⊎ ((e.0 ≡ NAME) × IsErr (name_at e.1) × (fault ≡ BadField))
 
--- The fault of the digests of parameters in a name, where `elements` follow the name.
+-- The fault of the digests of parameters in a name. `elements` are the elements after the Name.
 -- `DigestWithout`: there are no ApplicationParameters, but the name has a digest of parameters.
 -- `DigestMissing`: there are ApplicationParameters, but the name has no digest of parameters.
 -- `DigestWrong`: there are ApplicationParameters, but the name has a wrong digest of parameters, or

@@ -35,7 +35,8 @@ fields_from ignores schema (Ok e ∷ elements) =
     (if ignores e.0 then fields_from ignores schema elements else Err CriticalUnknown ∷ [])
     (schema_after e.0 schema)
 
--- the state after all fields are read in order, or the first fault
+-- Reads the fields in order. `take` reads one field and changes the state. The result is the state
+-- after the last field, or the first fault.
 abbrev pub read_fields : {S : Type 0} → (S → Field → Result S PacketFault) → S
     → List (Result Field PacketFault) → Result S PacketFault
 read_fields take s [] = Ok s
@@ -51,8 +52,8 @@ name_first [] = Err NoName
 name_first (Err f ∷ elements) = Err (Tlv f)
 name_first (Ok e ∷ elements) = if e.0 == NAME then Ok (e.1, elements) else Err NoName
 
--- the components of the name with this TLV-VALUE, or the fault `BadField` if the value is not a
--- name
+-- the components of the name that has the TLV-VALUE `value`, or the fault `BadField` if no name has
+-- this TLV-VALUE
 abbrev pub name_value_at : List ℕ → Result (List Field) PacketFault
 name_value_at value = on_result (λ name. Ok name) (λ _. Err BadField) (name_at value)
 
@@ -69,7 +70,8 @@ abbrev pub is_nil : {A : Type 0} → List A → Bool
 is_nil [] = true
 is_nil (x ∷ xs) = false
 
--- the number that a value encodes as a NonNegativeInteger, or the fault `BadField`
+-- the number that a value encodes as a NonNegativeInteger, or the fault `BadField` if the value is
+-- not a NonNegativeInteger
 abbrev pub nni_value_at : List ℕ → Result ℕ PacketFault
 nni_value_at value = on_result (λ n. Ok n) (λ _. Err BadField) (nni_at value)
 
@@ -77,9 +79,9 @@ abbrev pub found_or : {A : Type 0} → PacketFault → Option A → Result A Pac
 found_or fault None = Err fault
 found_or fault (Some x) = Ok x
 
--- The freshness after a field of a MetaInfo is read, or the fault `BadField`. Only a
--- FreshnessPeriod changes the freshness. A ContentType must be a number. The only other field of a
--- MetaInfo, the FinalBlockId (type 26), is not checked.
+-- Reading the field `f` of a MetaInfo gives the new freshness, or the fault `BadField`. `freshness`
+-- is the freshness before this field. Only a FreshnessPeriod changes the freshness. A ContentType
+-- must be a number. The only other field of a MetaInfo, the FinalBlockId (type 26), is not checked.
 abbrev pub take_meta_field : ℕ → Field → Result ℕ PacketFault
 take_meta_field freshness f =
     if f.0 == CONTENT_TYPE then (nni_value_at f.1 >>= λ _. Ok freshness) else (

@@ -40,8 +40,8 @@ plain_framed f = record { token = option_map (λ t. t.now) f.token; frame = plai
 
 -- `IsReadInterest` states that the received octets of an Interest in memory are this Interest in
 -- the grammar. `IsReadData` states that the received octets of a Data in memory are this Data in
--- the grammar. Every packet in memory satisfies its statement, because packets in memory are
--- created only by reading.
+-- the grammar. Every Interest in memory satisfies `IsReadInterest`, and every Data in memory
+-- satisfies `IsReadData`, because packets in memory are created only by reading.
 abbrev pub IsReadInterest : Interest → Type 0
 IsReadInterest i = IsInterest i.whole.now (plain_interest i)
 

@@ -70,7 +70,8 @@ abbrev pub parameters_of : Option Sign → Option (List ℕ) → Option (List �
 parameters_of None parameters = parameters
 parameters_of (Some signed) parameters = Some (unwrap_or parameters [])
 
--- the fields that the signature of an Interest covers after the components of the Interest's name
+-- the signature of an Interest covers the components of the Interest's name, followed by these
+-- fields
 abbrev pub covered_fields : InterestWriter → Sign → List Field
 covered_fields w signed =
     (APPLICATION_PARAMETERS, unwrap_or (option_map (λ p. p.now) w.parameters) [])
@@ -141,9 +142,9 @@ SignsInterest w signed =
 abbrev pub is_bad_name : List Field → Bool
 is_bad_name name = is_nil name || not (is_nil (digests_in name))
 
--- Why an Interest is refused, or `None`. `BadName`: the name is empty or has a digest of
--- parameters. `TooLong`: the written name has more than 64 components, or the Interest has more
--- than 8,800 octets. A lack of memory is not considered.
+-- Why an Interest is refused, or `None` if the Interest is not refused. `BadName`: the name is
+-- empty or has a digest of parameters. `TooLong`: the written name has more than 64 components, or
+-- the Interest has more than 8,800 octets. A lack of memory is not considered.
 abbrev pub interest_refusal : InterestWriter → Option WriteFault
 interest_refusal w =
     if is_bad_name (components w.name) then Some BadName else (
@@ -224,8 +225,8 @@ data_asked w =
     plain_data_of w.sign (components w.name) (unwrap_or w.freshness 0) (meta_asked w)
     (content_asked w)
 
--- why a Data is refused: `TooLong` if it has more than 8,800 octets, or `None`; a lack of memory is
--- not considered
+-- why a Data is refused: `TooLong` if the Data has more than 8,800 octets, otherwise `None`; a lack
+-- of memory is not considered
 abbrev pub data_refusal : DataWriter → Option WriteFault
 data_refusal w = if nat_lt 8800 (length (data_text w)) then Some TooLong else None
 
@@ -257,7 +258,8 @@ SignsReply name content =
 abbrev pub nack_field : ℕ → List ℕ
 nack_field reason = element (NACK, element (NACK_REASON, shortest_nni reason))
 
--- a link packet that has a Nack with the reason `reason`, and the octets `interest` as its Fragment
+-- a link packet that consists of a Nack with the reason `reason` and a Fragment whose value is the
+-- octets `interest`
 abbrev pub nack_text : ℕ → List ℕ → List ℕ
 nack_text reason interest =
     element (

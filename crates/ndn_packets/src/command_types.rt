@@ -3,15 +3,15 @@
 
 ghost use Rattle.std.specs.Prelude.{◌≡◌};
 
-/// The parameters of a command to a node, and the body of the reply (NFD Management, "Control
-/// Command", ControlParameters).
+/// The type of the parameters of a command to a node, and of the body of the reply (NFD Management,
+/// "Control Command", ControlParameters).
 pub const CONTROL_PARAMETERS: u32 = 104;
 
-/// The parameters of a command to a repository (repo-ng, RepoCommandParameter).
+/// The type of the parameters of a command to a repository (repo-ng, RepoCommandParameter).
 pub const REPO_COMMAND_PARAMETER: u32 = 201;
 
-/// The fields of ControlParameters, except the Name (NFD Management, "Control Command",
-/// ControlParameters).
+/// The types of the fields of ControlParameters, except the Name (NFD Management, "Control
+/// Command", ControlParameters).
 pub const FACE_ID: u32 = 105;
 
 pub const COST: u32 = 106;
@@ -26,21 +26,22 @@ pub const ORIGIN: u32 = 111;
 
 pub const COUNT: u32 = 132;
 
-/// The reply of a node, and the fields of this reply (NFD Management, "Control Command",
-/// ControlResponse).
+/// The types of the reply of a node and of the fields of this reply (NFD Management, "Control
+/// Command", ControlResponse).
 pub const CONTROL_RESPONSE: u32 = 101;
 
 pub const STATUS_CODE: u32 = 102;
 
 pub const STATUS_TEXT: u32 = 103;
 
-/// The reply of a repository, and the status code in this reply (repo-ng, RepoCommandResponse).
+/// The types of the reply of a repository and of the status code in this reply (repo-ng,
+/// RepoCommandResponse).
 pub const REPO_COMMAND_RESPONSE: u32 = 207;
 
 pub const REPO_STATUS_CODE: u32 = 208;
 
-/// An entry of a dataset, and a next hop in an entry (NFD Management, "FIB Dataset", "Strategy
-/// Choice Dataset").
+/// The types of an entry of a dataset and of a next hop in an entry (NFD Management, "FIB Dataset",
+/// "Strategy Choice Dataset").
 pub const ENTRY: u32 = 128;
 
 pub const NEXT_HOP: u32 = 129;

@@ -46,7 +46,7 @@ impl<'a> FieldReader<'a> {
     }
 
     /// Returns the next field, or `None` if no field is left. An element that is not a field is
-    /// ignored if the rules allow it, and is otherwise refused as `CriticalUnknown`.
+    /// ignored if the rules allow this. Otherwise, the element has the fault `CriticalUnknown`.
     #[inline(always)]
     pub fn next(&mut self) -> Result<Option<Element<'a>>, PacketFault>
         ensures walk { IsNextField self.old self.new result }
@@ -70,7 +70,8 @@ impl<'a> FieldReader<'a> {
     }
 }
 
-/// Returns the types of `schema` after the type `kind`, if a field of type `kind` may come next.
+/// Returns the types of `schema` after the type `kind`, or `None` if a field of type `kind` may not
+/// come next.
 #[inline(always)]
 fn rest_of_schema(schema: &[u32], kind: u32) -> Option<&[u32]>
     ensures { option_map (λ s. s.now) result ≡ schema_after kind schema.now }
@@ -148,8 +149,9 @@ pub fn number(value: &[u8]) -> Result<u64, PacketFault>
     nni_of(value).map_err(|_| PacketFault::BadField)
 }
 
-/// Law: the readers of an Interest, a Data, a MetaInfo, a SignatureInfo and a Nack report the first
-/// fault among the fields. All elements before the faulty element are valid fields or are ignored.
+/// Law: the readers of the fields of an Interest, a Data, a MetaInfo, a SignatureInfo and a Nack
+/// report the first fault among the elements. All elements before the faulty element are valid
+/// fields or are ignored.
 pub fn fields_tell_the_first_fault()
     ensures interest { TellsFirstFault take_interest_field is_even_high interest_schema
         no_fields_yet }
@@ -161,8 +163,9 @@ pub fn fields_tell_the_first_fault()
 {}
 
 /// Law: the readers of a packet's value and of a SignatureInfo report the first fault. In an
-/// Interest or a Data, a fault of the Name comes first, then the first fault among the fields, then
-/// a missing field. In an Interest, a fault of the digest of its parameters comes last.
+/// Interest or a Data, a fault of the Name comes first, then the first fault among the elements
+/// after the Name, then a missing field. In an Interest, a fault of the digest of its parameters
+/// comes last.
 pub fn packets_tell_the_first_fault()
     ensures interest { (value : List ℕ) (fault : PacketFault) → (interest_at value ≡ Err fault)
         ↔ InterestFault (elements_of value) fault }

@@ -141,8 +141,8 @@ fn put_locator(out: &mut Vec<u8>, sign: Sign<'_>) -> Result<(), Memory>
     Ok(())
 }
 
-/// Appends a SignatureInfo, or an InterestSignatureInfo. If memory runs out, some octets may have
-/// been appended.
+/// Appends a SignatureInfo or an InterestSignatureInfo: the TLV-TYPE is `kind`. If memory runs out,
+/// some octets may have been appended.
 pub fn put_info(
     out: &mut Vec<u8>,
     kind: u32,

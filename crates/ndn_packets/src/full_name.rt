@@ -69,8 +69,8 @@ impl FullName {
         self.octets.as_slice().cmp(other.octets.as_slice())
     }
 
-    /// Returns whether the two full names are equal. Digests are compared before names, because the
-    /// digests of different Data mostly differ in the first octet.
+    /// Returns whether the two full names are equal. The digests are compared before the whole full
+    /// names, because the digests of different Data usually differ in their first octet.
     pub fn is_same(&self, other: &FullName) -> bool
         ensures { result ≡ eq_by_cmp name_cmp (all_components self.now) (all_components other.now) }
     {
@@ -134,7 +134,7 @@ impl FullName {
         name.as_octets() == &octets[..octets.len() - DIGEST_COMPONENT_LEN]
     }
 
-    /// Returns whether `name` is the full name, with or without its digest.
+    /// Returns whether `name` is the full name, or is the full name without its digest.
     pub fn is_named(&self, name: Name<'_>) -> bool
         ensures { IsTrue result ↔ ((components name.entry ≡ self.now.name)
             ⊎ (components name.entry ≡ all_components self.now)) }

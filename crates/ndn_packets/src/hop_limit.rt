@@ -20,8 +20,8 @@ pub fn hop_limit_mut(octets: &mut [u8]) -> Option<&mut u8>
     // octet is the value of this HopLimit.
     ensures found { IfSome result (λ limit. HasHopLimit octets.entry.now limit.now) }
     ensures only { (limit : ℕ) → HasHopLimit octets.entry.now limit → IsSome result }
-    // After any octet is written in place of the HopLimit's octet, the octets are the same Interest
-    // with the new HopLimit.
+    // Writing any octet in place of the HopLimit's octet gives the same Interest, except that the
+    // written octet is its HopLimit.
     ensures still { (i : PlainInterest) (old limit : ℕ) → limit < 256
         → IsInterest octets.entry.now i → i.hop_limit ≡ Some old
         → IsInterest (with_octet octets.entry.now limit) (with_limit i limit) }

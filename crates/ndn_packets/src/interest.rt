@@ -51,7 +51,8 @@ pub struct Interest<'a> {
     /// are at most 8,800 of these octets.
     pub whole: &'a [u8],
     /// The second part of the octets that the signature covers. This part begins with the
-    /// ApplicationParameters. `None` means that the signature covers nothing.
+    /// ApplicationParameters. `None` means that the Interest is not signed, or that the digest of
+    /// parameters is not the last component of the name.
     pub(crate) covered: Option<&'a [u8]>,
     ghost covers: { ∥ HoldsSecond (components name) whole.now
         (option_map (λ c. c.now) covered) ∥₁ },
@@ -157,9 +158,9 @@ impl<'a> Interest<'a> {
     }
 }
 
-/// Returns the fault of the digests of parameters in a name, if they have a fault. `digest` is the
-/// first digest of parameters in the name. `from_parameters` are the octets from the
-/// ApplicationParameters on.
+/// Returns the fault of the digests of parameters in a name, or `None` if there is no such fault.
+/// `digest` is the first digest of parameters in the name. `from_parameters` are the octets from
+/// the ApplicationParameters on.
 #[inline(always)]
 fn digest_fault(
     digest: Option<FirstOfType<'_>>,
@@ -184,8 +185,9 @@ fn digest_fault(
     }
 }
 
-/// Returns the covered octets from the ApplicationParameters up to the InterestSignatureValue, if
-/// there is a signature and the digest of parameters is the name's last component.
+/// Returns the covered octets from the ApplicationParameters up to, but not including, the
+/// InterestSignatureValue. Returns `None` if there is no signature, if the name has no digest of
+/// parameters, or if the first digest of parameters is not the name's last component.
 #[inline(always)]
 fn second_part<'a>(
     signature: Option<Signature<'_>>,
@@ -208,8 +210,8 @@ fn second_part<'a>(
     }
 }
 
-/// Returns the signature, if the Interest has an InterestSignatureInfo and an
-/// InterestSignatureValue.
+/// Returns the signature, or `None` if the Interest does not have both an InterestSignatureInfo and
+/// an InterestSignatureValue.
 #[inline(always)]
 fn signature_of<'a>(
     info: Option<SignatureInfo<'a>>,

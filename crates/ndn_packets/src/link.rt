@@ -158,8 +158,8 @@ pub(crate) fn read_link(value: &[u8]) -> Result<Framed<'_>, PacketFault>
     }
 }
 
-/// Reads the packet in a Fragment. If `nack` is the reason of a Nack, the packet must be an
-/// Interest.
+/// Reads the packet in a Fragment. If the link packet has a Nack, `nack` is the reason of this
+/// Nack, and the packet must be an Interest.
 fn fragment_of(nack: Option<u64>, fragment: &[u8]) -> Result<Frame<'_>, PacketFault>
     ensures { on_result (λ f. Ok (plain_frame f)) Err result ≡ fragment_at nack fragment.now }
 {
@@ -205,13 +205,13 @@ pub fn put_lp(
         + length (lp_text (option_map (λ t. t.now) token.entry) nack packet.now)
         ≤ vec_capacity out.old → IsOk result }
     ensures capacity { vec_capacity out.old ≤ vec_capacity out.new }
-    // If `packet` is one Interest, the appended octets are a frame with this Interest, the token
-    // and the Nack.
+    // If `packet` is one Interest, the appended octets are a frame with this Interest, and with the
+    // token and the Nack if they are given.
     ensures reads_back { (i : PlainInterest) → IsInterest packet.now i
         → IsFramed (lp_text (option_map (λ t. t.now) token.entry) nack packet.now)
         (framed_with (option_map (λ t. t.now) token.entry) (interest_frame nack packet.now i)) }
-    // If `packet` is one Data and there is no Nack, the appended octets are a frame with this Data
-    // and the token.
+    // If `packet` is one Data and no Nack is given, the appended octets are a frame with this Data,
+    // and with the token if it is given.
     ensures reads_back_data { (d : PlainData) → IsData packet.now d → nack ≡ None
         → IsFramed (lp_text (option_map (λ t. t.now) token.entry) nack packet.now)
         (framed_with (option_map (λ t. t.now) token.entry) (AData packet.now d)) }

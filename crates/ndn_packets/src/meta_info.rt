@@ -10,7 +10,8 @@ use crate::types::{CONTENT_TYPE, FINAL_BLOCK_ID, FRESHNESS_PERIOD};
 const FIELDS: [u32; 3] = [CONTENT_TYPE, FRESHNESS_PERIOD, FINAL_BLOCK_ID];
 
 #[tactic(auto, unfolding(crate::specs::Reading::meta_at))]
-/// Returns the FreshnessPeriod of a MetaInfo in milliseconds, or 0 if the MetaInfo has none.
+/// Returns the FreshnessPeriod of a MetaInfo in milliseconds, or 0 if the MetaInfo has no
+/// FreshnessPeriod.
 pub fn freshness_of(meta: &[u8]) -> Result<u64, PacketFault>
     ensures { result ≡ meta_at meta.now }
 {

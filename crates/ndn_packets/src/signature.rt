@@ -22,7 +22,7 @@ use sha2::{Digest, Sha256};
 pub enum Locator<'a> {
     /// There is no KeyLocator.
     Missing,
-    /// The value is exactly one Name, which may be empty: the name of the key.
+    /// The value is exactly one Name. This Name is the name of the key, and may be empty.
     Name(Name<'a>),
     /// The value is exactly one KeyDigest, of any length.
     Digest,

@@ -7,10 +7,10 @@ pub const INTEREST: u32 = 5;
 
 pub const DATA: u32 = 6;
 
-/// The Name of a packet or of a key.
+/// The type of the Name of a packet or of a key.
 pub const NAME: u32 = 7;
 
-/// The fields of an Interest after its Name, in order.
+/// The types of the fields of an Interest after its Name, in order.
 pub const CAN_BE_PREFIX: u32 = 33;
 
 pub const MUST_BE_FRESH: u32 = 18;
@@ -29,7 +29,7 @@ pub const INTEREST_SIGNATURE_INFO: u32 = 44;
 
 pub const INTEREST_SIGNATURE_VALUE: u32 = 46;
 
-/// The fields of a Data after its Name, in order.
+/// The types of the fields of a Data after its Name, in order.
 pub const META_INFO: u32 = 20;
 
 pub const CONTENT: u32 = 21;
@@ -38,14 +38,14 @@ pub const SIGNATURE_INFO: u32 = 22;
 
 pub const SIGNATURE_VALUE: u32 = 23;
 
-/// The fields of a MetaInfo, in order.
+/// The types of the fields of a MetaInfo, in order.
 pub const CONTENT_TYPE: u32 = 24;
 
 pub const FRESHNESS_PERIOD: u32 = 25;
 
 pub const FINAL_BLOCK_ID: u32 = 26;
 
-/// The fields of a SignatureInfo, in order.
+/// The types of the fields of a SignatureInfo, in order.
 pub const SIGNATURE_TYPE: u32 = 27;
 
 pub const KEY_LOCATOR: u32 = 28;
@@ -63,7 +63,7 @@ pub const VALIDITY_PERIOD: u32 = 253;
 /// The type of the element that a KeyLocator may have instead of a Name.
 pub const KEY_DIGEST: u32 = 29;
 
-/// A link packet and its fields (NDNLPv2, "Packet Format").
+/// The types of a link packet and of its fields (NDNLPv2, "Packet Format").
 pub const LINK_PACKET: u32 = 100;
 
 pub const FRAGMENT: u32 = 80;
@@ -78,7 +78,7 @@ pub const PIT_TOKEN: u32 = 98;
 
 pub const NACK: u32 = 800;
 
-/// The field of a Nack (NDNLPv2, "Network Nack").
+/// The type of the field of a Nack (NDNLPv2, "Network Nack").
 pub const NACK_REASON: u32 = 801;
 
 /// The SignatureType of DigestSha256 (NDN Packet Format 0.3, "DigestSha256").

@@ -73,7 +73,7 @@ pub fn nni_element_len(kind: u32, number: u64) -> usize
 }
 
 #[tactic(auto, using(crate::proofs::Lengths::element_lengths))]
-/// Returns the length of an element in octets.
+/// Returns the length in octets of the element with the type `kind` and the value `value`.
 pub fn element_len(kind: u32, value: &[u8]) -> usize
     ensures exact { result ≡ length (element (kind, value.now)) }
     ensures small { result < 2 ^ 63 + 18 }

@@ -6,7 +6,7 @@ use thiserror::Error;
 /// or `NotShortest` for the length, and then `Truncated` for the value.
 #[derive(Clone, Copy, Debug, PartialEq, Eq, Error)]
 pub enum TlvFault {
-    /// Octets are missing, or there are none at all.
+    /// Octets are missing, or there are no octets at all.
     #[error("the octets end inside a number or an element")]
     Truncated,
     /// A number takes more octets than necessary.

@@ -7,8 +7,8 @@ ghost use Rattle.ndn_tlv.specs.Fields.{first_of, single};
 
 use crate::element::first_element;
 
-/// Returns the element's value if the octets are exactly one element of type `kind`, or `None` if
-/// they are not.
+/// Returns the element's value if the octets are exactly one element of type `kind`. Otherwise
+/// returns `None`.
 pub fn single_element(octets: &[u8], kind: u32) -> Option<&[u8]>
     ensures exact { option_map (λ v. v.now) result ≡ single kind (elements_of octets.now) }
     ensures short { IfSome result (λ v. length v.now ≤ length octets.now) }

@@ -7,8 +7,8 @@ ghost use Rattle.ndn_tlv.specs.Reading.{number_at, long_number_at, NumberFault, 
 use crate::fault::TlvFault;
 use crate::memory::Memory;
 
-/// Reads the number in the first two octets of `octets`. An octet 253 comes before `octets`.
-/// Returns the number and the octets after these two octets.
+/// Reads the number in the first two octets of `octets`. The octet before `octets` is 253. Returns
+/// the number and the octets after these two octets.
 fn two_octets(octets: &[u8]) -> Result<(u64, &[u8]), TlvFault>
     ensures { on_result (λ x. Ok (x.0, x.1.now)) Err result ≡ long_number_at w16 253 octets.now }
 {
@@ -72,7 +72,7 @@ pub(crate) fn leading_number(octets: &[u8]) -> Result<(u64, &[u8]), TlvFault>
 /// Reads the VAR-NUMBER at the front of the octets. Returns the number and the octets after it (NDN
 /// Packet Format 0.3, "Type-Length-Value (TLV) Encoding").
 ///
-/// Returns `Truncated` if the octets end before the number does, or are empty, and `NotShortest` if
+/// Returns `Truncated` if the octets are empty or end inside the number. Returns `NotShortest` if
 /// the number has a shorter form.
 pub fn number_of(octets: &[u8]) -> Result<(u64, &[u8]), TlvFault>
     // The octets are the shortest encoding of the returned number, followed by the returned
