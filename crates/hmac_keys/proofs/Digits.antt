@@ -15,7 +15,7 @@ use Rattle.ndn_names.proofs.TextReading.{hex_length}
 digit_again : (c : ℕ) → digit_value c < 16 → hex_digit_value c ≡ Some (digit_value c)
 digit_again c h = grind arith
 
--- the characters 0 to 9 have a digit value below 16
+-- the characters `0` to `9` have a digit value below 16
 decimal_digit : (c : ℕ) → 48 ≤ c → c < 58 → digit_value c < 16
 decimal_digit c a b = grind arith
 

@@ -5,8 +5,8 @@ use Rattle.std.specs.Int.Bits.{bit_or, bit_xor, xor_zero_r, xor_self, xor_assoc,
 use Rattle.std.proofs.lemmas.List.{length-take, length-map, length-drop, take_more_same, get_or-take, take-take}
 use Rattle.hmac_keys.specs.Mac.{xor_each}
 
--- combining the first i octets with the pad keeps the length, so the index i is still within the
--- block
+-- combining the first i octets of a block with the pad keeps the block's length, so the index i is
+-- still within the block
 pub combined_len : (old now : List ℕ) (pad i : ℕ) → i < length old → now ≡ xor_each pad (take i old) ++ drop i old → i < length now
 combined_len old now pad i lt e =
     omega (arith, lt, simp (length-append, length-map, length-take, length-drop) at (ap length e))

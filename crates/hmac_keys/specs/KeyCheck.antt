@@ -9,7 +9,7 @@ use Rattle.ndn_tlv.specs.Options.{on_option}
 use Rattle.hmac_keys.specs.KeyReading.{at_last_space, name_of, has_name, after_line}
 use Rattle.hmac_keys.specs.declared.fault.KeyFault.{KeyFault}
 
--- the line is not skipped, and has this name before its last space
+-- the line is not skipped, and the text before its last space is a URI of this name
 abbrev pub line_has_name : List Field → List ℕ → Bool
 line_has_name name line =
     if is_skipped line then false else
@@ -23,13 +23,13 @@ lines_have_name name lines = list_any (line_has_name name) lines
 abbrev pub HaveNames : List (List ℕ) → List NamedKey → Type 0
 HaveNames lines keys = (name : List Field) → lines_have_name name lines ≡ has_name name keys
 
--- `line`, which has number `before + 1` and follows lines with the keys `keys`, has no fault; the
--- lines up to and including `line` have `count` keys
+-- Let `line` have number `before + 1`, and let `keys` be the keys of the lines before `line`.
+-- `line` has no fault, and the lines up to and including `line` have `count` keys.
 abbrev pub AreReadAfter : ℕ → List NamedKey → List ℕ → ℕ → Type 0
 AreReadAfter before keys line count =
     (all : List NamedKey) × (after_line (before + 1) keys line ≡ Ok all) × (count ≡ length all)
 
--- `line`, which has number `before + 1` and follows lines with the keys `keys`, has the fault
--- `fault`
+-- Let `line` have number `before + 1`, and let `keys` be the keys of the lines before `line`.
+-- `line` has the fault `fault`.
 abbrev pub IsFaultAfter : ℕ → List NamedKey → List ℕ → KeyFault → Type 0
 IsFaultAfter before keys line fault = after_line (before + 1) keys line ≡ Err fault

@@ -36,7 +36,7 @@ pub record IsKeyLine (line : List ℕ) (key : NamedKey) : Type 0 where
   pub some : 1 ≤ length key.1
   pub few : length key.1 ≤ 256
 
--- the keys of the lines that are not skipped, in order
+-- `keys` are the keys of the lines that are not skipped, in the order of the lines
 abbrev pub AreKeysOf : List (List ℕ) → List NamedKey → Type 0
 AreKeysOf [] keys = keys ≡ []
 AreKeysOf (line ∷ lines) keys =

@@ -47,7 +47,7 @@ abbrev pub has_name : List Field → List NamedKey → Bool
 has_name name [] = false
 has_name name (key ∷ keys) = is_eq (name_cmp key.0 name) || has_name name keys
 
--- The list `keys` followed by `key`, which is the key of line n, or a fault. The fault is
+-- Either the list `keys` followed by `key`, or a fault. `key` is the key of line n. The fault is
 -- `TwiceNamed n` if `keys` has a key with the same name as `key`, and `TooMany` if `keys` has 256
 -- keys with other names.
 abbrev pub with_key : ℕ → List NamedKey → NamedKey → Result (List NamedKey) KeyFault
@@ -56,8 +56,8 @@ with_key n keys key =
     if length keys == 256 then Err TooMany else
     Ok (keys ++ key ∷ []))
 
--- the list `keys` followed by the key of line n, if this line is not skipped, or the fault of line
--- n
+-- The list `keys` followed by the key of `line`, or the fault of `line`. If `line` is skipped, the
+-- result is `keys`. The number of `line` is n.
 abbrev pub after_line : ℕ → List NamedKey → List ℕ → Result (List NamedKey) KeyFault
 after_line n keys line =
     if is_skipped line then Ok keys else on_option (with_key n keys) (Err (BadLine n)) (key_in line)

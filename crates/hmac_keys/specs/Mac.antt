@@ -2,12 +2,12 @@
 use Rattle.std.specs.Prelude.{ℕ, ◌-◌, List, ◌++◌, length, map, replicate, bit_xor, nat_lt, if◌then◌else◌}
 use Rattle.sha2.specs.Sha256.{sha256}
 
--- the key, or its SHA-256 hash if it has more than 64 octets
+-- the key, or the SHA-256 hash of the key if the key has more than 64 octets
 abbrev pub short_key : List ℕ → List ℕ
 short_key key = if nat_lt 64 (length key) then sha256 key else key
 
--- the key, or its SHA-256 hash if it has more than 64 octets, padded with zeros to a block of 64
--- octets
+-- the key, or the SHA-256 hash of the key if the key has more than 64 octets; in both cases, zeros
+-- are added at the end to make a block of 64 octets
 abbrev pub block_of : List ℕ → List ℕ
 block_of key = short_key key ++ replicate (64 - length (short_key key)) 0
 

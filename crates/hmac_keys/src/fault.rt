@@ -13,7 +13,7 @@ pub enum KeyFault {
     /// number 0 means that the file is not UTF-8.
     #[error("line {0} does not have a name and the octets of a key, such as /ops/KEY/1 6b6579")]
     BadLine(u64),
-    /// The line has the name of an earlier line's key.
+    /// The key of the line has the same name as the key of an earlier line.
     #[error("line {0} has the name of an earlier key, but each key needs its own name")]
     TwiceNamed(u64),
     /// The line has the 257th key.

@@ -8,14 +8,15 @@ use sha2::{Digest, Sha256};
 /// The length of a block of SHA-256, in octets.
 const BLOCK_LEN: usize = 64;
 
-/// The octet that is combined by XOR with each octet of a key's block for the outer hash.
-/// `INNER_PAD` is the octet for the inner hash.
+/// The outer pad: for the outer hash, each octet of the key's block is combined with this octet by
+/// XOR. `INNER_PAD` is the inner pad, which takes the place of `OUTER_PAD` for the inner hash.
 const OUTER_PAD: u8 = 0x5c;
 
 const INNER_PAD: u8 = 0x36;
 
-/// The inner and the outer hash of a key. The inner hash has read the key's block XOR the inner
-/// pad. The outer hash has read the key's block XOR the outer pad.
+/// The inner and the outer hash of a key. The inner hash has read the key's block, with each octet
+/// combined with the inner pad by XOR. The outer hash has read the key's block, with each octet
+/// combined with the outer pad by XOR.
 #[derive(Drop)]
 pub(crate) struct Blocks {
     inner: Sha256,
@@ -27,7 +28,7 @@ impl Blocks {
     ghost use Rattle.hmac_keys.specs.Mac.{Mac};
     ghost use Rattle.hmac_keys.specs.Started.{AreOf};
 
-    /// Returns the hashes of a key of any length.
+    /// Returns the inner and the outer hash of `key`, which may have any length.
     pub fn of(key: &[u8]) -> Blocks
         ensures { AreOf result key.now }
     {
@@ -36,7 +37,7 @@ impl Blocks {
         combine(&mut block, INNER_PAD);
         let mut inner = Sha256::new();
         inner.update(&block);
-        // Combining with the XOR of both pads removes the inner pad and applies the outer one.
+        // Combining with the XOR of both pads removes the inner pad and applies the outer pad.
         combine(&mut block, INNER_PAD ^ OUTER_PAD);
         let mut outer = Sha256::new();
         outer.update(&block);
@@ -56,7 +57,8 @@ impl Blocks {
         Blocks { inner, outer }
     }
 
-    /// Returns the HMAC of `first` followed by `second`.
+    /// Returns the HMAC of one text, which is `first` followed by `second`. The key is the key that
+    /// the hashes were made from.
     pub fn tag(self, first: &[u8], second: &[u8]) -> [u8; 32]
         ensures { (key : List ℕ) → AreOf self key → result ≡ Mac key (first.now ++ second.now) }
     {
@@ -71,15 +73,17 @@ impl Blocks {
     }
 }
 
-/// Returns the HMAC with SHA-256 of `first` followed by `second`, under a key of any length (RFC
-/// 2104): 32 octets, not truncated. The call never fails, and allocates nothing.
+/// Returns the HMAC with SHA-256 (RFC 2104) of one text, which is `first` followed by `second`. The
+/// key may have any length. The HMAC is not truncated: it has 32 octets. The call never fails, and
+/// allocates nothing.
 pub fn hmac_sha256(key: &[u8], first: &[u8], second: &[u8]) -> [u8; 32]
     ensures { result ≡ Mac key.now (first.now ++ second.now) }
 {
     Blocks::of(key).tag(first, second)
 }
 
-/// Puts the key into a block of zeros. A key longer than the block is hashed first.
+/// Puts the key at the front of a block of zeros. If the key is longer than the block, puts the
+/// SHA-256 hash of the key there instead.
 fn put_key(block: &mut [u8; BLOCK_LEN], key: &[u8])
     requires { block.old ≡ replicate 64 0 }
     ensures { block.new ≡ block_of key.now }
@@ -91,7 +95,7 @@ fn put_key(block: &mut [u8; BLOCK_LEN], key: &[u8])
     }
 }
 
-/// Puts a key of at most 64 octets into a block of zeros.
+/// Puts a key of at most 64 octets at the front of a block of zeros.
 fn put_short(block: &mut [u8; BLOCK_LEN], key: &[u8])
     requires zeros { block.old ≡ replicate 64 0 }
     requires short { length key.now ≤ 64 }
@@ -100,7 +104,7 @@ fn put_short(block: &mut [u8; BLOCK_LEN], key: &[u8])
     block[..key.len()].copy_from_slice(key);
 }
 
-/// Combines each octet with the pad by XOR.
+/// Combines each octet of the block with the pad by XOR.
 fn combine(block: &mut [u8; BLOCK_LEN], pad: u8)
     ensures { block.new ≡ xor_each pad block.old }
 {

@@ -3,8 +3,8 @@
 use crate::hmac::Blocks;
 use std::marker::Model;
 
-/// A key for HMAC with SHA-256. The blocks of the key are hashed only once, even if the key signs
-/// or checks many texts.
+/// A key for HMAC with SHA-256. The key's block, combined with the inner pad and with the outer
+/// pad, is hashed only when the key is made, even if the key signs or checks many texts.
 #[derive(Drop)]
 pub struct HmacKey {
     octets: Vec<u8>,
@@ -42,8 +42,9 @@ impl HmacKey {
         &self.octets
     }
 
-    /// Returns the HMAC with SHA-256 of `first` followed by `second`, under this key (RFC 2104): 32
-    /// octets, not truncated. The call never fails, and allocates nothing.
+    /// Returns the HMAC with SHA-256 (RFC 2104) of one text, which is `first` followed by `second`,
+    /// under this key. The HMAC is not truncated: it has 32 octets. The call never fails, and
+    /// allocates nothing.
     pub fn tag(&self, first: &[u8], second: &[u8]) -> [u8; 32]
         ensures { result ≡ Mac self.now (first.now ++ second.now) }
     {

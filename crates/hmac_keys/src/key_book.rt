@@ -166,7 +166,8 @@ impl KeyBook {
         Ok(())
     }
 
-    /// Returns the octets of the key with exactly this name, if there is one. Nothing is allocated.
+    /// Returns the octets of the key with exactly this name, if the book has such a key. Nothing is
+    /// allocated.
     pub fn find(&self, name: Name<'_>) -> Option<&[u8]>
         ensures { MatchOption result
             ((octets : List ℕ) → IsAmong (components name.entry, octets) self.now → ⊥)
@@ -175,8 +176,8 @@ impl KeyBook {
         Some(self.find_hmac(name)?.octets())
     }
 
-    /// Returns the key with exactly this name, if there is one. The key can compute the HMACs of
-    /// many texts. Nothing is allocated.
+    /// Returns the key with exactly this name, if the book has such a key. The key can compute the
+    /// HMACs of many texts. Nothing is allocated.
     pub fn find_hmac(&self, name: Name<'_>) -> Option<&HmacKey>
         ensures { MatchOption result
             ((octets : List ℕ) → IsAmong (components name.entry, octets) self.now → ⊥)

@@ -1,4 +1,4 @@
-//! Finding the first fault of a key file without allocation.
+//! Finding the first fault of a key file. Nothing is allocated.
 
 ghost use Rattle.std.specs.Prelude.{◌≡◌, ◌+◌, ◌<◌, ◌≤◌, List, Some, None, Ok, Err, IfOk, MatchResult, is_some, length, take};
 ghost use Rattle.ndn_tlv.specs.Element.{Field};
@@ -33,8 +33,8 @@ fn is_key(digits: &str) -> bool
     hex::decode_to_slice(digits.as_bytes(), &mut octets[..len]).is_ok()
 }
 
-/// Returns the URI in line `number`, which is not skipped, or `BadLine` if no key can be read in
-/// this line.
+/// Returns the URI in `line`, or `BadLine` if no key can be read in `line`. This line has number
+/// `number`, and is not a skipped line.
 fn key_uri(number: u64, line: &str) -> Result<&str, KeyFault>
     ensures { MatchResult result
         (λ uri. (key : NamedKey) × (key_in line.now ≡ Some key) × (name_of uri.now ≡ Some key.0))
@@ -52,8 +52,8 @@ fn key_uri(number: u64, line: &str) -> Result<&str, KeyFault>
     Ok(uri)
 }
 
-/// Returns whether the line is not skipped and has, before its last space, the name that `uri`
-/// reads as.
+/// Returns whether the line is not skipped, and the text before its last space is a URI of the name
+/// that `uri` reads as.
 fn has_name(line: &str, uri: &str) -> bool
     ensures { (name : List Field) → name_of uri.now ≡ Some name
         → result ≡ line_has_name name line.now }
@@ -67,7 +67,7 @@ fn has_name(line: &str, uri: &str) -> bool
     }
 }
 
-/// Returns whether one of the first `lines` lines of a text has the name that `uri` reads as.
+/// Returns whether `has_name` is true for `uri` and one of the first `lines` lines of `text`.
 fn have_name(text: &str, lines: u64, uri: &str) -> bool
     ensures { (name : List Field) → name_of uri.now ≡ Some name
         → result ≡ lines_have_name name (take lines (lines_of text.now)) }
@@ -89,7 +89,7 @@ fn have_name(text: &str, lines: u64, uri: &str) -> bool
 }
 
 /// Returns the number of keys in the lines of a text up to and including `line`, or the fault of
-/// `line`. There are `before` lines before `line`, and they have `keys` keys.
+/// `line`. There are `before` lines before `line`, and these lines have `keys` keys.
 fn check_line(text: &str, before: u64, keys: usize, line: &str) -> Result<usize, KeyFault>
     requires short { before < length text.now }
     requires few { keys ≤ 256 }
@@ -112,8 +112,8 @@ fn check_line(text: &str, before: u64, keys: usize, line: &str) -> Result<usize,
     Ok(keys + 1)
 }
 
-/// Returns the first fault of a key file, if it has one. No name is stored: the name in each line
-/// is compared with the names in all earlier lines. There are at most 256 earlier names.
+/// Returns the first fault of a key file, if the file has a fault. No name is stored: the name in
+/// each line is compared with the names in all earlier lines, which are at most 256 names.
 pub(crate) fn check_keys(text: &str) -> Result<(), KeyFault>
     ensures { MatchResult result (λ _. (keys : List NamedKey) × (keys_in text.now ≡ Ok keys))
         (λ fault. keys_in text.now ≡ Err fault) }

@@ -13,8 +13,8 @@ use std::alloc::Global;
 /// The greatest length of a key, in octets.
 pub(crate) const MAX_KEY_LEN: usize = 256;
 
-/// Returns the first line, and the text after its LF. Without an LF, returns the whole text and an
-/// empty text.
+/// Returns the first line, and the text after its LF. If the text has no LF, returns the whole text
+/// and an empty text.
 pub fn first_line(text: &str) -> (&str, &str)
     requires { text.now ≢ [] }
     ensures lines { (lines_of text.now ≡ result.0.now ∷ lines_of result.1.now)
@@ -52,8 +52,8 @@ pub(crate) fn name_of(alloc: Global, number: u64, uri: &str) -> Result<NameBuf, 
     }
 }
 
-/// Returns the octets that the hexadecimal digits in line `number` encode. Returns a fault if the
-/// digits do not encode 1 to 256 octets.
+/// Returns the octets that the hexadecimal digits in line `number` encode. Returns `BadLine` if the
+/// digits do not encode 1 to 256 octets, and `Memory` if memory runs out.
 pub(crate) fn octets_of(alloc: Global, number: u64, digits: &str) -> Result<Vec<u8>, KeyFault>
     ensures { MatchResult result (λ octets. octets_of digits.now ≡ Some octets.items)
         (IsLineFault number (octets_of digits.now)) }

@@ -277,8 +277,8 @@ item_step draft at (o ∷ text) next room e =
           ]
     ]
 
--- if `text` is `$` or empty, it completes the pattern that `whole_of` returns for the draft
--- followed by the implied atoms `after`
+-- if `text` is `$` or empty, `text` completes the pattern that `whole_of` returns for the draft
+-- with the implied atoms `after` added
 end_found : (draft : PlainDraft) (text end : List ℕ) (after : List PlainAtom) (group : Option OpenGroup) (pattern : PlainPattern) → text ≡ end → IsAnchor (codes "$") end after → HasRoom draft group
     → whole_of (record draft { atoms = draft.atoms ++ after }) group ≡ Ok pattern → IsLeft draft group text pattern
 end_found draft text end after (Some group) pattern is ends room e = absurd cc
@@ -466,8 +466,8 @@ unfolding items_within
 step_close n len atoms written groups group text free =
     rw (not_end 41 text (λ e. absurd (omega arith)), other_repeat text free) refl
 
--- `read` is the result of reading `rest` after the atoms `more` are added to the open group and the
--- group is closed
+-- `read` is the result of reading `rest` from the draft in which the atoms `more` have been added
+-- to the open group and this group has been closed
 abbrev IsOn : (len : ℕ) → List PlainAtom → ℕ → List (ℕ × ℕ) → OpenGroup → List PlainAtom → List ℕ → Result PlainPattern PatternFault → Type 0
 IsOn len atoms written groups group more rest read =
     (m : ℕ) × (length rest ≤ m)
@@ -621,12 +621,12 @@ pattern_again text pattern h =
 pub one_pattern : (text : List ℕ) (a b : PlainPattern) → IsPattern text a → IsPattern text b → a ≡ b
 one_pattern text a b p q = done_is a b (sym (pattern_again text a p) ∙ pattern_again text b q)
 
--- the text denotes the pattern that is read
+-- if reading a text gives a pattern, the text denotes this pattern
 pub read_spelled : (text : List ℕ) (r : Result PlainPattern PatternFault) → MatchResult r (λ read. pattern_in text ≡ Ok read) (IsFaultOf (pattern_in text)) → IfOk r (IsPattern text)
 read_spelled text (Ok read) e = pattern_found text read e
 read_spelled text (Err fault) e = tt
 
--- the pattern that the text denotes is read, unless memory runs out
+-- if a text denotes a pattern, reading the text gives this pattern, unless memory runs out
 pub pattern_only : (text : List ℕ) (r : Result PlainPattern PatternFault) → MatchResult r (λ read. pattern_in text ≡ Ok read) (IsFaultOf (pattern_in text))
     → (pattern : PlainPattern) → IsPattern text pattern → MatchResult r (λ read. read ≡ pattern) (λ fault. fault ≡ Memory)
 pattern_only text (Ok read) e pattern h = done_is read pattern (sym e ∙ pattern_again text pattern h)

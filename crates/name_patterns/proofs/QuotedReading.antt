@@ -1,5 +1,5 @@
--- A text between `<` and `>` without special characters is read as a component exactly if the
--- grammar has this component text.
+-- If a text between `<` and `>` contains no special character, the text is read as a component
+-- exactly if the text denotes this component in the grammar.
 use Rattle.std.proofs.Common.{◌≡◌, ◌≢◌, ℕ, ◌<◌, false, eqb, List, [], ◌∷◌, ◌++◌, length, Some, None, Result, Ok, Err, refl, sym, ap, subst, ◌∙◌, append_assoc, codes}
 use Rattle.std.specs.List.{AllByRecursion}
 use Rattle.std.proofs.lemmas.Bool.{eqb-true, or_parts}

@@ -129,8 +129,8 @@ drop_map_end : {X Y : Type 0} (f : X → Y) (xs : List X) → drop (length xs) (
 drop_map_end f [] = refl
 drop_map_end f (x ∷ xs) = drop_map_end f xs
 
--- if the set of the positions from which the empty list has a split is `places`, `places` is also
--- that set for a list of which all atoms are dropped
+-- if `places` are the positions from which the empty list of atoms has a split, `places` are also
+-- the positions from which a list has a split once all its atoms are dropped
 pub after_all : {X : Type 0} (f : X → PlainAtom) (xs : List X) (cs : List Field) (places : ℕ) → AreSplit [] cs places → AreSplit (drop (length xs) (map f xs)) cs places
 after_all f xs cs places are = rw (drop_map_end f xs) are
 
@@ -146,8 +146,8 @@ drop_map f (y ∷ xs) (suc at) x h is = rw next (drop_map f xs at x (omega arith
     next : suc at + 1 ≡ suc (at + 1)
     next = omega arith
 
--- if the rows from index `at + 1` to `n` have the property `P`, and the row at index `at` is set to
--- a row with this property, all rows from `at` to `n` have the property
+-- if the rows from index `at + 1` to `n` have the property `P`, setting the row at index `at` to a
+-- row with this property gives rows that have the property from index `at` to `n`
 pub table_step : {X : Type 0} (P : ℕ → X → Type 0) (rows : List X) (at n : ℕ) (row : X) → at < length rows → P at row
     → ((k : ℕ) → at + 1 ≤ k → k ≤ n → IsSomeAnd (slice_get rows k) (P k)) → (k : ℕ) → at ≤ k → k ≤ n → IsSomeAnd (slice_get (slice_set rows at row) k) (P k)
 table_step P rows at n row room here following k from low =

@@ -138,7 +138,7 @@ pub template_again : (groups : ℕ) (text : List ℕ) (parts : List PlainPart) �
 unfolding template_in
 template_again groups text parts h = parts_again (length text) groups (length text) text parts (omega arith) h
 
--- the template that the text denotes is read, unless memory runs out
+-- if a text denotes a template, reading the text gives this template, unless memory runs out
 pub template_only : (groups : ℕ) (text : List ℕ) (r : Result (List PlainPart) PatternFault) → MatchResult r (λ read. template_in groups text ≡ Ok read) (IsFaultOf (template_in groups text))
     → (parts : List PlainPart) → IsTemplate groups text parts → MatchResult r (λ read. read ≡ parts) (λ fault. fault ≡ Memory)
 template_only groups text (Ok read) e parts h = done_is read parts (sym e ∙ template_again groups text parts h)

@@ -1,4 +1,5 @@
--- The walk over the table, which finds the counts of the greatest split in order.
+-- The walk over the table. From the first atom to the last, the walk finds the count that each atom
+-- has in the greatest split.
 use Rattle.std.proofs.Common.{◌≡◌, ℕ, zero, suc, ◌+◌, ◌^◌, ◌<◌, ◌≤◌, true, List, [], ◌∷◌, ◌++◌, length, map, take, drop, sum, get_or, Option, None, Some, refl, ◌∙◌, arith, inl, inr, length-append}
 use Rattle.std.specs.Prelude.{slice_get, slice_set, IsSomeAnd}
 use Rattle.std.proofs.lemmas.List.{drop-drop, length-drop, length-map, take-append-le, take_all}

@@ -7,7 +7,7 @@ use Rattle.name_patterns.specs.declared.fault.PatternFault.TheVariants.{Syntax, 
 abbrev pub IsFaultOf : {A : Type 0} → Result A PatternFault → PatternFault → Type 0
 IsFaultOf read fault = (read ≡ Err fault) ⊎ (fault ≡ Memory)
 
--- the value if one was read, or the fault `Syntax` at offset `at`
+-- the value that was read, or the fault `Syntax` at offset `at` if no value was read
 abbrev pub read_at : {A : Type 0} → ℕ → Option A → Result A PatternFault
 read_at at (Some x) = Ok x
 read_at at None = Err (Syntax at)

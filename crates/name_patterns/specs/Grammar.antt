@@ -12,7 +12,7 @@ use Rattle.name_patterns.specs.Pattern.{PlainTest, Anything, OneOf, NoneOf, Boun
 abbrev pub is_special : ℕ → Bool
 is_special o = list_any (λ sign. sign == o) (92 ∷ codes "()[]{}*+?^$|")
 
--- the URI text of the valid component `c`, without special characters and without >
+-- `text` is a URI text of the valid component `c`; `text` contains no special character and no >
 abbrev pub IsText : List ℕ → Field → Type 0
 IsText text c =
     AllByRecursion (λ o. (is_special o ≡ false) × (o ≢ 62)) text × ReadsComponent text c
@@ -22,7 +22,7 @@ IsText text c =
 abbrev pub IsQuoted : List ℕ → Field → Type 0
 IsQuoted text c = (inner : List ℕ) × (text ≡ codes "<" ++ (inner ++ codes ">")) × IsText inner c
 
--- components' texts one after another, each between < and >
+-- the texts of the components `cs` in order, each text between < and >
 abbrev pub AreQuoted : List ℕ → List Field → Type 0
 AreQuoted text [] = text ≡ []
 AreQuoted text (c ∷ cs) =
@@ -106,7 +106,8 @@ groups_from n (Group atoms ∷ items) = (n, n + length atoms) ∷ groups_from (n
 abbrev pub IsAnchor : List ℕ → List ℕ → List PlainAtom → Type 0
 IsAnchor sign text atoms = ((text ≡ sign) × (atoms ≡ [])) ⊎ ((text ≡ []) × (atoms ≡ anything ∷ []))
 
--- The text denotes the pattern: items between anchors, with at most 32 written atoms and 9 groups.
+-- The text denotes the pattern: items between anchors, with at most 32 written atoms and at most 9
+-- groups.
 pub record IsPattern (text : List ℕ) (pattern : PlainPattern) : Type 0 where
   pub start : List ℕ
   pub middle : List ℕ

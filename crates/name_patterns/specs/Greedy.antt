@@ -18,12 +18,13 @@ abbrev pub at_most : Option ℕ → ℕ → ℕ
 at_most None n = n
 at_most (Some most) n = min most n
 
--- the number of components that pass the test before the first one that fails
+-- the number of components before the first component that fails the test, or the number of all
+-- components if all pass the test
 abbrev pub run_of : PlainTest → List Field → ℕ
 run_of test cs = prefix_len (passes test) cs
 
 -- `greatest can_take least most` is the greatest `n` from `least` to `most` for which `can_take n`
--- is true, or `None` if there is none
+-- is true, or `None` if there is no such `n`
 unfoldable pub greatest : (ℕ → Bool) → ℕ → ℕ → Option ℕ
 greatest can_take least zero = if (least == 0) && can_take 0 then Some 0 else None
 greatest can_take least (suc n) =
@@ -68,7 +69,7 @@ AreSplit atoms cs places =
     (place : ℕ) → place ≤ length cs
     → has_place places place ≡ is_some (first_count atoms (drop place cs))
 
--- The row of the first of these atoms, or of the end if there are no atoms. `row.split` are the
+-- `row` is the row of the first atom, or of the end if there are no atoms. `row.split` are the
 -- positions from which the atoms have a split. `row.passed` are the positions, all below 64, of the
 -- components that pass the first atom's test.
 abbrev pub IsRow : List PlainAtom → List Field → Row → Type 0

@@ -23,12 +23,12 @@ None >>= f = None
 abbrev pub has_special : List ℕ → Bool
 has_special text = list_any is_special text
 
--- the component that a text encodes, or `None` if it encodes none
+-- the component that a text encodes, or `None` if the text encodes no component
 abbrev pub text_in : List ℕ → Option Field
 text_in text = on_result (λ c. Some c) (λ _. None) (piece_in text)
 
--- A part that is read at the front of a text, whether a component's text in this part contains a
--- special character, and the remaining text.
+-- A part that is read at the front of a text, and the remaining text `rest`. `is_inner` tells
+-- whether a component's text in this part contains a special character.
 pub record FrontPart (A : Type 0) : Type 0 where
   pub part : A
   pub is_inner : Bool
@@ -41,6 +41,7 @@ quoted_in [] = None
 quoted_in (o ∷ text) = if o == 60 then cut_at 62 text else None
 
 -- the end of a list: a closing bracket at the front of the text, and the remaining text, or `None`
+-- if the text does not begin with a closing bracket
 abbrev pub list_end : List ℕ → Option (FrontPart (List Field))
 list_end [] = None
 list_end (o ∷ text) =
@@ -84,7 +85,7 @@ quoted_test_in text = do
         c ← text_in quoted.0
         Some (record { part = OneOf (c ∷ []); is_inner = has_special quoted.0; rest = quoted.1 }))
 
--- the test at the front of the text, or `None` if there is none
+-- the test at the front of the text, or `None` if there is no test at the front
 unfoldable pub test_in : List ℕ → Option (FrontPart PlainTest)
 test_in [] = None
 test_in (o ∷ text) = if o == 91 then bracketed_in text else quoted_test_in (o ∷ text)
@@ -141,7 +142,8 @@ repeat_in (o ∷ text) =
     if o == 63 then Some (record { least = 0; most = Some 1 }, text) else
     Some (once, o ∷ text))))
 
--- the atom at the front of the text, a test with an optional repeat, or `None` if there is none
+-- The atom at the front of the text, or `None` if there is no atom at the front. An atom is a test
+-- with an optional repeat.
 unfoldable pub atom_in : List ℕ → Option (FrontPart PlainAtom)
 atom_in text = do
   test ← test_in text
@@ -160,7 +162,7 @@ pub record PlainDraft : Type 0 where
   pub groups : List (ℕ × ℕ)
   pub open_group : Option OpenGroup
 
--- The draft after the atom at offset `at` is added, and the remaining text. The fault is `Syntax`
+-- The draft with the atom at offset `at` added, and the text after this atom. The fault is `Syntax`
 -- if there is no atom, or if the atom is the 33rd. The fault is `Inner` if the text of the atom has
 -- a special character.
 abbrev pub with_atom : PlainDraft → ℕ → List ℕ → Result (PlainDraft × List ℕ) PatternFault
@@ -177,9 +179,9 @@ with_atom draft at text = on_result
     )))
     Err (read_at at (atom_in text))
 
--- The draft after the opening parenthesis at offset `at`, and `text`, the text after this
--- parenthesis. The fault is `Nested` if a group is already open, and `BadGroup` if there are
--- already nine groups.
+-- The draft in which the opening parenthesis at offset `at` has opened a group, and `text`, which
+-- is the text after this parenthesis. The fault is `Nested` if a group is already open, and
+-- `BadGroup` if there are already nine groups.
 abbrev pub with_open : PlainDraft → ℕ → List ℕ → Option OpenGroup
     → Result (PlainDraft × List ℕ) PatternFault
 with_open draft at text (Some group) = Err (Nested at)
@@ -193,9 +195,10 @@ with_open draft at text None =
       text,
     )
 
--- The draft after the closing parenthesis at offset `at`, and `text`, the text after this
--- parenthesis. If no group is open, the fault is `Syntax`. If a repeat follows the parenthesis, the
--- fault is at offset `at + 1`: `Nested` for a valid repeat, and `Syntax` for an invalid repeat.
+-- The draft in which the closing parenthesis at offset `at` has closed the open group, and `text`,
+-- which is the text after this parenthesis. If no group is open, the fault is `Syntax`. If a repeat
+-- follows the parenthesis, the fault is at offset `at + 1`: `Nested` for a valid repeat, and
+-- `Syntax` for an invalid repeat.
 abbrev pub with_closed : PlainDraft → ℕ → List ℕ → Option OpenGroup
     → Result (PlainDraft × List ℕ) PatternFault
 with_closed draft at text None = Err (Syntax at)
@@ -210,8 +213,8 @@ with_closed draft at text (Some group) =
       text,
     )
 
--- the draft after the item at offset `at`, which is a parenthesis or an atom, and the remaining
--- text, or the fault of this item
+-- Either the draft with the item at offset `at` added and the text after this item, or the fault of
+-- this item. The item is a parenthesis or an atom.
 abbrev pub with_item : PlainDraft → ℕ → List ℕ → Result (PlainDraft × List ℕ) PatternFault
 with_item draft at [] = with_atom draft at []
 with_item draft at (o ∷ text) =
@@ -232,7 +235,7 @@ abbrev pub first_fault : Option OpenGroup → List ℕ → PatternFault → Patt
 first_fault None text fault = fault
 first_fault (Some group) text fault = if is_closed false text then fault else Syntax group.place
 
--- the complete pattern at the end of its text, or a fault if a group is still open
+-- the complete pattern, once its whole text has been read, or a fault if a group is still open
 abbrev pub whole_of : PlainDraft → Option OpenGroup → Result PlainPattern PatternFault
 whole_of draft (Some group) = Err (Syntax group.place)
 whole_of draft None = Ok (record { atoms = draft.atoms; groups = draft.groups })
@@ -241,8 +244,8 @@ whole_of draft None = Ok (record { atoms = draft.atoms; groups = draft.groups })
 abbrev pub with_implied : PlainDraft → PlainDraft
 with_implied draft = record draft { atoms = draft.atoms ++ anything ∷ [] }
 
--- The complete pattern at the end of its text, or a fault if a group is still open. The remaining
--- text is empty or is the anchor `$`. An empty remaining text implies a last atom.
+-- The complete pattern, once all its items have been read, or a fault if a group is still open. The
+-- remaining text is empty or is the anchor `$`. An empty remaining text implies a last atom.
 abbrev pub at_end : PlainDraft → List ℕ → Result PlainPattern PatternFault
 at_end draft [] = whole_of (with_implied draft) draft.open_group
 at_end draft (o ∷ text) = whole_of draft draft.open_group
@@ -268,14 +271,14 @@ items_in len draft text = items_within (length text) len draft text
 abbrev pub begun : PlainDraft
 begun = record { atoms = []; written = 0; groups = []; open_group = None }
 
--- the pattern of a text of length `len`, or its first fault; if the text does not begin with `^`,
--- the first atom is implied
+-- the pattern of a text of length `len`, or the first fault of the text; if the text does not begin
+-- with `^`, the first atom is implied
 abbrev pub pattern_after : ℕ → List ℕ → Result PlainPattern PatternFault
 pattern_after len [] = items_in len (with_implied begun) []
 pattern_after len (o ∷ text) =
     if o == 94 then items_in len begun text else items_in len (with_implied begun) (o ∷ text)
 
--- the pattern of a text, or its first fault
+-- the pattern of a text, or the first fault of the text
 unfoldable pub pattern_in : List ℕ → Result PlainPattern PatternFault
 pattern_in text = pattern_after (length text) text
 

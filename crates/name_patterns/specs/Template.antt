@@ -29,8 +29,9 @@ IsTemplate groups text (part ∷ parts) =
 abbrev pub between : List Field → ℕ × ℕ → List Field
 between cs places = take (places.1 - places.0) (drop places.0 cs)
 
--- the components that a part expands to: its own component, or those of its group in the name; a
--- group without a position expands to none
+-- The components that a part expands to. A component expands to itself. A group expands to the
+-- components between the positions of the group. If `captures` has no positions for the group, the
+-- group expands to no components.
 abbrev pub part_of : List (ℕ × ℕ) → List Field → PlainPart → List Field
 part_of captures cs (OfGroup n) = option_map_or (between cs) (slice_get captures n) []
 part_of captures cs (Single c) = c ∷ []
@@ -39,8 +40,8 @@ part_of captures cs (Single c) = c ∷ []
 abbrev pub expansion_of : List PlainPart → List (ℕ × ℕ) → List Field → List Field
 expansion_of parts captures cs = flat_map (part_of captures cs) parts
 
--- the number of components that a part expands to, given the positions of the groups; it is 0 for a
--- group without a position
+-- the number of components that a part expands to, given the positions of the groups; the number is
+-- 0 for a group without positions
 abbrev pub part_len : List (ℕ × ℕ) → PlainPart → ℕ
 part_len captures (OfGroup n) =
     option_map_or (λ places. places.1 - places.0) (slice_get captures n) 0

@@ -22,7 +22,7 @@ group_in groups at text =
     on_result (λ digit. if nat_lt groups digit.0 then Err (BadGroup at)
     else Ok (OfGroup digit.0, digit.1)) Err (read_at at (digit_in text))
 
--- the component between < and > at the front of the text, or `None` if there is none
+-- the component between < and > at the front of the text, or `None` if there is no such component
 abbrev pub single_in : List ℕ → Option (FrontPart Field)
 single_in text = do
   quoted ← quoted_in text
@@ -37,8 +37,8 @@ single_part_in at text =
     on_result (λ found. if found.is_inner then Err (Inner at)
     else Ok (Single found.part, found.rest)) Err (read_at at (single_in text))
 
--- the part at offset `at`, and the remaining text, or the fault of this part; the group of a part
--- may be at most `groups`
+-- either the part at offset `at` and the text after this part, or the fault of this part; the
+-- number of a group may be at most `groups`
 abbrev pub part_in : ℕ → ℕ → List ℕ → Result (PlainPart × List ℕ) PatternFault
 part_in groups at [] = Err (Syntax at)
 part_in groups at (o ∷ text) =

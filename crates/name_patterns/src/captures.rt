@@ -35,7 +35,7 @@ impl Captures {
         }
     }
 
-    /// Appends the positions of the next group.
+    /// Appends the positions at which the next group begins and ends.
     pub(crate) fn push(&mut self, places: (usize, usize))
         requires { length self.old < 10 }
         ensures { self.new ≡ self.old ++ places ∷ [] }
@@ -44,9 +44,10 @@ impl Captures {
         self.count += 1;
     }
 
-    /// Returns the index of the first component of group `i`, and the index after its last
-    /// component, or `None` if there is no group `i`. The first component of a name has index 0.
-    /// Group 0 is the whole name. The other groups are numbered from 1.
+    /// Returns the positions in the name at which group `i` begins and ends, or `None` if there is
+    /// no group `i`. The group captures the components from the first position up to, but not
+    /// including, the second position. The first component of a name has position 0. Group 0 is the
+    /// whole name. The other groups are numbered from 1.
     pub fn group(&self, i: usize) -> Option<(usize, usize)>
         ensures { result ≡ slice_get self.now i }
     {

@@ -146,7 +146,8 @@ impl Draft {
         self.add_atom(alloc, at, text)
     }
 
-    /// Returns the complete pattern at the end of its text, or a fault if a group is still open.
+    /// Returns the complete pattern, once its whole text has been read, or a fault if a group is
+    /// still open.
     pub fn finish(self) -> Result<Pattern, PatternFault>
         requires { IsDraft 2 (draft_of self) }
         ensures { result ≡ whole_of (draft_of self) self.open_group }

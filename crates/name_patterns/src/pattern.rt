@@ -6,7 +6,7 @@ use crate::search::{Starts, first_split};
 use ndn_names::Name;
 use std::marker::Model;
 
-/// A pattern for names, with at most 32 written atoms and 9 groups.
+/// A pattern for names, with at most 32 written atoms and at most 9 groups.
 #[derive(Debug, Drop)]
 pub struct Pattern {
     pub(crate) atoms: Vec<Atom>,
@@ -52,8 +52,8 @@ impl Pattern {
         ensures found { IfSome result (Match self.now (components name.entry)) }
         // If the result is `None`, the pattern does not match the name.
         ensures none { IfNone result (HasNoSplit self.now.atoms (components name.entry)) }
-        // A template that only uses groups of this pattern can be expanded with the returned
-        // captures.
+        // If a template uses only groups of this pattern, the template can be expanded with the
+        // returned captures.
         ensures there { IfSome result
             (λ captures. (parts : List PlainPart) → NeedAtMost (length self.now.groups) parts
             → AreThere captures (components name.entry) parts) }
@@ -62,8 +62,8 @@ impl Pattern {
         self.matches_counted(name, &mut steps)
     }
 
-    /// Returns what `matches` returns. Each test of an atom against a component adds one to
-    /// `steps`. Each atom, including implied ones, is tested against each component at most once.
+    /// Returns what `matches` returns. Adds one to `steps` each time that a component is tested for
+    /// an atom. For each atom, including implied atoms, each component is tested at most once.
     pub fn matches_counted(&self, name: Name<'_>, steps: &mut u64) -> Option<Captures>
         requires { steps.old + 1000000 < 2 ^ 64 }
         ensures found { IfSome result (Match self.now (components name.entry)) }
@@ -79,8 +79,8 @@ impl Pattern {
         Some(self.captures(&starts, len))
     }
 
-    /// Returns the positions of the groups in a name of `len` components, given the positions
-    /// before each atom.
+    /// Returns the positions of the groups in a name of `len` components. `starts` has the position
+    /// before each atom and the position after the last atom.
     fn captures(&self, starts: &Starts, len: usize) -> Captures
         ensures { result ≡ (0, len) ∷ map
             (λ group. (slice_index starts.now group.0, slice_index starts.now group.1))

@@ -41,7 +41,7 @@ fn first_fault(open_group: Option<OpenGroup>, text: &str, fault: PatternFault) -
 }
 
 /// Reads the items and the last anchor of a pattern. `items` is the text after the first anchor, or
-/// the whole text if this anchor is missing. `len` is the length of the whole text.
+/// the whole text if the first anchor is missing. `len` is the length of the whole text.
 fn read_items(alloc: Global, begun: Draft, len: usize, items: &str) -> Result<Pattern, PatternFault>
     requires limits { read.IsDraft 1 (draft_of begun) }
     requires rest { length items.now ≤ len }
@@ -84,12 +84,12 @@ impl Pattern {
     /// components, each between `<` and `>`, in the brackets `[` and `]` matches any component in
     /// the list. A list between `[^` and `]` matches any component that is not in the list. A
     /// repeat may follow an atom: `*`, `+`, `?`, `{2}`, `{2,}`, `{,4}` or `{2,4}`, with numbers up
-    /// to 64. A pattern has at most 32 written atoms and 9 groups.
+    /// to 64. A pattern has at most 32 written atoms and at most 9 groups.
     ///
-    /// Returns the fault of the leftmost faulty item if the text is not a pattern: see
+    /// If the text is not a pattern, returns the fault of the leftmost faulty item: see
     /// `PatternFault`. A faulty item is an atom with its repeat, a repeat that follows another
     /// repeat or a group, a parenthesis, or a misplaced anchor. A group that is never closed is
-    /// faulty at its parenthesis. `Memory` may be returned for any text.
+    /// faulty at its opening parenthesis. `Memory` may be returned for any text.
     pub fn read(alloc: Global, text: &str) -> Result<Pattern, PatternFault>
         // The text denotes the returned pattern.
         ensures found { IfOk result (IsPattern text.now) }

@@ -8,7 +8,8 @@ ghost use Rattle.name_patterns.specs.Shown.{bounds_of};
 /// The greatest number in a repeat, and the greatest number of components in a name.
 pub const MAX_COUNT: u8 = 64;
 
-/// The least number of components, and the greatest number, which may be absent.
+/// The least number of components that an atom matches, and the greatest number, which may be
+/// absent.
 #[derive(Clone, Copy, Debug)]
 pub struct Repeat {
     pub least: u8,
@@ -59,7 +60,8 @@ fn range_by_comma(low: &str, high: &str) -> Option<Repeat>
     })
 }
 
-/// Returns the range whose text, without the braces, is `text`.
+/// Returns the range whose text, without the braces, is `text`, or `None` if there is no such
+/// range.
 fn range_of(text: &str) -> Option<Repeat>
     ensures { option_map bounds_of result ≡ read.range_in text.now }
 {
@@ -96,8 +98,9 @@ fn braced_repeat(text: &str) -> Option<(Repeat, &str)>
     Some((range_of(range)?, rest))
 }
 
-/// Returns the repeat at the front of the text, and the remaining text. Without a repeat, an atom
-/// matches one component. Returns `None` for braces that do not enclose a range.
+/// Returns the repeat at the front of the text, and the remaining text. If there is no repeat,
+/// returns the repeat of exactly one component, and the whole text. Returns `None` if the text
+/// begins with an opening brace, but not with a range in braces.
 pub fn first_repeat(text: &str) -> Option<(Repeat, &str)>
     ensures read { option_map (λ found. (bounds_of found.0, found.1.now)) result
         ≡ read.repeat_in text.now }

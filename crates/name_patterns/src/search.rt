@@ -35,7 +35,7 @@ struct Row {
 /// One row for each atom, and a last row for the end.
 type Table = [Row; MAX_STARTS];
 
-/// Returns the set `places`, with `place` added if `is_there` is set.
+/// Returns the set `places`, with `place` added if `is_there` is true.
 #[inline(always)]
 fn with_place(places: Places, place: usize, is_there: bool) -> Places
     requires { place ≤ 64 }
@@ -51,7 +51,8 @@ fn with_place(places: Places, place: usize, is_there: bool) -> Places
     }
 }
 
-/// Returns the positions of the components that pass the test, in a name of `len` components.
+/// Returns the positions of those components of `name` that pass the test. `name` has `len`
+/// components.
 fn passed(test: &Test, name: Name<'_>, len: usize, tests: &mut u64) -> Places
     requires len { (len ≡ length (components name)) × (len ≤ 64) }
     requires room { tests.old + 64 < 2 ^ 64 }
@@ -84,7 +85,7 @@ fn run_at(passed: Places, place: usize) -> u8
 }
 
 /// Returns the greatest number of components that an atom may match, if `run` consecutive
-/// components pass its test.
+/// components pass the test of the atom.
 #[inline(always)]
 fn most_of(repeat: Repeat, run: u8) -> u8
     ensures { result ≡ at_most repeat.most run }
@@ -96,7 +97,7 @@ fn most_of(repeat: Repeat, run: u8) -> u8
 }
 
 /// Returns the greatest `count` from `least` to `most` for which the position `place + count` is in
-/// `after`, or `None` if there is none.
+/// `after`, or `None` if there is no such `count`.
 #[inline(always)]
 fn greatest(least: u8, most: u8, after: Places, place: usize) -> Option<u8>
     requires { most + place ≤ 64 }
@@ -126,6 +127,7 @@ fn first_count(repeat: Repeat, passed: Places, after: Places, place: usize) -> O
 }
 
 /// Returns the positions from which an atom and the later atoms can match all remaining components.
+/// `passed` and `after` are as in `first_count`.
 fn split_before(repeat: Repeat, passed: Places, after: Places) -> Places
     ensures { (atom : PlainAtom) → (atoms : List PlainAtom) → (cs : List Field)
         → bounds_of repeat ≡ atom.bounds → ArePassed atom.test cs passed → AreSplit atoms cs after
@@ -149,10 +151,10 @@ fn split_before(repeat: Repeat, passed: Places, after: Places) -> Places
     split
 }
 
-/// Fills the table from its last row back to the row of the atom at index `first`, for a name of
-/// `len` components. Stops and returns false if an atom and the later atoms cannot match from any
-/// position, because the name then has no split. Each atom is tested against each component at most
-/// once.
+/// Fills the table from its last row back to the row of the atom at index `first`. The name has
+/// `len` components. Suppose that, for some atom, there is no position from which this atom and the
+/// later atoms can match all remaining components. The name then has no split, so the function
+/// stops and returns false. For each atom, each component is tested at most once.
 fn fill(
     atoms: &[Atom],
     first: usize,
@@ -188,8 +190,8 @@ fn fill(
 
 /// Matches the leading atoms that match exactly one component each. Stops before the first atom
 /// that may match another number of components. Atoms that match exactly one component need no
-/// table, because their counts are fixed. Returns the number of matched atoms, or `None` if a
-/// component is missing or does not pass.
+/// table, because their counts are fixed. Returns the number of matched atoms, or `None` if the
+/// component for one of these atoms is missing or fails the test of the atom.
 fn take_singles(
     atoms: &[Atom],
     components: &mut Components<'_>,
@@ -271,10 +273,10 @@ fn count_left(components: Components<'_>) -> usize
     components.count()
 }
 
-/// Finds the greatest split of a name, in which each atom from left to right matches as many
-/// components as possible. Returns the positions before each atom and after the last atom, and the
-/// number of components, or `None` if there is no split. Each atom is tested against each component
-/// at most once.
+/// Finds the greatest split of a name. In this split, each atom, from left to right, matches as
+/// many components as possible. Returns the positions before each atom and after the last atom,
+/// together with the number of components. Returns `None` if there is no split. For each atom, each
+/// component is tested at most once.
 pub fn first_split(atoms: &[Atom], name: Name<'_>, tests: &mut u64) -> Option<(Starts, usize)>
     requires few { length atoms.now ≤ 34 }
     requires room { tests.old + 100000 < 2 ^ 64 }

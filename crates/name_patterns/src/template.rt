@@ -15,7 +15,7 @@ use std::marker::Model;
 /// A part of a template.
 #[derive(Debug, Drop)]
 pub enum Part {
-    /// The number of a group, which stands for the components that the group captures.
+    /// A group, given by its number. The group stands for the components that it captures.
     Group(u8),
     /// A component.
     Single(Text),
@@ -39,7 +39,7 @@ impl Part {
     }
 }
 
-/// A template for names: a sequence of parts, each of which is a group of a pattern or a component.
+/// A template for names: a sequence of parts. Each part is a component, or a group of a pattern.
 #[derive(Debug, Drop)]
 pub struct Template {
     pub(crate) parts: Vec<Part>,
@@ -68,8 +68,8 @@ impl Template {
     /// Returns the name that the template expands to. `captures` are the positions of the groups in
     /// `name`.
     ///
-    /// Returns `TooManyComponents`, before any allocation, if the name would have more than 64
-    /// components, or `Memory` if memory runs out.
+    /// If the expanded name would have more than 64 components, returns `TooManyComponents` before
+    /// any allocation. Returns `Memory` if memory runs out.
     pub fn expand(
         &self,
         alloc: Global,
@@ -95,8 +95,8 @@ impl Template {
         Ok(expanded)
     }
 
-    /// Returns whether the expanded name would have more than 64 components, so that `expand`
-    /// refuses it. Nothing is allocated.
+    /// Returns whether the expanded name would have more than 64 components. In this case, `expand`
+    /// returns `TooManyComponents`. Nothing is allocated.
     pub fn is_too_long(&self, captures: &Captures) -> bool
         ensures { result ≡ nat_lt 64 (sum_by (part_len captures.now) self.now) }
     {

@@ -92,7 +92,7 @@ impl Template {
     /// for the components that it captures. `\0` is the whole name. A component is written as its
     /// URI text between `<` and `>`.
     ///
-    /// Returns the fault of the leftmost faulty part if the text is not a template: see
+    /// If the text is not a template, returns the fault of the leftmost faulty part: see
     /// `PatternFault`. `Nested` is never returned. `Memory` may be returned for any text.
     pub fn read(alloc: Global, text: &str, groups: u8) -> Result<Template, PatternFault>
         // The text denotes the returned template.
@@ -103,7 +103,7 @@ impl Template {
         // A returned fault is the first fault of the text, or `Memory`.
         ensures exact { MatchResult result (λ parts. read.template_in groups text.now ≡ Ok parts)
             (IsFaultOf (read.template_in groups text.now)) }
-        // The returned template only uses groups that the pattern has.
+        // The returned template uses only groups that the pattern has.
         ensures groups { IfOk result (NeedAtMost groups) }
     {
         let parts = read_parts(alloc, text, groups)?;

@@ -79,7 +79,8 @@ fn read_list(alloc: Global, at: usize, text: &str) -> Result<FrontPart<'_, Test>
     })
 }
 
-/// Reads the test of a text between `<` and `>`. The text between `<` and `>` may be empty.
+/// Reads a test that is written as one text between `<` and `>`. The text between `<` and `>` may
+/// be empty.
 fn read_quoted(alloc: Global, at: usize, text: &str) -> Result<FrontPart<'_, Test>, PatternFault>
     ensures read { let quoted = read.quoted_test_in text.now in
         MatchResult result (λ found. quoted ≡ Some (record {

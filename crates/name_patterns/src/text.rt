@@ -32,8 +32,8 @@ impl Text {
     }
 }
 
-/// A part that was read at the front of a text, whether a component's text in this part contains a
-/// special character, and the remaining text.
+/// A part that was read at the front of a text, and the remaining text `rest`. `is_inner` tells
+/// whether a component's text in this part contains a special character.
 #[derive(Debug, Drop)]
 pub struct FrontPart<'a, T> {
     pub part: T,

@@ -18,8 +18,8 @@ number_after (Some m) (Some n) None = (λ h. (tt, tt), λ _ _. tt)
 number_after (Some m) (Some n) (Some k) = (λ h. (omega (arith, h), omega (arith, h)), λ h k'. omega (arith, h, k'))
 
 -- Let `kept` be the state of a signer before a command with time `t` and number `n` is recorded.
--- Another command of this signer is newer than the state afterwards exactly if it is newer than
--- `kept` and newer than the recorded command.
+-- Another command of this signer is newer than the state after the recording exactly if this other
+-- command is newer than `kept` and newer than the recorded command.
 raised_after : (kept : Option Latest) (t : ℕ) (n : Option ℕ) (time : ℕ) (number : Option ℕ)
     → (IsAfterLatest (Some (raised kept t n)) time number → IsAfterLatest kept time number × ((t < time) × NumberRises n number))
     × (IsAfterLatest kept time number → (t < time) × NumberRises n number → IsAfterLatest (Some (raised kept t n)) time number)
@@ -31,8 +31,8 @@ raised_after (Some l) t n time number =
     )
 
 -- Recording `r` changes the state of the signer of `r`. A command is newer than the state of its
--- own signer after this exactly if the command is newer than the state of its own signer before
--- this, and `IsNewer` holds for the command and `r`.
+-- own signer after the recording exactly if the command is newer than the state of its own signer
+-- before the recording, and `IsNewer` holds for the command and `r`.
 pub one_more : (table : Signer → Option Latest) (r : Recorded) (signer : Signer) (time : ℕ) (number : Option ℕ) (b : Bool) → eq_by_cmp signer_cmp signer r.signer ≡ b
     → (IsAfterLatest (cond b (Some (raised (table r.signer) r.time r.number)) (table signer)) time number → IsAfterLatest (table signer) time number × IsNewer signer time number r)
     × (IsAfterLatest (table signer) time number → IsNewer signer time number r → IsAfterLatest (cond b (Some (raised (table r.signer) r.time r.number)) (table signer)) time number)

@@ -76,8 +76,8 @@ find_set k q v (e ∷ es) (suc n) x h is =
     ap (cond (same q e.0) (Some e.1)) (find_set k q v es n x (record { within = omega arith; none_before = r.1; signer_is = h.signer_is }) is)
     ∙ swapped (same q e.0) (same q k) (Some e.1) (Some v) (find signer_cmp q es) (never_both k q e r.0)
 
--- if the value of the first row with the key `k` is set to `v`, the rows represent the map with `v`
--- inserted for `k`
+-- setting the value of the first row with the key `k` to `v` gives rows that represent the old map
+-- with `v` inserted for `k`
 pub set_is_insert : (k : Signer) (v : Latest) (es : List Row) (at : ℕ) (x : Row) → IsFirst k es at → x ≡ get_or es at x
     → from_entries {R = signer_cmp} (set es at (k, v)) ≡ map.insert (from_entries es) k v
 set_is_insert k v es at x h is = same_map signer_cmp-total signer_cmp-antisymmetric _ _ (λ q.

@@ -39,7 +39,7 @@ pub record GuardState : Type 0 where
 abbrev pub IsPrepared : GuardState → Signer → Type 0
 IsPrepared g signer = IsSome (map.get g.latest signer) ⊎ (g.prepared ≡ Some signer)
 
--- the greater of two numbers; if only one number is given, this number; None if none is given
+-- the greater of two numbers; if only one number is given, this number; if no number is given, None
 abbrev pub greater_number : Option ℕ → Option ℕ → Option ℕ
 greater_number None number = number
 greater_number (Some m) None = Some m
@@ -50,13 +50,13 @@ raised None time number = record { time = time; number = number }
 raised (Some l) time number =
     record { time = max l.time time; number = greater_number l.number number }
 
--- the table after the command `r` is recorded
+-- the table that recording the command `r` in `table` gives
 abbrev pub with_recorded : Table → Recorded → Table
 with_recorded table r =
     map.insert table r.signer (raised (map.get table r.signer) r.time r.number)
 
--- the table after all commands of a list are recorded; the command that was recorded last comes
--- first in the list
+-- the table that recording all commands of a list in the empty table gives; the command that is
+-- recorded last comes first in the list
 abbrev pub table_of : List Recorded → Table
 table_of [] = map.empty
 table_of (r ∷ before) = with_recorded (table_of before) r

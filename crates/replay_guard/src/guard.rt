@@ -54,10 +54,10 @@ impl Guard {
         }
     }
 
-    /// Returns whether a signed command is fresh. The time of the command, in milliseconds since
-    /// 1970, must differ from `now` by at most 120,000 and be greater than each recorded time of
-    /// its signer. If the command has a number, the number must be greater than each recorded
-    /// number of its signer.
+    /// Returns whether a signed command is fresh. The command's time `time` and the present moment
+    /// `now` are in milliseconds since 1970. `time` must differ from `now` by at most 120,000, and
+    /// must be greater than each recorded time of `signer`. If the command has a number, which is
+    /// in `seq`, the number must be greater than each recorded number of `signer`.
     pub fn check(&self, signer: Signer<'_>, time: u64, seq: Option<u64>, now: u64) -> bool
         ensures { IsTrue result ↔ IsFresh self.now.latest (signer_of signer.entry) time seq now }
     {
@@ -77,9 +77,9 @@ impl Guard {
         place_of(&self.rows, signer).is_some()
     }
 
-    /// Records a command. Each call of `record` ends the preparation by `prepare`, even if the call
-    /// fails. `Memory` is returned only for a signer that has no recorded command and is not
-    /// prepared. On `Memory`, the recorded commands are unchanged.
+    /// Records a command. Each call of `record` ends a preparation made by `prepare`, even if the
+    /// call of `record` fails. `Memory` is returned only for a signer that has no recorded command
+    /// and is not prepared. On `Memory`, the recorded commands are unchanged.
     pub fn record(&mut self, signer: Signer<'_>, time: u64, seq: Option<u64>) -> Result<(), Memory>
         ensures ok { OnOk result (self.new.latest ≡ with_recorded self.old.latest
             (record { signer = signer_of signer.entry; time = time; number = seq })) }
@@ -113,9 +113,9 @@ impl Guard {
     }
 
     /// Prepares one call of `record` for this signer. The prepared call cannot run out of memory.
-    /// The next call of `record` or `prepare`, for any signer, ends this preparation, even if that
-    /// call fails. If a command of the signer is already recorded, `prepare` needs no memory and
-    /// cannot fail.
+    /// The next call of `record` or `prepare`, for any signer, ends this preparation, even if the
+    /// next call fails. If a command of the signer is already recorded, `prepare` needs no memory
+    /// and cannot fail.
     pub fn prepare(&mut self, signer: Signer<'_>) -> Result<(), Memory>
         ensures latest { self.new.latest ≡ self.old.latest }
         ensures ok { OnOk result (IsPrepared self.new (signer_of signer.entry)) }
@@ -165,8 +165,8 @@ fn are_near(a: u64, b: u64) -> bool
     a.abs_diff(b) <= WINDOW
 }
 
-/// Returns the key of `signer`. If `spare` is this key, `spare` is returned, and otherwise a new
-/// copy of the key.
+/// Returns the key of `signer`. If `spare` is this key, `spare` is returned. If not, a new copy of
+/// the key is returned.
 fn key_in(
     alloc: Global,
     spare: Option<Option<NameBuf>>,

@@ -8,7 +8,8 @@ use ndn_tlv::Memory;
 use std::alloc::Global;
 use std::marker::Model;
 
-/// The recorded state of a signer: the greatest time and the greatest number.
+/// The recorded state of a signer: the greatest time and the greatest number of its recorded
+/// commands.
 #[derive(Drop)]
 pub struct Row {
     key: Option<NameBuf>,
@@ -82,7 +83,7 @@ impl Row {
     }
 }
 
-/// Returns whether `key` is the signer's key, where `None` is the key of DigestSha256.
+/// Returns whether `key` is the key of `signer`. The key of DigestSha256 is `None`.
 pub fn is_key(key: &Option<NameBuf>, signer: Signer<'_>) -> bool
     ensures { result ≡ eq_by_cmp signer_cmp (signer_of signer.entry) key.now }
 {

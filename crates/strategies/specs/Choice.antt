@@ -10,7 +10,7 @@ use Rattle.strategies.specs.declared.strategy.Choice.TheVariants.{NoRoute, Send}
 use Rattle.strategies.specs.Eligible.{is_eligible, eligible}
 use Rattle.strategies.specs.Selection.{Selection}
 
--- the faces of the hops in ascending order, each face once
+-- the faces of the hops; the list has each face once, and the faces are in ascending order
 abbrev pub faces_of : List Hop → List ℕ
 faces_of [] = []
 faces_of (hop ∷ hops) =
@@ -18,7 +18,7 @@ faces_of (hop ∷ hops) =
     if has_face hop.face rest then rest else with_face hop.face rest
 
 -- NoRoute if no hop is eligible; otherwise Send with the faces of those eligible hops that the
--- strategy selects, which may be none
+-- strategy selects; the list of faces may be empty
 abbrev pub chosen : Selection → List Hop → ByFace → Ask → Choice
 chosen selection hops asked ask =
     if list_any (is_eligible ask) hops

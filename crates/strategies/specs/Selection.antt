@@ -13,7 +13,7 @@ use Rattle.pit_fib.specs.Tables.{ByFace}
 abbrev pub Selection : Type 0
 Selection = List Hop → ByFace → ℕ → List Hop
 
--- whether a moment is less than 10 ms ago, or in the future
+-- whether the moment `time` is less than 10 ms before `now`, or after `now`
 abbrev pub is_recent : ℕ → ℕ → Bool
 is_recent now time = nat_lt now (time + 10)
 
@@ -39,7 +39,7 @@ least before [] = None
 least before (hop ∷ hops) = Some (lesser before hop (least before hops))
 
 -- If some face was used recently (`is_recent`), best-route selects no hop. If no face was used
--- recently, best-route selects the least hop, by cost and then by face, of those that were not
+-- recently, best-route selects the least hop, by cost and then by face, of the hops that were never
 -- used. If no face was used recently and all hops were used, best-route selects the first hop in
 -- the order `is_staler`.
 abbrev pub best_route : Selection
@@ -52,6 +52,6 @@ abbrev pub was_recent : ℕ → Option ℕ → Bool
 was_recent now None = false
 was_recent now (Some time) = is_recent now time
 
--- the hops without those whose last use is recent (`is_recent`)
+-- all hops except those whose face was last used recently (`is_recent`)
 abbrev pub multicast : Selection
 multicast hops asked now = filter (λ hop. not (was_recent now (map.get asked hop.face))) hops

@@ -10,10 +10,11 @@ use crate::eligible::{any_eligible, eligible_at, is_recent};
 use crate::strategy::{Ask, Choice, Strategy};
 use pit_fib::{Faces, Hop, Hops, Used};
 
-/// Chooses `NoRoute` if no hop is eligible. Sends to no hop if some face was used less than 10
-/// milliseconds ago or in the future. In all other cases, sends to the eligible hop that is least
-/// by cost and then by face among those that were never used. If all eligible hops were used, sends
-/// to the one that was used longest ago.
+/// Chooses `NoRoute` if no hop is eligible. If some hop is eligible, but some face was used less
+/// than 10 milliseconds ago or in the future, sends to no hop. In all other cases, sends to one
+/// eligible hop. If some eligible hop was never used, this is the least hop, by cost and then by
+/// face, of the eligible hops that were never used. If all eligible hops were used, this is the
+/// eligible hop that was used longest ago.
 #[derive(Clone, Copy, Debug)]
 pub struct BestRoute;
 
@@ -68,8 +69,8 @@ fn least_new(hops: &Hops, used: &Used, ask: Ask) -> Option<Hop>
 }
 
 /// Returns the eligible hop that was used longest ago. A hop that was never used counts as used at
-/// the moment 0. Of several hops that were used at the same moment, the hop that is least by cost
-/// and then by face is returned.
+/// the moment 0. If several hops were used longest ago, at the same moment, returns the least of
+/// these hops, by cost and then by face.
 fn stalest(hops: &Hops, used: &Used, ask: Ask) -> Option<Hop>
     ensures { result ≡ least (is_hop_staler used.now) (eligible ask hops.now) }
 {
@@ -82,7 +83,7 @@ fn stalest(hops: &Hops, used: &Used, ask: Ask) -> Option<Hop>
     first
 }
 
-/// Returns whether a hop was never used.
+/// Returns whether the face of `hop` was never used.
 fn is_new(used: &Used, hop: Hop) -> bool
     ensures { result ≡ is_hop_new used.now hop }
 {

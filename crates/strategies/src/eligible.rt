@@ -7,7 +7,8 @@ ghost use Rattle.strategies.specs.Selection.{is_recent as came_recently};
 use crate::strategy::Ask;
 use pit_fib::{Hop, Hops};
 
-/// The time in milliseconds for which a face is not used again after an Interest is sent to it.
+/// The number of milliseconds for which a face is not used again for a PIT entry, after an Interest
+/// of this PIT entry is sent to the face.
 const RETRY_AFTER: u64 = 10;
 
 /// Returns whether the Interest may be sent to a hop. An Interest may never be sent back to the
@@ -37,7 +38,7 @@ pub fn any_eligible(hops: &Hops, ask: Ask) -> bool
     false
 }
 
-/// Returns the hop at index `i`, counted from 0, if it is eligible.
+/// Returns the hop at index `i`, counted from 0, if there is such a hop and the hop is eligible.
 pub fn eligible_at(hops: &Hops, i: usize, ask: Ask) -> Option<Hop>
     ensures { eligible ask (drop i hops.now)
         ≡ option_to_list result ++ eligible ask (drop (i + 1) hops.now) }
@@ -48,7 +49,7 @@ pub fn eligible_at(hops: &Hops, i: usize, ask: Ask) -> Option<Hop>
     }
 }
 
-/// Returns whether a moment is less than 10 milliseconds ago, or in the future.
+/// Returns whether the moment `time` is less than 10 milliseconds before `now`, or after `now`.
 pub fn is_recent(now: u64, time: u64) -> bool
     ensures { result ≡ came_recently now time }
 {

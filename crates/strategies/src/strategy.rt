@@ -9,11 +9,12 @@ use pit_fib::{Faces, Hops, Used};
 /// The Interest for which a strategy chooses next hops.
 #[derive(Clone, Copy, Debug, PartialEq, Eq)]
 pub struct Ask {
-    /// The face that the Interest came from, if it came from a face.
+    /// The face that the Interest came from, if the Interest came from a face.
     pub asker: Option<u64>,
-    /// Whether the name begins with `/localhost`, so that the Interest stays on this machine.
+    /// Whether the name of the Interest begins with `/localhost`. Such an Interest stays on this
+    /// machine.
     pub localhost: bool,
-    /// Whether the HopLimit has become 0, so that the Interest is sent to no other machine.
+    /// Whether the HopLimit has become 0. Such an Interest is sent to no other machine.
     pub hop_zero: bool,
     /// The present moment, in milliseconds since 1970.
     pub now: u64,
@@ -24,7 +25,7 @@ pub struct Ask {
 pub enum Choice {
     /// No next hop may get the Interest.
     NoRoute,
-    /// The Interest is sent to these faces; there may be none.
+    /// The Interest is sent to these faces. The set of faces may be empty.
     Send(Faces),
 }
 

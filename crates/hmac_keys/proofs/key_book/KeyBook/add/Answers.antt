@@ -14,7 +14,7 @@ has_it c =
     c.is_some.ensures ∙ found_has (components c.view.result) c.args.self.now c.find.result c.find.ensures
     ∙ ap (λ (name : List Field). has_name name c.args.self.now) c.view.ensures
 
--- after the call, the keys of the book are its earlier keys, followed by the added key
+-- after the call, the book has the keys that it had before the call, followed by the added key
 grown : (c : In_ok-push) → named_keys c.push.new.self.items ≡ c.args.self.now ++ (c.args.key.name, c.args.key.hmac) ∷ []
 grown c = named_more c.self.inside.keys.items c.push.new.self.items c.args.key c.args.self.now c.self.view_is c.in_ok-push.ensures.items
 
