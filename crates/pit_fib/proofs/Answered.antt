@@ -25,8 +25,8 @@ use Rattle.pit_fib.proofs.KeptTables.{both_equal, row_changes}
 
 -- ---- the keys that a walk along the Data's name finds
 
--- whether the key's name equals the Data's name or, if the key has CanBePrefix, is a prefix of the
--- Data's name
+-- whether the name of the key equals the Data's name or, if the key has CanBePrefix, whether the
+-- name of the key is a prefix of the Data's name
 abbrev pub along : List Field → List Field → Bool → Bool
 along [] [] can_be_prefix = true
 along [] (c ∷ name) can_be_prefix = can_be_prefix
@@ -76,7 +76,8 @@ never_last true false = refl
 never_last false true = refl
 never_last false false = refl
 
--- a Data answers exactly the keys that `along` accepts for its name, and the keys of its full name
+-- a Data answers exactly the keys that `along` accepts for the Data's name, and the keys whose name
+-- is the Data's full name
 pub answers_along : (q name : List Field) (digest : List ℕ) (p : Bool) → answers name digest q p ≡ (along q name p || eq_by_cmp name_cmp q (full_name name digest))
 unfolding answers
 answers_along [] [] digest p = refl
@@ -121,13 +122,14 @@ abbrev pub asks_in : Option Kept → ℕ → Bool
 asks_in None f = false
 asks_in (Some s) f = contains_key s.records.in_records f
 
--- whether the face has an in-record under a key of this row that the Data answers
+-- whether the face has an in-record in this row under a key that the Data answers
 abbrev pub asks_row : Bool → Option Row → ℕ → Bool
 asks_row is_own row f =
     cond is_own (asks_in (kept_in row (flags false false)) f || asks_in (kept_in row (flags false true)) f) false
     || (asks_in (kept_in row (flags true false)) f || asks_in (kept_in row (flags true true)) f)
 
--- whether the face has an in-record under a key that the walk along the name finds
+-- whether the face has an in-record under a key that the Data answers and that the walk from
+-- `front` along the given components finds
 abbrev pub asks_along : (List Field → Option Row) → List Field → List Field → ℕ → Bool
 asks_along value front [] f = asks_row true (value front) f
 asks_along value front (c ∷ rest) f = asks_row false (value front) f || asks_along value (front ++ c ∷ []) rest f

@@ -94,7 +94,7 @@ pub wider : (a b d : Bool) → (IsTrue b → IsTrue d) → IsTrue (a || b) → I
 wider true b d sub e = refl
 wider false b d sub e = sub e
 
--- if one of the first `i` items passes the test, some item of the list passes it
+-- if one of the first `i` items passes the test, some item of the list passes the test
 pub any_first : {X : Type 0} (p : X → Bool) (xs : List X) (i : ℕ) → IsTrue (list_any p (take i xs)) → IsTrue (list_any p xs)
 any_first p xs zero e = absurd (differ e)
   where

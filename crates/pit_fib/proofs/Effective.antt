@@ -104,12 +104,13 @@ module _ (wanted : Route → Bool) (f : ℕ) where
       ∙ ap (λ o. fold {A = Row} {B = Option ℕ} step o rows)
       (elim (wanted e.1) as (λ b. get (cond b (with_lesser acc e.0.face e.1.cost) acc) f ≡ cond b (cond (eq_by_cmp nat_cmp f e.0.face) (Some (lesser e.1.cost (get acc f))) (get acc f)) (get acc f)) [ true ↦ get_with acc e | false ↦ refl ])
 
-  -- some route in the list, on the face `f`, passes the test and has this cost
+  -- some route in the list is on the face `f`, passes the test, and has the cost `c`
   abbrev IsOne : List Row → ℕ → Type 0
   IsOne rows c = (e : Row) × Has rows e × (e.0.face ≡ f) × (wanted e.1 ≡ true) × (e.1.cost ≡ c)
 
-  -- `Says o rows least`: `least` is the least of the cost `o` and the costs of those routes in
-  -- `rows` that are on the face `f` and pass the test, or None if there are no such costs
+  -- `Says o rows least`: `least` is the least of the optional cost `o` and the costs of those
+  -- routes in `rows` that are on the face `f` and pass the test. `least` is None if there are no
+  -- such costs.
   abbrev Says : Option ℕ → List Row → Option ℕ → Type 0
   Says o rows None = (o ≡ None) × ((e : Row) → Has rows e → e.0.face ≡ f → wanted e.1 ≡ false)
   Says o rows (Some c) = ((o ≡ Some c) ⊎ IsOne rows c) × ((x : ℕ) → o ≡ Some x → c ≤ x) × ((e : Row) → Has rows e → e.0.face ≡ f → wanted e.1 ≡ true → c ≤ e.1.cost)
@@ -212,7 +213,7 @@ module _ (wanted : Route → Bool) (f : ℕ) where
 
 -- ---- the costs that a name inherits from its prefixes
 
--- the name inherits this cost for the face from its prefixes with fewer than n components
+-- the name inherits this cost for the face from the name's prefixes with fewer than n components
 record IsHandedDown (routes : Routes) (name : List Field) (n face cost : ℕ) : Type 0 where
   from : ℕ
   shorter : from < n

@@ -1,4 +1,4 @@
--- Registering a route: why it may be refused, and what the table is afterwards.
+-- Registering a route: why the table may refuse the route, and what the table is afterwards.
 use Rattle.std.proofs.Common.{◌≡◌, ◌⊎◌, inl, inr, ◌+◌, ◌<◌, ◌≤◌, ℕ, Bool, true, false, not, cond, List, length, refl, sym, ap, ◌∙◌, arith, ltb, leb}
 use Rattle.std.proofs.lemmas.Bool.{leb-false, ltb-false, lt-ltb}
 use mir.Val.{bool_byte}

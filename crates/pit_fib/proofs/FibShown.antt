@@ -85,8 +85,8 @@ module _ {S : Type 0} (show : S → List ℕ → List Hop → S) (t : Routes) (f
             ∙ rest (show s (octets_of e.0) (hops_of (effective (left_at now t) e.0)))
       ] refl
 
-  -- the visitor is shown exactly the names that have an entry after the expiry at `now`, each with
-  -- its effective next hops after this expiry
+  -- the visitor is shown exactly the names that have an entry after the expiry at `now`, each name
+  -- with its effective next hops after this expiry
   pub hops_are_shown : (s : S) → (shown_from s (entries t)).show ≡ shown_each show s (listed (left_at now t))
   hops_are_shown s =
       shown_left (entries t) (λ i d lt. entry_is_there name_cmp-total t i d lt) s

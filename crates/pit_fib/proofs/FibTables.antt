@@ -56,7 +56,7 @@ IsShrunk t new = (q : List Field) (part : Entry) → get new q ≡ Some part →
 entry_is : (t : Routes) (q : List Field) (e : Entry) → get t q ≡ Some e → entry_at t q ≡ e
 entry_is t q e is = ap (λ o. unwrap_or o no_entry) is
 
--- if `A` follows from each entry of the table that has a next hop or a route on the face `f`, then
+-- if `A` is true whenever some entry of the table has a next hop or a route on the face `f`, then
 -- `A` follows from `LeadsTo t f`
 leads_by : {A : Type 0} (t : Routes) (f : ℕ) → ((q : List Field) (e : Entry) → get t q ≡ Some e → EntryLeads e f → A) → LeadsTo t f → A
 leads_by {A} t f by way =
@@ -118,8 +118,8 @@ module _ (t : Routes) (within : IsWithinFib t) (name : List Field) where
   part_itself : (e : Entry) → is_vacant e ≡ false → IsPartOf e e
   part_itself e some = record { some = some; fewer = omega arith; leads = λ f l. l; kept = λ key r is. is }
 
-  -- if `g` removes an entry or returns a part of the entry (`IsPartOf`), applying `g` to the entry
-  -- of one name only shrinks the table (`IsShrunk`)
+  -- let `g` remove an entry or return a part of the entry (`IsPartOf`); then applying `g` to the
+  -- entry of one name shrinks the table (`IsShrunk`)
   pub shrunk_one : (g : Entry → Option Entry) → ((whole part : Entry) → g whole ≡ Some part → IsPartOf part whole) → IsShrunk t (Changed g)
   shrunk_one g parts q part =
       elim (get t name) as (λ o. get t name ≡ o → get (with_value t name (option_and_then g o)) q ≡ Some part → (whole : Entry) × (get t q ≡ Some whole) × IsPartOf part whole) [
@@ -255,7 +255,7 @@ module _ (t : Routes) (within : IsWithinFib t) (name : List Field) (e : Entry) w
       before None at was = absent (get (empty {X = Route} {R = route_cmp}) key) r (get-empty route_cmp key) (sym (ap (λ o. get (unwrap_or o no_entry).registered key) at) ∙ was)
       before (Some y) at was = later name y at key r (sym (ap (λ o. get (unwrap_or o no_entry).registered key) at) ∙ was)
 
--- if no route expires before a moment, none expires before an earlier moment
+-- if no route expires before a moment, no route expires before an earlier moment
 pub earlier_none : (t : Routes) (early late : ℕ) → early ≤ late → NoneEndsBefore late t → NoneEndsBefore early t
 earlier_none t early late le later q e is key r there deadline ends = (let after = later q e is key r there deadline ends in omega (arith, le, after))
 

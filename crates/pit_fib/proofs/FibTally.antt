@@ -25,7 +25,8 @@ use Rattle.pit_fib.specs.Route.{has_come, is_due, route_cmp, route_cmp-antisymme
 use Rattle.pit_fib.specs.Tally.{earliest, left_after, left_of, sooner, tallied}
 use Rattle.pit_fib.proofs.FibEntries.{size, size_left}
 
--- if all values in the list have the property `P`, each value that a lookup finds has this property
+-- if all values in the list have the property `P`, each value that a lookup in the list finds has
+-- this property
 all_found : {K X : Type 0} (R : K → K → Ordering) (P : X → Type 0) (es : List (K × X)) → AllByRecursion (λ (e : K × X). P e.1) es → (q : K) (x : X) → find R q es ≡ Some x → P x
 all_found R P [] all q x is = absurd cc
 all_found R P (e ∷ es) all q x is =

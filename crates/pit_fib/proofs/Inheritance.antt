@@ -55,8 +55,8 @@ or_none (Some x) = refl
 none_last : (a : ByFace) → prefer a empty ≡ a
 none_last a = same_map nat_cmp_total nat_cmp-IsAntisymmetric _ _ (λ f. get-prefer a empty f ∙ ap (option_or (get a f)) (get-empty nat_cmp f) ∙ or_none (get a f))
 
--- if each key that a lookup finds has the property `P`, the key of each entry in the list has this
--- property
+-- if each key that a lookup in the list finds has the property `P`, the key of each entry in the
+-- list has this property
 keys_all : {K X : Type 0} {R : K → K → Ordering} → IsTotalOrder R → (P : K → Type 0) (es : List (K × X)) → ((k : K) → IsSome (find R k es) → P k) → AllByRecursion (λ (e : K × X). P e.0) es
 keys_all total P [] there = tt
 keys_all {R = R} total P (e ∷ es) there = (
@@ -314,8 +314,8 @@ take_less (suc m) zero q le = absurd (omega arith)
 take_less (suc m) (suc n) [] le = refl
 take_less (suc m) (suc n) (c ∷ q) le = ap (λ l. c ∷ l) (take_less m n q (omega (arith, le)))
 
--- for m ≤ n, a name and the prefix of its first n components inherit the same costs from the
--- prefixes with fewer than m components
+-- Let m ≤ n. Then a name, and the prefix that consists of the first n components of the name,
+-- inherit the same costs from the prefixes with fewer than m components.
 handed_prefix : (t : Routes) (name : List Field) (n m : ℕ) → m ≤ n → handed_down t (take n name) m ≡ handed_down t name m
 handed_prefix t name n zero le = refl
 handed_prefix t name n (suc m) le = λ i. passed_on (get t (take_less m n name (omega (arith, le)) i)) (handed_prefix t name n m (omega (arith, le)) i)
@@ -353,7 +353,7 @@ module _ (t : Routes) (few : AtMost64 (LeadsTo t)) (at : Option ℕ) (name : Lis
   abbrev start : Inheriting
   start = record { at = at; inherited = empty; costs = empty }
 
-  -- the state of the walk after the prefixes with fewer than n components
+  -- the state of the walk once the walk has passed the prefixes with fewer than n components
   known : ℕ → Inheriting
   known zero = start
   known (suc n) = taken past_entry (known n) (get t (take n name))
@@ -380,8 +380,8 @@ module _ (t : Routes) (few : AtMost64 (LeadsTo t)) (at : Option ℕ) (name : Lis
   entry_faces : (q : List Field) (e : Entry) → get t q ≡ Some e → (f : ℕ) → EntryLeads e f → LeadsTo t f
   entry_faces q e is f l = (q, subst (λ x. EntryLeads x f) (sym (ap (λ o. unwrap_or o no_entry) is)) l)
 
-  -- after the prefixes with fewer than n components, the costs `inherited` of the walk are the
-  -- costs that the name inherits from these prefixes
+  -- once the walk has passed the prefixes with fewer than n components, the field `inherited` of
+  -- the walk's state has the costs that the name inherits from these prefixes
   inherited_at : (n : ℕ) → ((known n).inherited ≡ handed_down (live_table at t) name n) × Among (LeadsTo t) few (known n).inherited × ((known n).at ≡ at)
   unfolding known
   inherited_at zero = (refl, among_none (LeadsTo t) few, refl)
@@ -409,8 +409,8 @@ module _ (t : Routes) (few : AtMost64 (LeadsTo t)) (at : Option ℕ) (name : Lis
       none_left None = refl
       none_left (Some now) = refl
 
-  -- if the prefix of n components has an entry, the costs that the walk has collected after this
-  -- prefix are the costs of the prefix's effective next hops
+  -- if the prefix of n components has an entry, then, once the walk has passed this prefix, the
+  -- field `costs` of the walk's state has the costs of the prefix's effective next hops
   costs_here : (n : ℕ) (e : Entry) → get t (take n name) ≡ Some e → (known (suc n)).costs ≡ effective_of (live at e) (handed_down (live_table at t) name n)
   unfolding known
   costs_here n e is =

@@ -317,7 +317,7 @@ step_put key s rows new is k =
     ] refl
     ∙ ap (λ b. cond b (Some s) (kept_at rows k)) (sym (key_ties k key))
 
--- In this module, `new` is the table `rows` after the entry `s` was put under one key.
+-- In this module, putting the entry `s` under `key` in the table `rows` gives the table `new`.
 module _ (cause : Cause) (key : PlainKey) (s : Kept) (rows new : Rows) (alive : AreAlive rows) (is_alive_here : is_alive s.records ≡ true)
     (puts : (k : PlainKey) → kept_at new k ≡ cond (same_key k key) (Some s) (kept_at rows k)) where
   pub put_alive : AreAlive new
@@ -401,7 +401,7 @@ turned true c e = ap not (sym e)
 turned false c e = ap not (sym e)
 
 -- If `b` is true exactly when the key has no entry, then `b` is true exactly when the key has no
--- in-record. The result also has the condition `many`, which holds.
+-- in-record. The condition `many`, which holds, is added to the second statement.
 pub new_where_absent : (rows : Rows) (pending : Pending) (key : PlainKey) (found : Option (Bor Kept)) → AreAlive rows → pending_of rows ≡ pending
     → option_map (λ e. e.now) found ≡ kept_at rows key → (b : Bool) → is_some found ≡ not b → (many : Type 0) → many
     → IsTrue b ↔ ((is_alive (records_at pending key) ≡ false) × many)

@@ -249,8 +249,8 @@ module _ (rows : Rows) (face : ℕ) (at : PlainKey → Option InRecord) (shown :
       ]) (is (flags false true))
       (one_more at Seen first best (ask (flags false false)) (λ k s. order k false s) (is (flags false false)) h)
 
-  -- a key of the name `q` that the Data answers: any key if `is_own` is true, and any key with
-  -- CanBePrefix if `is_own` is false
+  -- `k` is a key of the name `q` that passes the test `is_answered`: any key of `q` if `is_own` is
+  -- true, but only a key with CanBePrefix if `is_own` is false
   abbrev pub OfName : Bool → List Field → PlainKey → Type 0
   OfName is_own q k = (k.name ≡ q) × IsTrue (is_answered is_own (flags_of k))
 

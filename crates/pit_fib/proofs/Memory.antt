@@ -33,8 +33,8 @@ module _ {X : Type 0} where
         let size : n ≡ len f.values = count ∙ sym (len-faced room f is) in
         ap (λ m. ltb m 2) size ∙ ap (λ b. b || ltb (len f.values) 2) (sym narrow)
 
-    -- if `room` is at least 2, fewer than 64 faces have values, and there is memory for one more
-    -- value, then there are fewer than `room` rows
+    -- Let `room` be at least 2. If fewer than 64 faces have values, and there is memory for one
+    -- more value, then there are fewer than `room` rows.
     pub room_left : (room n : ℕ) (f : Faced X) → faced rows room ≡ f → n ≡ length rows → n < 64 → 2 ≤ room → IsTrue (has_place f) → n < room
     room_left room n f is count less few place =
         by_wide f.is_wide (ap (λ (m : Faced X). m.is_wide) is) place

@@ -130,8 +130,8 @@ module _ (r : Records) (face : ℕ) (nonce : List ℕ) (reason : ℕ) where
   abbrev after : OutRecords
   after = with_reason face nonce reason r.out_records (map.get r.out_records face)
 
-  -- if the face's out-record has the Nonce of the Nack, the out-record has the Nack's reason after
-  -- the Nack
+  -- if the face's out-record has the Nonce of the Nack, the Nack sets the reason of this out-record
+  -- to the Nack's reason
   here : was_sent (map.get r.out_records face) nonce ≡ true → (sent : OutRecord) × (map.get after face ≡ Some sent) × (sent.reason ≡ Some reason)
   here was = go (map.get r.out_records face) was
     where

@@ -36,7 +36,7 @@ Adds (Closed face) f = ⊥
 never : {A : Type 0} → false ≡ true → A
 never e = absurd cc
 
--- ---- each value of a map after a change was there before, or the change put it there
+-- ---- each value in a changed map was there before the change, or the change put it there
 module _ {X : Type 0} (A : Type 0) (was : Option X) where
   gone : (b : Bool) → IsSome (cond b None was) → IsSome was ⊎ A
   gone true e = never e
@@ -97,13 +97,13 @@ in_settled : (r : Records) (f : ℕ) (b : Bool) → InRecords (cond b r no_recor
 in_settled r f true e = e
 in_settled r f false e = in_none f e
 
--- if a face has a record under a key after a cause, it had a record under this key before the
+-- if a face has a record under a key after a cause, the face had a record under this key before the
 -- cause, or the cause gave the face a record
 pub in_after : (cause : Cause) (k : PlainKey) (r : Records) (f : ℕ) → InRecords (records_after cause k r) f → InRecords r f ⊎ Adds cause f
 in_after cause k r f e = in_changed cause k r f (in_settled (changed cause k r) f (is_alive (changed cause k r)) e)
 
--- if a face has a record in the table after a cause, it had a record before the cause, or the cause
--- gave the face a record
+-- if a face has a record in the table after a cause, the face had a record before the cause, or the
+-- cause gave the face a record
 pub had_record : (cause : Cause) (old new : Pending) → Follows cause old new → (f : ℕ) → HasRecord new f → HasRecord old f ⊎ Adds cause f
 had_record cause old new follows f (k, e) =
     let now : InRecords (records_after cause k (records_at old k)) f = subst (λ r. InRecords r f) (follows k) e in
@@ -222,7 +222,7 @@ room_in_list P f faces few rising all out =
     let more = few (with_face f faces) (with_rises f faces rising out) (all_with (λ g. P g ⊎ (g ≡ f)) f faces (inr refl) (all_before (λ g h. inl h) faces all)) in
     omega (arith, more, length_with f faces)
 
--- a lookup of each face of a sorted list finds a value
+-- in a sorted list of rows, a lookup of the face of any row finds a value
 each_found : {X : Type 0} (es : List (ℕ × X)) → T (is_sorted nat_cmp es) → AllByRecursion (λ f. IsSome (find nat_cmp f es)) (faces_of es)
 unfolding faces_of
 each_found [] h = tt
@@ -247,7 +247,7 @@ room_in m face few = by_cases (get m face) refl
         let less = room_in_list (λ f. IsSome (get m f)) face (faces_of es) few (rises es sorted) there (absent_face face es (sym (get-entries m face) ∙ e)) in
         inr (omega (arith, less, count es, len-entries m))
 
--- ---- an entry has fewer than 64 records before one is added
+-- ---- an entry has fewer than 64 records before a record is added
 
 module _ (old : Pending) (key : PlainKey) (r : Records) (face : ℕ) (here : records_at old key ≡ r) (room : HasRoomFor old face) where
   ask_there : (f : ℕ) → IsSome (get r.in_records f) ⊎ (f ≡ face) → HasRecord old f ⊎ (f ≡ face)

@@ -28,8 +28,8 @@ none_left (Some r) b e t = absurd cc
 pub some_left : (ready : Option Ready) (b : Bool) → is_some ready ≡ not b → b ≡ false → is_some ready ≡ true
 some_left ready b e f = e ∙ ap not f
 
--- if no `arrive` is prepared, and the prepared calls are calls of this key, they are `sent` calls
--- of this key
+-- if the prepared calls are calls of this key, and no `arrive` is prepared, then the prepared calls
+-- are `sent` calls of this key
 pub are_sendings : (p : Prepared) (key : PlainKey) (b : Bool) → is_some p.arrival ≡ not b → b ≡ true → same_key p.key key ≡ true → calls_of (Some p) ≡ Some (key, None)
 are_sendings p key b e t same = λ i. Some (one_key p.key key same i, room_of (none_left p.arrival b e t i))
 
@@ -79,8 +79,8 @@ memory_ready rows spare (Some p) h = at p.arrival h.1
     at None h = tt
     at (Some r) h = h.0
 
--- if an `arrive` of this key is prepared, the key's name is prepared in the table, and the spare
--- memory has capacity for 64 out-records
+-- if an `arrive` of this key is prepared, then the key's name is prepared in the table, and the
+-- spare memory has capacity for 64 out-records
 pub memory_arrives : (rows : NameTable Row) (spare room : ℕ) (key : PlainKey) (prepared : Option Prepared) → HasMemory rows spare prepared → calls_of prepared ≡ Some (key, Some room)
     → (64 ≤ spare) × (rows.prepared ≡ Some key.name)
 memory_arrives rows spare room key None h e = absurd cc
@@ -99,14 +99,14 @@ memory_sends rows spare key room None h e = absurd cc
 memory_sends rows spare key room (Some p) h e = subst (λ k. CanSend rows.table k spare) (ap (key_in key) e) h.0
 
 -- if no `arrive` is prepared, and there is memory for the out-records of the prepared `sent` calls,
--- there is memory for all prepared calls
+-- then there is memory for all prepared calls
 pub memory_after : (rows : NameTable Row) (spare : ℕ) (prepared : Option Prepared) → HasNoArrival prepared → ((key : PlainKey) → calls_of prepared ≡ Some (key, None) → CanSend rows.table key spare)
     → HasMemory rows spare prepared
 memory_after rows spare None none h = tt
 memory_after rows spare (Some p) none h = (h p.key (λ i. Some (p.key, room_of (none i))), rw none tt)
 
--- if the spare memory has capacity for 64 out-records, the key's name is prepared in the table, and
--- the memory of the prepared `arrive` is ready, there is memory for all prepared calls
+-- there is memory for all prepared calls if the spare memory has capacity for 64 out-records, the
+-- key's name is prepared in the table, and the memory of the prepared `arrive`, if any, is ready
 pub memory_new : (rows : NameTable Row) (spare size : ℕ) (p : Prepared) → 64 ≤ spare → rows.prepared ≡ Some p.key.name → room_of p.arrival ≡ Some size → IfSome p.arrival IsReady
     → HasMemory rows spare (Some p)
 memory_new rows spare size p room name is ready = (inl room, at p.arrival ready)

@@ -34,7 +34,7 @@ room_of : {X : Type 0} (o : Option X) (n : ℕ) → (if is_some o then None else
 room_of (Some x) n f = inl refl
 room_of None n f = inr (elim (nat_le 4096 n) as (λ b. nat_le 4096 n ≡ b → (if b then Some TableFull else None) ≡ None → n < 4096) [ true ↦ λ t g. absurd cc | false ↦ λ t g. leb-false 4096 n t ] refl f)
 
--- if a name is not refused, then either it has a value already, or the table has fewer than 4,096
+-- if a name is not refused, then the name has a value already, or the table has fewer than 4,096
 -- names
 pub room_if_taken : {X : Type 0} (table : ByName X) (name : List Field) → refusal table name ≡ None → IsSome (get table name) ⊎ (len table < 4096)
 room_if_taken table name none =

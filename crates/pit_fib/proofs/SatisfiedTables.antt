@@ -1,5 +1,5 @@
--- A table after a Data has removed the entries that the Data answers: entries under the name of the
--- Data, under proper prefixes of this name, and under the full name of the Data.
+-- Removing the entries that a Data answers from a table: entries under the name of the Data, under
+-- proper prefixes of this name, and under the full name of the Data.
 use Rattle.std.proofs.Common.{◌≡◌, ℕ, Bool, true, false, cond, List, refl, sym, ap, ◌∙◌}
 use Rattle.std.specs.Prelude.{Option, None, Some, ◌||◌}
 use Rattle.std.specs.Option.{option_and_then}
@@ -22,8 +22,8 @@ use Rattle.pit_fib.proofs.Answered.{along, and_some, answers_along, below_stays,
 use Rattle.pit_fib.proofs.KeptTables.{Steps, get-with_value, row_changes}
 use Rattle.pit_fib.proofs.PendingTables.{dead_none}
 
--- `new` is the table `rows` after the walk along the name, which removes the entries that the Data
--- answers
+-- the walk along the name turns the table `rows` into `new`: the walk removes the entries that the
+-- Data answers
 abbrev pub TakesAlong : List Field → Rows → Rows → Type 0
 TakesAlong name rows new =
     (q : List Field) → get new q ≡ option_and_then (changed_along (changed_row (unanswered true)) (changed_row (unanswered false)) q name) (get rows q)
@@ -38,7 +38,7 @@ module _ (name : List Field) (digest : List ℕ) (rows taken : Rows) (along_is :
   pub full_stays : get taken full ≡ get rows full
   full_stays = along_is full ∙ ap (λ (g : Row → Option Row). option_and_then g (get rows full)) (below_stays (changed_row (unanswered true)) (changed_row (unanswered false)) name (1, digest)) ∙ and_some (get rows full)
 
-  -- `new` is the table `taken` after the entries under the full name, if there are any, are removed
+  -- removing the entries under the full name, if there are any, turns the table `taken` into `new`
   abbrev pub TakesFull : Rows → Type 0
   TakesFull new = (k : PlainKey) → kept_at new k ≡ cond (eq_by_cmp name_cmp k.name full) None (kept_at taken k)
 

@@ -105,7 +105,7 @@ more_in_order hop (h ∷ hops) order apart =
 -- ---- the hops of a list of costs
 
 -- if a list of costs has no cost for a face, this face is not the face of the first item, and the
--- items after it have no cost for this face
+-- items after the first item have no cost for this face
 not_first : (face : ℕ) (e : ℕ × ℕ) (costs : List (ℕ × ℕ)) → find nat_cmp face (e ∷ costs) ≡ None → (face ≢ e.0) × (find nat_cmp face costs ≡ None)
 not_first face e costs none =
     elim (eq_by_cmp nat_cmp face e.0) as (λ b. eq_by_cmp nat_cmp face e.0 ≡ b → cond b (Some e.1) (find nat_cmp face costs) ≡ None → (face ≢ e.0) × (find nat_cmp face costs ≡ None)) [

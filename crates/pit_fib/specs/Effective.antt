@@ -12,7 +12,7 @@ use Rattle.pit_fib.specs.Hops.{hops_of}
 use Rattle.pit_fib.specs.Route.{Registered, is_capture, is_child_inherit}
 use Rattle.pit_fib.specs.Tables.{ByFace}
 
--- the costs in `first`, and for faces without a cost in `first`, the costs in `second`
+-- the costs in `first` and, for faces without a cost in `first`, the costs in `second`
 abbrev pub prefer : ByFace → ByFace → ByFace
 prefer first second = map.from_entries (map.entries first ++ map.entries second)
 

@@ -20,7 +20,8 @@ faced_code {X} x =
 abbrev pub none_in : {X : Type 0} → ℕ → Faced X
 none_in room = record { values = map.empty; is_wide = nat_le MAX_FACES room }
 
--- if fewer than 64 faces have values, whether there is memory for one more value
+-- Whether there is memory for one more value. The Boolean has this meaning only if fewer than 64
+-- faces have values.
 abbrev pub has_place : {X : Type 0} → Faced X → Bool
 has_place f = f.is_wide || nat_lt (map.len f.values) FEW
 
@@ -38,8 +39,8 @@ placed room f =
 abbrev pub with_face_value : {X : Type 0} → ℕ → X → Faced X → Faced X
 with_face_value face x f = record f { values = map.insert f.values face x }
 
--- the values after the value of a face is set, or unchanged if the face is new and there is no
--- memory for its value
+-- `f` with the value of the face set to `x`; `f` is unchanged if the face is new and there is no
+-- memory for its value (`placed`)
 abbrev pub set_in : {X : Type 0} → ℕ → ℕ → X → Faced X → Faced X
 set_in room face x f =
     if map.contains_key f.values face then with_face_value face x f else (

@@ -68,7 +68,7 @@ is_vacant e = (map.len e.hops == 0) && (map.len e.registered == 0)
 abbrev pub unless_vacant : Entry → Option Entry
 unless_vacant e = if is_vacant e then None else Some e
 
--- the entry after the cost of its next hop on this face is set
+-- the entry `e` with the cost of its next hop on this face set to `cost`
 abbrev pub entry_with_hop : ℕ → ℕ → Entry → Entry
 entry_with_hop face cost e = record e { hops = map.insert e.hops face cost }
 
@@ -84,8 +84,8 @@ abbrev pub without_next_hop : Routes → List Field → ℕ → Routes
 without_next_hop routes name face =
     with_value routes name (entry_without_hop face (entry_at routes name))
 
--- the entry after a route is registered; the route replaces an older route of the same face and
--- origin
+-- the entry `e` with `route` registered under `key`; `route` replaces an older route with the same
+-- face and origin
 abbrev pub entry_with_route : RouteKey → Route → Entry → Entry
 entry_with_route key route e = record e { registered = map.insert e.registered key route }
 

@@ -23,7 +23,7 @@ use Rattle.pit_fib.specs.Cause.{Cause, changed, until_after, with_reason}
 abbrev pub interest_in : ℕ → List ℕ → List ℕ
 interest_in token_len octets = take (length octets - token_len) octets
 
--- the token, which is the last `token_len` octets, or None if `token_len` is 0
+-- the token, which is the last `token_len` octets of `octets`; None if `token_len` is 0
 abbrev pub token_in : ℕ → List ℕ → Option (List ℕ)
 token_in token_len octets =
     if token_len == 0 then None else Some (drop (length octets - token_len) octets)
@@ -39,7 +39,7 @@ kept_code =
     code_by (Records × Bool) (coded× records_code coded_bool)
     (λ s. (s.records, s.is_wide)) (λ p. record { records = p.0; is_wide = p.1 }) (λ _. refl)
 
--- an entry without records, in memory for `room` out-records
+-- an entry that has no records, and has memory for `room` out-records
 abbrev pub new_in : ℕ → Kept
 new_in room = record { records = no_records; is_wide = (none_in {X = OutRecord} room).is_wide }
 
@@ -51,8 +51,8 @@ abbrev pub with_out_records : Kept → Faced OutRecord → Kept
 with_out_records s f =
     record { records = record s.records { out_records = f.values }; is_wide = f.is_wide }
 
--- the entry after the in-record of a face is set, or unchanged if the face is new and 64 faces have
--- in-records
+-- the entry `s` with the in-record of the face set to `in_record`; `s` is unchanged if the face is
+-- new and 64 faces have in-records
 abbrev pub with_in_record : ℕ → InRecord → Kept → Kept
 with_in_record face in_record s =
     if map.contains_key s.records.in_records face || nat_lt (map.len s.records.in_records) MAX_FACES
@@ -62,9 +62,9 @@ with_in_record face in_record s =
       };
     } else s
 
--- The entry after the out-record of a face is set, in the entry's own memory or in the supplied
--- memory for `room` out-records. The entry is unchanged if the face is new and there is no memory
--- for its out-record.
+-- The entry `s` with the out-record of the face set to `out_record`. If the entry's own memory does
+-- not suffice, the out-records move into the supplied memory for `room` out-records. The entry is
+-- unchanged if the face is new and there is no memory for its out-record.
 abbrev pub sent_in : ℕ → ℕ → OutRecord → Kept → Kept
 sent_in room face out_record s =
     with_out_records s (set_in room face out_record (kept_out_records s))
@@ -101,7 +101,7 @@ nacked face nonce reason s = record s {
 abbrev pub living : Kept → Option Kept
 living s = if is_alive s.records then Some s else None
 
--- the entry of a key after a cause, or None if no in-record is left in it
+-- the entry of a key after a cause, or None if no in-record is left in the entry
 abbrev pub kept_after : Cause → PlainKey → Kept → Option Kept
 kept_after cause k s = living (record s { records = changed cause k s.records })
 
@@ -109,8 +109,8 @@ kept_after cause k s = living (record s { records = changed cause k s.records })
 abbrev pub deadline : Kept → ℕ
 deadline s = least (λ in_record. in_record.deadline) (map.entries s.records.in_records)
 
--- the list `faces` after the faces of these in-records are added; once the list has 64 faces, no
--- face is added
+-- the list `faces` with the faces of these in-records added; once the list has 64 faces, no face is
+-- added
 abbrev pub with_faces_of : List (ℕ × InRecord) → List ℕ → List ℕ
 with_faces_of [] faces = faces
 with_faces_of (e ∷ es) faces = with_faces_of es (adding e.0 faces).1
@@ -149,7 +149,8 @@ by_flags a b c d f =
     if f.can_be_prefix then (if f.must_be_fresh then d else c) else (
     if f.must_be_fresh then b else a)
 
--- the row after the function `change` is applied to each entry, or None if no entry remains
+-- the row in which each entry is changed or removed by the function `change`, or None if no entry
+-- remains
 abbrev pub changed_row : (Flags → Kept → Option Kept) → Row → Option Row
 changed_row change row = nonempty (row_of (λ f. option_and_then (change f) (map.get row f)))
 
@@ -162,24 +163,26 @@ only f change g s = if same_flags g f then change s else Some s
 abbrev pub kept_in : Option Row → Flags → Option Kept
 kept_in row f = option_and_then (λ r. map.get r f) row
 
--- the row after the entry `s` is set under the key with these flags; a new row with only this entry
--- if there was no row
+-- the row in which `s` is the entry under the key with these flags; if there was no row, a new row
+-- with only this entry
 abbrev pub with_kept : Flags → Kept → Option Row → Row
 with_kept f s row = map.insert (unwrap_or row map.empty) f s
 
--- the row after an Interest arrived on a face; a new entry has memory for `room` out-records
+-- the row in which `in_record` is stored for the face, under the key with these flags
+-- (`with_in_record`); if the key had no entry, the new entry has memory for `room` out-records
 abbrev pub row_arrived : Flags → ℕ → InRecord → ℕ → Option Row → Row
 row_arrived f face in_record room row =
     with_kept f (with_in_record face in_record (unwrap_or (kept_in row f) (new_in room))) row
 
--- the row after an entry is set under the key with these flags; if no entry is given, the row is
--- unchanged, or is an empty row if there was no row
+-- the row in which the given entry is set under the key with these flags; if no entry is given, the
+-- old row, or an empty row if there was no row
 abbrev pub with_kept_if : Flags → Option Kept → Option Row → Row
 with_kept_if f None row = unwrap_or row map.empty
 with_kept_if f (Some s) row = with_kept f s row
 
--- The row after an Interest was sent to a face. The row is unchanged if the key has no entry. The
--- call `sent` supplies memory for `room` out-records in addition to the entry's own memory.
+-- The row in which `out_record` is stored for the face, under the key with these flags (`sent_in`).
+-- The row is unchanged if the key has no entry. The call `sent` supplies memory for `room`
+-- out-records in addition to the entry's own memory.
 abbrev pub row_sent : Flags → ℕ → OutRecord → ℕ → Option Row → Row
 row_sent f face out_record room row =
     with_kept_if f (option_map (sent_in room face out_record) (kept_in row f)) row
@@ -220,8 +223,8 @@ abbrev pub was_sent_in : Option Kept → ℕ → List ℕ → Bool
 was_sent_in None face nonce = false
 was_sent_in (Some s) face nonce = was_sent (map.get s.records.out_records face) nonce
 
--- the result of a Nack whose reason is already recorded in the entry of its key; NoPending if there
--- is no entry
+-- the result of a Nack whose reason is already recorded in the entry of the Nack's key; NoPending
+-- if there is no entry
 abbrev pub answer_in : Option Kept → ℕ → Nacked
 answer_in None reason = NoPending
 answer_in (Some s) reason = all_nacked (least_reason reason (map.entries s.records.out_records))

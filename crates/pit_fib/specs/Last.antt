@@ -57,8 +57,8 @@ last_above rows face name zero = None
 last_above rows face name (suc n) =
     last_in_row false face (last_above rows face name n) (map.get rows (take n name))
 
--- the face's last in-record under the keys of `name` and under the keys with CanBePrefix of the
--- proper prefixes of `name`
+-- the face's last in-record under two kinds of keys: the keys of `name`, and those keys with
+-- CanBePrefix whose name is a proper prefix of `name`
 abbrev pub last_along : Rows → ℕ → List Field → Option InRecord
 last_along rows face name =
     last_in_row true face (last_above rows face name (length name)) (map.get rows name)

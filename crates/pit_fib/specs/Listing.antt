@@ -26,8 +26,9 @@ past_at s e =
       way = past_entry s.way e;
     }
 
--- the visitor after it is shown a name with its effective next hops, or unchanged if none of the
--- name's next hops and routes is left at the moment of the walk
+-- The visitor `s` after it has been shown the name, with the name's effective next hops. The
+-- visitor is unchanged if none of the name's next hops and routes is left at the moment of the
+-- walk.
 abbrev pub hops_shown : {S : Type 0} → (S → List ℕ → List Hop → S) → AsHops S → List ℕ → AtName
     → AsHops S
 hops_shown show s name at =

@@ -32,8 +32,8 @@ abbrev pub in_record_of : List Cause → PlainKey → ℕ → Option InRecord
 in_record_of [] k f = None
 in_record_of (cause ∷ before) k f = in_record_after cause k f (in_record_of before k f)
 
--- the out-record of the face g under the key k after one more cause, where `was` is the out-record
--- before the cause, and the key still has an in-record after the cause
+-- The out-record of the face g under the key k after one more cause, if the key has an in-record
+-- after the cause. `was` is the out-record before the cause.
 abbrev pub out_record_after : Cause → PlainKey → ℕ → Option OutRecord → Option OutRecord
 out_record_after (Expires now) k g was = was
 out_record_after (Arrives key face in_record) k g was = was

@@ -79,7 +79,7 @@ loops r face nonce =
     && (list_any (λ e. not (e.0 == face) && same_nonce e.1.nonce nonce) (map.entries r.in_records)
     || list_any (λ e. same_nonce e.1.nonce nonce) (map.entries r.out_records))
 
--- for each face, when an Interest of the key was last sent to it
+-- for each face with an out-record, the moment at which the Interest of this out-record was sent
 abbrev pub moments : OutRecords → ByFace
 moments out_records = revise (λ out_record. Some out_record.moment) out_records
 

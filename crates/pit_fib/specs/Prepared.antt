@@ -33,15 +33,16 @@ pub record IsReady (r : Ready) : Type 0 where
 abbrev pub HasNoArrival : Option Prepared → Type 0
 HasNoArrival prepared = IfSome prepared (λ p. p.arrival ≡ None)
 
--- There is memory for the out-records of 64 faces under a key: the spare memory has capacity for 64
--- out-records, or the key's entry has its own memory for 64 out-records, or the key has no entry.
+-- If the key has an entry, there is memory for the out-records of 64 faces under this key: the
+-- spare memory, or the own memory of the entry, has capacity for 64 out-records.
 abbrev pub CanSend : Rows → PlainKey → ℕ → Type 0
 CanSend rows key spare =
     (MAX_FACES ≤ spare) ⊎ ((s : Kept) → kept_at rows key ≡ Some s → s.is_wide ≡ true)
 
--- If calls are prepared, there is memory for the out-records of 64 faces under their key
--- (`CanSend`). If an `arrive` is prepared, the spare memory has capacity for 64 out-records, the
--- vector for the octets of the `arrive` is ready, and the key's name is prepared in the table.
+-- If calls are prepared and their key has an entry, there is memory for the out-records of 64 faces
+-- under this key (`CanSend`). If an `arrive` is prepared, the spare memory has capacity for 64
+-- out-records, the vector for the octets of the `arrive` is ready, and the key's name is prepared
+-- in the table.
 abbrev pub HasMemory : NameTable Row → ℕ → Option Prepared → Type 0
 HasMemory rows spare prepared =
     IfSome prepared (λ p. CanSend rows.table p.key spare × IfSome p.arrival (λ r.

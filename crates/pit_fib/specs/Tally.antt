@@ -17,7 +17,7 @@ abbrev pub sooner : ℕ → Option ℕ → ℕ
 sooner moment None = moment
 sooner moment (Some deadline) = min moment deadline
 
--- the earliest of `moment` and of those deadlines that the routes have
+-- the earliest moment among `moment` and the deadlines of the routes
 abbrev pub earliest : ℕ → List (RouteKey × Route) → ℕ
 earliest moment rows =
     fold {A = RouteKey × Route} {B = ℕ} (λ m e. sooner m e.1.deadline) moment rows

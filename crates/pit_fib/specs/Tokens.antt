@@ -1,4 +1,4 @@
--- Which PIT token is sent back to a face with a Data (NDNLPv2, "PIT Token").
+-- Which PIT token is sent with a Data to a face (NDNLPv2, "PIT Token").
 use Rattle.std.specs.Prelude.{◌≡◌, ◌≢◌, ◌⊎◌, ◌<◌, ℕ, List, Option, None, Some, IsTrue}
 use Rattle.std.specs.declared.cmp.Ordering.TheVariants.{Greater}
 use Rattle.std.specs.FinMap as map
@@ -29,8 +29,8 @@ pub record IsLast (records : PlainKey → Records) (name : List Field) (digest :
   pub last : (other_key : PlainKey) (other : InRecord)
       → IsAsker records name digest face other_key other → IsNotAfter other_key other key in_record
 
--- `token` is the PIT token that is sent to the face with the Data. It is the token, if any, of the
--- last (`IsLast`) of the face's in-records that the Data answers. `token` is None if the Data
+-- `token` is the PIT token that is sent with the Data to the face. This is the token, if any, of
+-- the last (`IsLast`) of the face's in-records that the Data answers. `token` is None if the Data
 -- answers no in-record of the face.
 abbrev pub IsTokenFor : (PlainKey → Records) → List Field → List ℕ → ℕ → Option (List ℕ) → Type 0
 IsTokenFor records name digest face token =

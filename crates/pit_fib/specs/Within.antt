@@ -9,8 +9,8 @@ use Rattle.pit_fib.specs.Fib.{Entry}
 use Rattle.pit_fib.specs.Route.{Registered}
 use Rattle.pit_fib.specs.Tables.{ByFace}
 
--- the costs after the cost of `face` is set, or unchanged if the face is new and 64 faces have a
--- cost
+-- `costs` with the cost of `face` set to `cost`; unchanged if the face has no cost in `costs` and
+-- 64 other faces have a cost
 abbrev pub set_within : ByFace → ℕ → ℕ → ByFace
 set_within costs face cost =
     if map.contains_key costs face || nat_lt (map.len costs) MAX_FACES
@@ -19,8 +19,7 @@ set_within costs face cost =
 abbrev pub entry_with_hop_within : ℕ → ℕ → Entry → Entry
 entry_with_hop_within face cost e = record e { hops = set_within e.hops face cost }
 
--- the routes after `route` is set under `key`, or unchanged if there are already `room` routes or
--- more
+-- the routes with `route` set under `key`; unchanged if there are already `room` routes or more
 abbrev pub with_route_within : ℕ → RouteKey → Route → Registered → Registered
 with_route_within room key route registered =
     if nat_lt (map.len registered) room then map.insert registered key route else registered

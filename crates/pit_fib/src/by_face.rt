@@ -130,8 +130,8 @@ impl Used {
     }
 }
 
-/// Moves some of the first `len` entries to the front: the entries whose face is not `face`.
-/// Returns how many entries were moved.
+/// Removes from the first `len` entries those whose face is `face`: the other entries move to the
+/// front of `places`, in unchanged order. Returns the number of these other entries.
 fn without_face(places: &mut [(u64, u64)], len: usize, face: u64) -> usize
     requires { len ≤ length places.old }
     ensures fewer { result ≤ len }

@@ -50,8 +50,9 @@ impl Model for InRecord {
 }
 
 impl InRecord {
-    /// Returns the in-record of an Interest and its token. The last `token_len` octets of `octets`
-    /// are the token, and the octets before them are the Interest.
+    /// Returns the in-record of an Interest. The last `token_len` octets of `octets` are the
+    /// Interest's PIT token, and the octets before the token are the Interest. If `token_len` is 0,
+    /// the Interest has no token.
     pub fn new(octets: Vec<u8>, token_len: u8, nonce: [u8; 4], deadline: u64) -> InRecord
         requires { (token_len ≤ length octets.items) × (token_len ≤ 32) }
         ensures { result ≡ record {
@@ -101,7 +102,8 @@ pub struct OutRecord {
     nonce: [u8; 4],
     // When the Interest was sent, in milliseconds since 1970.
     moment: u64,
-    // The reason of the last Nack that came back with this Nonce, or `None` if no such Nack came.
+    // The reason of the last Nack that came back with the Nonce `nonce`, or `None` if no such Nack
+    // came.
     reason: Option<u64>,
 }
 
@@ -146,7 +148,7 @@ impl OutRecord {
 }
 
 impl FaceMap<OutRecord> {
-    /// Returns whether the last Interest that was sent to the face had this Nonce.
+    /// Returns whether the face has an out-record with this Nonce.
     fn was_sent(&self, face: u64, nonce: [u8; 4]) -> bool
         ensures { result ≡ was_sent (map.get self.now.values face) nonce }
     {
@@ -156,8 +158,8 @@ impl FaceMap<OutRecord> {
         }
     }
 
-    /// Records the reason of a Nack, if the Nack's Nonce is the last Nonce that was sent to the
-    /// face.
+    /// Stores the reason of a Nack in the face's out-record, if this out-record has the Nack's
+    /// Nonce.
     fn nacked(&mut self, face: u64, nonce: [u8; 4], reason: u64)
         ensures { self.new ≡ record self.old {
           values = with_reason face nonce reason
@@ -169,8 +171,8 @@ impl FaceMap<OutRecord> {
         }
     }
 
-    /// Returns the least of `reason` and of the reasons in all out-records, or `None` if some
-    /// out-record has no reason.
+    /// Returns the least number among `reason` and the reasons in the out-records. Returns `None`
+    /// if some out-record has no reason.
     fn least_reason(&self, reason: u64) -> Option<u64>
         ensures { result ≡ least_reason reason (map.entries self.now.values) }
     {
@@ -184,7 +186,7 @@ impl FaceMap<OutRecord> {
 
 impl FaceMap<InRecord> {
     /// Returns the least deadline of the in-records, in milliseconds since 1970, or 0 if there are
-    /// none.
+    /// no in-records.
     fn deadline(&self) -> u64
         ensures { result ≡ least (λ r. r.deadline) (map.entries self.now.values) }
     {
@@ -196,7 +198,7 @@ impl FaceMap<InRecord> {
     }
 }
 
-/// Returns the lesser of two moments. If one is `None`, returns the other.
+/// Returns the lesser of two moments. If one moment is `None`, returns the other moment.
 pub fn lesser(a: Option<u64>, b: Option<u64>) -> Option<u64>
     ensures { result ≡ lesser a b }
 {
@@ -228,7 +230,7 @@ impl Model for Entry {
 }
 
 impl Entry {
-    /// Returns an entry without records, in the memory `in_records` and `out_records`.
+    /// Returns an entry without records. The entry uses the memory `in_records` and `out_records`.
     pub fn new(in_records: Room<InRecord>, out_records: Room<OutRecord>) -> Entry
         requires in_records { FEW ≤ in_records }
         requires out_records { FEW ≤ out_records }
@@ -255,7 +257,7 @@ impl Entry {
     }
 
     /// Returns the least deadline of the in-records, in milliseconds since 1970, or 0 if there are
-    /// none.
+    /// no in-records.
     pub fn deadline(&self) -> u64
         ensures { result ≡ deadline self.now }
     {
@@ -263,8 +265,8 @@ impl Entry {
     }
 
     /// Adds or replaces the in-record of a face. Changes nothing if the face has no in-record and
-    /// 64 other faces have one. If the face is new and the entry's own memory is full, the
-    /// in-records move into the memory `room`.
+    /// 64 other faces have in-records. If the face has no in-record and the entry's own memory is
+    /// full, the in-records move into the memory `room`.
     pub fn arrive(&mut self, face: u64, in_record: InRecord, room: Room<InRecord>)
         requires { MAX_FACES ≤ room }
         ensures { self.new ≡ with_in_record face in_record self.old }
@@ -281,15 +283,17 @@ impl Entry {
         self.out_records.get(face).is_some() || self.out_records.has_place()
     }
 
-    /// Adds or replaces the out-record of a face, in the out-records' own memory or in the memory
-    /// `room`. Changes nothing if the face is new and there is no memory for its out-record.
+    /// Adds or replaces the out-record of a face. If the face has no out-record and the entry's own
+    /// memory is full, the out-records move into the memory `room`. Changes nothing if the face has
+    /// no out-record and there is no place for a new one: 64 faces have out-records, or neither the
+    /// entry's own memory nor the memory `room` suffices.
     pub fn sent(&mut self, face: u64, out_record: OutRecord, room: Room<OutRecord>)
         ensures { self.new ≡ sent_in room face out_record self.old }
     {
         self.out_records.set(face, out_record, room);
     }
 
-    /// Returns whether an Interest of the key, with this Nonce and from this face, loops.
+    /// Returns whether an Interest of the key loops if it comes from this face and has this Nonce.
     pub fn loops(&self, face: u64, nonce: [u8; 4]) -> bool
         ensures { result ≡ loops_in self.now.records face nonce }
     {
@@ -320,8 +324,8 @@ impl Entry {
             .any(|row| row.1.nonce == nonce)
     }
 
-    /// Returns, for each face, the moment at which an Interest of the key was last sent to the
-    /// face, in milliseconds since 1970.
+    /// Returns, for each face with an out-record, the moment at which the last Interest of the key
+    /// was sent to the face, in milliseconds since 1970.
     pub fn moments(&self) -> Used
         ensures { result ≡ moments_of self.now.records.out_records }
     {
@@ -357,23 +361,23 @@ impl Entry {
         self.in_records.get(face)
     }
 
-    /// Returns whether the last Interest that was sent to the face had this Nonce.
+    /// Returns whether the face has an out-record with this Nonce.
     pub fn was_sent(&self, face: u64, nonce: [u8; 4]) -> bool
         ensures { result ≡ was_sent (map.get self.now.records.out_records face) nonce }
     {
         self.out_records.was_sent(face, nonce)
     }
 
-    /// Records the reason of a Nack, if the Nack's Nonce is the last Nonce that was sent to the
-    /// face.
+    /// Stores the reason of a Nack in the face's out-record, if this out-record has the Nack's
+    /// Nonce.
     pub fn nacked(&mut self, face: u64, nonce: [u8; 4], reason: u64)
         ensures { self.new ≡ nacked face nonce reason self.old }
     {
         self.out_records.nacked(face, nonce, reason);
     }
 
-    /// Returns `All` with the least of `reason` and of the Nack reasons in the out-records, or
-    /// `Waiting` if some out-record has no reason.
+    /// Returns `Waiting` if some out-record has no reason. Otherwise returns `All` with the least
+    /// number among `reason` and the reasons in the out-records.
     pub fn answer(&self, reason: u64) -> Nacked
         ensures { result
             ≡ all_nacked (least_reason reason (map.entries self.now.records.out_records)) }
@@ -398,7 +402,7 @@ impl Entry {
         self.in_records.expire(now);
     }
 
-    /// Removes the records of a face.
+    /// Removes the in-record and the out-record of a face.
     pub fn close_face(&mut self, face: u64)
         ensures { self.new ≡ without_face face self.old }
     {
@@ -426,7 +430,8 @@ pub fn later<'a>(a: Option<&'a InRecord>, b: Option<&'a InRecord>) -> Option<&'a
     }
 }
 
-/// Returns the in-record of a face in the entry, or `None` if there is no entry.
+/// Returns the in-record that a face has in the entry. Returns `None` if there is no entry, or if
+/// the face has no in-record.
 pub fn in_record_of(entry: &Option<Entry>, face: u64) -> Option<&InRecord>
     ensures { option_map (λ r. r.now) result ≡ ask_in face entry.now }
 {
@@ -436,7 +441,8 @@ pub fn in_record_of(entry: &Option<Entry>, face: u64) -> Option<&InRecord>
     }
 }
 
-/// Adds the faces with an in-record in the entry to `faces`, if there is an entry.
+/// Adds to `faces` the faces that have an in-record in the entry. Adds no face if there is no
+/// entry. Once `faces` has 64 faces, no other face is added.
 pub fn add_faces(entry: &Option<Entry>, faces: &mut Faces)
     ensures { faces.new ≡ with_asking entry.now faces.old }
 {
@@ -445,7 +451,8 @@ pub fn add_faces(entry: &Option<Entry>, faces: &mut Faces)
     }
 }
 
-/// Adds the faces of these in-records to `faces`.
+/// Adds to `faces` the faces of the in-records `rows`. Once `faces` has 64 faces, no other face is
+/// added.
 fn add_faces_of(rows: &[(u64, InRecord)], faces: &mut Faces)
     ensures { faces.new ≡ with_faces_of rows.now faces.old }
 {

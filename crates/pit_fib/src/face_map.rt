@@ -14,8 +14,8 @@ use crate::face_set::MAX_FACES;
 use crate::room::{FEW, Room};
 use std::marker::Model;
 
-/// A map from at most 64 faces to values, in rising order of the faces. The map has memory for a
-/// few values, or for 64 values.
+/// A map from at most 64 faces to values, in rising order of the faces. The map has memory for at
+/// least `FEW` values, and may have memory for 64 values.
 #[derive(Drop)]
 pub struct FaceMap<V> {
     rows: Vec<(u64, V)>,
@@ -45,7 +45,7 @@ impl<V> Model for FaceMap<V> {
 }
 
 impl<V: Drop> FaceMap<V> {
-    /// Returns a map without values, in the memory `room`.
+    /// Returns a map without values. The map uses the memory `room`.
     pub fn new(room: Room<V>) -> FaceMap<V>
         requires { FEW ≤ room }
         ensures { result ≡ none_in room }
@@ -88,9 +88,9 @@ impl<V: Drop> FaceMap<V> {
         self.rows.capacity() >= MAX_FACES || self.rows.len() < FEW
     }
 
-    /// Ensures that there is memory for one more value: the map's own memory, or the memory `room`,
-    /// into which the values then move. Returns false if there is no memory for one more value, or
-    /// if the map has 64 values.
+    /// Provides memory for one more value. If the map's own memory does not suffice and `room` has
+    /// capacity for 64 values, the values move into the memory `room`. Returns false, and changes
+    /// nothing, if neither memory suffices, or if the map has 64 values.
     fn make_place(&mut self, room: Room<V>) -> bool
         ensures { (result, self.new) ≡ placed room self.old }
     {
@@ -131,7 +131,7 @@ impl<V: Drop> FaceMap<V> {
         }
     }
 
-    /// Replaces the value of a face that has one.
+    /// Replaces the value of a face. The face must have a value.
     pub fn replace(&mut self, face: u64, value: V)
         requires { IsSome (map.get self.old.values face) }
         ensures { self.new ≡ with_face_value face value self.old }

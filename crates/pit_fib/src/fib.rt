@@ -38,8 +38,8 @@ pub const MAX_DEPTH: usize = 32;
 pub const MAX_ROUTES: usize = 16384;
 
 /// The table of next hops and registered routes by name (NFD Developer's Guide, "Forwarding
-/// Information Base", "Routing Information Base"). The table has at most 4,096 names of at most 32
-/// components, and each name has next hops or routes. The table has at most 16,384 routes in all,
+/// Information Base", "Routing Information Base"). The table has at most 4,096 names. Each name has
+/// at most 32 components, and has next hops or routes. The table has at most 16,384 routes in all,
 /// and at most 64 different faces.
 #[derive(Drop)]
 pub struct Fib {
@@ -144,9 +144,10 @@ impl Fib {
     }
 
     /// Registers a route. If `deadline` is a moment, in milliseconds since 1970, the route expires
-    /// at that moment. In the flags, 1 is child-inherit and 2 is capture. The route replaces the
-    /// name's route with the same face and origin. The faces of all next hops and routes, together
-    /// with `face`, must be at most 64.
+    /// at that moment. In `flags`, the bit of value 1 means child-inherit, and the bit of value 2
+    /// means capture. The route replaces the name's older route with the same face and origin, if
+    /// there is one. The faces of all next hops and routes, together with `face`, must be at most
+    /// 64.
     ///
     /// On failure, returns the first fault in the order of `TableFault`, and leaves the table
     /// unchanged. Each call ends the preparation, even if the call fails. The table is full for a
@@ -412,8 +413,8 @@ impl Fib {
         Ok(())
     }
 
-    /// Returns the effective next hops that a name has after the routes that expire by `now` are
-    /// removed. The name must have a next hop, or a route that does not expire by `now`.
+    /// Returns the effective next hops that a name would have without the routes that expire by
+    /// `now`. The name must have a next hop, or a route that does not expire by `now`.
     fn hops_left_at(&self, name: Name<'_>, now: u64) -> Hops
         requires { IsSome (map.get (left_at now self.now.table) (components name)) }
         ensures { result
@@ -468,8 +469,8 @@ fn enough_room(
     Ok(Vec::with_capacity(alloc, len + 1)?)
 }
 
-/// Returns the number of all routes, and the first moment at which one of them expires, or the
-/// greatest u64 if none expires.
+/// Returns the number of all routes, and the earliest deadline of a route. If no route has a
+/// deadline, the greatest u64 takes the place of the earliest deadline.
 fn tally(entries: &NameMap<Entry>) -> Tally
     requires { route_count entries.now.table ≤ MAX_ROUTES }
     ensures { IsTallied entries.now.table result.count result.next_due }

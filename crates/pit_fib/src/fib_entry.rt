@@ -75,7 +75,8 @@ impl Entry {
     }
 }
 
-/// A change that sets the next hop on a face.
+/// A change that adds a next hop on a face, or sets the cost of the next hop on the face. The entry
+/// is unchanged if it has no next hop on the face, and has next hops on 64 other faces.
 #[derive(Drop)]
 pub struct WithHop {
     pub alloc: Global,
@@ -100,9 +101,9 @@ impl Becomes<Entry> for WithHop {
     }
 }
 
-/// A change that sets the registered route with a face and an origin. The name's routes are then
-/// stored in the vector `room`. The entry is unchanged if `room` lacks capacity for the old routes
-/// and one more.
+/// A change that registers a route. The route replaces a route with the same face and origin. The
+/// name's routes are then stored in the vector `room`. The entry is unchanged if `room` lacks
+/// capacity for the old routes and one more.
 #[derive(Drop)]
 pub struct WithRoute {
     pub alloc: Global,
@@ -149,7 +150,7 @@ impl Change<Entry> for WithoutHop {
     }
 }
 
-/// A change that removes the registered route with a face and an origin.
+/// A change that removes the registered route with the face and the origin in `key`.
 #[derive(Drop)]
 pub struct WithoutRoute {
     pub key: RouteKey,
@@ -184,7 +185,7 @@ impl Change<Entry> for WithoutFace {
     }
 }
 
-/// A change that removes the registered routes that expire by a moment.
+/// A change that removes the registered routes that expire by the moment `now`.
 #[derive(Drop)]
 pub struct WithoutDue {
     pub now: u64,

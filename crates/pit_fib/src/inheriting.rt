@@ -111,8 +111,9 @@ fn has_capture_at(rows: &[(RouteKey, Route)], at: Option<u64>) -> bool
     false
 }
 
-/// Returns, for each face, the least cost of its routes that do not expire by `at` (if `at` is
-/// `None`, of all its routes). If `below` is true, only child-inherit routes are considered.
+/// Returns, for each face, the least cost of the face's routes that count. If `at` is a moment,
+/// routes that expire by that moment do not count. If `below` is true, only child-inherit routes
+/// count. Leaves out a face that would be the 65th.
 fn least_within(rows: &[(RouteKey, Route)], at: Option<u64>, below: bool) -> Used
     ensures { result ≡ least_within at below rows.now }
 {
@@ -137,8 +138,8 @@ fn set_lesser(costs: &mut Used, face: u64, cost: u64)
     costs.insert(face, lesser);
 }
 
-/// Returns the costs in `first`, and for faces without a cost in `first`, the costs in `second`.
-/// Leaves out a cost in `first` whose face would be the 65th.
+/// Returns the costs in `first` and, for faces without a cost in `first`, the costs in `second`.
+/// Leaves out a face of `first` that would be the 65th face of the result.
 fn laid_over(first: &Used, second: Used) -> Used
     ensures { result ≡ laid_over first.now second }
 {

@@ -42,7 +42,7 @@ impl KeyBuf {
         })
     }
 
-    /// Returns the key as a view.
+    /// Returns the key as a `Key`, which borrows the name.
     pub fn view(&self) -> Key<'_>
         ensures { plain_key result ≡ self.now }
     {

@@ -15,8 +15,8 @@ use ndn_names::{Component, Name};
 use ndn_packets::Data;
 use std::marker::Model;
 
-/// The state of a search through rows. `last` is the last in-record of the face that the search has
-/// found so far. The search looks only for in-records that a Data answers.
+/// The state of a search through rows. Among the in-records of the face `face` that the search has
+/// found so far, `last` is the last one. The search looks only for in-records that a Data answers.
 #[derive(Drop)]
 struct LastOf<'a> {
     face: u64,
@@ -47,8 +47,9 @@ impl<'a> Look<'a, Row> for LastOf<'a> {
 }
 
 /// Returns the in-record with the latest deadline among the face's in-records under two kinds of
-/// keys: the keys of `name`, and the keys with CanBePrefix of the proper prefixes of `name`. If
-/// several of these in-records have the latest deadline, returns the one under the greatest key.
+/// keys: the keys of `name`, and those keys with CanBePrefix whose name is a proper prefix of
+/// `name`. If several of these in-records have the latest deadline, returns the one under the
+/// greatest key.
 fn last_along<'a>(rows: &'a TimedMap<Row>, name: Name<'_>, face: u64) -> Option<&'a InRecord>
     ensures { option_map (λ r. r.now) result
         ≡ last_along rows.now.table face (components name.entry) }
@@ -60,8 +61,8 @@ fn last_along<'a>(rows: &'a TimedMap<Row>, name: Name<'_>, face: u64) -> Option<
 
 /// Returns the in-record with the latest deadline among the face's in-records that a Data answers.
 /// If several of these in-records have the latest deadline, returns the one under the greatest key.
-/// The Data's digest is computed only if some key may have the Data's name followed by a digest
-/// component (`TimedMap::has_below`).
+/// The Data's digest is computed only if the name of some key may be the Data's name followed by a
+/// digest component (`TimedMap::has_below`).
 pub fn last_for<'a>(rows: &'a TimedMap<Row>, packet: &Data<'_>, face: u64) -> Option<&'a InRecord>
     ensures { option_map (λ r. r.now) result ≡ last_of rows.now.table face
         (components packet.now.name) (sha256 packet.now.whole.now) }

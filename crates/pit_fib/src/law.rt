@@ -95,10 +95,10 @@ pub fn records_are_the_past()
         ↔ ((face : ℕ) × IsSome (in_record_of causes key face)) }
 {}
 
-/// Law: the result of a Nack is `NoPending` exactly if the Nack's Nonce was not the last Nonce sent
-/// to the Nack's face. If the Nonce was the last one sent to the face, the result is `All` exactly
-/// if each out-record has a reason after the Nack, and the number in `All` is the least of these
-/// reasons.
+/// Law: the result of a Nack is `NoPending` exactly if the face from which the Nack came has no
+/// out-record with the Nack's Nonce. If this face has such an out-record, the result is `All`
+/// exactly if each out-record has a reason after the Nack, and the number in `All` is the least of
+/// these reasons.
 pub fn nacks_tell_the_least_reason()
     ensures pending { (r : Records) (face : ℕ) (nonce : List ℕ) (reason : ℕ)
         → (nacked_answer r face nonce reason ≡ answers.NoPending)
@@ -110,7 +110,7 @@ pub fn nacks_tell_the_least_reason()
         (map.get r.out_records face)) least }
 {}
 
-/// Law: the PIT token that is sent to a face with a Data is unique.
+/// Law: for each Data and face, `IsTokenFor` holds for at most one value: one PIT token, or None.
 pub fn tokens_for_data_are_one()
     ensures { (records : PlainKey → Records) (name : List Field) (digest : List ℕ) (face : ℕ)
         (a b : Option (List ℕ)) → IsTokenFor records name digest face a

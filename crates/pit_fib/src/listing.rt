@@ -13,8 +13,8 @@ pub struct AtName {
     pub now: u64,
     /// Whether the entry of the name still has next hops or routes at the moment `now`.
     pub is_left: bool,
-    /// The state of the walk along the name, after the last entry. This entry may be the name's
-    /// own.
+    /// The state of a walk along the name, after the last entry on the name. This entry may be the
+    /// entry of the name itself.
     pub way: Inheriting,
 }
 
@@ -47,8 +47,9 @@ impl Carry<Entry> for AtName {
     }
 }
 
-/// A visitor of a walk over all names. It shows each name whose entry remains at the moment of the
-/// walk, with the name's effective next hops, to the visitor `show`.
+/// A visitor of a walk over all names. This visitor passes names on to the visitor `show`: each
+/// name whose entry still has next hops or routes at the moment of the walk. Each name is shown
+/// with its effective next hops.
 #[derive(Drop)]
 pub struct AsHops<S> {
     pub show: S,

@@ -108,9 +108,10 @@ impl Pit {
         self.len() == 0
     }
 
-    /// Returns whether an Interest with this key and Nonce from a face loops. An Interest loops if
-    /// its Nonce is in an out-record or in the in-record of another face, but not in the in-record
-    /// of its own face (NFD Developer's Guide, "Incoming Interest Pipeline").
+    /// Returns whether an Interest with this key and Nonce loops if it comes from the face `face`.
+    /// An Interest loops if two conditions hold. First, the Interest's Nonce is in the in-record of
+    /// another face, or in any out-record. Second, the Interest's Nonce is not in the in-record of
+    /// the Interest's own face (NFD Developer's Guide, "Incoming Interest Pipeline").
     pub fn loops(&self, key: Key<'_>, face: u64, nonce: [u8; 4]) -> bool
         ensures { result
             ≡ loops_in (records_at self.now.pending (plain_key key.entry)) face nonce }
@@ -121,11 +122,11 @@ impl Pit {
         }
     }
 
-    /// Prepares one `arrive` of this key, for an Interest and a PIT token of at most `octets`
-    /// octets together, and the `sent` calls of this key after this `arrive`. The prepared calls
-    /// cannot run out of memory if, after `prepare`, only calls that remove records come before or
-    /// between the prepared calls. `prepare` fails only if memory runs out; then no call is
-    /// prepared.
+    /// Prepares one `arrive` of this key, and the `sent` calls of this key after this `arrive`. The
+    /// Interest and the PIT token of the `arrive` may have at most `octets` octets together. The
+    /// prepared calls cannot run out of memory if, after `prepare`, only calls that remove records
+    /// come before or between the prepared calls. `prepare` fails only if memory runs out; then no
+    /// call is prepared.
     pub fn prepare(&mut self, key: Key<'_>, octets: usize) -> Result<(), Memory>
         ensures pending { self.new.pending ≡ self.old.pending }
         ensures ok { OnOk result (self.new.prepared
@@ -288,8 +289,8 @@ impl Pit {
         Ok(())
     }
 
-    /// Returns the faces to which Interests of this key were sent, and when, in milliseconds since
-    /// 1970.
+    /// Returns the faces that have an out-record under this key. Each face comes with the moment at
+    /// which the last Interest of the key was sent to the face, in milliseconds since 1970.
     pub fn used(&self, key: Key<'_>) -> Used
         ensures { result
             ≡ moments (records_at self.now.pending (plain_key key.entry)).out_records }
@@ -309,8 +310,8 @@ impl Pit {
     }
 
     /// Returns whether some pending Interest may have a PIT token (NDNLPv2, "PIT Token"). If the
-    /// result is false, no pending Interest has a token. Once a token has come, the result stays
-    /// true.
+    /// result is false, no pending Interest has a token. Once an Interest with a token has been
+    /// recorded, the result stays true.
     pub fn has_tokens(&self) -> bool
         ensures { result ≡ false → HaveNoTokens self.now.pending }
     {
@@ -327,12 +328,13 @@ impl Pit {
         entry_of(&self.rows, key)?.token_of(face)
     }
 
-    /// Returns the PIT token that is sent to a face with a Data (NDNLPv2, "PIT Token"). The token
-    /// comes from the last of the face's Interests that the Data answers, with or without
-    /// MustBeFresh. The last Interest is the one with the latest deadline. If several Interests
-    /// have the latest deadline, the last Interest is the one with the greatest key. Keys are
-    /// ordered by name in canonical order, then by CanBePrefix, then by MustBeFresh. Returns `None`
-    /// if the last Interest has no token, or if the Data answers no Interest of the face.
+    /// Returns the PIT token that is sent with a Data to a face (NDNLPv2, "PIT Token"). The token
+    /// comes from the last of the face's Interests that the Data answers. The Data answers an
+    /// Interest whether or not the Interest has MustBeFresh. The last Interest is the one with the
+    /// latest deadline. If several Interests have the latest deadline, the last Interest is the one
+    /// with the greatest key. Keys are ordered by name in canonical order, then by CanBePrefix,
+    /// then by MustBeFresh. Returns `None` if the last Interest has no token, or if the Data
+    /// answers no Interest of the face.
     pub fn token_for(&self, packet: &Data<'_>, face: u64) -> Option<&[u8]>
         ensures token { IsTokenFor (records_at self.now.pending) (components packet.now.name)
             (sha256 packet.now.whole.now) face (option_map (λ t. t.now) result) }
@@ -344,8 +346,8 @@ impl Pit {
         last_for(&self.rows, packet, face)?.token()
     }
 
-    /// Removes all Interests that a Data answers, with or without MustBeFresh, and returns the
-    /// faces of these Interests.
+    /// Removes all Interests that a Data answers, and returns the faces of these Interests. The
+    /// Data answers an Interest whether or not the Interest has MustBeFresh.
     pub fn satisfy(&mut self, packet: &Data<'_>) -> Faces
         ensures pending { Follows (Satisfied (components packet.now.name)
             (sha256 packet.now.whole.now)) self.old.pending self.new.pending }
@@ -400,9 +402,9 @@ impl Pit {
         faces
     }
 
-    /// Records the reason of a Nack that came from a face, and returns the result of this Nack. The
-    /// records are not removed, even if each face has answered with a Nack. The call ends the
-    /// preparation.
+    /// Stores the reason of a Nack in the out-record of the face from which the Nack came, if this
+    /// out-record has the Nack's Nonce. Returns the result of the Nack. No record is removed, even
+    /// if each out-record has the reason of a Nack. The call ends the preparation.
     pub fn nacked(&mut self, key: Key<'_>, face: u64, nonce: [u8; 4], reason: u64) -> Nacked
         ensures answer { result ≡ nacked_answer
             (records_at self.old.pending (plain_key key.entry)) face nonce reason }
@@ -450,7 +452,8 @@ impl Pit {
         self.rows.change(key.name, &RowRevision(Removal { flags }));
     }
 
-    /// Removes the Interests whose deadline is `now` or earlier, in milliseconds since 1970.
+    /// Removes the Interests whose deadline is `now` or earlier, in milliseconds since 1970. If a
+    /// key then has no in-record, the key's out-records are removed too.
     pub fn expire(&mut self, now: u64)
         ensures pending { Follows (Expires now) self.old.pending self.new.pending }
         ensures prepared { self.new.prepared ≡ self.old.prepared }
@@ -459,7 +462,8 @@ impl Pit {
         self.rows.expire(now, &RowRevision(Expiry { now }));
     }
 
-    /// Removes the in-records and the out-records of a face.
+    /// Removes the in-records and the out-records of a face. If a key then has no in-record, the
+    /// key's other out-records are removed too.
     pub fn close_face(&mut self, face: u64)
         ensures pending { Follows (Closed face) self.old.pending self.new.pending }
         ensures prepared { self.new.prepared ≡ self.old.prepared }
@@ -489,7 +493,7 @@ fn add_of(row: Option<&Row>, is_own: bool, faces: &mut Faces)
     }
 }
 
-/// Returns whether the last Interest that was sent to the face under this key had this Nonce.
+/// Returns whether the face has an out-record with this Nonce under this key.
 fn was_sent(rows: &TimedMap<Row>, key: Key<'_>, face: u64, nonce: [u8; 4]) -> bool
     ensures { result ≡ was_sent_in (kept_at rows.now.table (plain_key key.entry)) face nonce }
 {
@@ -510,8 +514,9 @@ fn has_place_for(rows: &TimedMap<Row>, key: Key<'_>, face: u64) -> bool
     }
 }
 
-/// Returns `All` with the least of `reason` and of the Nack reasons in the out-records of a key,
-/// `Waiting` if some out-record has no reason, or `NoPending` if the key has no entry.
+/// Returns `NoPending` if the key has no entry, and `Waiting` if some out-record of the key has no
+/// reason. Otherwise returns `All` with the least number among `reason` and the reasons in the
+/// key's out-records.
 fn answer_of(rows: &TimedMap<Row>, key: Key<'_>, reason: u64) -> Nacked
     ensures { result ≡ answer_in (kept_at rows.now.table (plain_key key.entry)) reason }
 {
@@ -521,7 +526,7 @@ fn answer_of(rows: &TimedMap<Row>, key: Key<'_>, reason: u64) -> Nacked
     }
 }
 
-/// Makes `spare` large enough for the out-records of all 64 faces.
+/// Makes `spare` large enough for 64 out-records.
 fn widen(alloc: Global, spare: &mut Room<OutRecord>) -> Result<(), Memory>
     ensures { OnOk result (MAX_FACES ≤ spare.new) }
 {
@@ -531,8 +536,9 @@ fn widen(alloc: Global, spare: &mut Room<OutRecord>) -> Result<(), Memory>
     Ok(())
 }
 
-/// Returns memory for the out-records of all faces, taken from `spare` or newly allocated. If
-/// `has_place` is true, returns memory with capacity for no values, and leaves `spare` unchanged.
+/// Returns memory for an entry's out-records. If `has_place` is true, returns memory with capacity
+/// for no out-records, and leaves `spare` unchanged. If `has_place` is false, returns memory for 64
+/// out-records, which is taken from `spare` or is newly allocated.
 fn room_for(
     alloc: Global,
     spare: &mut Room<OutRecord>,

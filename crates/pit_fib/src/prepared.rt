@@ -105,8 +105,9 @@ fn octets_of(token: Option<&[u8]>) -> &[u8]
     }
 }
 
-/// Returns the octets of an Interest and its token, and memory for the Interest's records. The
-/// memory is taken from `ready` if `ready` is large enough, and is newly allocated otherwise.
+/// Returns a vector with the octets of an Interest followed by those of its token, and memory for
+/// the Interest's records. The vector and the memory are taken from `ready` if `ready` is large
+/// enough, and are newly allocated otherwise.
 fn octets_and_room(
     alloc: Global,
     ready: Option<Ready>,
@@ -124,9 +125,9 @@ fn octets_and_room(
     Ok((ready.octets, ready.records))
 }
 
-/// Returns the in-record of an Interest and of its token (if any), and memory for the Interest's
-/// records. The memory is taken from `ready` if `ready` is large enough, and is newly allocated
-/// otherwise.
+/// Returns the in-record of an Interest, which includes the token (if any), and memory for the
+/// Interest's records. All memory is taken from `ready` if `ready` is large enough, and is newly
+/// allocated otherwise.
 pub fn in_record_and_room(
     alloc: Global,
     ready: Option<Ready>,

@@ -11,7 +11,7 @@ use std::alloc::Global;
 use std::cmp::Ordering;
 use std::marker::Model;
 
-/// The registered routes of a name, by face and then by origin.
+/// The registered routes of a name, ordered by face and then by origin.
 #[derive(Drop)]
 pub struct Registered {
     rows: Vec<(RouteKey, Route)>,
@@ -71,9 +71,9 @@ impl Registered {
         place_of(self.rows(), key).is_ok()
     }
 
-    /// Returns these routes after `route` is set under `key`. The returned routes are stored in the
-    /// vector `room`. If `room` lacks capacity for all old routes and one more, returns the old
-    /// routes unchanged.
+    /// Sets the route under `key` to `route`, and returns all routes. The returned routes are
+    /// stored in the vector `room`. If `room` lacks capacity for all old routes and one more,
+    /// returns the old routes unchanged.
     pub fn with(self, key: RouteKey, route: Route, room: Vec<(RouteKey, Route)>) -> Registered
         ensures { result ≡ with_route_within (vec_capacity room) key route self }
     {

@@ -42,7 +42,8 @@ impl Revision for Closing {
     }
 }
 
-/// A revision that records the reason of a Nack under one key.
+/// A revision that stores the reason of a Nack under one key, in the out-record of the face `face`.
+/// If the face has no out-record with the Nack's Nonce, no reason is stored.
 #[derive(Drop)]
 pub struct NackOf {
     pub flags: Flags,
@@ -107,8 +108,9 @@ impl Revision for Removal {
     }
 }
 
-/// A revision that removes the entries that a Data answers, either under the Data's name or full
-/// name (`is_own`), or under a proper prefix of the Data's name.
+/// A revision that removes the entries of one name that a Data answers. If the name is the Data's
+/// name or full name (`is_own`), the Data answers all keys of the name. If the name is a proper
+/// prefix of the Data's name, the Data answers only the keys with CanBePrefix.
 #[derive(Drop)]
 pub struct Answered {
     pub is_own: bool,

@@ -37,7 +37,8 @@ impl RouteKey {
 #[derive(Clone, Copy, Debug, PartialEq, Eq)]
 pub struct Route {
     pub cost: u64,
-    /// 1 is child-inherit and 2 is capture; other bits have no effect.
+    /// The bit of value 1 makes the route a child-inherit route, and the bit of value 2 makes it a
+    /// capture route. Other bits have no effect.
     pub flags: u64,
     /// When the route expires, in milliseconds since 1970, or `None` if it never expires.
     pub deadline: Option<u64>,

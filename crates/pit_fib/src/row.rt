@@ -61,7 +61,8 @@ impl Row {
         self.slots.as_ref()?.get(flags)
     }
 
-    /// Returns the row after its entries are revised, or `None` if no entry is left.
+    /// Applies the revision `how` to each entry, and returns the row. Returns `None` if no entry is
+    /// left.
     pub fn revised<R: Revision>(self, how: &R) -> Option<Row>
         ensures { result ≡ changed_row (R.after how.now) self }
     {

@@ -10,7 +10,8 @@ use crate::face_set::Faces;
 use crate::flags::Flags;
 use std::marker::Model;
 
-/// The entries under the keys of one name, at most four, by the flags of the keys.
+/// The entries under the keys of one name. The two flags of a key distinguish the keys, so there
+/// are at most four entries.
 #[derive(Drop)]
 pub struct Slots {
     exact: Option<Entry>,
@@ -42,7 +43,8 @@ pub trait Revision {
         ensures { result ≡ after self.now flags entry };
 }
 
-/// Returns the entry after a revision, or `None` if there is no entry or the revision removes it.
+/// Returns what the revision `how` makes of the entry. Returns `None` if there is no entry, or if
+/// the revision removes the entry.
 fn revised<R: Revision>(how: &R, flags: Flags, entry: Option<Entry>) -> Option<Entry>
     ensures { result ≡ option_and_then (R.after how.now flags) entry }
 {
@@ -120,7 +122,8 @@ impl Slots {
         self.prefix_fresh = revised(how, Flags::new(true, true), self.prefix_fresh.take());
     }
 
-    /// Returns the least deadline of the entries, or 0 if there are none.
+    /// Returns the least of the deadlines that `Entry::deadline` gives for the entries, or 0 if
+    /// there are no entries.
     pub fn deadline(&self) -> u64
         ensures { result ≡ least deadline (map.entries self.now) }
     {
@@ -193,7 +196,7 @@ impl Slots {
     }
 }
 
-/// Returns the least deadline of an entry, if there is an entry.
+/// Returns the deadline that `Entry::deadline` gives for an entry, or `None` if there is no entry.
 fn deadline_of(entry: &Option<Entry>) -> Option<u64>
     ensures { result ≡ option_map deadline entry.now }
 {

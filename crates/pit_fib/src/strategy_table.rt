@@ -36,7 +36,7 @@ impl Carry<StrategyId> for StrategyId {
 }
 
 /// The table of strategies by name (NFD Developer's Guide, "Strategy Choice Table"). The table has
-/// at most 4,096 names of at most 32 components. The name `/` is always in the table.
+/// at most 4,096 names. Each name has at most 32 components. The name `/` is always in the table.
 #[derive(Drop)]
 pub struct StrategyTable {
     // The strategy of `/`. It is stored apart from the other strategies, so it never needs an
