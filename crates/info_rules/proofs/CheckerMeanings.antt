@@ -175,8 +175,8 @@ by_hyper forms.Related keys key only is = absurd (not_lacked (codes "hyper-relat
 by_hyper forms.Matching keys key only is = absurd (not_lacked (codes "hyper-relation") keys [] key is (lacks (words_by forms.Matching) (codes "hyper-relation") keys refl only))
 by_hyper forms.Hyper keys key only is = only
 
--- if the requirement `test` is made from the name test of a key locator with the keys `keys`, then
--- `test` is the meaning of `keys`
+-- `keys` are the keys of a key locator: if the requirement `test` is made from the name test that
+-- `keys` state, then `test` is the meaning of `keys`
 named_test : (line : ℕ) (keys : List Block) (names : Names) (asked : Option NameTest) (test : LocatorTest) → StandOnce keys → IsAsked KeyName keys names → test_of names ≡ asked → shown locators.Name (needed_one line asked) ≡ Ok test → AsksOfKey keys test
 named_test line keys names asked test once by shows e =
     let read = shown_ok locators.Name (needed_one line asked) test e in
@@ -184,8 +184,8 @@ named_test line keys names asked test once by shows e =
     let some : asked ≡ Some read.0 = cc in
     subst (AsksOfKey keys) read.2 (test_means KeyName keys names read.0 once by (shows ∙ some))
 
--- if the requirement `test` is made from the first hyper-relation or from the name test of a key
--- locator with the keys `keys`, then `test` is the meaning of `keys`
+-- `keys` are the keys of a key locator: if the requirement `test` is made from the first
+-- hyper-relation or from the name test that `keys` state, then `test` is the meaning of `keys`
 locator_by : (line : ℕ) (keys : List Block) (names : Names) (asked : Option NameTest) (hypers : List (Option PlainHyper)) (test : LocatorTest) → StandOnce keys → others_of (named (codes "hyper-relation") keys) ≡ [] → IsAsked KeyName keys names → test_of names ≡ asked
     → each (hyper_in (is_hyper_alone keys)) (named (codes "hyper-relation") keys) ≡ Ok hypers → (first : Option (Option PlainHyper)) → first_of hypers ≡ first → test_by line asked first ≡ Ok test → AsksOfKey keys test
 locator_by line keys names asked hypers test once alone by shows e None is made = named_test line keys names asked test once by shows made

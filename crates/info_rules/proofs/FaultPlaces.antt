@@ -93,7 +93,7 @@ one_on On line None tokens here all = all
 one_on On line (Some token) tokens here all = (here, all)
 
 -- if the octets `inner` end on line `n` or before, all tokens that end within `inner` or at the LF
--- after it are on lines up to `n`
+-- after `inner` are on lines up to `n`
 within_lines : (n : ℕ) (mode : Mode) (line : ℕ) (inner : List ℕ) → line_at line inner ≤ n → AllOn (λ l. l ≤ n) (ended mode line (inner ++ 10 ∷ []))
 unfolding ended line_at
 within_lines n mode line [] h = one_on (λ l. l ≤ n) line (ended_by mode 10) [] h tt

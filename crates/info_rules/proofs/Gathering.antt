@@ -1,4 +1,4 @@
--- Values of the keys with one word, collected one by one.
+-- Collecting, one by one, the values of all keys that are a given word.
 use Rattle.std.proofs.Common.{◌≡◌, ℕ, Bool, true, false, cond, eqb, ltb, List, [], ◌∷◌, refl, sym, ap, ◌∙◌, append_assoc, arith}
 use Rattle.std.specs.Prelude.{Ok, Err, ◌&&◌, ◌||◌}
 use Rattle.std.proofs.lemmas.List.{append-nil}

@@ -1,4 +1,4 @@
--- A checker gives only one result for a packet, if all keys of the book have different names.
+-- A checker gives only one result for a packet, if all keys of the key book have different names.
 use Rattle.std.proofs.Common.{◌≡◌, ℕ, List, [], ◌∷◌, subst, sym, ap, ◌∙◌, inl, inr}
 use Rattle.std.specs.Prelude.{Option, None, ◌≢◌}
 use Rattle.std.specs.List.{AllByRecursion}

@@ -1,4 +1,4 @@
--- Rules give only one decision for a packet, if all keys of the book have different names.
+-- Rules give only one decision for a packet, if all keys of the key book have different names.
 use Rattle.std.proofs.Common.{◌≡◌, ℕ, ◌<◌, ◌≤◌, List, [], ◌++◌, length, get_or, take, subst, sym, refl, ap, ◌∙◌, ◌⊎◌, inl, inr, arith}
 use Rattle.std.specs.Prelude.{Option, Some, None, slice_get, All, Any, ◌==◌, if◌then◌else◌}
 use Rattle.std.proofs.lemmas.Bool.{cases_lt}

@@ -90,7 +90,7 @@ AsksOfName keys (tests.Matching pattern) =
     HasOnly (codes "type" ∷ codes "regex" ∷ []) keys
     × HasValue (codes "type") keys (codes "name") × Has IsPattern (codes "regex") keys pattern
 
--- the key is a `filter` with this meaning
+-- the meaning of a key `filter` is the name test `test`
 abbrev pub IsFilter : Block → NameTest → Type 0
 IsFilter key test = OpensBlock key × AsksOfName (blocks_of 2 key.1) test
 
@@ -109,7 +109,7 @@ AsksOfBoth keys hyper =
     × Has (IsTemplate (length hyper.packet_pattern.groups)) (codes "p-expand") keys
     hyper.packet_template
 
--- the key is a `hyper-relation` with this meaning
+-- the meaning of a key `hyper-relation` is `hyper`
 abbrev pub IsHyper : Block → PlainHyper → Type 0
 IsHyper key hyper = OpensBlock key × AsksOfBoth (blocks_of 4 key.1) hyper
 
@@ -121,7 +121,7 @@ AsksOfKey keys (locators.Hyper hyper) =
     × HasBlock IsHyper (codes "hyper-relation") keys hyper
 AsksOfKey keys locators.Hierarchical = ⊥
 
--- the key is a `key-locator` with this meaning
+-- the meaning of a key `key-locator` is the requirement `test`
 abbrev pub IsLocator : Block → LocatorTest → Type 0
 IsLocator key test = OpensBlock key × AsksOfKey (blocks_of 3 key.1) test
 
@@ -164,7 +164,7 @@ AsksOfSignature keys checker =
     ⊎ (HasOnly (codes "type" ∷ codes "sig-type" ∷ []) keys
     × HasValue (codes "type") keys (codes "hierarchical") × AsksByHierarchy keys checker)
 
--- the key is a `checker` with this meaning
+-- the second argument is the meaning of the first argument, a key `checker`
 abbrev pub IsChecker : Block → Checker → Type 0
 IsChecker key checker = OpensBlock key × AsksOfSignature (blocks_of 2 key.1) checker
 
@@ -178,11 +178,11 @@ AreOfRule keys rule =
     × Mean IsFilter (named (codes "filter") keys) rule.filters × (length rule.filters ≤ 16)
     × Mean IsChecker (named (codes "checker") keys) rule.checkers × (length rule.checkers ≤ 16)
 
--- the key is a `rule` with this meaning
+-- the second argument is the meaning of the first argument, a key `rule`
 abbrev pub IsRule : Block → PlainRule → Type 0
 IsRule key rule = OpensBlock key × AreOfRule (blocks_of 1 key.1) rule
 
--- the key is a `trust-anchor`, which adds nothing to the rules: its block has exactly one key
+-- a key `trust-anchor`, which adds nothing to the rules, is valid: its block has exactly one key
 -- `type`, with the value `file`, `dir` or `base64`; the other keys of the block are not checked
 abbrev pub IsAnchor : Block → Type 0
 IsAnchor key =

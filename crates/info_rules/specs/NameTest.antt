@@ -1,4 +1,4 @@
--- The requirement on a name in a filter or a key locator, in one of several forms.
+-- The requirement on a name that a filter or a key locator states, in one of several forms.
 use Rattle.std.specs.Prelude.{ℕ, List, Option, None, Some, Bool, true, false, not, codes, ◌||◌, ◌&&◌, if◌then◌else◌}
 use Rattle.std.specs.List.{filter_map}
 use Rattle.std.specs.Result.{result_err}

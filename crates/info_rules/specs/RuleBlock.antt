@@ -36,6 +36,6 @@ unfoldable pub rule_of_keys : ℕ → List Block → Found PlainRule
 rule_of_keys line keys =
     beside (after None (walk_faults blocks.Rule keys)) (shown rule_with (rule_parts line keys))
 
--- the rule of a `rule` key
+-- the rule that a key `rule` states, or the fault that is reported
 unfoldable pub rule_in : Block → Found PlainRule
 rule_in key = block_in 1 rule_of_keys key

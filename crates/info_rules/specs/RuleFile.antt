@@ -30,7 +30,7 @@ same_id_faults id key =
     (λ text. if bytes_eq text id then fault_at TwiceNamed later ∷ [] else []) []
     (value_of later)) [] (id_key key)
 
--- the faults of the later rules that have the same id as the rule `key`
+-- the faults of those rules in `later` that have the same id as the rule `key`
 unfoldable pub repeated_faults : Block → List Block → List RulesFault
 repeated_faults key later =
     on_option (λ id. flat_map (same_id_faults id) later) [] (id_key key >>= value_of)

@@ -1,4 +1,4 @@
--- The table of the blocks of a rule file: the keys that each block may have.
+-- The table of the keys that are known in each kind of block of a rule file.
 use Rattle.std.specs.Prelude.{ℕ, List, [], ◌∷◌, Bool, true, false, codes}
 use Rattle.info_rules.specs.Blocks as blocks
 use Rattle.info_rules.specs.Blocks.{BlockKind, Times, Once, UpTo, AnyNumber, Takes, Value, Inner}
@@ -13,7 +13,7 @@ pub record PlainForm : Type 0 where
 abbrev pub form : List ℕ → Takes → Times → PlainForm
 form word takes times = record { word = word; takes = takes; times = times }
 
--- the keys that each kind of block may have
+-- the keys that are known in each kind of block
 unfoldable pub table : BlockKind → List PlainForm
 table blocks.File =
     form (codes "rule") Inner (UpTo 256) ∷ form (codes "trust-anchor") Inner AnyNumber ∷ []

@@ -37,15 +37,16 @@ BeginsOff line NoNode = ⊤
 BeginsOff line (Leaf head others) = head.line ≢ line
 BeginsOff line (Branch head opened block closed others) = head.line ≢ line
 
--- of two consecutive entries in one block, or outside all blocks, the second begins on another line
--- than the line on which the first ends
+-- for any two consecutive entries in one block, or outside all blocks: the line on which the second
+-- entry begins is not the line on which the first entry ends
 unfoldable pub IsApart : Nodes → Type 0
 IsApart NoNode = ⊤
 IsApart (Leaf head others) = BeginsOff head.line others × IsApart others
 IsApart (Branch head opened block closed others) =
     IsApart block × BeginsOff closed others × IsApart others
 
--- at most eight blocks are open at once
+-- each block of the entries is inside fewer than eight others; `depth` blocks are around the
+-- entries
 unfoldable pub IsShallow : ℕ → Nodes → Type 0
 IsShallow depth NoNode = ⊤
 IsShallow depth (Leaf head others) = IsShallow depth others

@@ -17,11 +17,11 @@ too_deep line = record { line = line; kind = TooDeep }
 pub record PlainDraft : Type 0 where
   -- the finished entries
   pub ended : List PlainEntry
-  -- the entry whose key or value was read last
+  -- the entry whose key or value is the last token that was read, if this token is a word
   pub pending : Option PlainEntry
   -- the number of open blocks
   pub depth : ℕ
-  -- the line of the last brace that closed a block, if no block was opened after it
+  -- the line of the last brace that closed a block, if no block was opened after this brace
   pub closed : Option ℕ
   -- the line of the brace that opened a block inside eight others, if there is such a block
   pub deep : Option ℕ
@@ -103,8 +103,8 @@ with_fitting draft line Open = with_open draft line draft.pending
 with_fitting draft line Close = with_close draft line
 with_fitting draft line Broken = Err (syntax line)
 
--- the fault of the block that is inside eight others, or `None` if there is no such block, or if
--- the opening brace of this block is on `line`
+-- The fault of the block that is inside eight others. The first argument is the line of the block's
+-- opening brace, or `None` if there is no such block. There is no fault if this line is `line`.
 abbrev pub deep_before : Option ℕ → ℕ → Option RulesFault
 deep_before None line = None
 deep_before (Some deep) line = if deep == line then None else Some (too_deep deep)

@@ -40,7 +40,8 @@ unfoldable pub begun_by : ℕ → Mode
 begun_by o = if o == 34 then InQuotes false []
     else (if o == 59 then InComment else (if is_separator o then Between else InWord (o ∷ [])))
 
--- whether the octet closes a quoted text: it is a quote with no backslash directly before it
+-- whether the octet, in a quoted text, is a quote that closes the quoted text; `escaped` is true if
+-- a backslash is directly before the octet: such a quote does not close the text
 unfoldable pub is_closing : Bool → ℕ → Bool
 is_closing escaped o = (o == 34) && not escaped
 
@@ -74,13 +75,14 @@ abbrev pub with_ended : ℕ → Option Token → List (ℕ × Token) → List (�
 with_ended line None tokens = tokens
 with_ended line (Some token) tokens = (line, token) ∷ tokens
 
--- the tokens of a text that begins on this line
+-- the tokens that end in this text, which begins on `line`; `mode` is the state before the text
 unfoldable pub tokens_from : Mode → ℕ → List ℕ → List (ℕ × Token)
 tokens_from mode line [] = with_ended line (ended_at_end mode) []
 tokens_from mode line (o ∷ text) =
     with_ended line (ended_by mode o) (tokens_from (mode_after mode o) (line_after line o) text)
 
--- the number of octets before the closing quote, if the quoted text is closed on its line
+-- the number of octets before the closing quote, if the quoted text is closed on its line;
+-- `escaped` is true if the octet directly before these octets is a backslash
 unfoldable pub quoted_len : Bool → List ℕ → Option ℕ
 quoted_len escaped [] = None
 quoted_len escaped (o ∷ text) =

@@ -47,8 +47,8 @@ fn read_test(alloc: Global, hierarchical: bool, keys: Keys<'_>) -> Read<Option<L
     }
 }
 
-/// Returns the kind of the block of a checker, by whether the checker is hierarchical. The block of
-/// a hierarchical checker has no key locator.
+/// Returns the kind of the block of a checker. `hierarchical` is true if the checker is
+/// hierarchical. The block of a hierarchical checker has no key locator.
 fn block_of(hierarchical: bool) -> Block
     ensures { block_kind_of result ≡ spec.block_of hierarchical }
 {

@@ -89,8 +89,8 @@ impl Reason {
     }
 }
 
-/// Returns the one of the two reasons that is later in the list of reasons, or `reason` if
-/// `earlier` is `None`.
+/// Returns the one of the reasons `earlier` and `reason` that has the greater `number`, or `reason`
+/// if `earlier` is `None`.
 fn greater(earlier: Option<Reason>, reason: Reason) -> Reason
     ensures { IsGreater earlier reason result }
 {
@@ -121,9 +121,9 @@ impl Rules {
         None
     }
 
-    /// Decides whether to allow a packet, from the received octets of the packet, by the first rule
-    /// that applies. If the name of an Interest ends with a parameters digest, the rules see the
-    /// name without this digest.
+    /// Decides by the first rule that applies whether to allow a packet. The checkers check the
+    /// signature for the octets of the packet as they were received. If the name of an Interest
+    /// ends with a parameters digest, the rules see the name without this digest.
     ///
     /// Memory is needed only if the first rule that applies has a checker whose hyper-relation
     /// expands both the key's name and the packet's name, each to at most 64 components. A packet
@@ -149,8 +149,8 @@ impl Rules {
     }
 }
 
-/// Returns why the checkers deny a packet of this `name`, or `None` if they allow it. `name` is the
-/// name that the rules see.
+/// Returns the reason to deny the packet, or `None` if the packet passes a checker. `name` is the
+/// name of the packet that the rules see.
 fn reason_against(
     alloc: Global,
     keys: &KeyBook,
@@ -170,8 +170,8 @@ fn reason_against(
     }
 }
 
-/// Returns `None` if the packet passes a checker. Otherwise returns the checkers' reason that is
-/// last in the list of reasons, or `KeyLocator` if there are no checkers.
+/// Returns `None` if the packet passes a checker. Otherwise returns that one of the checkers'
+/// reasons which is last in the list of reasons, or `KeyLocator` if there are no checkers.
 fn greatest(alloc: Global, keys: &KeyBook, checkers: &[Checker], signed: &Signed<'_>) -> Checked
     ensures { MatchResult result
         (λ reason. MatchOption reason (IsPassed keys.now checkers.now (signed_of signed.now))

@@ -24,7 +24,7 @@ impl<'a> Key<'a> {
         self.own.key.as_str() == word
     }
 
-    /// Returns the key's value, if it has a value and no block.
+    /// Returns the key's value, if the key has a value and no block.
     pub fn value(self) -> Option<&'a str>
         ensures { option_map (λ text. text.now) result ≡ value_of (key_of self.entry) }
     {

@@ -1,4 +1,4 @@
-//! Reads rule files for Named Data Networking, and decides by their rules which packets are
+//! Reads rule files for Named Data Networking, and decides by the rules of a file which packets are
 //! allowed.
 #![tactic(auto)]
 

@@ -42,8 +42,8 @@ pub fn passes_locator(alloc: Global, test: &LocatorTest, key: Name<'_>, packet: 
     }
 }
 
-/// Returns whether the name expanded from the key's name has the relation of `hyper` to the name
-/// expanded from the packet's name.
+/// Returns whether the name expanded from the key's name has the relation `hyper.relation` to the
+/// name expanded from the packet's name.
 fn is_hyper_related(alloc: Global, hyper: &HyperRelation, key: Name<'_>, packet: Name<'_>) -> Passed
     ensures { MatchResult result
         (λ related. IsTrue related

@@ -1,4 +1,4 @@
-//! Reads the requirement on a name in the blocks of filters and key locators.
+//! Reads the requirement on a name from the block of a filter or of a key locator.
 
 ghost use Rattle.std.specs.Prelude.{◌≡◌, IfOk};
 ghost use Rattle.info_rules.specs.Shown.{keys_of, tested_of, name_form_of};

@@ -59,8 +59,8 @@ impl<'a> Packet<'a> {
         }
     }
 
-    /// Returns the parts of the packet that the checkers see, or the reason to deny the packet
-    /// before any checker examines it. `name` is the name that the rules see.
+    /// Returns the parts of the packet that the checkers see. If the checkers cannot examine the
+    /// packet, returns the reason to deny the packet. `name` is the name that the rules see.
     pub(crate) fn signed(self, name: Name<'a>) -> Result<Signed<'a>, Reason>
         requires { components name ≡ (seen_of self).name }
         ensures { MatchResult result (λ signed. IsSigned (seen_of self.entry) (signed_of signed))
@@ -126,9 +126,9 @@ fn signed_data<'a>(packet: &'a Data<'a>, name: Name<'a>) -> Result<Signed<'a>, R
     })
 }
 
-/// Law: checkers can examine every Data that was read. Checkers can also examine every signed
-/// Interest that was read, if the Interest has a SignatureTime and its parameters digest is the
-/// last component of its name.
+/// Law: checkers can examine every Data that was read. Checkers can examine a signed Interest that
+/// was read if and only if the Interest has a SignatureTime and its parameters digest is the last
+/// component of its name.
 pub fn read_packets_have_a_shape()
     ensures data { (text : List ℕ) (d : PlainData) (reason : Reason) → IsData text d
         → ¬ IsUnfit (seen_data text d) reason }

@@ -43,7 +43,7 @@ pub fn read_value<V: Value>(
 }
 
 /// Reads the template that is the value of the first key that is `word`. Returns `None` if no key
-/// is `word`. `groups` is the number of groups that the template may use.
+/// is `word`. `groups` is the greatest number that a group used by the template may have.
 #[tactic(auto, unfolding(crate::specs::Values::value_in))]
 pub fn read_template(
     alloc: Global,
@@ -54,7 +54,7 @@ pub fn read_template(
     ensures read { IfOk result
         (λ found. found ≡ value_in PatternFaultKind (λ text. ok_of (template_in groups text))
         word.now (keys_of keys.entry)) }
-    // The template uses at most `groups` groups.
+    // Each group that the template uses has a number of at most `groups`.
     ensures groups { IfOk result
         (λ found. IfOk found (λ template. IfSome template (NeedAtMost groups))) }
 {

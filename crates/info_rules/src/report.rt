@@ -16,8 +16,8 @@ pub fn note(report: &mut Report, fault: RulesFault)
     *report = Some(report.map_or(fault, |told| told.sooner_of(fault)));
 }
 
-/// Law: the reported fault is one of a series of faults, and no fault of the series is sooner. No
-/// fault is reported if and only if the series of faults is empty.
+/// Law: the fault that is reported for a list of faults is in the list, and no fault of the list is
+/// sooner. No fault is reported if and only if the list is empty.
 pub fn the_least_is_reported()
     ensures { (faults : List RulesFault)
         → MatchOption (after None faults) (faults ≡ [])

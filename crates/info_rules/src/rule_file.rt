@@ -55,7 +55,7 @@ fn judge_same_id(id: &str, key: Key<'_>, report: &mut Report)
     }
 }
 
-/// Adds a fault to the report for each later rule that has the same id as the rule `key`.
+/// Adds a fault to the report for each rule in `later` that has the same id as the rule `key`.
 #[tactic(auto, using(crate::proofs::Reports::after_first, crate::proofs::Reports::after_no, crate::proofs::Reports::after_none), unfolding(crate::specs::RuleFile::repeated_faults))]
 fn judge_repeated(key: Key<'_>, later: Keys<'_>, report: &mut Report)
     ensures { report.new
@@ -125,7 +125,7 @@ fn read_file(alloc: Global, tree: &InfoTree) -> Result<Rules, RulesFault>
 }
 
 impl Rules {
-    /// Reads the rules of a file, at most 256, in the order of the text.
+    /// Reads the rules of a file, in the order of the text. A file may have at most 256 rules.
     ///
     /// If the file has faults, returns the fault on the least line. Of several faults on the least
     /// line, returns the one whose kind comes first in `RulesFaultKind`. `Memory` may be returned

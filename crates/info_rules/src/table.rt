@@ -1,4 +1,4 @@
-//! The table of the blocks of a rule file: the keys that each block may have.
+//! The table of the keys that are known in each kind of block of a rule file.
 
 use crate::table::Takes::{Inner, Value};
 use crate::table::Times::{AnyNumber, Once, UpTo};
@@ -23,7 +23,8 @@ pub enum Times {
     AnyNumber,
 }
 
-/// A key of a block: its word, what it must have, and how many times it may be given.
+/// A key that is known in a block: the word of the key, what the key must have, and how many times
+/// the key may be given.
 #[derive(Clone, Copy)]
 pub struct Form(pub &'static str, pub Takes, pub Times);
 
@@ -47,7 +48,7 @@ impl Block {
     ghost use Rattle.info_rules.specs.Table.{table, is_closed};
     ghost use Rattle.info_rules.specs.Shown.{form_of, block_kind_of};
 
-    /// Returns the keys that the block may have.
+    /// Returns the keys that the table has for the block.
     #[tactic(auto, unfolding(crate::specs::Table::table))]
     pub fn forms(self) -> &'static [Form]
         ensures { map form_of result.now ≡ table (block_kind_of self) }

@@ -15,8 +15,9 @@ const MAX_DEPTH: usize = 8;
 /// The outcome of adding a token. `Err` is the fault of a token that cannot be added, or `Memory`.
 type Added = Result<(), RulesFault>;
 
-/// Returns the fault of the block that is inside eight others, or `None` if there is no such block,
-/// or if the opening brace of this block is on `line`.
+/// Returns the fault of the block that is inside eight others. `deep` is the line of the block's
+/// opening brace, or `None` if there is no such block. Returns `None` if `deep` is `None`, or if
+/// the opening brace is on `line`.
 fn deep_before(deep: Option<u32>, line: u32) -> Option<RulesFault>
     ensures { result ≡ read.deep_before deep line }
 {
@@ -31,11 +32,11 @@ fn deep_before(deep: Option<u32>, line: u32) -> Option<RulesFault>
 pub struct Draft {
     /// The finished entries.
     pub ended: Vec<Entry>,
-    /// The entry whose key or value was read last.
+    /// The entry whose key or value is the last token that was read, if this token is a word.
     pub pending: Option<Entry>,
     /// The number of open blocks.
     pub depth: usize,
-    /// The line of the last brace that closed a block, if no block was opened after it.
+    /// The line of the last brace that closed a block, if no block was opened after this brace.
     pub closed: Option<u32>,
     /// The line of the brace that opened a block inside eight others, if there is such a block.
     pub deep: Option<u32>,

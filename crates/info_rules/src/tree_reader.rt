@@ -61,17 +61,16 @@ impl InfoTree {
     /// entries between braces. The opening brace may be on a later line. On the line where an entry
     /// ends, only a comment or the closing brace of the enclosing block may follow the entry.
     ///
-    /// On failure, returns the first fault of the text. A word or a brace where it is not allowed
-    /// is `Syntax`, and so is a quote that is not closed on its line. A block that is not closed is
-    /// `Syntax` at the line where the text ends. A block inside eight others is `TooDeep`, or
-    /// `Syntax` if the line of its opening brace also has a `Syntax` fault. A text of more than
-    /// 65,536 octets has the fault `TooLarge`, whatever other faults the text has. `Memory` may be
-    /// returned for any text.
+    /// On failure, returns the first fault of the text. A word or a brace at a place where it is
+    /// not allowed has the fault `Syntax`. A quote that is not closed on its line also has the
+    /// fault `Syntax`. A block that is not closed has the fault `Syntax` at the line where the text
+    /// ends. A block inside eight others has the fault `TooDeep`, or `Syntax` if the line of the
+    /// block's opening brace also has a `Syntax` fault. A text of more than 65,536 octets has the
+    /// fault `TooLarge`, whatever other faults the text has. `Memory` may be returned for any text.
     pub fn read(alloc: Global, text: &str) -> Result<InfoTree, RulesFault>
         // The text spells the entries that are returned.
         ensures found { IfOk result (TreeOf text.now) }
-        // If the tokens of the text spell entries, those entries are returned, unless memory runs
-        // out.
+        // If the text spells entries, those entries are returned, unless memory runs out.
         ensures only { (entries : List PlainEntry) → TreeOf text.now entries
             → MatchResult result (λ tree. tree ≡ entries) (λ fault. fault ≡ memory_fault) }
         // The returned fault is the one that `tree_in` returns, or `Memory`.
@@ -89,8 +88,9 @@ pub fn trees_have_one_reading()
     ensures one { (text : List ℕ) (a b : List PlainEntry) → TreeOf text a → TreeOf text b → a ≡ b }
 {}
 
-/// Law: from the list of entries that `outline` returns for a block, `blocks_of` returns the keys
-/// of the block, each with the entries of its own block.
+/// Law: `outline` lists the entries of a block, with the entries of all blocks inside this block.
+/// From that list, `blocks_of` returns the keys of the block, each with the entries of the key's
+/// own block.
 pub fn outlines_keep_blocks()
     ensures { (depth : ℕ) (nodes : Nodes) → blocks_of depth (outline depth nodes)
         ≡ keyed depth nodes }

@@ -58,8 +58,8 @@ fn word_len(text: &[u8]) -> usize
     text.len()
 }
 
-/// Returns whether the octet closes a quoted text: it is a quote with no backslash directly before
-/// it.
+/// Returns whether `octet`, in a quoted text, is a quote that closes the quoted text. `is_escaped`
+/// is true if a backslash is directly before `octet`: such a quote does not close the text.
 #[tactic(auto, unfolding(crate::specs::Words::is_closing))]
 fn is_closing(is_escaped: bool, octet: u8) -> bool
     ensures { result ≡ words.is_closing is_escaped octet }
