@@ -27,8 +27,8 @@ one_removed rows rows' at lt is = (
 order_of : (m n : ℕ) → (m < n) ⊎ ((m ≡ n) ⊎ (n < m))
 order_of m n = grind arith
 
--- if the row at position `at` is renewed, and is then fresh until `until` at the latest, the new
--- list is the old list after the change `Renewed at until` (`Follows`)
+-- if the row at position `at` is renewed, and is then fresh until `until` at the latest, the change
+-- `Renewed at until` turns the old list into the new list (`Follows`)
 pub one_renewed : (h f : ℕ → Option Row) (order : List ℕ) (at p until : ℕ) (row new : Row) → IsRows h order → IsRows f order → at < length order → get_or order at 0 ≡ p → h p ≡ Some row → f p ≡ Some new
     → ((q : ℕ) → q ≢ p → f q ≡ h q) → fresh_until new.entry ≤ until → Follows (Renewed at until) (shown h order) (shown f order)
 one_renewed h f order at p until row new rows rows' lt place was is others le = (

@@ -45,7 +45,7 @@ shown_insert h (q ∷ ps) (suc at) p row a is =
     ap (λ o. with_slot q o (shown h (insert ps at p))) r.1 ∙ ap (λ l. (q, r.0) ∷ l) (shown_insert h ps at p row a.1 is)
     ∙ sym (ap (λ o. insert (with_slot q o (shown h ps)) (suc at) (p, row)) r.1)
 
--- if a lookup of a slab index in the shown rows finds a row, this row is the slab's row at the
+-- if a lookup of a slab index in the shown rows finds a row, the slab has this row at this slab
 -- index
 pub lookup_shown : (h : ℕ → Option Row) (ps : List ℕ) (p : ℕ) (row : Row) → lookup (nat_eq p) (shown h ps) ≡ Some row → h p ≡ Some row
 unfolding shown
@@ -103,8 +103,8 @@ lookup_vacant h (q ∷ ps) p a = split (h q) (lookup_vacant h ps p a.1)
     split None rest = rest
     split (Some r) rest = ap (λ b. cond b (Some r) (lookup (nat_eq p) (shown h ps))) (ne_eqb p q (λ e. a.0 (sym e))) ∙ rest
 
--- if one row is added to the slab, and its slab index to the list, the list shows the old rows and
--- the new row at its position
+-- if one row is added to the slab, and its slab index is inserted at position `at` of the list, the
+-- list shows the old rows with the new row inserted at position `at`
 pub inserted : (h f : ℕ → Option Row) (ps new : List ℕ) (at p : ℕ) (row : Row) → IsRows h ps → h p ≡ None → f p ≡ Some row → ((q : ℕ) → q ≢ p → f q ≡ h q) → new ≡ insert ps at p
     → Rising (insert (shown h ps) at (p, row)) → (shown f new ≡ insert (shown h ps) at (p, row)) × IsRows f new
 inserted h f ps new at p row rows none here others is rising =

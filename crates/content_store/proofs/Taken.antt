@@ -34,7 +34,8 @@ not_true false e = refl
 apart : (a b : List Field) → eq_by_cmp name_cmp a b ≡ false → a ≡ b → ⊥
 apart a b f e = (let t = tied a b e in cc)
 
--- all other full names that begin with the name are greater than the least one
+-- all full names that begin with `name`, except the least of them, are greater than the least of
+-- them
 others_greater : (name : List Field) (ys : List CachedData) (c : CachedData) → IsLeast (λ d. IsPrefix name (full_name_of d)) ys c
     → All (λ d. IsPrefix name (full_name_of d) → Less (full_name_of c) (full_name_of d)) (without (full_name_of c) ys)
 others_greater name ys c least =
@@ -48,8 +49,8 @@ others_greater name ys c least =
       | inr (inr greater) ↦ absurd (not_less greater)
     ]
 
--- if `TakesLeast` is true for n removed Data, and the Data `c` with the least full name that begins
--- with `name` is removed too, then `TakesLeast` is true for n + 1 removed Data
+-- if `TakesLeast` is true for n removed Data, and then the Data `c` with the least remaining full
+-- name that begins with `name` is removed too, then `TakesLeast` is true for n + 1 removed Data
 pub one_taken : (name : List Field) (xs ys : List CachedData) (n : ℕ) (c : CachedData) → TakesLeast name xs ys n → IsLeast (λ d. IsPrefix name (full_name_of d)) ys c
     → length (without (full_name_of c) ys) + 1 ≡ length ys → TakesLeast name xs (without (full_name_of c) ys) (n + 1)
 one_taken name xs ys n c h least fewer =

@@ -199,8 +199,8 @@ module _ (rows : List Placed) (used : List (ℕ × ℕ)) (next : ℕ) (sound : S
   pub promoted_to : promoted (nat_eq row.serial) used ≡ (row.serial, p) ∷ remove_entry (nat_eq row.serial) used
   promoted_to = ap (λ o. option_map_or (λ (e : ℕ × ℕ). e ∷ remove_entry (nat_eq row.serial) used) o used) (entry_of row.serial p used uses)
 
-  -- after a Data is used, it comes first in the LRU order, followed by the other Data in their
-  -- order
+  -- after a Data is used, this Data comes first in the LRU order, followed by the other Data in
+  -- their old order
   pub used_first : cached_in rows (promoted (nat_eq row.serial) used) ≡ row.entry ∷ without (full_name_of row.entry) (cached_in rows used)
   unfolding cached_by
   used_first =

@@ -1,5 +1,5 @@
--- The list of cached Data is divided into blocks, and each block has a freshness bound: from this
--- moment on, no Data of the block is fresh. These definitions are for the contracts of private
+-- The list of cached Data is divided into blocks. The freshness bound of a block is a moment from
+-- which on no Data of the block is fresh. These definitions are for the contracts of private
 -- functions.
 use Rattle.std.specs.Prelude.{◌≡◌, ◌≢◌, ℕ, ◌+◌, ◌-◌, ◌^◌, ◌<◌, ◌≤◌, List, insert, length, min}
 use Rattle.std.specs.Prelude.{slice_index_or}
@@ -11,7 +11,8 @@ use Rattle.content_store.specs.declared.blocks.Block.{Block}
 use Rattle.content_store.specs.declared.blocks.Change.{Change}
 use Rattle.content_store.specs.declared.blocks.Change.TheVariants.{Added, Renewed, Removed}
 
--- the moment until which the Data is fresh: its arrival plus its FreshnessPeriod, at most 2^64 - 1
+-- the moment until which the Data is fresh: its arrival plus its FreshnessPeriod, or 2^64 - 1 if
+-- the sum is greater
 abbrev pub fresh_until : CachedData → ℕ
 fresh_until c = min (c.arrival + c.freshness) (2 ^ 64 - 1)
 

@@ -32,8 +32,9 @@ pub record IsHead (name : List Field) (head : List ℕ) : Type 0 where
   pub long : 32 ≤ length (octets_of name)
   pub first : head ≡ take 32 (octets_of name)
 
--- If `order` is not Equal, `order` is the result of each comparison between the full name of a Data
--- named `name` and either the name `other` or the full name of a Data named `other`.
+-- If `order` is not Equal, `order` is the result of two comparisons: the full name of any Data
+-- named `name`, compared with the name `other`; and this full name, compared with the full name of
+-- any Data named `other`.
 abbrev pub OrdersFullNames : List Field → List Field → Ordering → Type 0
 OrdersFullNames name other order =
     order ≢ Equal → (d : List ℕ) → length d ≡ 32

@@ -22,7 +22,8 @@ abbrev pub with_slot : ℕ → Option Row → List Placed → List Placed
 with_slot p None rest = rest
 with_slot p (Some row) rest = (p, row) ∷ rest
 
--- the rows at the given slab indexes, each with its index; an index without a row is left out
+-- the rows at the given slab indexes, each with its slab index; a slab index without a row is left
+-- out
 unfoldable pub shown : (ℕ → Option Row) → List ℕ → List Placed
 shown h [] = []
 shown h (p ∷ ps) = with_slot p (h p) (shown h ps)
@@ -37,7 +38,8 @@ pub record IsRows (h : ℕ → Option Row) (order : List ℕ) : Type 0 where
   pub there : AllByRecursion (λ p. IsSome (h p)) order
   pub rising : Rising (shown h order)
 
--- The rows before position `at` have full names less than `name`, and the rows from `at` on do not.
+-- Each row before position `at` has a full name less than `name`, and no row from position `at` on
+-- has a full name less than `name`.
 pub record IsLower (name : List Field) (rows : List Placed) (at : ℕ) : Type 0 where
   pub within : at ≤ length rows
   pub below : (k : ℕ) (d : Placed) → k < at

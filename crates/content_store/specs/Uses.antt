@@ -1,5 +1,5 @@
--- The LRU order of the rows, as a map from the serial number of each row to its slab index, for the
--- contracts of private functions.
+-- The LRU order of the rows, as a map from the serial number of each row to the row's slab index.
+-- These definitions are for the contracts of private functions.
 use Rattle.std.specs.Prelude.{◌≡◌, ◌⊎◌, ℕ, ◌<◌, ◌≤◌, List, [], ◌∷◌, ◌++◌, length, take, drop, Option, None, Some, nat_eq, slice_index_or, insert}
 use Rattle.std.specs.Option.{option_map}
 use Rattle.std.specs.List.{All, AllByRecursion, IsDistinct}
@@ -60,7 +60,7 @@ UsesAt rows before at after =
     (d : Placed) → let r = slice_index_or rows at d in after
     ≡ lru_cache (promoted (nat_eq r.1.serial) before.entries) before.cap
 
--- the rows without the evicted row; all rows if no row was evicted
+-- the rows without the evicted row, or all rows if no row is evicted
 abbrev pub evicted : Option (ℕ × ℕ) → List Placed → List Placed
 evicted None rows = rows
 evicted (Some e) rows = remove_entry (nat_eq e.1) rows

@@ -23,16 +23,16 @@ pub struct Block {
 /// A change of the list of rows.
 #[derive(Clone, Copy)]
 pub enum Change {
-    /// A row was inserted before position `.0`, and is fresh until the moment `.1`.
+    /// A row was inserted before position `.0`. From the moment `.1` on, the row is not fresh.
     Added(usize, u64),
-    /// The row at position `.0` was renewed, and is fresh until the moment `.1`.
+    /// The row at position `.0` was renewed. From the moment `.1` on, the row is not fresh.
     Renewed(usize, u64),
     /// The rows from position `.0` up to, but not including, position `.1` were removed.
     Removed(usize, usize),
 }
 
-/// Returns the position that `at` becomes when the positions from `start` up to, but not including,
-/// `end` are removed. A removed position becomes `start`.
+/// Returns the position that position `at` becomes when the positions from `start` up to, but not
+/// including, `end` are removed. A removed position becomes `start`.
 fn moved(at: usize, start: usize, end: usize) -> usize
     ensures low { at ≤ start → result ≡ at }
     ensures within { start ≤ at → at ≤ end → result ≡ start }
@@ -55,9 +55,10 @@ impl Block {
         self.start <= at && at < self.end
     }
 
-    /// Returns this block, updated for the insertion of a row before position `at`. A row that is
-    /// inserted at the end of the block belongs to the block. A row that is inserted at the start
-    /// of the block belongs to the block only if the start is 0.
+    /// Returns this block, updated for the insertion of a row before position `at`. From the moment
+    /// `until` on, the inserted row is not fresh. A row that is inserted at the end of the block
+    /// belongs to the block. A row that is inserted at the start of the block belongs to the block
+    /// only if the start is 0.
     fn with(self, at: usize, until: u64) -> Block
         ensures { (rows : List Placed) (row : Placed) → at ≤ length rows
             → fresh_until (held_at row) ≤ until → Bounds rows self
@@ -75,7 +76,8 @@ impl Block {
         Block { end, until, ..self }
     }
 
-    /// Returns this block, updated for the renewal of the row at position `at`.
+    /// Returns this block, updated for the renewal of the row at position `at`. From the moment
+    /// `until` on, the renewed row is not fresh.
     fn renewed(self, at: usize, until: u64) -> Block
         ensures { (rows rows' : List Placed) → Follows (changes.Renewed at until) rows rows'
             → Bounds rows self → Bounds rows' result }
@@ -123,7 +125,7 @@ pub fn follow(blocks: &mut Vec<Block>, change: Change)
 }
 
 /// Returns the index of the first block that ends after position `at`, or the number of blocks if
-/// none does.
+/// no block ends after position `at`.
 fn index_at(blocks: &[Block], at: usize) -> usize {
     blocks.partition_point(|block| block.end <= at)
 }
@@ -148,7 +150,7 @@ pub fn next_place(blocks: &[Block], at: usize, must_be_fresh: bool, now: u64) ->
     }
 }
 
-/// Returns the block of the list positions from `start` up to, but not including, `end`. An `end`
+/// Returns a block of the list positions from `start` up to, but not including, `end`. An `end`
 /// after the end of the list counts as the end of the list.
 fn block_of(entries: &Slab<Row>, order: &Places, start: usize, end: usize) -> Block
     requires { IsRows (get entries.now) order.now }

@@ -85,7 +85,7 @@ impl Entry {
         self.name.view()
     }
 
-    /// Compares, in canonical order, the full name of this entry with another name.
+    /// Compares, in canonical order, the full name of this entry with `name`.
     #[inline(always)]
     fn compare(&self, name: Name<'_>) -> Ordering
         ensures { result ≡ name_cmp (full_name_of self.now) (components name.entry) }
@@ -96,8 +96,8 @@ impl Entry {
         }
     }
 
-    /// Compares, in canonical order, the full name of this entry with the full name of a Data,
-    /// which is given by its name and octets.
+    /// Compares, in canonical order, the full name of this entry with the full name of a Data. The
+    /// Data is given by its name and octets.
     #[inline(always)]
     pub fn compare_full(&self, name: Name<'_>, octets: &[u8]) -> Ordering
         ensures { result ≡ name_cmp (full_name_of self.now)
@@ -109,7 +109,7 @@ impl Entry {
         }
     }
 
-    /// Returns whether the full name of this entry comes before another name, in canonical order.
+    /// Returns whether the full name of this entry comes before `name`, in canonical order.
     #[inline(always)]
     pub fn is_below(&self, name: Name<'_>) -> bool
         ensures { result ≡ is_lt (name_cmp (full_name_of self.now) (components name.entry)) }
@@ -162,8 +162,8 @@ impl Entry {
         answers && (!key.must_be_fresh || self.is_fresh(now))
     }
 
-    /// Returns the moment until which the Data is fresh: its arrival plus its FreshnessPeriod, at
-    /// most 2^64 - 1.
+    /// Returns the moment until which the Data is fresh: its arrival plus its FreshnessPeriod, or
+    /// 2^64 - 1 if the sum is greater.
     pub fn fresh_until(&self) -> u64
         ensures { result ≡ fresh_until self.now }
     {

@@ -22,9 +22,9 @@ pub const HEAD_LEN: usize = 32;
 /// `head` contains the first 32 octets of an encoded name (the first name), or is `None` if the
 /// first name has fewer than 32 octets. Compares `head` with the first 32 octets of the encoded
 /// name `other`. Returns `Equal` if the compared octets are equal, or if at least one of the two
-/// names has fewer than 32 octets. A result other than `Equal` is also the result of each
-/// comparison between the full name of a Data with the first name and either the name `other` or
-/// the full name of a Data named `other`.
+/// names has fewer than 32 octets. A result other than `Equal` is also the result of two other
+/// comparisons: the full name of any Data that has the first name, compared with the name `other`;
+/// and this full name, compared with the full name of any Data named `other`.
 #[inline(always)]
 pub fn compare_heads(head: &Option<[u8; HEAD_LEN]>, other: Name<'_>) -> Ordering
     ensures { (name : List Field) → IfSome head.now (λ h. IsHead name h)

@@ -38,9 +38,9 @@ pub struct Row {
 pub struct Rows {
     entries: Slab<Row>,
     order: Places,
-    // Blocks of list positions. From the moment `until` of a block on, none of its Data is fresh,
-    // so that a search with MustBeFresh can skip the block. These blocks are not the blocks inside
-    // `order`.
+    // Blocks of list positions. Each block has a moment `until`: from this moment on, no Data of
+    // the block is fresh, so that a search with MustBeFresh can skip the block. These blocks are
+    // not the blocks inside `order`.
     blocks: Vec<Block>,
 }
 
@@ -156,9 +156,9 @@ fn is_above(entries: &Slab<Row>, order: &Places, name: Name<'_>, at: usize) -> b
     entries[order.get(at - 1) as usize].entry.is_below(name)
 }
 
-/// Returns whether position `at` is the place of `name` in the list: the full names before position
-/// `at` are less than `name`, and the full names from position `at` on are not. The contract covers
-/// only the result `true`.
+/// Returns whether position `at` is the place of `name` in the list: each full name before position
+/// `at` is less than `name`, and no full name from position `at` on is less than `name`. The
+/// contract covers only the result `true`.
 fn is_lower(entries: &Slab<Row>, order: &Places, name: Name<'_>, at: usize) -> bool
     requires { IsRows (get entries.now) order.now }
     ensures { IsTrue result
@@ -260,8 +260,8 @@ impl Rows {
         lower_bound(&self.entries, &self.order, sought, &mut steps)
     }
 
-    /// Returns whether there is a Data at position `at` and its full name is that of the Data with
-    /// the name `name` and the octets `octets`.
+    /// Returns whether there is a Data at position `at` whose full name equals the full name of the
+    /// Data with the name `name` and the octets `octets`.
     pub fn is_full(&self, at: usize, name: Name<'_>, octets: &[u8]) -> bool
         ensures yes { IsTrue result → (at < length self.now)
             × ((d : Placed) → name_at (slice_index_or self.now at d)

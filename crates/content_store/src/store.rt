@@ -156,8 +156,9 @@ impl Store {
 
     /// Among the cached Data that answer an Interest of this key, finds the one with the least full
     /// name and returns its octets. Returns `None` if no cached Data answers. With MustBeFresh,
-    /// only fresh Data count: those whose FreshnessPeriod after the arrival has not ended at `now`,
-    /// in milliseconds since 1970. The returned Data becomes the most recently used.
+    /// only fresh Data count. A Data is fresh if its FreshnessPeriod, which begins at its arrival,
+    /// has not ended at `now`. `now` is in milliseconds since 1970. The returned Data becomes the
+    /// most recently used.
     pub fn find(&mut self, key: Key<'_>, now: u64) -> Option<&[u8]>
         ensures found { GivesData (plain_key key.entry) now self.old.cached
             (option_map (λ o. o.now) result) }
@@ -174,7 +175,7 @@ impl Store {
 
     /// Does the same as `find`, and counts the comparisons of the binary search. The binary search
     /// finds the first full name that is not less than the Interest's name. Each comparison of the
-    /// search adds one to `steps`, at most 17 in all.
+    /// search adds one to `steps`. A search makes at most 17 comparisons.
     pub fn find_counted(&mut self, key: Key<'_>, now: u64, steps: &mut u64) -> Option<&[u8]>
         requires { steps.old ≤ 2 ^ 64 - 1 - 17 }
         ensures found { GivesData (plain_key key.entry) now self.old.cached
@@ -202,8 +203,8 @@ impl Store {
         self.rows.start_for(key, now)
     }
 
-    /// Does the same as `find`. No binary search is needed if `place` is what `place_for` returned
-    /// for this key and the store has not changed since.
+    /// Does the same as `find`. No binary search is made if `place_for` returned `place` for this
+    /// key and the store has not changed since that call.
     pub fn serve_at(&mut self, place: usize, key: Key<'_>, now: u64) -> Option<&[u8]>
         ensures found { GivesData (plain_key key.entry) now self.old.cached
             (option_map (λ o. o.now) result) }
@@ -232,8 +233,9 @@ impl Store {
 }
 
 /// Sets the moment of arrival of the cached Data at position `at` to `arrival`. This Data must have
-/// the full name of `packet`. It becomes the most recently used, and keeps its serial number.
-/// Returns false and changes nothing if the cached octets differ from the octets of `packet`.
+/// the full name of `packet`. This Data becomes the most recently used, and keeps its serial
+/// number. Returns false and changes nothing if the cached octets differ from the octets of
+/// `packet`.
 fn put_same(
     rows: &mut Rows,
     used: &mut LruCache<u64, u32>,

@@ -22,8 +22,8 @@ all_in_rest x y (z ∷ xs) ys lt above h =
     let first = above.0 in
     (in_rest z y ys (omega (arith, first)) h.0, all_in_rest x y xs ys lt above.1 h.1)
 
--- if all faces of the list `xs` are greater than the face `x` and are in the list `x ∷ ys`, they
--- are in the list `ys`
+-- if all faces of the list `xs` are greater than the face `x` and are in the list `x ∷ ys`, all
+-- faces of `xs` are in the list `ys`
 same_first : (x : ℕ) (xs ys : List ℕ) → AllByRecursion (λ m. x < m) xs → AreIn xs (x ∷ ys) → AreIn xs ys
 same_first x [] ys above h = tt
 same_first x (z ∷ xs) ys above h = (in_rest z x ys above.0 h.0, same_first x xs ys above.1 h.1)

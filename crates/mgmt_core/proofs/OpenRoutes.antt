@@ -145,8 +145,8 @@ module _ (up : List ℕ) where
   not_refused true e = refl
   not_refused false e = absurd cc
 
-  -- After a command, the routes are those of `after` if the status is 200, otherwise those of
-  -- `before`. All faces of these routes are up under two conditions: all faces of `before` are up,
+  -- The routes that remain after a command are `after` if the status is 200, otherwise `before`.
+  -- All faces of the remaining routes are up under two conditions: all faces of `before` are up,
   -- and all faces of `after` are up if the face of the command is open.
   if_added : (too_long not_open full : Bool) (after before : Routes) → (not_open ≡ false → AllAreUp after up) → AllAreUp before up
       → AllAreUp (if_done (cond too_long 414 (cond not_open 410 (cond full 503 200))) after before) up

@@ -5,7 +5,7 @@ use Rattle.std.proofs.lemmas.List.{take_all}
 use Rattle.std.proofs.lemmas.Bool.{cases_lt}
 use Rattle.mgmt_core.specs.Writing.{segment_at}
 
--- a list has an item at each index below its length
+-- a list has an item at each index that is less than the length of the list
 pub never_absent : {X : Type 0} (xs : List X) (at : ℕ) → at < length xs → slice_get xs at ≡ None → Unit {0} → at < at
 never_absent [] at lt is u = omega arith
 never_absent (x ∷ xs) zero lt is u = absurd cc

@@ -85,7 +85,7 @@ abbrev pub is_root : List Field → Bool
 is_root [] = true
 is_root (c ∷ cs) = false
 
--- the command with these parameters, or None if they are not valid for the action
+-- the command with these parameters, or None if the parameters are not valid for the action
 unfoldable pub command_of : Action → Elements → Option PlainCommand
 command_of action es =
     let row = row_of action in
@@ -149,7 +149,7 @@ parameters_at action cs = do
   parameters ← single CONTROL_PARAMETERS (elements_of value)
   command_of action (elements_of parameters)
 
--- the optional value as Ok, or this status as Err if there is no value
+-- Ok with the value, or Err with this status if there is no value
 abbrev pub or_status : {X : Type 0} → ℕ → Option X → Result X ℕ
 or_status status None = Err status
 or_status status (Some x) = Ok x

@@ -58,7 +58,7 @@ abbrev pub key_of : PlainCommand → ℕ → RouteKey
 key_of c face = record { face = face_of c face; origin = c.origin }
 
 -- the deadline of a route that is registered at `now` with the lifetime `expires` in milliseconds;
--- at most 2^64 - 1; None if the route has no lifetime
+-- the deadline is at most 2^64 - 1; None if the route has no lifetime
 abbrev pub deadline_of : ℕ → Option ℕ → Option ℕ
 deadline_of now expires = option_map (λ period. min (now + period) (2 ^ 64 - 1)) expires
 
@@ -114,8 +114,8 @@ AllAreUp routes up = (face : ℕ) → LeadsTo routes face → has_face face up �
 
 -- ---- the effects of commands
 
--- the routes as they are after the command `c`, which came from `face`, takes effect at `now`; only
--- `fib` and `rib` commands change the routes
+-- the routes once the command `c`, which came from `face`, has taken effect at `now`; only `fib`
+-- and `rib` commands change the routes
 abbrev pub routes_after : PlainCommand → ℕ → ℕ → Routes → Routes
 routes_after c face now routes =
     elim c.action [

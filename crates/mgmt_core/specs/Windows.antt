@@ -36,15 +36,17 @@ with_more k more =
       segment = take SEGMENT_LEN (k.segment ++ drop (k.from - k.len) more);
     }
 
--- the number of octets before segment `number`, at most 2^64 - 1; the first segment has number 0
+-- the number of octets before segment `number`, or 2^64 - 1 if 2^64 - 1 is less; the first segment
+-- has number 0
 abbrev pub start_of : ℕ → ℕ
 start_of number = min (number * SEGMENT_LEN) (2 ^ 64 - 1)
 
--- an entry of the dataset of routes, from its encoded name and its effective next hops
+-- the octets of an entry of the dataset of routes that has this encoded name and these effective
+-- next hops
 abbrev pub route_octets : List ℕ → List Hop → List ℕ
 route_octets name hops = element (ENTRY, element (NAME, name) ++ flat_map hop_text hops)
 
--- an entry of the dataset of strategies, from its encoded name and its strategy
+-- the octets of an entry of the dataset of strategies that has this encoded name and this strategy
 abbrev pub choice_octets : List ℕ → StrategyId → List ℕ
 choice_octets name strategy =
     element (ENTRY, octets ((NAME, name) ∷ (STRATEGY, strategy_value strategy) ∷ []))

@@ -68,7 +68,7 @@ body_limit c = length (octets_of c.name) + BODY_EXTRA
 abbrev pub reply_limit : PlainCommand → ℕ
 reply_limit c = length (octets_of c.name) + REPLY_EXTRA
 
--- a next hop as an element of the dataset of routes, with its face and cost
+-- the element for a next hop in the dataset of routes: the face and the cost of the next hop
 abbrev pub hop_text : Hop → List ℕ
 hop_text hop =
     let fields = (FACE_ID, shortest_nni hop.face) ∷ (COST, shortest_nni hop.cost) ∷ [] in

@@ -10,10 +10,10 @@ use ndn_packets::types::NAME;
 /// Management", "Content Store Management").
 #[derive(Clone, Copy, Debug, PartialEq, Eq)]
 pub enum Action {
-    /// `fib/add-nexthop`: adds a next hop on a face to a name or, if the name already has a next
-    /// hop on this face, sets the cost of this next hop.
+    /// `fib/add-nexthop`: gives a name a next hop on a face. If the name already has a next hop on
+    /// this face, sets the cost of this next hop.
     AddNexthop,
-    /// `fib/remove-nexthop`: removes from a name the next hop on a face.
+    /// `fib/remove-nexthop`: removes the next hop that a name has on a face.
     RemoveNexthop,
     /// `rib/register`: registers a route, or replaces the route with the same name, face and
     /// origin.
@@ -52,7 +52,7 @@ impl Action {
         }
     }
 
-    /// Returns the action with this module and this verb.
+    /// Returns the action with this module and this verb, or `None` if there is none.
     pub(crate) fn named(module: &[u8], verb: &[u8]) -> Option<Action>
         ensures { result ≡ action_named «module».now verb.now }
     {

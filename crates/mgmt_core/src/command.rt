@@ -22,22 +22,23 @@ const CHILD_INHERIT: u64 = 1;
 pub struct Command<'a> {
     /// The action of the command.
     pub action: Action,
-    /// The name whose routes, strategy choice or cached Data the command changes.
+    /// The name whose routes or strategy choice the command changes. `cs/erase` erases cached Data
+    /// whose full names begin with this name.
     pub name: Name<'a>,
     /// The face of the next hop or route. 0 stands for the face that the command came from.
     pub face: u64,
-    /// The origin of the route, or 0 if it is not given.
+    /// The origin of the route, or 0 if no origin is given.
     pub origin: u64,
-    /// The cost of the next hop or route, or 0 if it is not given.
+    /// The cost of the next hop or route, or 0 if no cost is given.
     pub cost: u64,
     /// The flags of the route: 1 is child-inherit and 2 is capture. The value is 1 if no flags are
     /// given.
     pub flags: u64,
     /// The lifetime of the route in milliseconds. Without a lifetime, the route does not expire.
     pub expires: Option<u64>,
-    /// The name of the strategy, if it is given.
+    /// The name of the strategy, if this name is given.
     pub strategy: Option<Name<'a>>,
-    /// The greatest number of Data to erase, if it is given.
+    /// The greatest number of Data to erase, if this number is given.
     pub count: Option<u64>,
 }
 
@@ -80,7 +81,8 @@ pub(crate) fn without_last(name: Name<'_>, kind: u16) -> Name<'_>
     }
 }
 
-/// Returns the value of the component at index `at`, if it is a GenericNameComponent.
+/// Returns the value of the component at index `at`. Returns `None` if there is no such component
+/// or the component is not a GenericNameComponent.
 fn generic_at(name: Name<'_>, at: usize) -> Option<&[u8]>
     ensures { option_map (λ v. v.now) result ≡ generic_at (components name.entry) at }
 {
@@ -91,7 +93,8 @@ fn generic_at(name: Name<'_>, at: usize) -> Option<&[u8]>
 }
 
 #[tactic(auto, unfolding(crate::specs::Reading::action_at))]
-/// Returns the action that the first four components of the name denote.
+/// Returns the action of a name that begins with `/localhost/nfd/MODULE/VERB`, or `None` if there
+/// is no such action.
 fn action_at(name: Name<'_>) -> Option<Action>
     ensures { result ≡ action_at (components name.entry) }
 {
@@ -117,7 +120,8 @@ fn command_in<'a>(action: Action, name: Name<'a>) -> Option<Command<'a>>
 }
 
 #[tactic(auto, unfolding(crate::specs::Reading::command_of))]
-/// Returns the command with these parameters, or `None` if they are not valid for the action.
+/// Returns the command with these parameters, or `None` if the parameters are not valid for the
+/// action.
 fn command_of(action: Action, fields: &[u8]) -> Option<Command<'_>>
     ensures { option_map asked result ≡ command_of action (elements_of fields.now) }
 {

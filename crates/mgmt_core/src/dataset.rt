@@ -35,9 +35,9 @@ pub fn strategy_dataset(alloc: Global, strategies: &StrategyTable) -> Result<Vec
     Ok(list.into_octets())
 }
 
-/// Returns segment `number` and the number of the last segment, or `None` if there is no such
-/// segment. The first segment has number 0. Each segment except the last has 4,096 octets. An empty
-/// text has one segment, which is empty.
+/// Returns segment `number` of the text, and the number of the text's last segment. Returns `None`
+/// if the text has no segment `number`. The first segment has number 0. Each segment except the
+/// last has 4,096 octets. An empty text has one segment, which is empty.
 pub fn segment_of(text: &[u8], number: u64) -> Option<(&[u8], u64)>
     ensures { option_map (λ s. (s.0.now, s.1)) result ≡ segment_at text.now number }
 {
@@ -49,7 +49,7 @@ pub fn segment_of(text: &[u8], number: u64) -> Option<(&[u8], u64)>
     Some((&rest[..rest.len().min(SEGMENT_LEN)], last))
 }
 
-/// Returns the same as `segment_of` for the dataset of routes, without storing the whole dataset.
+/// Returns what `segment_of` returns for the dataset of routes, but never stores the whole dataset.
 /// Reads all names in order. At any time, only the segment, one entry and one name are stored.
 pub fn fib_segment(
     alloc: Global,
@@ -64,7 +64,7 @@ pub fn fib_segment(
     Ok(written.segment(number))
 }
 
-/// Returns the same as `segment_of` for the dataset of strategies, without storing the whole
+/// Returns what `segment_of` returns for the dataset of strategies, but never stores the whole
 /// dataset: see `fib_segment`.
 pub fn strategy_segment(
     alloc: Global,

@@ -35,7 +35,8 @@ use pit_fib::{Faces, Fib, MAX_DEPTH, StrategyTable};
 ///   `rib/unregister`, always have status 200.
 ///
 /// Only a command with status 200 changes a table. If memory runs out, `Memory` is returned and no
-/// table changes. Memory can run out only for a command that has status 200 and was not prepared.
+/// table changes. Memory can run out only for a command whose status would be 200 and that was not
+/// prepared.
 ///
 /// If `rib/register` gives a lifetime, the registered route expires at the end of this lifetime, or
 /// at the time `u64::MAX` if that is earlier. A registered route replaces the route with the same
@@ -168,8 +169,8 @@ fn set_status(choices: &StrategyTable, command: &Command<'_>) -> u16
     OK
 }
 
-/// Adds a next hop on this face, or sets the cost of the next hop on this face. Precondition: the
-/// command is not refused.
+/// Gives the command's name a next hop on this face. If the name already has a next hop on this
+/// face, sets the cost of this next hop. Precondition: the command is not refused.
 fn add_nexthop(fib: &mut Fib, command: &Command<'_>, face: u64) -> Result<(), Memory>
     requires room { HasRoomFor fib.old.table face }
     requires taken { refusal fib.old.table (components command.now.name) ≡ None }
@@ -212,7 +213,7 @@ fn register(fib: &mut Fib, command: &Command<'_>, face: u64, now: u64) -> Result
     }
 }
 
-/// Sets a strategy. Precondition: the command is not refused.
+/// Sets the command's strategy for the command's name. Precondition: the command is not refused.
 fn set_strategy(choices: &mut StrategyTable, command: &Command<'_>) -> Result<(), Memory>
     requires { refusal choices.old.table (components command.now.name) ≡ None }
     ensures ok { OnOk result (choices.new.table ≡ with_choice choices.old.table

@@ -27,9 +27,9 @@ fn is_field(kind: u32) -> bool
     }
 }
 
-/// Returns whether the octets are a sequence of well-formed TLV elements, and the action takes each
-/// element whose type is the type of a command parameter field. Elements of other types are
-/// ignored.
+/// Returns whether the octets are a sequence of well-formed TLV elements, and each command
+/// parameter field among these elements is a field that the action takes. Elements that are not
+/// command parameter fields are ignored.
 pub fn are_fields(octets: &[u8], action: Action) -> bool
     ensures { result ≡ list_all (fits (row_of action)) (elements_of octets.now) }
 {
@@ -60,7 +60,8 @@ pub fn number_field(octets: &[u8], kind: u32) -> Option<Option<u64>>
     }
 }
 
-/// Returns the name in the Name field, or `None` if the field is missing or not a name.
+/// Returns the name in the Name field, or `None` if the field is missing or the value of the field
+/// is not a name.
 pub fn name_field(octets: &[u8]) -> Option<Name<'_>>
     ensures { option_map components result ≡ name_in (elements_of octets.now) }
 {
@@ -68,8 +69,8 @@ pub fn name_field(octets: &[u8]) -> Option<Name<'_>>
     Name::read(value).ok()
 }
 
-/// Returns the name in the Strategy field, or `Some(None)` if there is no such field. Returns
-/// `None` if the field does not consist of exactly one valid Name element.
+/// Returns the name in the Strategy field, or `Some(None)` if there is no Strategy field. Returns
+/// `None` if the value of the field is not exactly one valid Name element.
 pub fn strategy_field(octets: &[u8]) -> Option<Option<Name<'_>>>
     ensures { option_map (option_map components) result ≡ strategy_in (elements_of octets.now) }
 {

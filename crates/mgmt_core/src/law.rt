@@ -8,8 +8,8 @@ ghost use Rattle.mgmt_core.specs.Reading.{PlainCommand, command_at};
 ghost use Rattle.mgmt_core.specs.Tables.{AllAreUp, if_done, routes_after, status_of};
 ghost use Rattle.mgmt_core.specs.Writing.{body_after, body_limit, reply_limit, response};
 
-/// Law: if each face that has a next hop or a route is up before a command, this also holds after
-/// the command, for every status and time.
+/// Law: commands keep the property that each face that has a next hop or a route is up, whatever
+/// the status and the time of the command.
 pub fn commands_leave_faces_up()
     ensures { (c : PlainCommand) (face now : ℕ) (up : List ℕ) (routes : Routes)
         (choices : Choices) → AllAreUp routes up
@@ -17,22 +17,23 @@ pub fn commands_leave_faces_up()
         (routes_after c face now routes) routes) up }
 {}
 
-/// Law: if each face that has a next hop or a route is up, this also holds after a face closes.
+/// Law: the closing of a face keeps the property that each face that has a next hop or a route is
+/// up.
 pub fn closings_leave_faces_up()
     ensures { (up rest : List ℕ) (face : ℕ) (routes : Routes)
         → ((f : ℕ) → has_face f up ≡ true → f ≢ face → has_face f rest ≡ true)
         → AllAreUp routes up → AllAreUp (without_face routes face) rest }
 {}
 
-/// Law: if each face that has a next hop or a route is up, this also holds after another face opens
-/// or is refused.
+/// Law: the opening of a face keeps the property that each face that has a next hop or a route is
+/// up, even if the opening is refused.
 pub fn openings_leave_faces_up()
     ensures { (face : ℕ) (up : List ℕ) (routes : Routes)
         → AllAreUp routes up → AllAreUp routes (adding face up).1 }
 {}
 
-/// Law: if each face that has a next hop or a route is up, this also holds after expired routes are
-/// removed.
+/// Law: the removal of expired routes keeps the property that each face that has a next hop or a
+/// route is up.
 pub fn expiry_leaves_faces_up()
     ensures { (now : ℕ) (up : List ℕ) (routes : Routes)
         → AllAreUp routes up → AllAreUp (left_at now routes) up }
@@ -46,8 +47,8 @@ pub fn statuses_have_texts()
         → IfErr (command_at name) (λ status. IsSome (text_of status)) }
 {}
 
-/// Law: the length of replies is bounded, so memory for a reply can be reserved before its status
-/// is known.
+/// Law: the length of replies is bounded, so memory for a reply can be reserved before the status
+/// of the reply is known.
 pub fn replies_are_bounded()
     ensures body { (c : PlainCommand) (face status : ℕ)
         → length (body_after c face status) ≤ body_limit c }

@@ -29,7 +29,7 @@ pub const BODY_EXTRA: usize = 70;
 /// The greatest number of octets in a whole reply, not counting the octets of the command's name.
 pub const REPLY_EXTRA: usize = 116;
 
-/// The greatest length of an element's header in octets, if the type takes one octet.
+/// The greatest length, in octets, of the header of an element whose type takes one octet.
 const HEADER_LEN: usize = 10;
 
 impl Command<'_> {
@@ -56,8 +56,8 @@ impl Command<'_> {
         Some(now.saturating_add(self.expires?))
     }
 
-    /// Returns the strategy in the command's Strategy field, if the field is the name of a
-    /// strategy.
+    /// Returns the strategy that the command's Strategy field names, or `None` if the field is
+    /// missing or does not name a strategy.
     pub(crate) fn strategy(&self) -> Option<StrategyId>
         ensures { result ≡ strategy_asked (asked self.now) }
     {
@@ -75,8 +75,7 @@ impl Command<'_> {
         }
     }
 
-    /// Returns the strategy that the command's Strategy field names, if the command takes this
-    /// field.
+    /// Returns the result of `strategy` if the command takes a Strategy field, otherwise `None`.
     fn given_strategy(&self) -> Option<StrategyId>
         ensures { result ≡ given (asked self.now) STRATEGY (strategy_asked (asked self.now)) }
     {
@@ -181,7 +180,8 @@ impl ReplyRoom {
         Ok(())
     }
 
-    /// Returns the body of the reply to a command from this face. Uses up the reserved memory.
+    /// Returns the body of the reply to a command that came from this face. Uses up the reserved
+    /// memory.
     pub fn body_of(
         &mut self,
         alloc: Global,

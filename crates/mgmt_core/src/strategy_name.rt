@@ -25,7 +25,8 @@ pub fn strategy_value(strategy: StrategyId) -> &'static [u8]
     }
 }
 
-/// Returns the strategy with this name. A Version component may follow the strategy's name.
+/// Returns the strategy with this name, or `None` if there is none. A Version component may follow
+/// the strategy's name.
 pub fn strategy_named(name: Name<'_>) -> Option<StrategyId>
     ensures { result ≡ strategy_named (components name.entry) }
 {

@@ -22,7 +22,8 @@ pub struct Tables {
 }
 
 impl Tables {
-    /// Returns these tables without reserved memory.
+    /// Returns the tables `fib`, `strategies` and `store` together, with no memory reserved for a
+    /// reply.
     pub fn new(alloc: Global, fib: Fib, strategies: StrategyTable, store: Store) -> Tables
         ensures fib { result.fib ≡ fib }
         ensures strategies { result.strategies ≡ strategies }

@@ -27,9 +27,9 @@ pub fn status_text(status: u16) -> Option<&'static str>
     }
 }
 
-/// Appends a reply: the status code, its text, and the body, which is a ControlParameters element
-/// or empty (NFD Management, "Control Command", ControlResponse). If memory runs out, nothing is
-/// appended.
+/// Appends a reply: the status code, the status text and the body (NFD Management, "Control
+/// Command", ControlResponse). The body of a reply is a ControlParameters element or empty. If
+/// memory runs out, nothing is appended.
 pub fn put_response(out: &mut Vec<u8>, status: u16, text: &str, body: &[u8]) -> Result<(), Memory>
     ensures ok { OnOk result
         (out.new.items ≡ out.old.items ++ response status text.now body.now) }

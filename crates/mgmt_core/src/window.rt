@@ -62,8 +62,8 @@ impl Window {
         Ok(())
     }
 
-    /// Returns the segment and the number of the last segment, or `None` if the text has no segment
-    /// with this number.
+    /// Returns segment `number` and the number of the last segment, or `None` if the text has no
+    /// segment `number`.
     fn segment(self, number: u64) -> Option<(Vec<u8>, u64)>
         ensures { (text : List ℕ) → self ≡ kept_of (start_of number) text
             → option_map (λ s. (s.0.items, s.1)) result ≡ segment_at text number }
@@ -118,8 +118,8 @@ impl ListWriter {
         }
     }
 
-    /// Returns the segment and the number of the last segment, or `None` if the dataset has no
-    /// segment with this number.
+    /// Returns segment `number` and the number of the last segment, or `None` if the dataset has no
+    /// segment `number`.
     pub fn segment(self, number: u64) -> Option<(Vec<u8>, u64)>
         ensures { (text : List ℕ) → self ≡ kept_of (start_of number) text
             → option_map (λ s. (s.0.items, s.1)) result ≡ segment_at text number }

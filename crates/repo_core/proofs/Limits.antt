@@ -22,7 +22,8 @@ use Rattle.repo_core.proofs.Kept.{entries-kept}
 no_more : {X : Type 0} (test : X → Bool) (xs : List X) → length (filter test xs) ≤ length xs
 no_more test xs = let some = count_by-le-length test xs in omega (arith, length-filter test xs, some)
 
--- if at least one element passes the test, removing the elements that pass makes the list shorter
+-- if at least one element passes the test, removing all elements that pass the test makes the list
+-- shorter
 fewer : {X : Type 0} (test : X → Bool) (xs : List X) → list_any test xs ≡ true → length (filter (λ x. not (test x)) xs) < length xs
 fewer test [] e = absurd cc
 fewer test (x ∷ xs) e = by (test x) e (λ rest. fewer test xs rest)
@@ -51,8 +52,8 @@ one_less : (b : Bool) (n : ℕ) → cond b (n - 1) n ≤ n
 one_less true n = omega arith
 one_less false n = omega arith
 
--- if an insert is answered with status 100, there is a want with the same name and CanBePrefix, or
--- the repository is not full
+-- if an insert is answered with status 100, then before the insert there was a want with the same
+-- name and CanBePrefix, or the repository was not full
 pending : (stored wanted full : Bool) → eqb (cond stored 200 (cond wanted 100 (cond full 503 100))) 100 ≡ true → (wanted ≡ true) ⊎ (full ≡ false)
 pending true wanted full e = absurd cc
 pending false true full e = inl refl

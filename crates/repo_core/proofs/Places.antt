@@ -14,7 +14,7 @@ use Rattle.std.proofs.lemmas.Bool.{cases_lt}
 use Rattle.repo_core.specs.Room.{IsPlace, HasAt}
 use Rattle.ndn_names.proofs.Rows.{is_less, first_of, second_of, put_found, put_gap, put_end, find_found, find_gap, find_end}
 
--- a list has an element at each index below its length
+-- a list has an element at each index that is less than the length of the list
 pub stands : {X : Type 0} (xs : List X) (at : ℕ) → at < length xs → (x : X) × (x ≡ get_or xs at x)
 stands [] at lt = absurd (omega arith)
 stands (x ∷ xs) zero lt = (x, refl)

@@ -12,8 +12,8 @@ use Rattle.repo_core.proofs.Kept.{is_equal, lacks}
 use Rattle.ndn_names.proofs.Rows.{first_of, second_of}
 
 module _ {K X : Type 0} {R : K → K → Ordering} (o : IsTotalOrder R) (anti : IsAntisymmetric R) (test : K × X → Bool) where
-  -- there are a key and a value such that a lookup of the key finds the value, and the pair of the
-  -- key and the value passes the test
+  -- there are a key and a value such that a lookup of the key in the list finds the value, and the
+  -- pair of the key and the value passes the test
   abbrev Passes : List (K × X) → Type 0
   Passes es = (k : K) × (v : X) × (find R k es ≡ Some v) × (test (k, v) ≡ true)
 

@@ -1,5 +1,6 @@
--- The commands of a repository, one row for each: the verb, and the statuses of its replies. This
--- file also defines the status texts; `src/types.rt` defines the status codes.
+-- The commands of a repository, one row for each: the word of the verb, and the statuses of the
+-- replies to the command. This file also defines the status texts; `src/types.rt` defines the
+-- status codes.
 use Rattle.std.specs.Prelude.{ℕ, List, [], ◌∷◌, Option, find, codes, bytes_eq, ◌==◌}
 use Rattle.std.specs.Option.{option_map}
 use Rattle.repo_core.specs.declared.verb.Verb.{Verb}
@@ -18,7 +19,7 @@ pub data Case : Type 0 where
 
 pub record VerbRow : Type 0 where
   pub word : List ℕ
-  -- cases with their statuses; the first case that applies gives the status
+  -- cases with their statuses; the first case that applies gives the status of the reply
   pub answers : List (Case × ℕ)
 
 abbrev pub verb_row : Verb → VerbRow

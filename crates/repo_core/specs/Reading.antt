@@ -18,13 +18,13 @@ use Rattle.ndn_packets.specs.declared.types.TheConstants.{CAN_BE_PREFIX, INTERES
 use Rattle.repo_core.specs.declared.types.TheConstants.{DEFAULT_LIFETIME}
 use Rattle.repo_core.specs.Commands.{verb_named}
 
--- a command with its parameters; it applies to the Data that answer an Interest with this name and
--- this CanBePrefix flag
+-- a command with its parameters; the command applies to the Data that answer an Interest with this
+-- name and this CanBePrefix flag
 pub record RepoCommand : Type 0 where
   pub verb : Verb
   pub name : List Field
   pub can_be_prefix : Bool
-  -- the lifetime of the want (the pending insert) in milliseconds
+  -- the lifetime, in milliseconds, of the want (the pending insert) that an insert adds or renews
   pub lifetime : ℕ
 
 abbrev pub plain : Asked → RepoCommand
@@ -41,11 +41,12 @@ abbrev pub can_be_read : Result Field TlvFault → Bool
 can_be_read (Ok e) = true
 can_be_read (Err fault) = false
 
--- the name in the Name field, or None if there is no Name field or its value cannot be decoded
+-- the name in the Name field, or None if there is no Name field or the value of the Name field
+-- cannot be decoded
 abbrev pub name_in : Elements → Option (List Field)
 name_in es = first_of NAME es >>= name_of
 
--- whether the CanBePrefix field is present; None if it is present and its value is not empty
+-- whether the CanBePrefix field is present; None if the field is present and its value is not empty
 abbrev pub flag_of : Option (List ℕ) → Option Bool
 flag_of None = Some false
 flag_of (Some []) = Some true
@@ -73,13 +74,13 @@ command_of verb es =
 
 -- ---- names
 
--- the value of the component if it has the type `kind`, otherwise None
+-- the value of the component if there is a component and its type is `kind`, otherwise None
 abbrev pub value_of : ℕ → Option Field → Option (List ℕ)
 value_of kind None = None
 value_of kind (Some c) = if c.0 == kind then Some c.1 else None
 
--- the value of the component at index `at` after the prefix `start`, or None if there is no such
--- component or it does not have the type `kind`
+-- the value of the component at index `length start + at`, where `start` is the prefix; None if
+-- there is no such component or the component does not have the type `kind`
 abbrev pub value_after : List Field → List Field → ℕ → ℕ → Option (List ℕ)
 value_after start cs kind at = value_of kind (slice_get cs (length start + at))
 

@@ -23,8 +23,8 @@ pub record Held : Type 0 where
 pub record RepoState : Type 0 where
   pub start : List Field
   pub held : Held
-  -- `prepared_want`: the name for which an insert is prepared, for both values of CanBePrefix.
-  -- `prepared_object`: the full name and the octets of the Data whose offer is prepared.
+  -- `prepared_want`: the name for which an insert is prepared. The insert may have CanBePrefix or
+  -- not. `prepared_object`: the full name and the octets of the Data whose offer is prepared.
   pub prepared_want : Option (List Field)
   pub prepared_object : Option (List Field × List ℕ)
 

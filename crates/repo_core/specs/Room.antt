@@ -20,8 +20,8 @@ shelf_code =
     (coded× (map.code name_code (coded_list coded_ℕ)) coded_ℕ)
     (λ s. (s.table, s.room)) (λ p. record { table = p.0; room = p.1 }) (λ _. refl)
 
--- the rows before index `at` have keys less than `key`, and the rows from `at` on have keys greater
--- than or equal to `key`
+-- the rows before index `at` have keys less than `key`, and the rows from index `at` on have keys
+-- greater than or equal to `key`
 pub record IsPlace {K X : Type 0} (R : K → K → Ordering) (key : K) (rows : List (K × X))
     (at : ℕ) : Type 0 where
   pub within : at ≤ length rows

@@ -18,7 +18,7 @@ use Rattle.repo_core.specs.Objects.{kept}
 abbrev pub WantKey : Type 0
 WantKey = List Field × Bool
 
--- the order of wants: by name in canonical order; of two wants with the same name, the one with
+-- the order of wants: by name in canonical order; of two wants with the same name, the want with
 -- CanBePrefix `false` comes first
 abbrev pub want_cmp : WantKey → WantKey → Ordering
 want_cmp = then_cmp (on (λ k. k.0) name_cmp) (on (λ k. k.1) bool_cmp)
@@ -55,6 +55,7 @@ unfilled name digest wants = kept (λ w. not (answers name digest w.0.0 w.0.1)) 
 abbrev pub wants_after : ℕ → Wants → Wants
 wants_after now wants = kept (λ w. nat_lt now w.1) wants
 
--- the deadline of a want that is made at `now` with this lifetime, at most 2^64 - 1
+-- the deadline of a want that is added or renewed at `now` with this lifetime; the deadline is at
+-- most 2^64 - 1
 abbrev pub want_deadline : ℕ → ℕ → ℕ
 want_deadline now lifetime = min (now + lifetime) (2 ^ 64 - 1)

@@ -15,7 +15,8 @@ use ndn_packets::command_types::REPO_COMMAND_PARAMETER;
 use ndn_tlv::single_element;
 
 /// A well-formed command. It applies to the Data that answer an Interest with this `name` and
-/// `can_be_prefix`. `lifetime` is the lifetime of a want (a pending insert) in milliseconds.
+/// `can_be_prefix`. `lifetime` is in milliseconds: the lifetime of the want (the pending insert)
+/// that an insert adds or renews.
 #[derive(Clone, Copy)]
 pub struct Asked<'a> {
     pub verb: Verb,
@@ -24,8 +25,8 @@ pub struct Asked<'a> {
     pub lifetime: u64,
 }
 
-/// Returns the value of the component at index `at` after the prefix, if the component has type
-/// `kind`.
+/// Returns the value of the component of `name` at index `start.len() + at`. Returns `None` if
+/// `name` has no such component or the component does not have type `kind`.
 fn value_after<'a>(start: Name<'_>, name: Name<'a>, kind: u16, at: usize) -> Option<&'a [u8]>
     requires { at ≤ 2 }
     ensures exact { option_map (λ v. v.now) result
@@ -39,7 +40,8 @@ fn value_after<'a>(start: Name<'_>, name: Name<'a>, kind: u16, at: usize) -> Opt
 }
 
 #[tactic(auto, unfolding(crate::specs::Reading::verb_at))]
-/// Returns the verb of a name that begins with the prefix `start` and a verb.
+/// Returns the verb of a name that begins with the prefix `start` and a verb, or `None` for every
+/// other name.
 pub fn verb_after(start: Name<'_>, name: Name<'_>) -> Option<Verb>
     ensures { result ≡ verb_at (components start.entry) (components name.entry) }
 {
@@ -68,7 +70,8 @@ pub fn command_in<'a>(start: Name<'_>, name: Name<'a>) -> Option<Asked<'a>>
 }
 
 #[tactic(auto, unfolding(crate::specs::Reading::command_of))]
-/// Returns the command with these parameters, or `None` if they are not well formed.
+/// Returns the command with this verb and these parameters, or `None` if the parameters are not
+/// well formed.
 fn command_of(verb: Verb, fields: &[u8]) -> Option<Asked<'_>>
     ensures exact { option_map plain result ≡ command_of verb (elements_of fields.now) }
     ensures short { IfSome result (λ a.

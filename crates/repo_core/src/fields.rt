@@ -28,7 +28,8 @@ pub fn are_elements(octets: &[u8]) -> bool
     true
 }
 
-/// Returns the name in the Name field, or `None` if the field is missing or not a name.
+/// Returns the name in the Name field, or `None` if the field is missing or the value of the field
+/// is not a name.
 pub fn name_field(octets: &[u8]) -> Option<Name<'_>>
     ensures exact { option_map components result ≡ name_in (elements_of octets.now) }
     ensures short { IfSome result (λ name.
@@ -38,7 +39,8 @@ pub fn name_field(octets: &[u8]) -> Option<Name<'_>>
     Name::read(value).ok()
 }
 
-/// Returns whether the CanBePrefix field is present, or `None` if the field is not empty.
+/// Returns whether the CanBePrefix field is present. Returns `None` if the field is present and its
+/// value is not empty.
 pub fn flag_field(octets: &[u8]) -> Option<bool>
     ensures { result ≡ flag_of (first_of CAN_BE_PREFIX (elements_of octets.now)) }
 {
@@ -49,8 +51,8 @@ pub fn flag_field(octets: &[u8]) -> Option<bool>
     }
 }
 
-/// Returns the InterestLifetime field, or the default if the field is absent. Returns `None` if the
-/// value of the field is not a NonNegativeInteger.
+/// Returns the number in the InterestLifetime field, or `DEFAULT_LIFETIME` if the field is absent.
+/// Returns `None` if the value of the field is not a NonNegativeInteger.
 pub fn lifetime_field(octets: &[u8]) -> Option<u64>
     ensures { result ≡ lifetime_of (first_of INTEREST_LIFETIME (elements_of octets.now)) }
 {

@@ -19,15 +19,16 @@ ghost use Rattle.repo_core.specs.Writing.{repo_response};
 
 use crate::reply::MAX_REPLY_LEN;
 
-/// Law: a Data answers an Interest if and only if its full name passes `full_name_answers`.
+/// Law: a Data answers an Interest if and only if `full_name_answers` is true for the full name of
+/// the Data.
 pub fn full_names_answer_as_data()
     ensures { (name asked : List Field) (digest : List ℕ) (can_be_prefix : Bool)
         → full_name_answers asked can_be_prefix (full_name name digest)
         ≡ answers name digest asked can_be_prefix }
 {}
 
-/// Law: a Data that is not wanted remains unwanted while wants only expire or are deleted, so the
-/// preparation of an offer remains valid.
+/// Law: a Data that is not wanted remains unwanted while wants only expire or are deleted, so an
+/// offer that cannot run out of memory (`IsOfferPrepared`) still cannot run out of memory.
 pub fn removals_keep_preparations()
     ensures expiry { (now : ℕ) (name : List Field) (digest : List ℕ) (wants : Wants)
         → is_wanted name digest (wants_after now wants) ≡ true
@@ -37,7 +38,8 @@ pub fn removals_keep_preparations()
         → is_wanted name digest s.wants ≡ true }
 {}
 
-/// Law: a name has a verb if and only if it begins with the prefix and the verb's word.
+/// Law: a name has a given verb if and only if the name begins with the prefix, followed by the
+/// GenericNameComponent with the word of this verb.
 pub fn verbs_follow_the_prefix()
     ensures { (start name : List Field) (verb : Verb)
         → (verb_at start name ≡ Some verb)
@@ -50,8 +52,8 @@ pub fn repo_statuses_have_texts()
         → IsSome (repo_text_of (reply_to s c).status) }
 {}
 
-/// Law: the length of replies is bounded, so memory for a reply can be reserved before its status
-/// is known.
+/// Law: the length of replies is bounded, so memory for a reply can be reserved before the status
+/// of the reply is known.
 pub fn repo_replies_are_bounded()
     ensures known { (status count : ℕ) (text : List ℕ) → repo_text_of status ≡ Some text
         → length (repo_response status text count) ≤ MAX_REPLY_LEN }
@@ -63,7 +65,7 @@ pub fn repo_replies_are_bounded()
 {}
 
 /// Law: the limits of 64 wants, and of 65,536 objects and wants together, hold after every step if
-/// they held before it.
+/// these limits held before the step.
 pub fn limits_are_kept()
     ensures command { (start name : List Field) (now : ℕ) (s : Held)
         → IsWithinLimits s → IsWithinLimits (after_command start name now s) }
@@ -72,7 +74,8 @@ pub fn limits_are_kept()
     ensures time { (now : ℕ) (s : Held) → IsWithinLimits s → IsWithinLimits (after_time now s) }
 {}
 
-/// Law: if all objects are Data stored by their full names, this also holds after every step.
+/// Law: if, before a step, each object is a Data stored under its full name, then each object is a
+/// Data stored under its full name after the step too.
 pub fn objects_stay_data()
     ensures command { (start name : List Field) (now : ℕ) (s : Held)
         → AreObjects s.objects → AreObjects (after_command start name now s).objects }

@@ -109,7 +109,7 @@ impl Object {
         self.stored.full_name.is_under(name)
     }
 
-    /// Returns whether `name` is the name of the Data or its full name.
+    /// Returns whether `name` is the name or the full name of the Data.
     fn is_named(&self, name: Name<'_>) -> bool
         ensures { result ≡ full_name_answers (components name.entry) false self.now.0 }
     {
@@ -127,9 +127,10 @@ impl Object {
         }
     }
 
-    /// Returns whether `name` is a prefix of the full name. Without CanBePrefix, the component
-    /// after this prefix, if there is one, must also have a type less than 2. Only objects for
-    /// which `is_near` is true can answer an Interest with this name and this CanBePrefix flag.
+    /// Returns whether the full name begins with `name` and satisfies one condition more:
+    /// `can_be_prefix` is true, or the component of the full name after `name`, if there is one,
+    /// has a type less than 2. Only objects for which `is_near` is true can answer an Interest with
+    /// this name and this CanBePrefix flag.
     pub fn is_near(&self, name: Name<'_>, can_be_prefix: bool) -> bool
         ensures { result ≡ is_near (components name.entry) can_be_prefix self.now.0 }
     {

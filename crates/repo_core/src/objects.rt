@@ -80,6 +80,7 @@ impl Objects {
 
     /// Returns the octets of the object that answers an Interest with this name and this
     /// CanBePrefix flag. If several objects answer, the object with the least full name is chosen.
+    /// Returns `None` if no object answers.
     pub fn served(&self, name: Name<'_>, can_be_prefix: bool) -> Option<&[u8]>
         ensures { option_map (λ o. o.now) result
             ≡ served (components name.entry) can_be_prefix self.now.table }
@@ -128,7 +129,7 @@ impl Objects {
 }
 
 /// Returns the index of the first object whose full name is not less than the name with the
-/// TLV-VALUE `octets`.
+/// TLV-VALUE `octets`, or the number of objects if there is no such object.
 fn place_of(objects: &[Object], octets: &[u8]) -> usize
     requires { T (map.is_sorted name_cmp objects.now) }
     ensures { (name : List Field) → IsElements octets.now name
@@ -137,7 +138,7 @@ fn place_of(objects: &[Object], octets: &[u8]) -> usize
     objects.partition_point(|object| object.is_below(octets))
 }
 
-/// Returns whether the object at index `at` has the full name with the TLV-VALUE `octets`.
+/// Returns whether there is an object at index `at` whose full name has the TLV-VALUE `octets`.
 fn has_at(objects: &[Object], at: usize, octets: &[u8]) -> bool
     ensures { (name : List Field) → IsElements octets.now name
         → IsTrue result ↔ HasAt name objects.now at }
@@ -181,7 +182,7 @@ fn count_of(objects: &[Object], name: Name<'_>, can_be_prefix: bool) -> usize
 }
 
 /// Returns the octets of the first object in the slice that answers an Interest with this name and
-/// this CanBePrefix flag.
+/// this CanBePrefix flag, or `None` if no object in the slice answers.
 fn first_of<'a>(objects: &'a [Object], name: Name<'_>, can_be_prefix: bool) -> Option<&'a [u8]>
     requires { IsPartitionedBy (λ o. is_near (components name) can_be_prefix o.0) objects.now }
     ensures { option_map (λ o. o.now) result

@@ -28,8 +28,8 @@ pub struct RepoReply {
     /// The status code: 100 pending, 200 OK, 400 bad parameters, 404 not found, or 503 repository
     /// full.
     pub status: u16,
-    /// The number of stored Data that match the command if the status is 200, and 0 for every other
-    /// status.
+    /// If the status is 200, the number of stored Data that match the command (for a delete, the
+    /// number of removed Data). For every other status, 0.
     pub count: u64,
     /// The Interest to send, if the command is an insert and the status is 100.
     pub fetch: Option<Want>,

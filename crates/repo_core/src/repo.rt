@@ -95,8 +95,8 @@ impl Repo {
         })
     }
 
-    /// Returns the verb of a name that begins with the repository's prefix and a verb. The name of
-    /// every command begins with the prefix and a verb.
+    /// Returns the verb of a name that begins with the repository's prefix and a verb, or `None`
+    /// for every other name. The name of every command begins with the prefix and a verb.
     pub fn verb_of(&self, name: Name<'_>) -> Option<Verb>
         ensures { result ≡ verb_at self.now.start (components name.entry) }
     {
@@ -310,7 +310,8 @@ impl Repo {
         Ok(())
     }
 
-    /// Applies an insert. Uses the prepared names `spare` if they are copies of the command's name.
+    /// Applies an insert. Uses the prepared names `spare` if the prepared names are copies of
+    /// `asked.name`.
     fn insert(
         &mut self,
         asked: Asked<'_>,
@@ -388,7 +389,8 @@ impl Repo {
     }
 }
 
-/// Returns the object for a Data: `spare` if it is the object of this Data, otherwise a new one.
+/// Returns the object for a Data: `spare` if `spare` is the object of this Data, otherwise a new
+/// object.
 fn object_for(alloc: Global, spare: Option<Object>, packet: &Data<'_>) -> Result<Object, Memory>
     ensures ok { IfOk result (λ o. o ≡ object_of packet.now) }
     ensures spared { spare ≡ Some (object_of packet.now) → IsOk result }

@@ -16,7 +16,8 @@ pub enum Verb {
 }
 
 impl Verb {
-    /// Returns the verb with this word, for example `Insert` for `insert`.
+    /// Returns the verb with this word, for example `Insert` for `insert`, or `None` if there is
+    /// none.
     pub(crate) fn named(word: &[u8]) -> Option<Verb>
         ensures { result ≡ verb_named word.now }
     {

@@ -26,7 +26,8 @@ impl Names {
     }
 }
 
-/// Returns two copies of a name: `spare` if it contains copies of this name, otherwise new copies.
+/// Returns two copies of a name: `spare` if `spare` contains copies of this name, otherwise new
+/// copies.
 pub fn names_for(alloc: Global, spare: Option<Names>, name: Name<'_>) -> Result<Names, Memory>
     requires { IfSome spare AreAlike }
     ensures key { IfOk result (λ n. n.key ≡ components name.entry) }

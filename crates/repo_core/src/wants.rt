@@ -21,9 +21,9 @@ type Row = ((NameBuf, bool), u64);
 /// The wants (pending inserts) of a repository, by name and CanBePrefix.
 #[derive(Drop)]
 pub struct Wants {
-    // The wants in canonical order of their names. Of two wants with the same name, the one with
-    // CanBePrefix `false` comes first. The capacity for the greatest number of wants is allocated
-    // at the start.
+    // The wants in canonical order of their names. Of two wants with the same name, the want with
+    // CanBePrefix `false` comes first. Capacity for `MAX_WANTS` wants is allocated when the
+    // collection is created.
     rows: Vec<Row>,
 }
 
@@ -181,8 +181,8 @@ fn order_of(row: &Row, name: Name<'_>, can_be_prefix: bool) -> Ordering
         .then(row.0.1.cmp(&can_be_prefix))
 }
 
-/// Returns the index of the first want whose key is not less than this name and this CanBePrefix
-/// flag.
+/// Returns the index of the first want whose key is not less than the key that consists of this
+/// name and this CanBePrefix flag, or the number of wants if there is no such want.
 fn place_of(rows: &[Row], name: Name<'_>, can_be_prefix: bool) -> usize
     requires { T (map.is_sorted want_cmp rows.now) }
     ensures { IsPlace want_cmp (components name.entry, can_be_prefix) rows.now result }
@@ -190,7 +190,7 @@ fn place_of(rows: &[Row], name: Name<'_>, can_be_prefix: bool) -> usize
     rows.partition_point(|row| order_of(row, name, can_be_prefix).is_lt())
 }
 
-/// Returns whether the want at index `at` has this name and this CanBePrefix flag.
+/// Returns whether there is a want at index `at` that has this name and this CanBePrefix flag.
 fn has_at(rows: &[Row], at: usize, name: Name<'_>, can_be_prefix: bool) -> bool
     ensures { IsTrue result ↔ HasAt (components name.entry, can_be_prefix) rows.now at }
 {

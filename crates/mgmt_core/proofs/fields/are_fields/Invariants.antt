@@ -5,7 +5,7 @@ use Rattle.mgmt_core.specs.Commands.{row_of}
 use Rattle.mgmt_core.specs.Reading.{fits}
 use Rattle.mgmt_core.proofs.fields.are_fields.Given as goal
 
--- the remaining elements fit the action if and only if all elements fit it
+-- all remaining elements fit the action (`fits`) if and only if all elements fit the action
 abbrev pub invariant-loop-rest : goal.invariant-loop-rest
 invariant-loop-rest l =
     list_all (fits (row_of l.action)) (elements_of l.rest)

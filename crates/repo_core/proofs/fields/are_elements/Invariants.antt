@@ -4,7 +4,7 @@ use Rattle.ndn_tlv.specs.Reading.{elements_of}
 use Rattle.repo_core.specs.Reading.{can_be_read}
 use Rattle.repo_core.proofs.fields.are_elements.Given as goal
 
--- the remaining elements are well formed if and only if all elements are
+-- all remaining elements are well formed if and only if all elements are well formed
 abbrev pub invariant-loop-rest : goal.invariant-loop-rest
 invariant-loop-rest l = list_all can_be_read (elements_of l.rest) ≡ list_all can_be_read (elements_of l.octets)
 

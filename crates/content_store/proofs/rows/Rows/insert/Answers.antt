@@ -22,7 +22,8 @@ insert-requires-clause-short c =
     let len = length-shown (get c.self.inside.entries) c.self.inside.order c.self.invariant.0.there in
     omega (arith, ap length c.self.view_is)
 
--- after the row is inserted into the slab and the list, the list shows it at position `at`
+-- after the row is inserted into the slab, and its slab index into the list, the list shows this
+-- row at position `at`
 whole : (c : In-Ok) → (shown (get c.hold.new.entries) c.insert.new.self ≡ insert (shown (get c.self.inside.entries) c.self.inside.order) c.args.at (c.in_ok-place.place, c.args.row))
     × IsRows (get c.hold.new.entries) c.insert.new.self
 whole c =
