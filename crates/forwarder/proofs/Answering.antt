@@ -82,7 +82,7 @@ served_goes_back name flag objects octets are is =
 pub interest_is_short : (whole : List ℕ) (i : PlainInterest) → ∥ IsInterest whole i ∥₁ → length whole ≤ 8800
 interest_is_short whole i spelled = ∥∥₁_elim spelled le_prop (λ h. h.fields.short)
 
--- ---- the verdict for the strategy's choice is Passed, or PitFull if the PIT is full
+-- ---- the verdict for the strategy's choice is Passed or Dropped PitFull
 
 strategy_passes : (seen : Seen) (key : PlainKey) (whole : List ℕ) (i : PlainInterest) (face : ℕ) (token : Token) (choice : Choice)
     → ((by_strategy seen key whole i face token choice).verdict ≡ Passed) ⊎ ((by_strategy seen key whole i face token choice).verdict ≡ Dropped PitFull)
@@ -101,7 +101,7 @@ later_sound old was moment sound later = step_sound old was _ _ sound (tick_step
 
 -- ---- the Data that can answer an Interest when time has advanced to the Interest's moment
 
--- `IsLeast` is true of no Data if no cached Data can serve the key
+-- if no cached Data can serve the key, then `IsLeast` is false for every Data
 pub nothing_served : (key : PlainKey) (now : ℕ) (cached : List CachedData) (c : CachedData) → IsLeast (CanServe key now) cached c → All (λ d. ¬ CanServe key now d) cached → ⊥
 nothing_served key now cached c least none = All-contains (λ d. ¬ CanServe key now d) cached c none least.is_cached least.has
 

@@ -1,6 +1,6 @@
 -- Let the repository be empty at the start of a run. If a Data is sent to a face, this face asked
 -- for the Data. If `is_data` is true of sent octets, but the octets are not read as a Data, then
--- they are the node's own answer to an Interest of the face that they are sent to.
+-- the octets are the node's own answer to an Interest from the face that the octets are sent to.
 use Rattle.std.proofs.Common.{◌≡◌, ℕ, Bool, true, false, cond, List, [], ◌∷◌, refl, sym, ap, subst, ◌∙◌, Result, Ok, Err, inl, inr}
 use Rattle.std.specs.Prelude.{◌≢◌, IfSome, Option, Some, None, Contains, IsSome, IsTrue, max}
 use Rattle.std.specs.FinMap as map
@@ -74,7 +74,7 @@ allowed_reads first Start whole d h = absurd h
 allowed_reads first (Then before event answer) whole d (inl h) = allowed_reads first before whole d h
 allowed_reads first (Then before event answer) whole d (inr h) = decided_reads (at_moment h.0 (moment event)) event whole d h.2.brings
 
--- ---- an object that the repository serves is one that it stores
+-- ---- the repository stores each object that the repository serves
 
 kept_here : (test : List Field × List ℕ → Bool) (key : List Field) (octets : List ℕ) (o : Option (List ℕ)) → if_kept test key o ≡ Some octets → (o ≡ Some octets) × (test (key, octets) ≡ true)
 kept_here test key octets None e = cc e

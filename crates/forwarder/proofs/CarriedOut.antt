@@ -62,8 +62,7 @@ module _ (was new : NodeState) (face : ℕ) (token : Token) (status : ℕ) (i : 
     cache = subst (λ (c : Result PlainCommand ℕ). CacheAfter was.policy.now was.pending (command_use c status) was.cache new.cache) (sym is) cache;
   }
 
--- the Content of the reply to a command on the tables is at most as long as the limit for that
--- command
+-- the Content of the reply to the command `c` on the tables has at most `reply_limit c` octets
 pub response_fits : (c : PlainCommand) (face status : ℕ) (up : List ℕ) (routes : Routes) (choices : Choices)
     → status ≡ status_of c face up routes choices
     → length (response status (unwrap_or (text_of status) []) (body_after c face status)) ≤ reply_limit c

@@ -219,7 +219,7 @@ pub none_nacked : (faces octets : List ℕ) → is_nack octets ≡ false → is_
 none_nacked [] octets other = refl
 none_nacked (f ∷ faces) octets other = ap (λ (b : Bool). b || is_nacked (to_each faces octets)) other ∙ none_nacked faces octets other
 
--- ---- a link packet around a Nack
+-- ---- a link packet with a Nack header
 
 -- octets that are exactly one valid element are read as this element
 only_one : (f : Field) → IsField f → only_element (element f) ≡ Ok f
@@ -253,8 +253,8 @@ is_one token is = rw (le-leb 1 (length token) is.0, le-leb (length token) 32 is.
 token_taken : (token : List ℕ) → IsToken token → take_header no_headers_yet (98, token) ≡ Ok (record no_headers_yet { token = Some token })
 token_taken token is = ap (λ (b : Bool). cond (not b) (Err LpField) (Ok (record no_headers_yet { token = Some token }))) (is_one token is)
 
--- In this module, a Nack is put around the octets `packet`, of which there are at most 8,800. The
--- resulting packet is not a Data, whether the Nack has a token or not.
+-- In this module, a link packet has a Nack header and contains the octets `packet`, of which there
+-- are at most 8,800. This link packet is not a Data, whether the link packet has a token or not.
 module _ (reason : ℕ) (packet : List ℕ) (short : length packet ≤ 8800) where
   abbrev last_part : List ℕ
   last_part = element (80, packet) ++ []
@@ -343,7 +343,7 @@ module _ (reason : ℕ) (packet : List ℕ) (short : length packet ≤ 8800) whe
       ∙ ap (λ (r : Result LinkSoFar PacketFault). (r >>= λ s. link_from s (Ok (800, reason_value reason) ∷ (Ok (80, packet) ∷ []))) >>= λ f. Ok f.frame) header) ∙ nack_read (Some token))
       (ap holds_data one ∙ ap carries_data elements ∙ carries_none)
 
--- a Nack around octets that fit in a packet is not a Data
+-- a Nack around at most 8,800 octets is not a Data
 pub nack_is_no_data : (token : Token) (reason : ℕ) (interest : List ℕ) → IfSome token IsToken → length interest ≤ 8800 → is_data (lp_text token (Some reason) interest) ≡ false
 nack_is_no_data None reason interest is short = bare_nack reason interest short
 nack_is_no_data (Some token) reason interest is short = token_nack reason interest short token is

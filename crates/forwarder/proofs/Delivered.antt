@@ -84,8 +84,9 @@ module _ (s : NodeState) (now : ℕ) (whole : List ℕ) (d : PlainData) (askers 
 
   -- ---- the sends of the Data to the waiting faces
 
-  -- if the faces in `some` are the waiting faces except `face`, each with its token, then the
-  -- sends of the Data to the faces in `some` satisfy `IsSentToAskers`
+  -- Let `some` contain the waiting faces except `face`, and let `some` pair each of these faces
+  -- with the token for this face. Then the sends of the Data to the faces in `some` satisfy
+  -- `IsSentToAskers`.
   pub sent_to_askers : (face : ℕ) → IsRising askers → (some : Askers) → faces_of some ≡ filter (λ f. not (eqb f face)) askers
       → All (λ a. IsTokenFor (records_at s.pending) d.name (sha256 whole) a.0 a.1) some → IsSentToAskers (seen_by s) face whole d (sent_to some whole)
   sent_to_askers face rising some are tokens = (

@@ -141,7 +141,7 @@ module _ (routes : Routes) where
         | false ↦ rest
       ]
 
-  -- each face in the costs at the longest prefix with an entry is the face of a next hop or of a
-  -- route
+  -- Each face in the costs of the longest prefix of `name` that has an entry is the face of a next
+  -- hop or of a route.
   pub longest_leads : (name : List Field) → AllLead (longest_costs routes name (length name))
   longest_leads name = longest_lead name (length name)

@@ -118,9 +118,9 @@ module _ (seen : Seen) (face now : ℕ) (octets whole : List ℕ) (i : PlainInte
   command_explained is (decided.Denied rule reason) says = one_send (IsExplained seen event) _ (reply_explained is (decided.Denied rule reason) says)
   command_explained is decided.NoRule says = one_send (IsExplained seen event) _ (reply_explained is decided.NoRule says)
 
-  -- The answer to an Interest for a list, where `b` tells whether the requested version is the
-  -- current one. If `b` is true and the list has the segment, the answer is the segment. In all
-  -- other cases, the Interest is dropped.
+  -- The answer to an Interest for a list. `b` tells whether the Interest requests the current
+  -- version or no version. If `b` is true and the list has the segment, the answer is the segment.
+  -- In all other cases, the Interest is dropped.
   abbrev by_present : Token → ListAsked → Bool → Answer
   by_present t asked b =
       if b then segment_answer face t (segment_name asked.kind seen.policy.table_number asked.segment) (segment_at (dataset_text seen.policy asked.kind) asked.segment) else dropped NoSegment
@@ -178,9 +178,9 @@ module _ (seen : Seen) (face now : ℕ) (octets whole : List ℕ) (i : PlainInte
 
 -- ---- the sends in the answers to a Data, to a Nack, and to any event
 
--- Let `T` be true of each face with its token in `askers`. Let `P` be true of the send of `whole`
--- to each face in `askers` for which `T` is true. Then `P` is true of all sends in
--- `sent_to askers whole`.
+-- Let `T` be true of each element of `askers`, a pair of a face and a token. If `T` is true of such
+-- a pair, let `P` be true of the send of `whole` to the face of the pair, with the token of the
+-- pair. Then `P` is true of all sends in `sent_to askers whole`.
 all_sent : (P : Send → Type 0) (T : ℕ × Token → Type 0) (whole : List ℕ) (askers : Askers) → All T askers
     → ((a : ℕ × Token) → IsTrue (has_face a.0 (faces_of askers)) → T a → P (sent_back a.0 a.1 whole)) → All P (sent_to askers whole)
 all_sent P T whole [] all each = All-nil P

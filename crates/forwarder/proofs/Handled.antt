@@ -1,4 +1,4 @@
--- The answer to a packet, once time has advanced to the packet's moment, is one step of the node.
+-- Advancing time to the moment of a packet, and then answering the packet, is one step of the node.
 use Rattle.std.proofs.Common.{◌≡◌, ℕ, Bool, true, false, cond, List, [], ◌++◌, Option, None, Some, Result, Ok, Err, inl, inr, refl, sym, ap, subst, ◌∙◌}
 use Rattle.std.specs.Prelude.{◌⊎◌, IfOk}
 use Rattle.std.proofs.lemmas.List.{append-nil}
@@ -41,8 +41,8 @@ module _ (old was new : NodeState) (face now : ℕ) (octets : List ℕ) (answer 
   abbrev p : Policy
   p = at_moment old.policy now
 
-  -- In this module, octets came on an open face, they were read as `packet`, and this packet was
-  -- answered. The answer is then one step of the node.
+  -- In this module, octets came on an open face, the octets were read as `packet`, time advanced,
+  -- and `packet` was answered. Advancing time and answering `packet` are together one step.
   module _ (is_here : is_open face old.policy.faces ≡ true) (packet : PlainFrame) (read : frame_at octets ≡ Ok packet)
       (answered : IsAnswered was face (token_at octets) packet answer new) where
     replies_read : RepliesToPacket (seen_in p was.pending old.cache) face (token_at octets) (frame_at octets) answer

@@ -1,6 +1,7 @@
 -- Let no key book have two keys of the same name. Two runs with the same events that start from the
--- same policy lead to the same policy. After both runs, all valid answers to a request are equal,
--- and all valid verdicts on a Data are equal.
+-- same policy lead to the same policy. For the same request, each answer that is valid after one of
+-- the runs equals each answer that is valid after the other run. For the same Data, each verdict
+-- that is valid after one of the runs equals each verdict that is valid after the other run.
 use Rattle.std.proofs.Common.{◌≡◌, ℕ, Bool, true, false, List, refl, sym, ap, subst, ◌∙◌, Result, Ok, Err}
 use Rattle.std.specs.Prelude.{Option, nat_le}
 use Rattle.std.specs.FinMap as map

@@ -41,8 +41,8 @@ registered_twice m n le g =
     ∙ still_due m n le (map.get g k)
     ∙ sym (get-revise route_cmp-antisymmetric (until_due n) g k))
 
--- removing an entry if the entry is vacant does not change what is left of the entry at the moment
--- `n`
+-- what is left of the entry `e` at the moment `n` does not change if `unless_vacant` is first
+-- applied to `e`
 vacant_goes : (n : ℕ) (e : Entry) → option_and_then (entry_left_at n) (unless_vacant e) ≡ entry_left_at n e
 vacant_goes n e =
     elim (is_vacant e) as (λ b. is_vacant e ≡ b → option_and_then (entry_left_at n) (cond b None (Some e)) ≡ entry_left_at n e) [

@@ -1,4 +1,4 @@
--- By how many octets, at most, a link packet is longer than the packet in it.
+-- An upper bound of the number of octets by which a link packet is longer than the packet in it.
 use Rattle.std.proofs.Common.{◌≡◌, ℕ, ◌+◌, ◌≤◌, List, [], ◌∷◌, length, Option, None, Some, arith}
 use Rattle.std.specs.Prelude.{IfSome}
 use Rattle.std.proofs.lemmas.List.{length-append}

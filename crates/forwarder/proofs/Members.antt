@@ -1,5 +1,5 @@
--- The elements of filtered and appended lists, and the list of open faces after a face is added
--- or removed.
+-- The elements of filtered lists and of concatenated lists, and how adding or removing a face
+-- changes the list of open faces.
 use Rattle.std.proofs.Common.{◌≡◌, ℕ, suc, ◌+◌, ◌<◌, ◌≤◌, ◌⊎◌, Bool, true, false, cond, not, eqb, ltb, List, [], ◌∷◌, ◌++◌, length, Option, Some, None, refl, sym, ap, subst, ◌∙◌, arith, inl, inr}
 use Rattle.std.specs.Prelude.{filter, ◌||◌}
 use Rattle.std.specs.List.{list_any, AllByRecursion}
@@ -14,7 +14,7 @@ abbrev pub IsIn : {A : Type 0} → A → List A → Type 0
 IsIn x [] = ⊥
 IsIn x (y ∷ ys) = (y ≡ x) ⊎ IsIn x ys
 
--- an element of a filtered list is in the list, and passes the test
+-- an element of the filtered list `filter p xs` is in `xs`, and passes the test `p`
 pub IsIn-filter_from : {A : Type 0} (p : A → Bool) (x : A) (xs : List A) → IsIn x (filter p xs) → IsIn x xs × (p x ≡ true)
 IsIn-filter_from p x [] h = absurd h
 IsIn-filter_from p x (y ∷ ys) h =
@@ -94,7 +94,7 @@ any_to p x (y ∷ ys) h e =
       ]
     ] refl
 
--- ---- the list of open faces after a face is added or removed
+-- ---- how adding or removing a face changes the list of open faces
 
 none_is_not_some : {A : Type 0} (x : A) → None ≡ Some x → ⊥
 none_is_not_some x e = cc
@@ -244,7 +244,7 @@ not_open_none f faces closed =
       | Some s ↦ λ e. absurd (false_is_not_true (sym closed ∙ is_open_some f faces s e))
     ] refl
 
--- the faces are in rising order after a face that was not open is added
+-- adding a face that was not open keeps the faces in rising order
 pub rising_with : (f : ℕ) (s : Scope) (old new : List FaceEntry) → is_open f old ≡ false → new ≡ with_face f s old → IsRising (numbers old) → IsRising (numbers new)
 rising_with f s old new closed is rising = rw is (IsRising-with_face f s old (not_open_none f old closed) rising)
 

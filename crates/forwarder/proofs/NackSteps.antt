@@ -334,9 +334,9 @@ some_nacks asks reason alive = go (entries asks) (sym (ap (ltb 0) (len-entries a
     go [] some = no some
     go (e ∷ es) some = refl
 
--- Let the records of a key be alive, let a received Nack be recorded in them, and let them then be
--- removed. Then all records follow the causes of a Nack that is answered by Nacks to all faces with
--- in-records.
+-- Let the records of a key be alive. Let a received Nack be recorded in these records, and let
+-- these records then be removed. Then the new records follow from the causes of a Nack that is
+-- answered by Nacks to all faces with in-records.
 pub removed_causes : (face reason least : ℕ) (i : PlainInterest) (old mid new : Pending) → is_alive (records_at old (key_of i)) ≡ true
     → Follows (NackCame (key_of i) face i.nonce reason) old mid → Follows (Removed (key_of i)) mid new
     → FollowAll (nack_causes face reason i (nacks_to (in_records_at old (key_of i)) least)) old new

@@ -84,8 +84,8 @@ packet_guard p face (AData whole d) = inl refl
 packet_guard p face (ANack reason whole i) = inl refl
 packet_guard p face Idle = inl refl
 
--- either a decision on a packet leaves the guard unchanged, or the decision allows the packet and
--- the packet is recorded (`Records`)
+-- a decision on a packet leaves the guard unchanged, or the decision allows the packet, which is
+-- then recorded (`Records`)
 said_guard : (p : Policy) (face : ℕ) (packet : PlainFrame) (said : Decision) → ((after_decision p face packet said).guard ≡ p.guard)
     ⊎ (Records p packet (after_decision p face packet said).guard × ((rule : RuleNo) × (said ≡ decided.Allowed rule)))
 said_guard p face packet (decided.Allowed rule) = by_packet (packet_guard p face packet)
@@ -99,8 +99,8 @@ said_guard p face packet decided.NoRule = inl refl
 
 -- ---- the table of a replay guard
 
--- each command of the signer `r.signer` that is later than the record of this signer in `table` is
--- newer than `r`
+-- if a command of the signer `r.signer` is later than the record of this signer in `table`, then
+-- the command is newer than `r`
 abbrev HasSeen : Table → Recorded → Type 0
 HasSeen table r =
     (time : ℕ) (number : Option ℕ) → IsLater (map.get table r.signer) time number → (r.time < time) × NumberRises r.number number
@@ -196,8 +196,10 @@ recorded_there i s (Some time) e t some = (
       ∙ ap (λ (o : Option ℕ). recorded_with s.info o) t,
 )
 
--- if no key book has two keys of the same name, the later of two allowed commands of a signer is
--- newer than the earlier one
+-- Let no key book have two keys of the same name, and let a command be allowed in the run. Let
+-- `event` then bring a second command of the same signer, and let this second command be allowed.
+-- Then the second command has a greater time than the first command. If both commands have a
+-- sequence number, the second command has the greater sequence number.
 pub newer : (first was : Policy) (run : Run) (event : PlainEvent) (whole other : List ℕ) (i j : PlainInterest) (r s : Recorded) → KeysAreApart first run → AllowedIn first run (AnInterest whole i)
     → IsPolicyOf first run was → Allows was event (AnInterest other j) → recorded_of i ≡ Some r → recorded_of j ≡ Some s → r.signer ≡ s.signer → (r.time < s.time) × NumberRises r.number s.number
 newer first was run event whole other i j r s apart allowed h allows is also same =

@@ -37,7 +37,7 @@ length_filter p (x ∷ xs) =
       | false ↦ omega (arith, length_filter p xs)
     ]
 
--- ---- the faces without one face
+-- ---- a list of faces from which one face is removed
 
 abbrev pub but_for : ℕ → List ℕ → List ℕ
 but_for f xs = filter (λ g. not (eqb g f)) xs
@@ -155,7 +155,7 @@ locals_in_entries (f ∷ all) local =
       | false ↦ locals_in_entries all local
     ]
 
--- ---- the lists of all open faces and of the Local faces after a face opens
+-- ---- how opening a face changes the list of all open faces and the list of Local faces
 
 or_absurd : {A : Type 0} → false ≡ true → A
 or_absurd e = absurd cc
@@ -296,7 +296,7 @@ module _ (f : ℕ) (all local : List ℕ) (are : AreOpen all local) (out : has_f
 pub added_new : (f : ℕ) (xs : List ℕ) → has_face f xs ≡ false → length xs < MAX_FACES → (adding f xs).1 ≡ numbers_of.with_face f xs
 added_new f xs out lt = rw (out, lt-leb MAX_FACES (length xs) lt) refl
 
--- ---- the lists of all open faces and of the Local faces after a face closes
+-- ---- how closing a face changes the list of all open faces and the list of Local faces
 
 has-but_for : (g f : ℕ) (xs : List ℕ) → has_face g (but_for f xs) ≡ (not (eqb g f) && has_face g xs)
 has-but_for g f [] = none (not (eqb g f))

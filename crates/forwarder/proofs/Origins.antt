@@ -1,4 +1,4 @@
--- The Interest of each in-record of a run fits in a packet, and its token is valid.
+-- In each in-record of a run, the Interest fits in a packet, and the token is valid.
 use Rattle.std.proofs.Common.{◌≡◌, ℕ, ◌≤◌, List, length, sym, ap, subst, ◌∙◌, inl, inr}
 use Rattle.std.specs.Prelude.{IfSome, None, Some, max}
 use Rattle.std.specs.FinMap as map
@@ -38,7 +38,7 @@ kept_fits now event answer key face r kept =
           (token_fits passed.octets (token_in event) (sym (ap token_in passed.brings)));
     }
 
--- the Interest of each in-record of a run fits in a packet, and its token is valid
+-- in each in-record of a run, the Interest fits in a packet, and the token is valid
 pub run_fits : (past : Run) → AllFit (records_of past)
 run_fits Start key face r is = (let none : map.get (records_of Start key).in_records face ≡ None = get-empty nat_cmp face in cc (none, is))
 run_fits (Then past event answer) key face r is =
@@ -47,8 +47,8 @@ run_fits (Then past event answer) key face r is =
       | inr was ↦ run_fits past key face r was
     ]
 
--- if an in-record remains once time has advanced to `now`, its Interest fits in a packet, and its
--- token is valid
+-- in each in-record that remains once time has advanced to `now`, the Interest fits in a packet,
+-- and the token is valid
 pub waiting_fits : (past : Run) (now : ℕ) (waiting : Pending) → IsWaiting past now waiting → AllFit (records_at waiting)
 waiting_fits past now waiting is key face r has =
     run_fits past key face r (waited_before past now key face r (sym (ap (λ (rs : Records). map.get rs.in_records face) (is.records key)) ∙ has))

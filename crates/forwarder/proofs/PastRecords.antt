@@ -10,13 +10,13 @@ use Rattle.forwarder.specs.Causes.{after_causes, before_earlier, causes_of}
 use Rattle.forwarder.specs.Runs.{Run, Then, now_of, past_causes, records_of}
 use Rattle.forwarder.specs.Verdict.{Answer}
 
--- applying `causes` in order to the records after the causes in `earlier` gives the records after
--- all causes of both lists
+-- Let some records result from the causes in `earlier`. Applying `causes` to these records, in
+-- order, gives the records after all causes of both lists.
 all_causes : (causes earlier : List Cause) (key : PlainKey) → after_causes causes key (records_of_causes earlier key) ≡ records_of_causes (before_earlier causes earlier) key
 all_causes [] earlier key = refl
 all_causes (cause ∷ causes) earlier key = all_causes causes (cause ∷ earlier) key
 
--- the records of a key after an event, if `r` are its records before the event
+-- the records of a key after an event, if `r` are the records of the key before the event
 abbrev pub next_records : ℕ → PlainEvent → Answer → PlainKey → Records → Records
 next_records now event answer key r = after_causes (causes_of now event answer) key (records_after (Expires now) key r)
 

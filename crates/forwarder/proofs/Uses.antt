@@ -81,8 +81,8 @@ other_use i status other = by_read (command_at i.name) refl
     by_read (Err refused) k = refl
     by_read (Ok c) k = absurd (no_command i.name c other k)
 
--- the use of the cache by an allowed command is the same, whether the use is read off the
--- command's request or off its name
+-- the use of the cache by an allowed command is the same, whether the use is read off the request
+-- of the command or off the name of the command
 pub commanded_use : (p : Policy) (face status : ℕ) (i : PlainInterest) → is_command (request_of p face i) ≡ true
     → request_use i status (request_of p face i) ≡ command_use (command_at i.name) status
 commanded_use p face status i =

@@ -6,7 +6,7 @@ use Rattle.forwarder.specs.declared.verdict.Verdict.TheVariants.{Passed, Allowed
 use Rattle.ndn_log.specs.declared.entry.Came.{Came}
 use Rattle.ndn_log.specs.declared.entry.Came.TheVariants.{Packet, Opened, Closed, Tick, NewRules}
 
--- the octets that arrived; none if the event is not a packet
+-- the octets that arrived, or no octets if the event is not a packet
 abbrev pub octets_in : Came → List ℕ
 octets_in (Packet face octets) = octets.now
 octets_in (Opened face scope) = []

@@ -19,9 +19,10 @@ abbrev pub scope_word : code_scope.Scope → List ℕ
 scope_word Local = codes "local"
 scope_word Far = codes "far"
 
--- The words for what happened. For an event on a face, these are the face, the endpoint of the face
--- if known, and then the packet in `frame`, or ` opens, ` and the scope of the face, or ` closes`.
--- For an event without a face, the words are `tick` or `rules replaced`.
+-- The words for what happened. For an event on a face, the words begin with the face, followed by
+-- the endpoint of the face if the endpoint is known. If octets arrived, the packet in `frame`
+-- follows. If the face was opened, ` opens, ` and the scope of the face follow. If the face was
+-- closed, ` closes` follows. For an event without a face, the words are `tick` or `rules replaced`.
 abbrev pub came_words : Option SocketAddr → Option PlainFrame → Came → List ℕ
 came_words endpoint frame (Packet face octets) =
     face_words face endpoint ++ (codes " " ++ packet_words frame)

@@ -44,16 +44,16 @@ made_of_good_parts P Q None made node is h p = p
 made_of_good_parts P Q (Some f) made node is h p = let other : Ok node ≡ Err f = sym is ∙ h in absurd cc
 
 -- Let `unread` be the octets that were unread at first, and let `front` be the octets that were
--- read. If `unread` is known, and the property `P` is true of `front` followed by any octets, then
--- `P` is true of `unread`.
+-- read. If `unread` is known, and the property `P` is true of `front ++ more` for all octets
+-- `more`, then `P` is true of `unread`.
 known_text : (unread left : Option (List ℕ)) (P : List ℕ → Type 0) (front : List ℕ) → Consumes unread left front → ((more : List ℕ) → P (front ++ more)) → IfSome unread P
 known_text None left P front h k = tt
 known_text (Some xs) None P front h k = absurd h
 known_text (Some xs) (Some ys) P front h k = subst P (sym h) (k ys)
 
 -- Let `unread` be the octets that were unread at first, and let `front` be the octets that were
--- read, up to the end of the reader. If `unread` is known, and the property `P` is true of `front`,
--- then `P` is true of `unread`.
+-- read. Let the reader be at its end after `front` was read. If `unread` is known, and the property
+-- `P` is true of `front`, then `P` is true of `unread`.
 known_end : (unread left : Option (List ℕ)) (P : List ℕ → Type 0) (front : List ℕ) → Consumes unread left front → IsAtEnd left → P front → IfSome unread P
 known_end None left P front h e k = tt
 known_end (Some xs) None P front h e k = absurd h

@@ -1,4 +1,5 @@
--- Two writes or two reads of known octets, one after the other, amount to one.
+-- Two writes of known octets, one after the other, have the effect of one write. Two reads of known
+-- octets, one after the other, have the effect of one read.
 use Rattle.std.proofs.Common.{ℕ, List, [], ◌++◌, refl, sym, ap, ◌∙◌, append_assoc, append-nil}
 use Rattle.std.specs.Prelude.{Option, Some, None}
 use Rattle.std.specs.Io.KnownBytes.{Appends, Consumes, Keeps}

@@ -245,8 +245,9 @@ TurnsBad-long stream long lines is lacks h = λ more.
 
 -- ---- octets that were read so far
 
--- Running the finished lines of a stream changed the state `from` to the state `to`. The unfinished
--- line `line` and the unread octets `rest` remain.
+-- Running the finished lines of a stream changed the state `from` to the state `to`. The stream
+-- consists of the finished lines, the unfinished line `line`, and the octets `rest`, which are not
+-- yet handled.
 pub record Fed (stream : List ℕ) (from to : Place) (line rest : List ℕ) (held holds : Option (List ℕ)) : Type 0 where
   pub lines : List (List ℕ)
   pub text : List ℕ
@@ -261,8 +262,8 @@ Fed-start place line rest held =
 shape_line : (j l f a : List ℕ) → j ++ (l ++ (f ++ (10 ∷ a))) ≡ (j ++ ((l ++ f) ++ (10 ∷ []))) ++ a
 shape_line j l f a = simp append_assoc
 
--- if there is an LF among the unread octets, the stream consists of the finished lines, the
--- unfinished line with the unread octets before this LF, and the octets from this LF on
+-- if `rest` consists of `front`, an LF and `after`, then the stream consists of the finished lines,
+-- the unfinished line followed by `front`, this LF, and `after`
 Fed-line_is : (stream : List ℕ) (from to : Place) (line rest front after : List ℕ) (held holds : Option (List ℕ)) → (fed : Fed stream from to line rest held holds)
     → rest ≡ front ++ (10 ∷ after) → stream ≡ joined fed.lines ++ ((line ++ front) ++ (10 ∷ after))
 Fed-line_is stream from to line rest front after held holds fed is =

@@ -69,8 +69,8 @@ pub record Plays (lines : List (List ℕ)) (from to : Place) (text : List ℕ) :
   pub numbered : to.lines ≡ from.lines + length lines
   pub counted : to.events ≡ from.events + length outcomes
 
--- the faults of handling this line in the state `from`: `Memory`, or `BadLine` with the number of
--- this line if the line is bad
+-- The possible faults of handling this line in the state `from`. `BadLine` with the number of the
+-- line: the line is bad. `Memory` is always possible.
 abbrev pub LineFails : RunFault → List ℕ → Place → Type 0
 LineFails (fault.BadLine n) line from = (n ≡ from.lines + 1) × IsBadLine line
 LineFails fault.Memory line from = Unit {0}

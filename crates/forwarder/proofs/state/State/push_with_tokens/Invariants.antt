@@ -9,8 +9,8 @@ use Rattle.forwarder.specs.Replies.{Askers, faces_of, sent_to}
 use Rattle.forwarder.specs.declared.sends.TheConstants.{LINK_EXTRA}
 use Rattle.forwarder.proofs.state.State.push_with_tokens.Given as goal
 
--- The sends so far are those to the faces before index `i`, each with its token. The places and
--- the space that are left are enough for the faces from index `i` on.
+-- The sends so far are the sends to the faces before index `i`. Each of these sends has the token
+-- for its face. The places and the space that are left are enough for the faces from index `i` on.
 abbrev pub invariant-loop-i : goal.invariant-loop-i
 invariant-loop-i l = record {
   sends : (some : Askers) × (l.faces ≡ faces_of some ++ drop l.i l.faces)
