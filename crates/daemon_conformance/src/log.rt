@@ -50,8 +50,8 @@ pub fn on_node<F: Fn(&mut Node) -> Option<bool>>(alloc: Global, play: &F) -> Opt
     play(&mut node)
 }
 
-/// A sink that counts how often it is given lines that begin with `front` and end with `back`. Any
-/// other lines set the count to the greatest u64.
+/// A sink that counts in `held` the calls of `take` whose lines, taken together, begin with `front`
+/// and end with `back`. A call of `take` with other lines sets `held` to the greatest u64.
 #[derive(Drop)]
 struct Expected<'a> {
     front: &'static str,

@@ -106,7 +106,7 @@ fn says_more(alloc: Global) -> bool {
 }
 
 /// Returns four lines of a log: a closed face at the last time that a log shows as a date, two
-/// closed faces one millisecond later, a failed send, and a datagram of a stranger.
+/// closed faces one millisecond later, a failed send, and a datagram from a stranger.
 fn shown_notes(alloc: Global) -> Option<Vec<u8>> {
     let mut text = Vec::new(alloc);
     put_notes(alloc, &mut text)?;

@@ -202,9 +202,9 @@ fn unmarked(alloc: Global, lines: &str) -> Option<String> {
     Some(text)
 }
 
-/// Checks that shortening keeps exactly the lines with a mark, and that the shorter journal cannot
-/// be shortened further. The contract of `shortened` states that the shorter journal restores the
-/// same tables.
+/// Makes a journal of all lines except the lines `tick`. Checks that shortening this journal gives
+/// exactly the lines with a mark, and that the shorter journal cannot be shortened further. The
+/// contract of `shortened` states that the shorter journal restores the same tables.
 fn keeps_marked(rt: &(impl Abort + AllocGlobal), lines: &str) {
     let alloc = rt.alloc();
     let journal = unmarked(alloc, lines).expect(rt, "memory");

@@ -1,8 +1,8 @@
 //! Puts a million names into a map. Removes each name after 64 further names were put in, and
 //! finally removes the last 64 names. Prints the greatest number of names that the map had after a
-//! removal, and how many names remain. By the map's invariant, each node of the map has a value or
-//! a child, except the node of a prepared name. So a map with no names and no prepared name has no
-//! node.
+//! removal, and how many names are in the map at the end. By the map's invariant, each node of the
+//! map has a value or a child, except the node of a name for which `prepare` was called. So a map
+//! with no names has no node if `prepare` was never called.
 #![tactic(auto)]
 
 use name_trie::NameMap;
@@ -29,8 +29,8 @@ fn name_of(alloc: Global, number: u64) -> Result<NameBuf, Memory> {
     Ok(name)
 }
 
-/// Puts the name for `number` into the map, and removes the name for `number - STANDING`, if that
-/// is not negative. Returns the number of names in the map after the removal.
+/// Puts the name for `number` into the map. If `number - STANDING` is not negative, removes the
+/// name for `number - STANDING`. Returns the number of names that are then in the map.
 fn put_and_remove(alloc: Global, names: &mut NameMap<u64>, number: u64) -> Result<usize, Memory> {
     let name = name_of(alloc, number)?;
     if names.len() < usize::MAX {

@@ -118,7 +118,8 @@ later_turns unread kept turns old begun new before (Ok done) replayed same h = r
 }
 later_turns unread kept turns old begun new before (Err why) replayed same h = tt
 
--- if the node `old` took all turns, and `old` is `first`, then `first` took all turns
+-- if a success of `r` implies that the node `old` took all turns, and `old` is `first`, then a
+-- success of `r` implies that `first` took all turns
 pub from_first : {Z : Type 0} (journal : Option (String Z)) (turns : ℕ) (first old new : NodeState) (r : Result (Unit {0}) Fault) → old ≡ first
     → OnOk r (TakesAllTurns journal turns old new) → OnOk r ((last : NodeState) × TakesAllTurns journal turns first last)
 from_first journal turns first old new (Ok done) same h = (new, subst (λ (n : NodeState). TakesAllTurns journal turns n new) same h)

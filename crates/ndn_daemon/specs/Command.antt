@@ -13,8 +13,8 @@ use Rattle.ndn_daemon.specs.declared.fault.Fault.TheVariants.{BadValue, CommandL
 use Rattle.ndn_daemon.specs.Options.{IsOptions, IsShorteningOptions}
 use Rattle.ndn_daemon.specs.UdpOptions.{IsUdpOptions}
 
--- the result for an error of the parser: help or the version was asked for, memory ran out, or the
--- command line is wrong
+-- the result for an error of the parser; the error means that help or the version was asked for,
+-- that memory ran out, or that the command line is wrong
 abbrev pub reading_of : ErrorKind → Error → Result Request Fault
 reading_of DisplayHelp error = Ok (Help error)
 reading_of DisplayVersion error = Ok (Help error)

@@ -7,7 +7,8 @@ use Rattle.std.specs.Net.Socket.{socket_ip, socket_port}
 use Rattle.std.specs.declared.net.socket_addr.SocketAddr.{SocketAddr}
 use Rattle.pit_fib.specs.declared.face_set.TheConstants.{MAX_FACES}
 
--- the text spells a port from 1 to 65535 in decimal digits; leading zeros are allowed
+-- the text spells the port `n` in decimal digits; the port is from 1 to 65535, and leading zeros
+-- are allowed
 abbrev pub IsPort : List ℕ → ℕ → Type 0
 IsPort text n = IsNumeral 10 text × (digits_value 10 text ≡ n) × (0 < n) × (n < 2 ^ 16)
 
@@ -50,8 +51,8 @@ pub record AreEndpoints (texts : List (List ℕ)) (endpoints : List SocketAddr) 
   pub few : length texts ≤ MAX_FACES
   pub different : AllPairs (λ a b. a ≢ b) endpoints
 
--- no peer is the node itself or has the unspecified address, and all are of the node's address
--- family
+-- no peer is the node itself, which listens on `listen`; no peer has the unspecified address; and
+-- all peers have the address family of `listen`
 pub record MayBePeersOf (listen : SocketAddr) (peers : List SocketAddr) : Type 0 where
   pub others : All (λ peer. ¬ (IsItself listen peer)) peers
   pub specified : All (λ peer. ¬ (IsUnspecified peer)) peers

@@ -16,7 +16,7 @@ is_left_out shows_all came outcome = not shows_all && is_plain came outcome
 abbrev pub MayLog : List ℕ → List ℕ → ℕ → List ℕ → Type 0
 MayLog old new moment words = IsLogged old new moment words ⊎ (new ≡ old)
 
--- The number of closed faces that are not yet reported in the log, after this event. `count` is the
+-- The number, after this event, of closed faces that the log has not yet reported. `count` is this
 -- number before the event. If `left_out` is true, the log leaves out the event.
 abbrev pub closed_with : Bool → Came → ℕ → ℕ
 closed_with true (Closed face) count = one_more count

@@ -89,8 +89,8 @@ journal_fault_text journal.ManyLines =
 journal_fault_text journal.Unshortened =
     codes "error: the shorter journal cannot be written; the journal restores the same as before\n"
 
--- The message for standard error, which ends with an LF. If the parser refuses the command line,
--- the parser makes the message, and `text_of` is None.
+-- The message for standard error. It ends with an LF. If the parser refuses the command line, the
+-- parser makes the message, and `text_of` is None.
 abbrev pub text_of : Fault → Option (List ℕ)
 text_of (CommandLine error) = None
 text_of (BadValue place wanted) = Some (

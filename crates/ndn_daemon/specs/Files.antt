@@ -1,4 +1,4 @@
--- Reading the octets of rule files and key files, and their faults.
+-- The results of reading rule files and key files: the keys and the faults.
 use Rattle.std.specs.Prelude.{◌≡◌, ◌⊎◌, ◌<◌, ◌≤◌, ℕ, List, codes, length, string_bytes, ⊤}
 use Rattle.std.specs.declared.io.ErrorKind.{ErrorKind}
 use Rattle.hmac_keys.specs.KeyFile.{NamedKey}
@@ -22,7 +22,7 @@ IsKeyFault octets why = ⊥
 
 -- ---- files
 
--- the file of this kind at this path cannot be read, or memory ran out
+-- the fault is that the file of this kind at this path cannot be read, or that memory ran out
 abbrev pub IsUnread : List ℕ → List ℕ → Fault → Type 0
 IsUnread file path (Unread which place kind) = (which.now ≡ file) × (string_bytes place ≡ path)
 IsUnread file path (Script why) = why ≡ Memory

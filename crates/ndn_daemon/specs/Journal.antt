@@ -8,15 +8,15 @@ use Rattle.node_ports.specs.Renewal.{RenewalValue}
 use Rattle.node_ports.specs.Serving.{Shown}
 use Rattle.ndn_daemon.specs.Turn.{ServesTurns}
 
--- If the journal's octets are known, then `told` is true exactly if the last whole line of new
--- rules in the journal has the octets of the rule file and of the key file in `renewal`.
+-- If the journal's octets are known, then `told` is true exactly if the last whole `rules` line in
+-- the journal has the octets of the rule file and of the key file in `renewal`.
 abbrev pub TellsLastRules : Option (List ℕ) → RenewalValue → Bool → Type 0
 TellsLastRules None renewal told = ⊤
 TellsLastRules (Some text) renewal told =
     IsTrue told ↔ HasLastFiles text (files_text renewal.rule_octets renewal.key_octets)
 
--- If the journal's octets `text` are known, then the node is restored as `RestoresRuns` states, and
--- the journal keeps exactly its whole lines.
+-- If the journal's octets `text` before the replay are known, then the node is restored as
+-- `RestoresRuns` states, and the octets `kept` after the replay are the whole lines of `text`.
 abbrev pub RestoresFrom : Option (List ℕ) → Option (List ℕ) → NodeState → NodeState → Replayed
     → Type 0
 RestoresFrom None kept old new done = ⊤
@@ -35,7 +35,7 @@ pub record ReplaysJournal (unread kept : Option (List ℕ)) (old new : NodeState
   pub known : IfSome unread (λ text. read ≡ Some text)
   pub restores : RestoresFrom unread kept old new done
 
--- the node took its turns at a port
+-- the node took this number of turns at a port, or fewer if the port ended
 abbrev pub TakesItsTurns : ℕ → NodeState → NodeState → Type 0
 TakesItsTurns turns old new = (before after : Shown) × ServesTurns old new before after turns
 

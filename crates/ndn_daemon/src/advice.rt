@@ -1,10 +1,10 @@
-//! The texts that explain the faults of a rule file and how to correct them.
+//! The texts that explain the faults of a rule file, and say how to correct these faults.
 ghost use Rattle.std.specs.Prelude.{◌≡◌};
 ghost use Rattle.ndn_daemon.specs.Advice.{advice_on_rules, is_memory};
 
 use info_rules::RulesFaultKind;
 
-/// Returns the text that explains a fault of a rule file.
+/// Returns the text that explains a fault of this kind at this line of a rule file.
 #[tactic(auto, unfolding(crate::specs::Advice::advice_on_rules))]
 pub fn advice_on_rules(line: u32, kind: RulesFaultKind) -> &'static str
     ensures { result.now ≡ advice_on_rules line kind }

@@ -323,8 +323,8 @@ fn peers<'a>(alloc: Global) -> Arg<'a> {
     )
 }
 
-/// Returns the option that selects what is logged. If the option is given without a value, it means
-/// `events`.
+/// Returns the option that selects what is logged. If the command line gives no value for the
+/// option, its value is `events`.
 fn log_option<'a>(alloc: Global) -> Arg<'a> {
     option(
         alloc,

@@ -59,8 +59,8 @@ impl<'a> DiskJournal<'a> {
         }
     }
 
-    /// Puts a file with these octets in the place of the journal. The new file is not locked. If
-    /// the call fails, either the old file or the new one is at the path.
+    /// Replaces the file of the journal by a new file with these octets. The new file is not
+    /// locked. If the call fails, the path of the journal leads to the old file or to the new file.
     pub fn replace<R: AllocGlobal + Files<File = File>>(
         &self,
         rt: &R,
@@ -85,7 +85,7 @@ impl<'a> DiskJournal<'a> {
         }
     }
 
-    /// Converts a fault of replaying the journal to a fault of the program.
+    /// Returns the fault of the program for this `ReplayFault`, which occurred in the journal.
     fn fault_of(&self, alloc: Global, fault: ReplayFault) -> Fault {
         match fault {
             ReplayFault::BadLine(line) => Fault::Journal(JournalFault::BadLine(line)),

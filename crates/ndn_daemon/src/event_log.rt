@@ -1,4 +1,4 @@
-//! The log of a node on a port: its lines, and where they are written.
+//! The log of a node on a port: the lines of the log, and where these lines are written.
 ghost use Rattle.std.specs.Prelude.{◌≡◌, ◌↔◌, ◌++◌, ◌-◌, ◌⊎◌, ℕ, List, [], Option, None, true, IsTrue};
 ghost use Rattle.std.specs.Io.KnownBytes.{Appends};
 ghost use Rattle.node_ports.specs.Ports.{one_more};
@@ -13,10 +13,11 @@ use node_core::Verdict;
 use std::alloc::Global;
 use std::net::SocketAddr;
 
-/// Buffered text is written if it has at least this many octets.
+/// When the buffered lines have at least this many octets together, they are written.
 const MOST_GATHERED: usize = 65_536;
 
-/// The longest time that a line stays buffered while events arrive, in milliseconds.
+/// When the first buffered line is at least this old, in milliseconds, the next event causes all
+/// buffered lines to be written.
 const WAIT_MILLISECONDS: u64 = 1_000;
 
 /// The least time between two reports of counts, in milliseconds. Only the report at the end of the
@@ -28,12 +29,12 @@ pub trait LogSink: Drop {
     // The lines that were given to the sink, or `None` if these lines are not known.
     ghost given: { Self → Option (List ℕ) };
 
-    /// Writes whole lines. Lines that cannot be written are lost without a fault.
+    /// Writes whole lines. If they cannot be written, they are lost, and no fault is reported.
     fn take(&mut self, lines: &[u8])
         ensures { Appends (given self.old) (given self.new) lines.now };
 }
 
-/// Standard error.
+/// Standard error, as a destination for the lines of a log.
 #[derive(Drop)]
 pub struct StandardError<'a, R> {
     rt: &'a R,
@@ -65,14 +66,14 @@ pub struct EventLog<S: LogSink> {
     sink: S,
     shows_all: bool,
     text: Vec<u8>,
-    // Lines about failed sends. A line about a failed send is appended after the line of the event
-    // that caused the send.
+    // Lines about failed sends. A line about a failed send is moved to `text` after the line of the
+    // event that caused the send was appended to `text`.
     later: Vec<u8>,
     // The time of the first line that is not yet written.
     since: u64,
     // The number of closed faces that are not yet reported.
     closed: u64,
-    // The number of datagrams from strangers at the last report.
+    // The total number of dropped datagrams from endpoints that are not peers, as last reported.
     strangers: u64,
     // The time of the last report of a count.
     counted: u64,
@@ -171,9 +172,8 @@ impl<S: LogSink> EventLog<S> {
         self.later.clear();
     }
 
-    /// Appends lines with the counts of closed faces and of datagrams from strangers, if the last
-    /// report is at least a minute old. `strangers` is the total number of dropped datagrams from
-    /// endpoints that are not peers.
+    /// If the last report of a count is at least a minute old, calls `put_counts_now`. `strangers`
+    /// is the total number of dropped datagrams from endpoints that are not peers.
     pub fn put_counts(&mut self, moment: u64, strangers: u64)
         ensures others { self.new ≡ record self.old {
           text = self.new.text;
@@ -187,9 +187,10 @@ impl<S: LogSink> EventLog<S> {
         }
     }
 
-    /// Appends lines with the counts of closed faces and of datagrams from strangers, however long
-    /// ago the last report was. `strangers` is the total number of dropped datagrams from endpoints
-    /// that are not peers.
+    /// Appends a line with the number of closed faces, and a line with the number of dropped
+    /// datagrams from endpoints that are not peers. Both lines count only what is not yet reported,
+    /// and a line with the number 0 is left out. `strangers` is the total number of these
+    /// datagrams, including those that are already reported.
     pub fn put_counts_now(&mut self, moment: u64, strangers: u64)
         ensures others { self.new ≡ record self.old {
           text = self.new.text;
@@ -250,7 +251,7 @@ impl<S: LogSink> EventLog<S> {
         }
     }
 
-    /// Writes all lines to the sink.
+    /// Writes all buffered lines to the sink.
     pub fn write_out(&mut self)
         ensures written { Appends (S.given self.old.sink) (S.given self.new.sink)
             self.old.text.items }
@@ -278,8 +279,8 @@ impl<S: LogSink> EventLog<S> {
         }
     }
 
-    /// Writes all lines if they have at least `MOST_GATHERED` octets, or if the first line is at
-    /// least a second old.
+    /// Writes all buffered lines if they have at least `MOST_GATHERED` octets together, or if the
+    /// first of them is at least a second old at the time `moment`.
     pub fn write_old(&mut self, moment: u64)
         ensures { (self.new ≡ self.old) ⊎ ((self.new.text.items ≡ [])
             × Appends (S.given self.old.sink) (S.given self.new.sink) self.old.text.items) }

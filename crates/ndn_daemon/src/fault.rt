@@ -14,9 +14,9 @@ use std::net::SocketAddr;
 pub enum Fault {
     /// The command line is wrong.
     CommandLine(clap::Error),
-    /// The value of an option is not allowed.
+    /// A value of an option, or of the argument `PEERS`, is not allowed.
     BadValue {
-        /// The option, such as `--cache`, or the name `PEERS` of the argument for peers.
+        /// The option, such as `--cache`, or `PEERS`, which is the name of the argument for peers.
         place: &'static str,
         /// The values that are allowed.
         wanted: &'static str,
@@ -29,7 +29,7 @@ pub enum Fault {
         file: &'static str,
         /// The path of the file.
         path: String,
-        /// Why the file cannot be read.
+        /// The kind of the error that occurred.
         kind: ErrorKind,
     },
     /// The rule file has a fault, or memory ran out for its rules.
@@ -39,7 +39,7 @@ pub enum Fault {
     /// The key file has more octets than allowed.
     LargeKeys,
     /// The script could not be run to its end, a node could not be created, standard output could
-    /// not be written, or memory ran out.
+    /// not be written to, or memory ran out.
     Script(RunFault),
     /// This address and port cannot be bound.
     Unbound {
@@ -64,8 +64,8 @@ pub enum JournalFault {
     Unwritten,
     /// The rule file and the key file together are too long for one line of the journal.
     LongRules,
-    /// A node whose repository has the given prefix does not write the line with this number,
-    /// counted from 1, to its journal.
+    /// The line with this number, counted from 1, cannot come from a node whose repository has the
+    /// given prefix.
     NotJournalled(u64),
     /// The journal has too many lines to be shortened.
     ManyLines,

@@ -102,7 +102,8 @@ pub fn unread_journal(alloc: Global, path: &str, error: &io::Error) -> Fault
     unread(alloc, "journal", path, error.kind())
 }
 
-/// Returns the fault of a file that cannot be opened or read. `kind` is the cause.
+/// Returns the fault of a file that cannot be opened or read. `file` says what the file is, such as
+/// `rule file`, and `kind` is the cause.
 fn unread(alloc: Global, file: &'static str, path: &str, kind: ErrorKind) -> Fault
     ensures file { IsUnread file.now path.now result }
     ensures cause { HasCause kind result }

@@ -85,7 +85,7 @@ impl<P: Ports + HasEndpoints + Drop, S: LogSink> LoggedPorts<P, S> {
         }
     }
 
-    /// Writes the remaining lines of the log and the counts.
+    /// Appends lines with the counts to the log, and then writes all buffered lines of the log.
     pub fn finish(&mut self)
         ensures { self.new.ports ≡ self.old.ports }
     {
@@ -108,7 +108,7 @@ impl<P: Ports + HasEndpoints + Drop, S: LogSink> LoggedPorts<P, S> {
         }
     }
 
-    /// Returns the endpoint of a face, if it is known.
+    /// Returns the endpoint of a face, if the endpoint is known.
     fn endpoint_of(&self, face: u64) -> Option<SocketAddr> {
         match self.ports.endpoint_of(face) {
             Some(endpoint) => Some(endpoint),
@@ -223,7 +223,7 @@ fn seen_in(arrival: &Arrival) -> Option<Seen>
     }
 }
 
-/// Returns an arrival with its octets. `octets` begins with the arrival's octets.
+/// Returns the arrival `seen` with its octets. `octets` begins with the octets of the arrival.
 fn came_of(seen: Seen, octets: &[u8]) -> Came<'_>
     ensures { IsCameOf seen octets.now result }
 {
@@ -250,8 +250,8 @@ fn face_of(came: &Came<'_>) -> Option<u64>
     }
 }
 
-/// Returns the outcome of an event, or `None` if the ports ended or the event could not be
-/// journalled.
+/// Returns the outcome of the event of a turn, or `None` if the ports ended or the event could not
+/// be journalled.
 fn outcome_of(turn: &Turn) -> Option<Result<Verdict, Memory>>
     ensures { IsOutcomeOf turn.now result }
 {

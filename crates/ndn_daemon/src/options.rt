@@ -1,4 +1,4 @@
-//! The values of the options and their defaults.
+//! The options: the values that are given for them, and the default values.
 ghost use Rattle.std.specs.Prelude.{◌≡◌, option_map};
 ghost use Rattle.ndn_names.specs.ReadsAs.{ReadsAs};
 ghost use Rattle.ndn_daemon.specs.Options.{IsCapacity, IsOptions, IsShorteningOptions, MayBePath, Reads, ReadsInMemory, given_or, rows_in, value_at};
@@ -58,7 +58,7 @@ impl ShorteningOptions {
     }
 }
 
-/// Returns the value of an option, if it is present.
+/// Returns the value of an option, if the option is present.
 pub fn value<'a>(found: &ArgMatches<'a>, id: &str) -> Option<&'a str>
     ensures { option_map (λ value. value.now) result ≡ value_at (rows_in found.now) id.now }
 {

@@ -35,7 +35,7 @@ use std::net::Net;
 use std::rt::Files;
 use std::time::{Clock, SystemTime};
 
-/// Buffered text is written after a turn if it has at least this many octets.
+/// If the buffered text has at least this many octets after a turn, the text is written.
 const MOST_GATHERED: usize = 65_536;
 
 /// The machine's clock.
@@ -76,11 +76,11 @@ fn milliseconds<R: Clock>(rt: &R) -> Option<u64> {
 }
 
 /// Runs a node on its port for the requested number of turns. The answers are written to standard
-/// output unless the node is quiet. The log, if there is one, is written to standard error. The
-/// node's rules and keys are replaced whenever `source` has new rules and keys. Invalid `parts` are
-/// reported before the port is bound. With a journal, the node starts with the state that the
-/// journal restores, and with the source's rules and keys. The source's rules and keys are
-/// journalled if they differ from the last rules and keys in the journal.
+/// output unless the node is quiet. The log, if there is one, is written to standard error. If
+/// `source` has new rules and keys when it is checked, they replace the node's rules and keys.
+/// Invalid `parts` are reported before the port is bound. With a journal, the node starts with the
+/// state that the journal restores, and with the source's rules and keys. The source's rules and
+/// keys are journalled if they differ from the last rules and keys in the journal.
 pub fn run_on_port<
     R: AllocGlobal + Eprint + Files<File = File> + Net + Print,
     M: Moments,
@@ -90,8 +90,8 @@ pub fn run_on_port<
     ensures parts { MatchOption (parts_fault parts.repo parts.cache)
         (options.now.journal ≡ None → IfErr result (StopsAt options.now.listen))
         (λ fault. result ≡ Err (Fault.Script (RunFault.Node fault))) }
-    // With valid parts, no turns and no journal, the only faults are that the endpoint cannot be
-    // bound and that memory runs out.
+    // If the parts are valid, and the options ask for 0 turns and name no journal, there are only
+    // two possible faults: the endpoint cannot be bound, or memory runs out.
     ensures none { options.now.turns ≡ 0 → options.now.journal ≡ None
         → parts_fault parts.repo parts.cache ≡ None → IfErr result (HasNoTurns options.now.listen) }
     ensures served { OnOk result ((last : NodeState)
@@ -153,9 +153,9 @@ fn take_as_begun<
     }
 }
 
-/// Replays a journal on a node, and then lets the node take the requested turns and append to the
-/// journal. The source's rules and keys are journalled first, if they differ from the last rules
-/// and keys in the journal.
+/// Replays a journal on a node. Then lets the node take the requested turns, and append to the
+/// journal. If the rules and keys of `source` differ from the last rules and keys in the journal,
+/// the rules and keys of `source` are the first event that is appended.
 pub fn take_restored<
     R: AllocGlobal + Eprint + Print,
     J: StoredJournal,
@@ -345,8 +345,9 @@ fn take_quiet_turns<P: Ports>(
 }
 
 /// Lets a node take this number of turns, or fewer if the port ends, and writes the text of the
-/// turns. The text is buffered. The buffered text is written when it has at least `MOST_GATHERED`
-/// octets, before the node waits for an arrival, and at the end.
+/// turns. The text is buffered. The buffered text is written in three cases: it has at least
+/// `MOST_GATHERED` octets, or the node is about to wait for an arrival, or no further turn is
+/// taken.
 fn take_turns<P: Ports, W: Write>(
     alloc: Global,
     node: &mut Node,
@@ -387,8 +388,8 @@ fn take_turns<P: Ports, W: Write>(
 }
 
 /// Lets a node take its next turn. If nothing arrives soon, the buffered text is written before the
-/// node waits. If an event could not be journalled, as much of the buffered text as possible is
-/// written.
+/// node waits. If the event of the turn could not be journalled, writes as much of the buffered
+/// text as possible, and returns a fault.
 fn take_turn<P: Ports, W: Write>(
     node: &mut Node,
     ports: &mut P,
@@ -421,7 +422,7 @@ fn take_turn<P: Ports, W: Write>(
 }
 
 /// Lets a node take its next turn. If nothing arrives soon, the buffered text is written before the
-/// node waits. If an event could not be journalled, returns the turn `Unwritten`.
+/// node waits. If the event of the turn could not be journalled, returns the turn `Unwritten`.
 fn next_turn<P: Ports, W: Write>(
     node: &mut Node,
     ports: &mut P,
@@ -454,7 +455,8 @@ fn next_turn<P: Ports, W: Write>(
     }
 }
 
-/// Takes the next turn, if text is buffered and something arrives soon.
+/// Lets a node take its next turn, if something arrives soon and the buffered text `text` is not
+/// empty. Otherwise returns `None`.
 fn turn_soon<P: Ports>(
     node: &mut Node,
     ports: &mut P,
@@ -520,15 +522,15 @@ fn is_unwritten(turn: &Turn) -> bool
     matches!(turn, Turn::Unwritten)
 }
 
-/// Returns whether the turn is `End`: the port has no more arrivals.
+/// Returns whether the turn is `End`, that is, whether the port has no more arrivals.
 fn is_end(turn: &Turn) -> bool
     ensures { IsTrue result ↔ (turn.now ≡ Turn.End) }
 {
     matches!(turn, Turn::End)
 }
 
-/// Appends the text of a turn, in the format of a script's answers. The turns `End` and `Unwritten`
-/// have no text. If memory runs out, nothing is appended.
+/// Appends the text of a turn, in the format of the answers to a script. The turns `End` and
+/// `Unwritten` have no text. If memory runs out, nothing is appended.
 fn put_turn(
     text: &mut Vec<u8>,
     number: u64,
@@ -540,7 +542,7 @@ fn put_turn(
         (text.new.items ≡ text.old.items ++ turn_text number rules.now turn.now outbox.now) }
     ensures err { OnErr result (text.new.items ≡ text.old.items) }
     ensures fault { IfErr result (λ fault. fault ≡ Fault.Script RunFault.Memory) }
-    // If the spare capacity of `text` is enough, memory does not run out.
+    // If the capacity of `text` is enough for the text of the turn, memory does not run out.
     ensures room { vec_len text.old + length (turn_text number rules.now turn.now outbox.now)
         ≤ vec_capacity text.old → IsOk result }
 {

@@ -16,19 +16,20 @@ use std::fs::File;
 use std::rt::Files;
 use std::time::SystemTime;
 
-/// The greatest total number of octets in a rule file and a key file that fit into one line of a
-/// journal.
+/// The greatest number of octets that a rule file and a key file may have together, so that one
+/// line of a journal can hold both.
 const MOST_JOURNALLED: usize = 9_985;
 
-/// The properties of a file from which a change is detected.
+/// The modification time and the length of a file. If one of them changes, the file has changed.
 #[derive(Clone, Copy, PartialEq, Eq)]
 struct Stamp {
     modified: SystemTime,
     len: u64,
 }
 
-/// The files at these paths, with their stamps at the last check. Without a path of a rule file
-/// there are no rules, and without a path of a key file there are no keys.
+/// The rule file at the path `rules` and the key file at the path `keys`, with the stamps of both
+/// files at the last check. If `rules` is `None`, there are no rules. If `keys` is `None`, there
+/// are no keys.
 #[derive(Drop)]
 pub struct RuleFiles<'a, R> {
     rt: &'a R,
@@ -41,7 +42,7 @@ pub struct RuleFiles<'a, R> {
 }
 
 impl<'a, R: AllocGlobal + Files> RuleFiles<'a, R> {
-    /// Returns the files at these paths with their present stamps.
+    /// Returns the files at these paths, with the present stamps of the files.
     pub fn new(rt: &'a R, rules: Option<String>, keys: Option<String>) -> RuleFiles<'a, R> {
         let mut files = RuleFiles {
             rt,
@@ -60,8 +61,8 @@ impl<'a, R: AllocGlobal + Files> RuleFiles<'a, R> {
         self.are_journalled = true;
     }
 
-    /// Reads the rules and the keys from the files. After `journal` was called, files that together
-    /// do not fit into one line of a journal have the fault `LongRules`.
+    /// Reads the rules and the keys from the files. If the method `journal` was called before,
+    /// files that together do not fit into one line of a journal have the fault `LongRules`.
     pub fn read(&self) -> Result<Renewal, Fault> {
         let (rules, rule_octets) = self.read_rules()?;
         let (keys, key_octets) = self.read_keys()?;
@@ -105,8 +106,9 @@ impl<'a, R: AllocGlobal + Files> RuleFiles<'a, R> {
         }
     }
 
-    /// Returns whether a file has changed since the last check. A file that is replaced while it is
-    /// read counts as changed at the next check, since each file is checked before it is read.
+    /// Returns whether one of the two files has changed since the last check. If a file is replaced
+    /// while the node reads it, the file counts as changed at the next check, since each file is
+    /// checked before it is read.
     fn look(&mut self) -> bool {
         let rules = stamp_of(self.rt, &self.rules);
         let keys = stamp_of(self.rt, &self.keys);
@@ -127,7 +129,7 @@ impl<'a, R: AllocGlobal + Eprint + Files> RuleSource for RuleFiles<'a, R> {
         match self.read() {
             Ok(read) => Some(read),
             Err(fault) => {
-                // The rules in force remain, even if standard error cannot be written.
+                // The rules in force remain, even if the fault cannot be written to standard error.
                 let _printed = self.rt.eprint(fault);
                 None
             }
@@ -140,8 +142,8 @@ impl<'a, R: AllocGlobal + Eprint + Files> RuleSource for RuleFiles<'a, R> {
     }
 }
 
-/// Returns the present stamp of a file, or `None` if there is no path or the file cannot be
-/// checked.
+/// Returns the present stamp of the file at `path`, or `None` if `path` is `None` or the stamp
+/// cannot be read.
 fn stamp_of<R: Files>(rt: &R, path: &Option<String>) -> Option<Stamp> {
     let path = path.as_ref()?;
     let metadata = fs::metadata(rt, path.as_str()).ok()?;

@@ -8,8 +8,8 @@ use node_core::{NodeFault, RunFault};
 use std::fs::File;
 use std::rt::Files;
 
-/// Shortens the journal in a file, and prints how many of its lines are kept. If `shortened`
-/// returns no shorter journal, the file stays as it is.
+/// Shortens the journal in a file, and prints how many lines of the journal are kept. If the
+/// function `shortened` returns no shorter journal, the file stays as it is.
 pub fn shorten_file<R: AllocGlobal + Files<File = File> + Print>(
     rt: &R,
     options: &ShorteningOptions,

@@ -1,4 +1,4 @@
-//! A journal from which a node is restored, and to which its events are appended.
+//! A journal from which a node is restored, and to which the node's later events are appended.
 ghost use Rattle.std.specs.Prelude.{◌≡◌, IfOk, OnErr};
 ghost use Rattle.ndn_daemon.specs.Journal.{ReplaysJournal, TellsLastRules};
 
@@ -10,8 +10,8 @@ use std::alloc::Global;
 
 /// A journal from which a node is restored.
 pub trait StoredJournal: JournalFile + Drop {
-    /// Returns whether the last whole line of new rules in the journal has exactly these rules and
-    /// keys, octet by octet.
+    /// Returns whether the last whole `rules` line in the journal has exactly the octets of the
+    /// rule file and of the key file in `renewal`.
     fn has_last(&mut self, alloc: Global, renewal: &Renewal) -> Result<bool, Fault>
         ensures told { IfOk result (TellsLastRules (Self.synced self.old) renewal.now) }
         ensures same { Self.synced self.new ≡ Self.synced self.old };

@@ -32,7 +32,7 @@ pub struct UdpOptions {
     /// The addresses and ports of the peers: at most 64, all different, of the same address family
     /// as `listen`. No peer is the node itself, and no peer has the unspecified address.
     pub peers: Vec<SocketAddr>,
-    /// The number of Local peers, at most the number of peers. The Local peers come first in
+    /// The number of Local peers. It is at most the number of peers. The Local peers come first in
     /// `peers`, and they are on this machine.
     pub local: u64,
     /// The idle time in seconds, at least 1, after which a face that does not belong to a peer

@@ -9,41 +9,45 @@ use node_core::Verdict;
 use node_ports::{Arrival, FRAME_ROOM, PortFault, Ports, Renewal};
 use std::net::SocketAddr;
 
-/// The least time between two checks of the source of rules, in milliseconds.
+/// The least time, in milliseconds, between two checks of the source of rules.
 const LOOK_MILLISECONDS: u64 = 1000;
 
 /// A source of new rules and keys.
 pub trait RuleSource: Drop {
-    /// Returns new rules and keys, which replace those in force, or `None` if nothing is new.
+    /// Returns new rules and keys, with which the caller replaces the rules and keys in force.
+    /// Returns `None` if nothing is new.
     fn renewed(&mut self) -> Option<Renewal>;
 
-    /// Returns the present rules and keys, for a node that has a journal from now on.
+    /// Returns the present rules and keys of the source. Only a node with a journal makes this
+    /// call, once at its start.
     fn current(&mut self) -> Result<Renewal, Fault>;
 }
 
 /// The first events of a node after it has replayed a journal.
 #[derive(Drop)]
 pub struct Restart {
-    /// The last time in the journal, which is also the time of these events.
+    /// The time of the node after the replay, which is also the time of these events.
     pub now: u64,
-    /// The rules and keys that were read from the files, if they differ from the last rules and
-    /// keys in the journal.
+    /// The present rules and keys of the source, if they differ from the last rules and keys in the
+    /// journal.
     pub renewal: Option<Renewal>,
-    /// The open faces that are to be closed. A face is closed if no peer has a face with its number
-    /// and scope.
+    /// The open faces that are to be closed. A face is to be closed if its number and its scope are
+    /// not those of a peer's face.
     pub closing: Vec<u64>,
 }
 
 /// Ports with a source of rules. When something has arrived at the underlying ports, the source is
-/// checked, at most once a second. If the source has new rules and keys, they are returned as an
-/// arrival of their own, and what has arrived is returned in the next turn.
+/// checked, at most once a second. If the source has new rules and keys, these are returned first,
+/// as an arrival of their own. What arrived at the underlying ports is then returned in the next
+/// turn.
 #[derive(Drop)]
 pub struct WatchedPorts<P: Ports + Drop, S: RuleSource> {
     ports: P,
     source: S,
     // The time when the source was last checked.
     asked: u64,
-    // The arrival that waits for the next turn, and its octets.
+    // `held` is the arrival that waits for the next turn. If this arrival is a packet, `octets`
+    // begins with the octets of the packet.
     held: Option<Arrival>,
     octets: [u8; FRAME_ROOM],
     restart: Option<Restart>,
@@ -64,7 +68,8 @@ impl<P: Ports + Drop, S: RuleSource> WatchedPorts<P, S> {
         }
     }
 
-    /// Returns these ports after a restart, with a source of rules that has not been checked.
+    /// Returns these ports with a source of rules that has not been checked. The events of
+    /// `restart` come before the arrivals of `ports`.
     pub fn after(restart: Restart, ports: P, source: S) -> WatchedPorts<P, S>
         ensures { result.ports ≡ ports }
     {
@@ -92,8 +97,8 @@ impl<P: Ports + Drop, S: RuleSource> WatchedPorts<P, S> {
         Some(Arrival::FaceDown { face, now })
     }
 
-    /// Returns new rules and keys, if the source may be checked again at `now` and has new rules
-    /// and keys.
+    /// Returns the new rules and keys of the source. Returns `None` if the source has nothing new,
+    /// or if the last check was less than a second away from the time `now`.
     fn renewed(&mut self, now: u64) -> Option<Renewal>
         ensures { self.new.ports ≡ self.old.ports }
     {
@@ -133,8 +138,8 @@ impl<P: Ports + Drop, S: RuleSource> WatchedPorts<P, S> {
         Arrival::NewRules { renewal, now }
     }
 
-    /// Returns the stored arrival `arrival`. Copies the octets of a packet to the start of the
-    /// buffer. Octets that do not fit are dropped.
+    /// Returns the stored arrival `arrival`. If it is a packet, copies the octets of the packet to
+    /// the start of `buffer`. Octets that do not fit into `buffer` are dropped.
     fn give_held(&self, arrival: Arrival, buffer: &mut [u8]) -> Arrival
         ensures { LiesWithin (length buffer.new) result }
     {

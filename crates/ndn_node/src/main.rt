@@ -22,7 +22,7 @@ fn main(rt: HostRuntime) -> ExitCode {
         return ExitCode::SUCCESS;
     };
     let status = fault.exit_status();
-    // If standard error cannot be written, the exit status alone reports the fault.
+    // If the fault cannot be written to standard error, only the exit status reports the fault.
     let _printed = rt.eprint(fault);
     ExitCode::from(status)
 }

@@ -1,5 +1,5 @@
-//! Tests that play scripts on a node, tests that call its steps, and tests of its ports and its
-//! journal.
+//! Tests that play scripts on a node, tests that call the steps of a node, and tests of the ports
+//! and the journal of a node.
 
 mod cache;
 mod decisions;

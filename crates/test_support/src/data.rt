@@ -5,9 +5,9 @@ use ndn_names::{Name, NameBuf};
 use ndn_packets::{DataWriter, Frame, Sign, read_frame};
 use std::alloc::Global;
 
-/// Returns a Data signed with DigestSha256. The Data has the name with this URI and a Content given
-/// in hexadecimal. `freshness` is the FreshnessPeriod in milliseconds. Returns `None` if the Data
-/// cannot be written.
+/// Returns a Data that is signed with DigestSha256. `uri` is the URI of the Data's name. `content`
+/// is the Data's Content, in hexadecimal words that `octets` reads. `freshness` is the
+/// FreshnessPeriod in milliseconds. Returns `None` if the Data cannot be written.
 pub fn data_of(alloc: Global, uri: &str, content: &str, freshness: Option<u64>) -> Option<Vec<u8>> {
     let name = NameBuf::from_uri(alloc, uri).ok()?;
     written_data(alloc, name.view(), &octets(alloc, content)?, freshness)

@@ -1,4 +1,5 @@
-//! What the tests of several crates share: rows of text, Data, and sample rules and keys.
+//! What the tests of several crates share: helpers for rows of text, Data, sample rules and keys,
+//! and random sequences.
 #![tactic(auto)]
 
 mod data;

@@ -17,8 +17,8 @@ pub fn octets(alloc: Global, text: &str) -> Option<Vec<u8>> {
     Some(octets)
 }
 
-/// Returns the number of the first row, counted in lines from 1, for which `is_right` returns
-/// false, or 0 if `is_right` returns true for all rows. A line that is empty or begins with `#` is
+/// Returns the line number, counted from 1, of the first row for which `is_right` returns false.
+/// Returns 0 if `is_right` returns true for all rows. A line that is empty or begins with `#` is
 /// not a row. For a text without rows, returns 1.
 pub fn first_wrong<F: Fn(Global, &str) -> bool>(alloc: Global, rows: &str, is_right: F) -> usize
     requires { F.IsAlwaysCallable is_right }
@@ -62,8 +62,8 @@ pub fn first_misshown<'a>(
 }
 
 /// Returns a row with its symbols replaced by the characters that they stand for: a tab for `␉`, an
-/// LF for `␊`, a VT for `␋`, a CR for `␍`, a unit separator for `␟`, a delete for `␡`, and a
-/// no-break space for `⍽`. Returns `None` if memory runs out.
+/// LF for `␊`, a VT for `␋`, a CR for `␍`, a unit separator for `␟`, a delete character for `␡`,
+/// and a no-break space for `⍽`. Returns `None` if memory runs out.
 pub fn typed(alloc: Global, row: &str) -> Option<String> {
     let mut text = String::new(alloc);
     for symbol in row.chars() {

@@ -63,7 +63,7 @@ in 1 1000000 D_A
 ";
 
 /// Without rules, the verdict on each command and on each Data is `no-rule`. Nevertheless, the node
-/// replies to the command.
+/// replies to each command.
 #[test]
 fn without_rules(rt: HostRuntime) {
     replies_under(&rt, "", 1, WITHOUT_RULES);

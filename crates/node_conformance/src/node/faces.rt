@@ -52,7 +52,7 @@ fn face_events(rt: HostRuntime) {
 }
 
 /// Appends a script that opens 64 faces, tries to open face 65, closes face 1, and tries to open
-/// face 65 again. Appends the outcome that the script must have to `wanted`. Returns `None` if
+/// face 65 again. Appends to `wanted` the outcome that the script must have. Returns `None` if
 /// memory runs out.
 fn put_65_faces(script: &mut String, wanted: &mut String) -> Option<()> {
     for face in 1..65 {

@@ -11,7 +11,7 @@ use std::alloc::Global;
 use std::io;
 use std::io::{BufRead, BufReader, ErrorKind, Read};
 
-/// Returns whether `line` is the line of the entry at the time 1000.
+/// Returns whether `line` is the journal line of `entry` at the time 1000.
 fn is_line(alloc: Global, entry: &Entry<'_>, line: &str) -> bool {
     line_of(alloc, 1000, entry).is_ok_and(|text| text.as_str() == line)
 }
@@ -66,7 +66,7 @@ fn longest_lines(rt: HostRuntime) {
     assert!(rt; has_line(rt.alloc(), 9_994) == Some(false));
 }
 
-/// Returns the file after an event with this verdict was appended at the time 1000.
+/// Appends an event with this verdict, at the time 1000, to an empty file, and returns the file.
 fn file_after(alloc: Global, entry: Entry<'_>, verdict: Verdict) -> Option<MemoryFile> {
     let mut file = MemoryFile {
         octets: Vec::new(alloc),
@@ -136,8 +136,8 @@ fn whole_lines(text: &[u8]) -> (usize, usize) {
     (events, whole)
 }
 
-/// Returns whether a replay of the text replays exactly its whole lines. Each line must be an
-/// event.
+/// Returns whether a replay of the text replays exactly the whole lines of the text. The caller
+/// gives a text in which each whole line spells an event.
 fn replays_whole_lines(alloc: Global, text: &[u8]) -> bool {
     let (events, whole) = whole_lines(text);
     let wanted = Replayed {

@@ -90,10 +90,10 @@ fn journal_of_a_life(rt: HostRuntime) {
     assert!(rt; same == Some(true));
 }
 
-/// A dialogue of which only the first and the last event are journalled. The first and the last
-/// event open a face, and the last event has an earlier time than the others. The other events are
-/// the opening of an open face, the closing of a face that is not open, a denied command, a Data
-/// that the repository does not want, and a tick.
+/// A dialogue of which only the first and the last event are journalled. The first event and the
+/// last event each open a face, and the last event has an earlier time than the others. The other
+/// events are the opening of an open face, the closing of a face that is not open, a denied
+/// command, a Data that the repository does not want, and a tick.
 const MOSTLY_DENIED: &str = "
 up 1 local 1000000
 1 passed
@@ -135,7 +135,7 @@ fn a_journal_that_fails(rt: HostRuntime) {
     assert!(rt; on_node(rt.alloc(), &fails_at_the_insert) == Some(true));
 }
 
-/// Lets a node continue from a journal, and returns what was replayed.
+/// Replays a journal on a node, and returns the result of the replay.
 fn replayed(alloc: Global, node: &mut Node, journal: &str) -> Option<Replayed> {
     let journal = spelled(alloc, journal)?;
     replay(alloc, node, &mut journal.as_bytes()).ok()

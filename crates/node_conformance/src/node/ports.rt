@@ -61,14 +61,14 @@ fn keys_in(alloc: Global, word: &str) -> Option<KeyBook> {
     KeyBook::read_octets(alloc, &octets).ok()
 }
 
-/// Returns the event of new rules in a line of a script.
+/// Returns the event `NewRules` that a line of a script spells.
 fn new_rules_of(alloc: Global, line: &str, now: u64) -> Option<OwnedEvent> {
     let rules = rules_in(alloc, word(line, 2))?;
     let keys = keys_in(alloc, word(line, 3))?;
     Some(OwnedEvent::NewRules { rules, keys, now })
 }
 
-/// Returns the event in a line of a script.
+/// Returns the event that a line of a script spells.
 pub fn event_of(alloc: Global, line: &str) -> Option<OwnedEvent> {
     let face = number(line, 1)?;
     match word(line, 0) {
@@ -98,7 +98,7 @@ fn renewal_of(alloc: Global, rules: Vec<u8>, keys: Vec<u8>) -> Option<Renewal> {
     Some(Renewal::new(read, book, FileOctets { rules, keys }))
 }
 
-/// Returns the arrival of new rules in a line of a script.
+/// Returns the arrival `NewRules` that a line of a script spells.
 fn new_rules_arrival(alloc: Global, line: &str, now: u64) -> Option<OwnedArrival> {
     let rules = packet_of(alloc, word(line, 2))?;
     let keys = packet_of(alloc, word(line, 3))?;
@@ -106,7 +106,7 @@ fn new_rules_arrival(alloc: Global, line: &str, now: u64) -> Option<OwnedArrival
     Some(OwnedArrival::NewRules { renewal, now })
 }
 
-/// Returns the arrival in a line of a script.
+/// Returns the arrival that a line of a script spells.
 fn arrival_of(alloc: Global, line: &str) -> Option<OwnedArrival> {
     let face = number(line, 1)?;
     match word(line, 0) {
@@ -129,8 +129,8 @@ fn arrival_of(alloc: Global, line: &str) -> Option<OwnedArrival> {
     }
 }
 
-/// Appends the arrival in a line of a script, unless the line is empty. Returns `None` if the line
-/// has no arrival, or memory runs out.
+/// Appends the arrival that a line of a script spells, unless the line is empty. Returns `None` if
+/// the line spells no arrival, or memory runs out.
 fn push_arrival(alloc: Global, arrivals: &mut Vec<OwnedArrival>, line: &str) -> Option<()> {
     if line.is_empty() {
         return Some(());
@@ -138,7 +138,7 @@ fn push_arrival(alloc: Global, arrivals: &mut Vec<OwnedArrival>, line: &str) -> 
     arrivals.push(arrival_of(alloc, line)?).ok()
 }
 
-/// Returns the arrivals in the lines of a script.
+/// Returns the arrivals that the lines of a script spell.
 fn arrivals_of(alloc: Global, script: &str) -> Option<Vec<OwnedArrival>> {
     let mut arrivals = Vec::new(alloc);
     for line in script.lines() {
@@ -234,8 +234,8 @@ fn serves(
     served == Some(true)
 }
 
-/// Returns the result of serving in which this many events come and this many sends fail. `ended`
-/// is true if the port ends before the last turn.
+/// Returns the result of a call of `serve` in which this many events come and this many sends fail.
+/// `ended` is true if the port ends before the last turn.
 fn came(events: u64, failed_sends: u64, ended: bool) -> Result<Served, ServeFault> {
     Ok(Served {
         events,
@@ -245,8 +245,8 @@ fn came(events: u64, failed_sends: u64, ended: bool) -> Result<Served, ServeFaul
     })
 }
 
-/// Returns the result of serving in which the port fails to deliver the next arrival after `after`
-/// events.
+/// Returns the result of a call of `serve` in which `after` events come, and then the port fails to
+/// deliver the next arrival.
 fn stopped(after: u64) -> Result<Served, ServeFault> {
     Err(ServeFault::Next { after })
 }

@@ -1,5 +1,5 @@
-//! Routes that are registered, and how they expire. The packets and the answers in these dialogues
-//! were computed by a generator of test packets from the formats of the packets.
+//! Routes that are registered, and how they expire. A generator of test packets computed the
+//! packets and the answers in these dialogues from the formats of packets.
 
 use super::replies;
 

@@ -51,7 +51,8 @@ impl Write for Room {
     }
 }
 
-/// Writes the answers to a script that is read in pieces, and returns how the script ends.
+/// Runs a script that is read in pieces. Writes the answers to `output`, and returns how the script
+/// ends.
 fn end_of(
     alloc: Global,
     input: &mut Pieces<'_>,
@@ -100,7 +101,7 @@ fn a_reader_that_fails(rt: HostRuntime) {
     check_pieces(&rt, script, true, answers);
 }
 
-/// Writes the answers to a script, and returns how the script ends.
+/// Runs a script. Writes the answers to `output`, and returns how the script ends.
 pub fn end_in(alloc: Global, script: &str, output: &mut Room) -> Option<Result<(), RunFault>> {
     Some(run_script(alloc, &mut script.as_bytes(), output, parts(alloc)?))
 }
@@ -117,9 +118,8 @@ fn is_end(end: Option<Result<(), RunFault>>, written: &[u8], left: usize, answer
     end == Some(wanted) && written == &answers[..len]
 }
 
-/// Returns whether the answers to a script are written to an output that accepts `left` octets. If
-/// the answers are longer, exactly their first `left` octets must be written, and then writing must
-/// fail.
+/// Runs a script with an output that accepts `left` octets. Returns what `is_end` returns for the
+/// end of the script and for the octets that were written.
 fn writes(alloc: Global, script: &str, size: usize, left: usize, answers: &[u8]) -> bool {
     let held = Vec::new(alloc);
     let mut output = Room { held, size, left };

@@ -1,4 +1,4 @@
-//! A node at a UDP port of this machine, and the sockets that exchange packets with it.
+//! A node at a UDP port of this machine, and the sockets that exchange packets with the node.
 
 use super::octets::octets_of;
 use super::ports::on_node;
@@ -123,7 +123,7 @@ fn hears(alloc: Global, socket: &UdpSocket, word: &str) -> bool {
     hears_octets(socket, octets.as_slice())
 }
 
-/// Returns whether this many turns are served, and each send in them succeeds.
+/// Returns whether this many turns are served, and each send in these turns succeeds.
 fn passes<M: Moments>(alloc: Global, node: &mut Node, ports: &mut UdpPorts<M>, turns: u64) -> bool {
     serve(alloc, node, ports, turns)
         == Ok(Served {
@@ -402,8 +402,8 @@ pub fn brings_packet<M: Moments>(
     )
 }
 
-/// Returns whether the next two arrivals, at these moments, open a face and bring a packet of this
-/// many octets on it.
+/// Returns whether the next arrival opens the face at the moment `opened`, and the arrival after
+/// that is a packet of `len` octets on this face at the moment `came`.
 pub fn opens<M: Moments>(
     ports: &mut UdpPorts<M>,
     face: u64,
@@ -638,9 +638,9 @@ fn open_all<M: Moments>(ports: &mut UdpPorts<M>, faces: u64, at: u64) -> bool {
     true
 }
 
-/// Returns whether a send to a 65th port fails if the client at the 64th port was silent for 9,999
-/// milliseconds. After 10,000 milliseconds the client's face must close, and a send to the 65th
-/// port must succeed.
+/// Returns whether a send to `newcomer`, at the 65th port, fails if `client`, at the 64th port, was
+/// silent for 9,999 milliseconds. After 10,000 milliseconds of silence the face of `client` must
+/// close, and a send to `newcomer` must succeed.
 fn gives_way(
     ports: &mut UdpPorts<Handed<'_>>,
     moment: &Cell<u64>,
@@ -658,7 +658,7 @@ fn gives_way(
     Some(full && refused && closed && ports.send(66, b"").is_ok() && ports.send(64, b"").is_err())
 }
 
-/// Returns a socket that sends to another port and receives from that port only.
+/// Returns a socket that sends to the port `to`, and receives from this port only.
 fn connected(rt: &impl Net, to: u16) -> Option<UdpSocket> {
     let socket = bound_socket(rt)?;
     socket.connect((Ipv4Addr::LOCALHOST, to)).ok()?;
