@@ -144,7 +144,7 @@ fn key_file(alloc: Global, input: &str) -> Option<String> {
     found(alloc, &file, uri)
 }
 
-/// Appends `count` lines, which give the keys /0, /1 and so on.
+/// Appends `count` lines. Each line gives a key, and the names of the keys are /0, /1 and so on.
 fn put_keys(file: &mut String, count: u16) -> Option<()> {
     for i in 0..count {
         write!(file, "/{i} 00\n").ok()?;
@@ -284,7 +284,7 @@ fn keys_by_names(rt: HostRuntime) {
     check_rows(&rt, rt.alloc(), rows, key_file);
 }
 
-/// Returns the name of a fault, its line and its message.
+/// Returns the name, the line and the message of a fault. The line is 0 if the fault has no line.
 fn fault_text(alloc: Global, fault: &str) -> Option<String> {
     let fault = match fault {
         "BadLine 7" => KeyFault::BadLine(7),

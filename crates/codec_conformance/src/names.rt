@@ -768,9 +768,9 @@ sha256digest=00 -> BadUri
     check_rows(&rt, rt.alloc(), rows, component);
 }
 
-/// Reads a name from a URI text, writes the name as a URI text, copies the name and appends a
-/// component to it. Returns whether each of these steps succeeds, or fails only because memory runs
-/// out.
+/// Reads a name from a URI text, writes the name as a URI text, copies the name, and appends a
+/// component to the name. Returns whether each of these steps succeeds, or fails only because
+/// memory runs out.
 fn give_all_or_memory(alloc: Global, text: &str) -> bool {
     match NameBuf::from_uri(alloc, text) {
         Ok(mut name) => name_gives_all_or_memory(alloc, &mut name, text),
@@ -778,8 +778,8 @@ fn give_all_or_memory(alloc: Global, text: &str) -> bool {
     }
 }
 
-/// Writes this name as a URI text, copies the name and appends a component to it. Returns whether
-/// each of these steps succeeds, or fails only because memory runs out.
+/// Writes this name as a URI text, copies the name, and appends a component to the name. Returns
+/// whether each of these steps succeeds, or fails only because memory runs out.
 fn name_gives_all_or_memory(alloc: Global, name: &mut NameBuf, text: &str) -> bool {
     is_written_or_memory(alloc, name, text)
         && is_copied_or_memory(alloc, name)

@@ -186,8 +186,8 @@ fn integers(rt: HostRuntime) {
     check_rows(&rt, rt.alloc(), rows, shortest_integer);
 }
 
-/// Returns the type of each element in some octets and the length of its value. If an element
-/// cannot be read, its fault comes last.
+/// Reads the elements in some octets. Returns the type and the value length of each element. If an
+/// element cannot be read, its fault comes last.
 fn elements(alloc: Global, input: &str) -> Option<String> {
     let octets = octets(alloc, input)?;
     elements_in(alloc, &octets)

@@ -68,8 +68,8 @@ fn append(alloc: Global, name: &mut NameBuf, word: &str) -> Option<()> {
     name.append(8, &octets(alloc, word)?).ok()
 }
 
-/// Shows a command: its action, name, face, cost, count and strategy, or the status that refuses
-/// it.
+/// Shows a command: its action, name, face, cost, count and strategy. If the command is refused,
+/// shows the status instead.
 fn command_shown(alloc: Global, row: &str) -> Option<String> {
     let name = name_in(alloc, row)?;
     match Command::read(name.view()) {
@@ -154,9 +154,9 @@ fn numbers_of_each_length(rt: HostRuntime) {
     check_rows(&rt, rt.alloc(), rows, command_shown);
 }
 
-/// Commands with a field of a wrong form, commands without a required field, and commands with a
-/// field that they do not take, are refused with status 400. A command that unsets the strategy of
-/// `/` is refused with status 400, too.
+/// A command is refused with status 400 if it has a field of a wrong form, lacks a required field,
+/// or has a field that it does not take. A command that unsets the strategy of `/` is refused with
+/// status 400, too.
 #[test]
 fn fields_that_commands_need_and_take(rt: HostRuntime) {
     let rows = "

@@ -30,7 +30,7 @@ fn fields_of(alloc: Global, asked: &str, lifetime: Option<u64>) -> Option<Vec<u8
     Some(fields)
 }
 
-/// Appends a Name, a CanBePrefix if it is set, and a lifetime if there is one.
+/// Appends a Name, a CanBePrefix if `can_be_prefix` is set, and a lifetime if `lifetime` is `Some`.
 fn put_fields(
     fields: &mut Vec<u8>,
     name: Name<'_>,
@@ -304,8 +304,8 @@ insert /A 5 0, check /A 5, expire 5, check /A 5 -> 100:0 /A 0, 100:0, 404:0
     check_rows(&rt, rt.alloc(), rows, answers);
 }
 
-/// If an equal want is inserted again, the want gets the new deadline, which may be earlier or
-/// later.
+/// If a pending want is inserted again, the want gets the new deadline. The new deadline may be
+/// earlier or later than the old deadline.
 #[test]
 fn an_equal_want_is_renewed(rt: HostRuntime) {
     let rows = "
@@ -331,7 +331,8 @@ fn first_answer(alloc: Global, text: &str) -> Option<String> {
     shown_on_repo(alloc, text, answered_to)
 }
 
-/// Shows this repository's reply to the command whose name `name_in` reads from `text`.
+/// Shows this repository's reply to a command. The function `name_in` reads the command's name from
+/// `text`.
 fn answered_to(alloc: Global, repo: &mut Repo, text: &str) -> Option<String> {
     let name = name_in(alloc, text)?;
     answered(alloc, repo, name.view(), 1000000)
@@ -363,8 +364,8 @@ fn the_first_of_each_field_counts(rt: HostRuntime) {
     check_rows(&rt, rt.alloc(), rows, first_answer);
 }
 
-/// Fields of a wrong form in commands of every verb, commands without a Name, and truncated
-/// parameters are answered with status 400. A lifetime of 2 octets is well formed.
+/// A command of any verb is answered with status 400 if it has a field of a wrong form, has no
+/// Name, or has truncated parameters. A lifetime of 2 octets is well formed.
 #[test]
 fn fields_of_a_wrong_form(rt: HostRuntime) {
     let rows = "
@@ -403,8 +404,8 @@ fn names_of_another_shape(rt: HostRuntime) {
     check_rows(&rt, rt.alloc(), rows, first_answer);
 }
 
-/// Returns the octets, in hexadecimal, of the reply with the status and the count in `row` and the
-/// text of the status.
+/// Returns the octets of a reply in hexadecimal. The reply has the status and the count in `row`,
+/// and the text of this status.
 fn reply_written(alloc: Global, row: &str) -> Option<String> {
     let (status, count) = row.split_once(' ')?;
     let status = status.parse().ok()?;

@@ -1,5 +1,5 @@
-//! Tests of the tables: next hops, registered routes and strategies by name, pending Interests, the
-//! choices of strategies, and the cache.
+//! Tests of the tables of next hops, registered routes, strategies and pending Interests. Also
+//! tests of the next hops that strategies choose, and of the cache.
 #![tactic(auto)]
 
 #[cfg(test)]

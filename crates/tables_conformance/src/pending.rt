@@ -1,5 +1,5 @@
-//! Tests of tables of pending Interests. The tables have records of faces below 64 only, so they do
-//! not exceed their limit of 64 faces.
+//! Tests of tables of pending Interests. All records in these tables are of faces below 64.
+//! Therefore no table exceeds its limit of 64 faces.
 
 mod askers;
 mod pending_records;
@@ -133,7 +133,8 @@ impl Table {
     }
 }
 
-/// The numbers after the key in a call. If a call has fewer than four numbers, the others are 0.
+/// The numbers after the key in a call. If a call has fewer than four numbers, the missing numbers
+/// are 0.
 #[derive(Clone, Copy)]
 struct Numbers {
     face: u64,
@@ -168,7 +169,7 @@ fn nonce_of(number: u64) -> Option<[u8; 4]> {
     Some(u32::try_from(number).ok()?.to_be_bytes())
 }
 
-/// Appends `faces` and the numbers of the faces, as in `faces 2 3`.
+/// Appends the word `faces` and the numbers of the faces, as in `faces 2 3`.
 fn put_faces(text: &mut String, faces: &Faces) -> Option<()> {
     text.push_str("faces").ok()?;
     for i in 0..faces.len() {
@@ -178,8 +179,8 @@ fn put_faces(text: &mut String, faces: &Faces) -> Option<()> {
     Some(())
 }
 
-/// Appends `used` and the faces, each with the moment at which the face was last used, as in
-/// `used 2@5`.
+/// Appends the word `used` and the faces, each with the moment at which the face was last used, as
+/// in `used 2@5`.
 fn put_used(text: &mut String, used: &Used) -> Option<()> {
     text.push_str("used").ok()?;
     for i in 0..used.len() {
@@ -189,7 +190,8 @@ fn put_used(text: &mut String, used: &Used) -> Option<()> {
     Some(())
 }
 
-/// Appends the octets of an Interest or of a token in hexadecimal, or `none`.
+/// Appends the octets of an Interest or of a token in hexadecimal, or the word `none` if `interest`
+/// is `None`.
 fn put_interest(alloc: Global, text: &mut String, interest: Option<&[u8]>) -> Option<()> {
     match interest {
         Some(interest) => {
@@ -263,9 +265,9 @@ fn put_of_packet(
     }
 }
 
-/// Runs a call for a Data with the given name and an empty Content, and appends the answer. The
-/// answer to `data NAME` and to `askers NAME` is a list of faces. The answer to
-/// `token_for NAME FACE` is the token that the face gets with the Data.
+/// Runs a call for a Data with an empty Content, and appends the answer. The first word of `words`
+/// is the Data's name. The answer to `data NAME` and to `askers NAME` is a list of faces. The
+/// answer to `token_for NAME FACE` is the token that the face gets with the Data.
 fn put_of_name(
     alloc: Global,
     text: &mut String,
@@ -302,9 +304,9 @@ fn is_sent(table: &mut Table, key: Key<'_>, numbers: Numbers) -> Option<bool> {
     Some(table.sent(key, numbers.face, numbers.first, nonce, numbers.third))
 }
 
-/// Runs one of the following calls, which name a key, and returns the answer, true or false:
-/// `ask KEY FACE NONCE DEADLINE`, `token KEY FACE TOKEN DEADLINE` for an Interest with a PIT token
-/// of one octet, `sent KEY ASKER FACE NONCE NOW`, `loops KEY FACE NONCE`, or `prepare KEY OCTETS`.
+/// Runs a call that names a key and has a true or false answer, and returns the answer. The call is
+/// `ask KEY FACE NONCE DEADLINE`, `token KEY FACE TOKEN DEADLINE`, `sent KEY ASKER FACE NONCE NOW`,
+/// `loops KEY FACE NONCE`, or `prepare KEY OCTETS`. The PIT token in a `token` call is one octet.
 fn is_so(table: &mut Table, call: &str, key: Key<'_>, numbers: Numbers) -> Option<bool> {
     match call {
         "ask" => is_asked(table, key, numbers),
@@ -316,8 +318,8 @@ fn is_so(table: &mut Table, call: &str, key: Key<'_>, numbers: Numbers) -> Optio
     }
 }
 
-/// Runs a call that names a key and has a one-word answer: a call that `is_so` runs, `withdraw KEY
-/// FACE`, or `remove KEY`.
+/// Runs a call that names a key, and returns the answer, which is one word. The call is
+/// `withdraw KEY FACE`, `remove KEY`, or a call that `is_so` runs.
 fn word_of(table: &mut Table, call: &str, key: Key<'_>, numbers: Numbers) -> Option<&'static str> {
     match call {
         "withdraw" => table.withdraw(key, numbers.face),
@@ -337,8 +339,8 @@ fn put_nack(text: &mut String, table: &mut Table, key: Key<'_>, numbers: Numbers
     put_nacked(text, table.nacked(key, numbers.face, nonce, numbers.second))
 }
 
-/// Appends the answer to a call that names a key: a call that `word_of` runs, `nack KEY FACE NONCE
-/// REASON`, `of KEY FACE`, `token_of KEY FACE`, or `used KEY`.
+/// Appends the answer to a call that names a key. The call is `nack KEY FACE NONCE REASON`,
+/// `of KEY FACE`, `token_of KEY FACE`, `used KEY`, or a call that `word_of` runs.
 fn put_of_key(
     alloc: Global,
     text: &mut String,
@@ -356,7 +358,7 @@ fn put_of_key(
     }
 }
 
-/// Reads the key and the numbers of a call, runs the call by `put_of_key`, and appends its answer.
+/// Reads the key and the numbers of a call, and appends the answer that `put_of_key` gives.
 fn put_keyed(
     alloc: Global,
     text: &mut String,
@@ -390,8 +392,8 @@ fn put_end(text: &mut String, table: &mut Table, call: &str, number: &str) -> Op
     text.push_str("-").ok()
 }
 
-/// Appends the answer to a call: a call that `put_of_name` or `put_of_key` runs, `has_tokens`,
-/// `expire NOW`, `close FACE`, or `len`.
+/// Appends the answer to a call. The call is `has_tokens`, `expire NOW`, `close FACE`, `len`, or a
+/// call that `put_of_name` or `put_of_key` runs.
 fn put_answer(alloc: Global, text: &mut String, table: &mut Table, words: &str) -> Option<()> {
     let (call, rest) = words.split_once(' ').unwrap_or((words, ""));
     match call {
@@ -426,9 +428,9 @@ fn answers(alloc: Global, row: &str) -> Option<String> {
     answers_of(alloc, &mut table, row)
 }
 
-/// Records an Interest under the key with this number, and returns whether it is recorded. If
-/// `share_names` is set, four keys share each name, one for each setting of the flags; otherwise
-/// each key has its own name.
+/// Records an Interest under the key with this number, and returns whether the Interest is
+/// recorded. If `share_names` is set, each name is shared by four keys with different flags.
+/// Otherwise each key has its own name.
 fn ask_numbered(
     alloc: Global,
     table: &mut Table,
@@ -470,7 +472,7 @@ fn is_filled(alloc: Global, share_names: bool) -> Option<bool> {
 
 const ROUNDS: u32 = 100_000;
 
-/// Removes the pending Interests under the key with this number, which has its own name and no
+/// Removes the pending Interests under the key with this number. The key has its own name and no
 /// flags.
 fn remove_numbered(alloc: Global, table: &mut Table, number: u16) -> Option<()> {
     let name = numbered(alloc, number)?;
@@ -525,7 +527,8 @@ fn holds_64_faces(alloc: Global, table: &mut Table, key: Key<'_>, _other: Key<'_
     Some(holds && faces_answered(table, &packet)?.len() == 64)
 }
 
-/// Returns what `play` returns for an empty table and the keys of `/A` and `/B`.
+/// Returns what `play` returns for an empty table and two keys without flags. The names of the keys
+/// are `/A` and `/B`.
 fn played<F: Fn(Global, &mut Table, Key<'_>, Key<'_>) -> Option<bool>>(
     alloc: Global,
     play: &F,

@@ -268,8 +268,8 @@ register /A 2, register /A/B 3 flags=2, register /A/B 3, of /A/B -> 2@0 3@0
 register /A 2 cost=4, register /A 2 cost=9 origin=1, of /A, due 9 -> 2@4; 0
 ";
 
-/// A route that is registered again replaces the cost, the flags and the deadline of the old route.
-/// A route with the same name and face, but with another origin, does not replace the old route.
+/// When a route is registered again, the new cost, flags and deadline replace the old ones. A route
+/// with the same name and face, but with another origin, does not replace the old route.
 #[test]
 fn the_last_registration_counts(rt: HostRuntime) {
     check_rows(&rt, rt.alloc(), THE_LAST_REGISTRATION_COUNTS, answers);
@@ -292,7 +292,8 @@ register /A 2, remove /A 2, of /A -> 2@0
 add /A 2, unregister /A 2, of /A -> 2@0
 ";
 
-/// A removal removes the given next hop or route. If the name's entry then has no next hop and no
+/// `remove` removes only the next hop with the given name and face. `unregister` removes only the
+/// route with the given name, face and origin. If the name's entry then has no next hop and no
 /// route, the entry is removed as well.
 #[test]
 fn what_removals_leave(rt: HostRuntime) {

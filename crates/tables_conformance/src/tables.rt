@@ -30,7 +30,8 @@ pub fn routes_in(alloc: Global, text: &str) -> Option<RouteTable> {
     Some(routes)
 }
 
-/// Closes a face for `close FACE`, or removes a next hop for `remove NAME FACE`.
+/// Runs the call in `text`. The call `close FACE` closes a face, and the call `remove NAME FACE`
+/// removes a next hop.
 fn remove(alloc: Global, routes: &mut RouteTable, text: &str) -> Option<()> {
     let (call, face) = text.rsplit_once(' ')?;
     let face = face.parse().ok()?;
@@ -75,7 +76,7 @@ fn put_longest(alloc: Global, text: &mut String, fib: &Fib, uri: &str) -> Option
     put_hops(text, &fib.longest(name.view()))
 }
 
-/// Returns the answer to a question, which is a name or `list`.
+/// Returns the answer to a question. The question is a name or `list`.
 fn told(alloc: Global, fib: &Fib, question: &str) -> Option<String> {
     let mut text = String::new(alloc);
     let put = if question == "list" {
@@ -160,7 +161,8 @@ fn routes_in_canonical_order(rt: HostRuntime) {
     check_rows(&rt, rt.alloc(), rows, next_hops);
 }
 
-/// A next hop may have the least and the greatest face, and the greatest cost.
+/// The face of a next hop may be the least or the greatest face number. The cost of a next hop may
+/// be the greatest cost.
 #[test]
 fn ends_of_faces_and_costs(rt: HostRuntime) {
     let rows = "
@@ -235,7 +237,7 @@ fn put_strategy(alloc: Global, text: &mut String, table: &StrategyTable, uri: &s
         .ok()
 }
 
-/// Returns the answer to a question, which is a name or `list`.
+/// Returns the answer to a question. The question is a name or `list`.
 fn strategy_told(alloc: Global, table: &StrategyTable, question: &str) -> Option<String> {
     let mut text = String::new(alloc);
     let put = if question == "list" {
@@ -347,7 +349,7 @@ fn same_strategies(rt: HostRuntime) {
     check_rows(&rt, rt.alloc(), rows, same_choices);
 }
 
-/// Returns a name of `depth` components `A`.
+/// Returns a name of `depth` components. Each component is `A`.
 pub fn deep_name(alloc: Global, depth: usize) -> Option<NameBuf> {
     let mut name = NameBuf::new(alloc);
     for _ in 0..depth {
@@ -368,8 +370,8 @@ fn strategies_answer(alloc: Global, name: Name<'_>, answer: Result<(), TableFaul
     strategies.set(name, StrategyId::Multicast) == answer
 }
 
-/// Returns whether both adding a next hop and setting a strategy, for a name of `depth` components,
-/// have the result `answer`.
+/// Returns whether adding a next hop and setting a strategy both have the result `answer`. Both are
+/// done for a name of `depth` components.
 fn both_answer(alloc: Global, depth: usize, answer: Result<(), TableFault>) -> Option<bool> {
     let name = deep_name(alloc, depth)?;
     let is_added = routes_answer(alloc, name.view(), answer);
@@ -385,7 +387,7 @@ fn deep_names(rt: HostRuntime) {
     assert!(rt; both_answer(alloc, 64, Err(TableFault::TooDeep)) == Some(true));
 }
 
-/// Returns a name of 64 components `B`.
+/// Returns a name of 64 components. Each component is `B`.
 fn long_name(alloc: Global) -> Option<NameBuf> {
     let mut name = NameBuf::new(alloc);
     for _ in 0..64 {
@@ -403,8 +405,9 @@ fn leads_to_2(fib: &Fib, name: Name<'_>) -> Option<bool> {
     Some(hop.face == 2 && hop.cost == 0 && steps <= 64)
 }
 
-/// Returns whether the lookup of a name of 64 components `B` finds the next hop of `/`, which is on
-/// face 2, with at most 64 searches. The table also has a next hop of `/A` on face 3.
+/// Returns whether the lookup of a name of 64 components finds the next hop of `/` on face 2, with
+/// at most 64 searches. Each component of the name is `B`. The table also has a next hop of `/A` on
+/// face 3.
 fn is_deep_found(alloc: Global) -> Option<bool> {
     let name = long_name(alloc)?;
     let routes = routes_in(alloc, "/ 2 0, /A 3 0")?;
@@ -451,9 +454,9 @@ pub fn add_deep(alloc: Global, routes: &mut RouteTable) -> Option<Result<(), Tab
     Some(routes.add(name.view(), 1, 0))
 }
 
-/// Returns whether 4,096 names with next hops fit into a table if the greatest name is inserted
-/// first. The table must then refuse a further name and a name of 33 components, but accept a new
-/// cost of a known next hop.
+/// Adds next hops for 4,096 names, beginning with the greatest name. Returns whether the table then
+/// refuses a further name and a name of 33 components, but accepts a new cost of a known next hop.
+/// Returns `None` if one of the 4,096 names is refused.
 fn takes_4096_routes(alloc: Global, routes: &mut RouteTable) -> Option<bool> {
     for number in (0..4096).rev() {
         add_numbered(alloc, routes, number, 0)?.ok()?;
@@ -542,8 +545,8 @@ fn full_table_of_strategies(rt: HostRuntime) {
     assert!(rt; holds_4096_strategies(rt.alloc()) == Some(true));
 }
 
-/// Returns whether lists of faces accept 64 faces, then refuse a further face, but accept a known
-/// face again.
+/// Returns whether a `Faces` and a `Used` each accept 64 faces, then refuse a further face, but
+/// accept a known face again.
 fn take_64_faces() -> bool {
     let mut faces = Faces::new();
     let mut used = Used::new();

@@ -75,8 +75,9 @@ ff0000000100000000 -> Tlv TypeTooLarge
     check_rows(&rt, rt.alloc(), rows, outcome);
 }
 
-/// An Interest is refused if a field after its Name is missing, repeated, out of order, unknown and
-/// critical, or malformed. Of two faulty fields, the fault of the first one is reported.
+/// An Interest is refused if its Nonce is missing, or if a field after its Name is malformed. An
+/// Interest is also refused if a critical element after its Name is repeated, out of order or
+/// unknown. Of two faulty fields, the fault of the first one is reported.
 #[test]
 fn faults_of_interests(rt: HostRuntime) {
     let rows = "
@@ -353,8 +354,9 @@ fn lengths_of_names(rt: HostRuntime) {
     check_rows(&rt, rt.alloc(), rows, outcome);
 }
 
-/// A Data is refused if a field after its Name is missing, repeated, out of order, unknown and
-/// critical, or malformed. Of two faulty fields, the fault of the first one is reported.
+/// A Data is refused if its SignatureInfo or its SignatureValue is missing, or if a field after its
+/// Name is malformed. A Data is also refused if a critical element after its Name is repeated, out
+/// of order or unknown. Of two faulty fields, the fault of the first one is reported.
 #[test]
 fn faults_of_data(rt: HostRuntime) {
     let rows = "

@@ -1,4 +1,4 @@
-//! Writers of packets.
+//! Tests of the writers of packets.
 
 use crate::packets::{carried, fields, outcome_of};
 use crate::rows::check_rows;
@@ -8,10 +8,10 @@ use std::alloc::Global;
 use std::test::*;
 use test_support::octets;
 
-/// Returns the octets that a writer appended to `out`, which held only the octet 9 before, or the
-/// writer's fault. If the writer failed but appended octets, returns a text that says so. If a
-/// writer without a fault appended more than 1,000 octets, returns their number and the outcome of
-/// reading them.
+/// Returns the octets that a writer appended to `out`, or the writer's fault. Before the writer
+/// ran, `out` held only the octet 9. If the writer failed but appended octets, returns a text that
+/// says so. If the writer succeeded and appended more than 1,000 octets, returns the number of
+/// these octets and the outcome of reading them.
 fn appended(alloc: Global, fault: Option<&str>, out: &[u8]) -> Option<String> {
     let written = out.strip_prefix(&[9])?;
     match fault {
@@ -290,7 +290,7 @@ fn refused_memory(rt: HostRuntime) {
 /// An Interest with the Name /A.
 const PLAIN: &[u8] = b"\x05\x0b\x07\x03\x08\x01A\x0a\x04\x01\x02\x03\x04";
 
-/// A Nack with the reason NoRoute around the Interest `PLAIN`.
+/// A Nack of the Interest `PLAIN`. The reason of the Nack is NoRoute.
 const NACK: &[u8] =
     b"\x64\x18\xfd\x03\x20\x05\xfd\x03\x21\x01\x96\x50\x0d\x05\x0b\x07\x03\x08\x01A\x0a\x04\x01\x02\x03\x04";
 

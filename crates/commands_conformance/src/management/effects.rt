@@ -168,8 +168,8 @@ fn hex_shown(alloc: Global, octets: &[u8]) -> Option<String> {
     hex::encode(alloc, octets).ok()
 }
 
-/// Applies a command. The word `call` stands for the command's verb, and `rest` is the parameters
-/// in hexadecimal. Shows the command's status and the body of the reply.
+/// Applies a command. `call` is the short word that `verb_of` reads as the command's verb, and
+/// `rest` is the parameters in hexadecimal. Shows the command's status and the body of the reply.
 fn command_shown(alloc: Global, station: &mut Station, call: &str, rest: &str) -> Option<String> {
     let verb = verb_of(call)?;
     let text = format!(in alloc; "{verb}{rest}").ok()?;
@@ -320,7 +320,8 @@ add 680b07030801416901026a0107, add 680b07030801416901026a0103, routes -> 200 68
     check_rows(&rt, rt.alloc(), rows, answers);
 }
 
-/// Removing a next hop leaves the next hops of other names. A refused command leaves all next hops.
+/// Removing a next hop leaves the next hops of other names unchanged. A refused command leaves all
+/// next hops unchanged.
 #[test]
 fn other_routes_stay(rt: HostRuntime) {
     let rows = "
@@ -330,7 +331,7 @@ add 68080703080141690102, add 68080703080141690107, remove 68080703080141690107,
     check_rows(&rt, rt.alloc(), rows, answers);
 }
 
-/// Unsetting the strategy of one name leaves the strategy of another name.
+/// Unsetting the strategy of one name leaves the strategy of another name unchanged.
 #[test]
 fn a_strategy_goes_and_another_stays(rt: HostRuntime) {
     let rows = "
@@ -340,7 +341,8 @@ set 682e07030801416b27072508096c6f63616c686f737408036e66640808737472617465677908
 }
 
 /// An erase without a Count removes all Data under a name. An erase with a Count removes only the
-/// first Data under the name, at most as many as the Count, and its reply contains the Count.
+/// first Data under the name, at most as many as the Count. The reply to this erase contains the
+/// Count.
 #[test]
 fn erased_data_go(rt: HostRuntime) {
     let rows = "
@@ -414,7 +416,7 @@ fn added_deep(alloc: Global, station: &mut Station) -> Option<u16> {
     Some(added(station, &name, 7))
 }
 
-/// Returns how many next hops an Interest for the name `numbered(number)` has.
+/// Returns the number of next hops for Interests with the name `numbered(number)`.
 fn hops_at(alloc: Global, station: &Station, number: u16) -> Option<usize> {
     let name = numbered(alloc, number)?;
     Some(station.hops(name.view()))

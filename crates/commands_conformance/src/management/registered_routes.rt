@@ -6,8 +6,8 @@ use crate::rows::check_rows;
 use mgmt_core::*;
 use std::alloc::Global;
 
-/// Shows a command for a registered route: its action, name, face, origin, cost, flags and
-/// expiration period, or the status that refuses it.
+/// Shows a command for a registered route: the command's action, name, face, origin, cost, flags
+/// and expiration period. If the command is refused, shows the status instead.
 fn route_shown(alloc: Global, row: &str) -> Option<String> {
     let name = name_in(alloc, row)?;
     match Command::read(name.view()) {
@@ -45,8 +45,8 @@ fn fields_of_routes(rt: HostRuntime) {
     check_rows(&rt, rt.alloc(), rows, route_shown);
 }
 
-/// Commands with a field of a wrong form, commands without a required field, and commands with a
-/// field that they do not take, are refused with status 400. The command `rib/list` does not exist.
+/// A command is refused with status 400 if it has a field of a wrong form, lacks a required field,
+/// or has a field that it does not take. The command `rib/list` does not exist.
 #[test]
 fn fields_that_routes_need_and_take(rt: HostRuntime) {
     let rows = "
@@ -117,8 +117,8 @@ register 680b07030801416901026a0105, register 680e07060801410801426901096c0100, 
     check_rows(&rt, rt.alloc(), rows, answers);
 }
 
-/// Routes with an expiration period of 1,000 milliseconds, of 0 milliseconds and of the greatest
-/// u64 of milliseconds, and a route without an expiration period.
+/// Tests expiration periods of 1,000 milliseconds, of 0 milliseconds, and of the greatest u64 of
+/// milliseconds. Also tests a route without an expiration period.
 #[test]
 fn routes_end(rt: HostRuntime) {
     let rows = "
@@ -140,8 +140,8 @@ register 680b07030801416901026a0103, register 680f07030801416901026a01036d0203e8
     check_rows(&rt, rt.alloc(), rows, answers);
 }
 
-/// Two routes with the same face and different origins: the least cost is used, and each route is
-/// removed by its origin.
+/// If a name has two routes with the same face and different origins, the lesser cost is used. Each
+/// of these routes is removed by its origin.
 #[test]
 fn routes_of_two_origins(rt: HostRuntime) {
     let rows = "

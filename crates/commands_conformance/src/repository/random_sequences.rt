@@ -93,8 +93,8 @@ fn number(all: &[Made], plain: &Plain, name: usize, can_be_prefix: bool) -> Opti
     Some(count)
 }
 
-/// Considers the objects that answer an Interest with this name and this value of CanBePrefix.
-/// Returns the object with the least full name, or `Some(None)` if no object answers.
+/// Returns the object with the least full name among those that answer an Interest with this name
+/// and this value of CanBePrefix. Returns `Some(None)` if no object answers this Interest.
 fn least<'a>(
     all: &'a [Made],
     plain: &Plain,
@@ -169,7 +169,8 @@ fn command_reply(
     status_and_count(repo, command.view(), now)
 }
 
-/// Returns whether the repository answers a command as expected.
+/// Applies a random command to the repository and to the plain lists. Returns whether both give the
+/// same status and the same count.
 fn command_agrees(
     alloc: Global,
     all: &[Made],
@@ -193,7 +194,8 @@ fn command_agrees(
     Some(reply == expected(all, plain, verb, wanted)?)
 }
 
-/// Returns whether the repository answers an offer as expected.
+/// Offers a random Data to the repository and to the plain lists. Returns whether both agree on
+/// whether the Data answers a want.
 fn offer_agrees(all: &[Made], repo: &mut Repo, plain: &mut Plain, state: &mut u64) -> Option<bool> {
     let place = random(state, 10) as usize;
     let one = all.get(place)?;
@@ -217,7 +219,8 @@ fn is_served(repo: &Repo, packet: &[u8], expected: Option<&[u8]>) -> Option<bool
     Some(repo.serve(&interest) == expected)
 }
 
-/// Returns whether the repository serves an Interest as expected.
+/// Returns whether the repository and the plain lists agree on which Data is served for a random
+/// Interest.
 fn serve_agrees(
     alloc: Global,
     all: &[Made],

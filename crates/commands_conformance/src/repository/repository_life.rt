@@ -1,4 +1,5 @@
-//! Tests of consecutive commands, Data and Interests.
+//! Tests of consecutive commands, Data and Interests. A want is a pending insert, and an object is
+//! a stored Data.
 
 use super::answers;
 use crate::rows::check_rows;
@@ -13,7 +14,7 @@ insert /A 1000000, offer /A 01, insert /A 1000000, serve /A, delete /A 1000000, 
     check_rows(&rt, rt.alloc(), rows, answers);
 }
 
-/// Data that are not wanted are not stored.
+/// A Data that answers no want is not stored.
 #[test]
 fn unwanted_data_are_not_stored(rt: HostRuntime) {
     let rows = "
@@ -31,7 +32,8 @@ insert /A 0, insert /A* 0, insert /B 0, offer /A 01, offer /A 02, check /A 0, de
     check_rows(&rt, rt.alloc(), rows, answers);
 }
 
-/// A check and a delete count each object that answers. The delete also removes these objects.
+/// A check and a delete count each object that answers the Interest in the command. The delete also
+/// removes these objects.
 #[test]
 fn each_object_that_answers_is_counted(rt: HostRuntime) {
     let rows = "
@@ -40,7 +42,7 @@ insert /A/1* 0, offer /A/1/x 01, insert /A/2* 0, offer /A/2/y 02, check /A* 0, c
     check_rows(&rt, rt.alloc(), rows, answers);
 }
 
-/// A delete removes a want only if the want has the same CanBePrefix.
+/// A delete removes a want only if the want has the same CanBePrefix as the delete.
 #[test]
 fn a_delete_takes_the_want_of_its_own_flag(rt: HostRuntime) {
     let rows = "
@@ -49,7 +51,8 @@ insert /A 0, delete /A* 0, check /A 0, delete /A 0, check /A 0 -> 100:0 /A 4000,
     check_rows(&rt, rt.alloc(), rows, answers);
 }
 
-/// Among the Data that answer, the one with the least full name is served, whether fresh or not.
+/// Among the stored Data that answer an Interest, the Data with the least full name is served,
+/// whether this Data is fresh or not.
 #[test]
 fn the_least_full_name_is_served(rt: HostRuntime) {
     let rows = "

@@ -246,8 +246,8 @@ fn next_agreed(alloc: Global, numbers: &mut Numbers) -> Option<bool> {
     agreed(alloc, text.as_str(), &atoms, group, &letters)
 }
 
-/// Returns how many of 3000 random patterns match a random name. If the simple program disagrees on
-/// a pattern, returns the number of the first such pattern.
+/// Tries 3000 random patterns, each with another random name, and returns how many patterns match.
+/// If the simple program disagrees on a pattern, returns the number of the first such pattern.
 fn matches_of_3000(alloc: Global) -> Result<u32, u32> {
     let mut numbers = Numbers(2014);
     let mut matched = 0u32;

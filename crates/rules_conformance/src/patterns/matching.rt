@@ -296,8 +296,8 @@ fn examples_for_operators(rt: HostRuntime) {
 const EACH_PART: &str =
     "(<>*)[<KEY><%41><seg=5>][^<b>]{1,3}(<params-sha256=0000000000000000000000000000000000000000000000000000000000000000>)";
 
-/// Returns whether the pattern is read, has two groups, and does not match the empty name. Also
-/// returns true if memory runs out.
+/// Returns whether the pattern `EACH_PART` is read, has two groups, and does not match the empty
+/// name. Also returns true if memory runs out.
 fn is_read_unless_memory(alloc: Global) -> bool {
     match Pattern::read(alloc, EACH_PART) {
         Ok(pattern) => {

@@ -195,7 +195,8 @@ data /B/x by /ops/KEY/1 key → denied 1 SigType
 data /B/x by digest → allowed 1
 ";
 
-/// Only the first rule that applies decides, even if a later rule would allow the packet.
+/// The decision on a packet comes only from the first rule that applies to the packet, even if a
+/// later rule would allow the packet.
 #[test]
 fn the_first_rule_decides(rt: HostRuntime) {
     assert_right(&rt, first_wrong_of(rt.alloc(), FIRST_RULE));
@@ -330,8 +331,8 @@ rule {␊ id a␊ for data }
 data /A by /ops/KEY/1 kez → denied 0 KeyLocator
 ";
 
-/// If a rule has checkers, but none for the packet's signature type, the packet is denied with the
-/// reason `SigType`. A rule without checkers denies a signed packet with the reason `KeyLocator`.
+/// If a rule has checkers, but none for the signature type of a Data, the Data is denied with the
+/// reason `SigType`. A rule without checkers denies a Data with the reason `KeyLocator`.
 #[test]
 fn no_checker_of_the_type(rt: HostRuntime) {
     assert_right(&rt, first_wrong_of(rt.alloc(), NO_CHECKER_OF_THE_TYPE));

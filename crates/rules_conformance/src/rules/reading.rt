@@ -26,8 +26,8 @@ fn told_of(alloc: Global, text: &str) -> Option<String> {
     }
 }
 
-/// Returns whether a row `TEXT → LINE KIND` or `TEXT → rules: 1` is correct, if the row's text is
-/// read between `before` and `after`.
+/// Returns whether a row `TEXT → LINE KIND` or `TEXT → rules: 1` is correct. The text that is read
+/// is `before`, then the row's text, and then `after`.
 fn is_told_between(alloc: Global, before: &str, row: &str, after: &str) -> bool {
     let Some((inner, wanted)) = row.split_once(" → ") else {
         return false;
@@ -92,7 +92,7 @@ fn anchors_give_no_rule(rt: HostRuntime) {
     assert_right(&rt, first_wrong(rt.alloc(), ANCHORS, is_told_so));
 }
 
-/// Tests a row whose text is inside a rule, from line 4 on.
+/// Returns whether a row is correct. The row's text is put inside a rule, and begins on line 4.
 fn is_told_in_rule(alloc: Global, row: &str) -> bool {
     is_told_between(alloc, "rule {␊ id a␊ for data␊ ", row, " }")
 }
@@ -159,7 +159,8 @@ fn checkers(rt: HostRuntime) {
     assert_right(&rt, first_wrong(rt.alloc(), CHECKERS, is_told_in_rule));
 }
 
-/// Tests a row whose text is inside a key locator, from line 7 on.
+/// Returns whether a row is correct. The row's text is put inside a key locator, and begins on
+/// line 7.
 fn is_told_in_locator(alloc: Global, row: &str) -> bool {
     let before = "rule {␊ id a␊ for data␊ checker {␊ type customized␊ key-locator {␊ ";
     is_told_between(alloc, before, row, " } } }")
@@ -192,7 +193,8 @@ fn key_locators(rt: HostRuntime) {
     );
 }
 
-/// Tests a row whose text is inside a hyper-relation, from line 8 on.
+/// Returns whether a row is correct. The row's text is put inside a hyper-relation, and begins
+/// on line 8.
 fn is_told_in_hyper_relation(alloc: Global, row: &str) -> bool {
     let before =
         "rule {␊ id a␊ for data␊ checker {␊ type customized␊ key-locator {␊ hyper-relation {␊ ";
@@ -300,7 +302,7 @@ fn at_most_16_checkers(rt: HostRuntime) {
     assert!(rt; are_blocks_told(rt.alloc(), 17, CHECKER, "0 TooLarge"));
 }
 
-/// Tests a row whose text is the id of a rule.
+/// Returns whether a row is correct. The row's text is put into a rule as the id.
 fn is_id_told_so(alloc: Global, row: &str) -> bool {
     is_told_between(alloc, "rule {␊ id ", row, "␊ for data }")
 }

@@ -31,7 +31,8 @@ fn fresh_under<'a>(store: &'a mut Store, name: Name<'_>, now: u64) -> Option<&'a
     store.find(key_of(name, "pf"), now)
 }
 
-/// Returns whether the fresh Data is found until its FreshnessPeriod is over.
+/// Returns whether the fresh Data is found until its FreshnessPeriod is over, and is not found
+/// afterwards.
 fn is_given_in_time(store: &mut Store, name: Name<'_>, fresh: &[u8]) -> bool {
     let is_given = fresh_under(store, name, 9) == Some(fresh);
     is_given && fresh_under(store, name, 10).is_none()

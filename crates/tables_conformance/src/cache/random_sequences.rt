@@ -31,7 +31,7 @@ struct Made {
     digest: [u8; 32],
 }
 
-/// A cached Data: its index in the list of `all_made`, and the moment of its arrival.
+/// A cached Data: its index in the list that `all_made` returns, and the moment of its arrival.
 #[derive(Clone, Copy)]
 struct Held {
     made: usize,
@@ -137,7 +137,7 @@ fn put_agrees(
 }
 
 /// Calls `find`, `find_counted` or `serve_at`, chosen at random, and returns the result. Returns
-/// `None` if only one of this call and `place_for` finds a Data. Returns `None` also if
+/// `None` if this call and `place_for` disagree on whether there is a Data. Returns `None` also if
 /// `find_counted` takes more than 17 comparisons.
 fn look_up<'a>(
     store: &'a mut Store,

@@ -43,8 +43,8 @@ ask /A 1 7 9, ask /A+p 2 8 9, len, data /A, len -> yes; yes; 2 false; faces 1 2;
 ask /A+p 1 7 9, ask /A+pf 2 8 9, len, data /A/B, len -> yes; yes; 2 false; faces 1 2; 0 true
 ";
 
-/// Two Interests with the same name, only one of which has MustBeFresh or CanBePrefix, have
-/// different keys. A Data may answer both Interests.
+/// If two Interests have the same name, but only one of them has MustBeFresh, their keys differ.
+/// The same is true of CanBePrefix. A Data may answer both Interests.
 #[test]
 fn each_flag_makes_another_key(rt: HostRuntime) {
     check_rows(&rt, rt.alloc(), EACH_FLAG_MAKES_ANOTHER_KEY, answers);
@@ -57,8 +57,8 @@ ask /A 1 7 5, withdraw /A 2, withdraw /B 1, remove /A+p, len -> yes; -; -; -; 1 
 ";
 
 /// For each face, only its latest Interest under a key counts. A withdrawal removes only the
-/// Interest of one face under one key. A removal removes only the Interests under one key, but the
-/// Interests of all faces.
+/// Interest of one face under one key. A removal removes the Interests of all faces under one key,
+/// and no other Interests.
 #[test]
 fn of_each_face_the_last_interest(rt: HostRuntime) {
     check_rows(&rt, rt.alloc(), OF_EACH_FACE_THE_LAST_INTEREST, answers);
@@ -87,8 +87,9 @@ ask /A 1 7 5000, sent /A 1 2 7 0, sent /A 1 3 7 0, nack /A 3 7 50, sent /A 1 3 8
 ask /A 1 7 5000, nack /A 1 7 50, nack /A+f 1 7 50 -> yes; no pending; no pending
 ";
 
-/// When each face to which an Interest was sent has answered with a Nack, the result is the least
-/// reason of these Nacks. A Nack counts only if it has the Nonce that was last sent to its face.
+/// When each face to which an Interest was sent has answered with a Nack, the result of the last
+/// Nack has the least reason of these Nacks. A Nack counts only if it has the Nonce that was last
+/// sent to its face.
 #[test]
 fn the_least_nack_of_all_faces_asked(rt: HostRuntime) {
     check_rows(&rt, rt.alloc(), THE_LEAST_NACK_OF_ALL_FACES_ASKED, answers);

@@ -152,8 +152,8 @@ impl Records {
         self.asked.push(one).ok()
     }
 
-    /// Records the reason of a Nack. Returns whether the last Interest that was sent to the face
-    /// under the key has the Nack's Nonce.
+    /// Returns whether the last Interest that was sent to the face under the key has the Nack's
+    /// Nonce. If so, also records the reason of the Nack.
     fn note(&mut self, key: usize, face: u64, nonce: u64, reason: u64) -> bool {
         let mut is_pending = false;
         for sent in &mut self.asked[..] {
@@ -370,8 +370,8 @@ fn remove(table: &mut Table, records: &mut Records, key: Key<'_>, removal: u64, 
     }
 }
 
-/// Returns a random face, Nonce and moment. The index of the key is at random `first` or the next
-/// index.
+/// Returns a random face, Nonce and moment, and the index of a key. The index is chosen at random
+/// between `first` and the next index.
 fn random_call(first: u64, state: &mut u64) -> Asked {
     let key = first.saturating_add(random(state, 2)) as usize;
     let (face, nonce, moment) = (random(state, 3), random(state, 2), random(state, 20));

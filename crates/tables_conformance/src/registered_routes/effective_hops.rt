@@ -35,8 +35,8 @@ register /A 2 cost=7, register /A 2 cost=5 origin=1, register /A/B 3, of /A/B ->
 register /A 2 cost=1 flags=0, register /A 2 cost=9 origin=1, register /A/B 3, of /A, of /A/B -> 2@1; 3@0 2@9
 ";
 
-/// Among the routes of several origins on one face, the least cost counts. Longer names inherit the
-/// least cost among the child-inherit routes only.
+/// If a name has routes of several origins on one face, the least cost of these routes counts.
+/// Longer names inherit the least cost among the child-inherit routes only.
 #[test]
 fn the_least_cost_counts(rt: HostRuntime) {
     check_rows(&rt, rt.alloc(), THE_LEAST_COST_COUNTS, answers);
@@ -104,8 +104,8 @@ register / 2 cost=1, register /A 2 cost=9, register /A/B 2 cost=5, register /A/B
 register / 2 cost=1, register /A/B 2 cost=9, register /A/B/C/D 4, of /A/B/C/D -> 4@0 2@9
 ";
 
-/// For each face, a name inherits the cost of its longest proper prefix that has a child-inherit
-/// route on this face.
+/// For each face, a name inherits the cost of a child-inherit route on this face. If several proper
+/// prefixes of the name have such a route, the route of the longest of these prefixes counts.
 #[test]
 fn the_nearest_for_each_face(rt: HostRuntime) {
     check_rows(&rt, rt.alloc(), THE_NEAREST_FOR_EACH_FACE, answers);

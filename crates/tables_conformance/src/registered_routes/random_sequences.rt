@@ -191,7 +191,8 @@ impl Plain {
         least
     }
 
-    /// Returns the longest proper prefix of a name that has a child-inherit route on a face.
+    /// Returns the longest of those proper prefixes of a name which have a child-inherit route on a
+    /// face.
     fn nearest(&self, name: usize, face: u64) -> Option<usize> {
         let mut nearest = None;
         for above in 0..8 {
@@ -248,7 +249,7 @@ impl Plain {
         self.inherited_cost(seen, name, face)
     }
 
-    /// Returns the longest prefix of a name that has a next hop or a route.
+    /// Returns the longest of those prefixes of a name which have a next hop or a route.
     fn longest(&self, name: usize) -> Option<usize> {
         let mut longest = None;
         for prefix in 0..8 {
@@ -422,7 +423,8 @@ fn set_route(
     Some(true)
 }
 
-/// Makes the removal with this number in the table and in the lists.
+/// Makes the same removal in the table and in the lists. If `removal` is 0, removes a next hop. If
+/// `removal` is 1, closes a face. Otherwise removes a route.
 fn remove(
     routes: &mut RouteTable,
     plain: &mut Plain,

@@ -1,4 +1,4 @@
-//! Tests of the limits of routes and names, of the lookup of long names, and of prepared calls.
+//! Tests of the limits on routes and names, of the lookup of long names, and of prepared calls.
 
 use super::list_or_none;
 use crate::route_table::{Route, RouteTable};
@@ -33,7 +33,8 @@ fn register_deep(
     Some(routes.register(name.view(), route))
 }
 
-/// Unregisters the route with the origin 0 of the name with this number.
+/// Unregisters a route of the name with this number. The route is on the face `face` and has the
+/// origin 0.
 fn unregister(alloc: Global, routes: &mut RouteTable, number: u16, face: u64) -> Option<()> {
     let name = numbered(alloc, number)?;
     routes.unregister(name.view(), face, 0);
@@ -169,8 +170,8 @@ fn tells_refusals(alloc: Global, routes: &mut RouteTable) -> Option<bool> {
     Some(is_told && refused && register_deep(alloc, routes, 0, route)?.is_ok())
 }
 
-/// Registers a route for each name of 0 to 32 components `A`. The route of the name with N
-/// components is on face N.
+/// Registers routes for the names `/`, `/A`, `/A/A` and so on, up to 32 components. The route of
+/// the name with N components is on face N, and its cost is 32 - N.
 fn register_33(alloc: Global, routes: &mut RouteTable) -> Option<()> {
     for depth in 0..33 {
         let mut route = Route::new(depth as u64, 0);
