@@ -1530,9 +1530,9 @@ fn silence(alloc: Global, rows: &str, from: Option<u16>) -> Option<Silence> {
     Some(silence_of(&request, from, false))
 }
 
-/// A client that gets no answer to a command under `/localhost` reports `Late` with a source port,
-/// and `Far` without a source port. A client that gets no answer to a command to a repository
-/// reports `Late`, even without a source port.
+/// A client that gets no answer to a command under `/localhost` reports `Late` if a source port is
+/// given, and `Far` if no source port is given. A client that gets no answer to a command to a
+/// repository reports `Late`, even if no source port is given.
 #[test]
 fn silences(rt: HostRuntime) {
     assert!(rt; silence(rt.alloc(), ROUTE_ANSWERS, None) == Some(Silence::Far));

@@ -10,7 +10,7 @@ use test_support::{KEYS, SAMPLE, first_wrong};
 
 /// Each row has the datagrams that arrive after a command was sent, and how the command ends.
 /// `reply` is the node's reply to the command. `forged` is the node's reply with a wrong signature.
-/// `earlier` is the node's reply to the previous command, which arrives too late.
+/// `earlier` is the node's reply to the previous command. This reply arrives too late.
 const HEARD: &str = "
 reply => done status 200 OK␊name /A␊face 2␊cost 5␊
 forged earlier reply => done status 200 OK␊name /A␊face 2␊cost 5␊

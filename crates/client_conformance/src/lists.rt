@@ -39,8 +39,8 @@ fn goes_on(alloc: Global, scene: &mut Scene, exchange: &mut Exchange, book: &Key
     matches!(turn(alloc, scene, exchange, book), Some(Progress::Next))
 }
 
-/// Returns whether the third segment ends the list, and the client prints the table of the 130
-/// routes.
+/// Returns whether the third segment ends the list, and whether the client then prints the table of
+/// the 130 routes.
 fn ends_with_table(
     alloc: Global,
     scene: &mut Scene,
@@ -108,7 +108,8 @@ fn routes_in_three_segments(rt: HostRuntime) {
     assert!(rt; is_right(rt.alloc(), &lists_routes) == Some(true));
 }
 
-/// Returns whether a repository accepts 64 wants and no more.
+/// Returns whether a repository accepts 64 inserts that wait for their Data, and refuses one more
+/// insert with status 503.
 fn takes_wants(alloc: Global, scene: &mut Scene, book: &KeyBook) -> Option<bool> {
     for number in 0..64 {
         let row = format!(in alloc;

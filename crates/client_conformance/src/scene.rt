@@ -33,8 +33,8 @@ fn rules_of(alloc: Global, text: &str) -> Option<Rules> {
     Rules::read(alloc, &tree).ok()
 }
 
-/// Returns the parts of a node with these rules and the sample keys, whose repository has the
-/// prefix `/repo`.
+/// Returns the parts of a node with these rules and the sample keys. The prefix of the node's
+/// repository is `/repo`.
 fn parts_of(alloc: Global, rules: &str) -> Option<NodeParts> {
     let rules = rules_of(alloc, rules)?;
     let keys = KeyBook::read(alloc, KEYS).ok()?;

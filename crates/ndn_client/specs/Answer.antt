@@ -32,7 +32,7 @@ use Rattle.ndn_requests.specs.Parameters.{command_name, IsTooLong}
 
 -- ---- the key
 
--- the signature is an HMAC with this key name, and its key is the book's key of this name
+-- the signature is an HMAC whose key has this name in the book, and the signature names this key
 abbrev pub IsHmac : List Field → List NamedKey → Sign → Type 0
 IsHmac name book Digest = ⊥
 IsHmac name book (Hmac key_name key) = (components key_name ≡ name) × IsAmong (name, key.now) book
@@ -48,7 +48,7 @@ LacksChosen (Some name) book = LacksKey name book
 abbrev pub IsNoKey : Option (List Field) → List NamedKey → ToolFault → Type 0
 IsNoKey key book why = (why ≡ fault.NoKey) × LacksChosen key book
 
--- how an Interest is signed: not at all without a key name, otherwise with the named key
+-- how an Interest is signed: with the named key, or not at all if no key is named
 abbrev pub SignsInterest : Option (List Field) → List NamedKey → Option Sign → Type 0
 SignsInterest None book sign = sign ≡ None
 SignsInterest (Some name) book None = ⊥
@@ -80,7 +80,7 @@ pub record AsksData (job : DataJob) (book : List NamedKey) (w : DataWriter) : Ty
   pub content : option_map (λ c. c.now) w.content ≡ option_map (λ c. c.items) job.content
   pub sign : SignsData job.key.key book w.sign
 
--- how a command is signed: with DigestSha256 without a key name, otherwise with the named key
+-- how a command is signed: with the named key, or with DigestSha256 if no key is named
 abbrev pub SignsCommand : Option (List Field) → List NamedKey → Option Sign → Type 0
 SignsCommand key book None = ⊥
 SignsCommand key book (Some sign) = SignsData key book sign

@@ -22,7 +22,7 @@ IsUnread path (Unread place kind) = string_bytes place ≡ path
 IsUnread path (Tool why) = why ≡ Memory
 IsUnread path why = ⊥
 
--- if the fault is that the file cannot be read, then `kind` is the cause
+-- if the fault is `Unread`, the cause in the fault is `kind`
 abbrev pub HasCause : ErrorKind → Fault → Type 0
 HasCause kind (Unread path cause) = cause ≡ kind
 HasCause kind why = ⊤

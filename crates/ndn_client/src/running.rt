@@ -181,7 +181,8 @@ fn next_answer<R: Clock + AllocGlobal + Eprint + Print>(
 /// # Errors
 ///
 /// `Unbound` if the given port `from` cannot be bound, for example because another program uses the
-/// port. `Send` if no port can be bound without `from`, or the socket cannot be connected to `to`.
+/// port. `Send` if `from` is not given and no port can be bound, or if the socket cannot be
+/// connected to `to`.
 pub fn socket_of<R: Net>(rt: &R, from: Option<u16>, to: u16) -> Result<UdpSocket, Fault> {
     let Ok(socket) = UdpSocket::bind(rt, (Ipv4Addr::LOCALHOST, from.unwrap_or(0))) else {
         return Err(match from {
@@ -214,7 +215,7 @@ fn receive<R: Clock>(
 {
     let waited = start.elapsed(rt).map_err(|_| Missed::Clock)?;
     let left = Duration::from_secs(ANSWER_SECONDS).saturating_sub(waited);
-    // If no time remains, the answer is late: the system refuses a timeout of zero.
+    // The system refuses a timeout of zero. So if no time remains, the answer is late.
     socket
         .set_read_timeout(Some(left))
         .map_err(|_| Missed::Late)?;

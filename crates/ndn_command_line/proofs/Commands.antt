@@ -45,7 +45,8 @@ pub added_below : (old sub new : Command) (app below : App) → HasApp app old �
 added_below old sub new app below c s adds =
     (adds.shape s.1 ∙ ap₂ with_subcommand c.0 (ap (λ (a : App). a.top) s.0), adds.globals ∙ ap₂ (λ a b. a || b) c.1 s.1)
 
--- adding the rules and then one more rule is the same as adding the longer list of rules
+-- adding a list of rules and then one more rule is the same as adding the list with this rule at
+-- its end
 pub rules_then : (app : App) (rules : List Rule) (rule : Rule) → with_rules app (rules ++ rule ∷ []) ≡ with_rule (with_rules app rules) rule
 rules_then app [] rule = refl
 rules_then app (r ∷ rules) rule = rules_then (with_rule app r) rules rule

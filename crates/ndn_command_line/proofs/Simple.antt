@@ -1,5 +1,5 @@
--- The program's command line is simple in the sense of the specification of `clap`. So this
--- specification determines what a command line matches.
+-- The program's command line is simple in the sense of the specification of `clap`. So the
+-- specification determines what `clap` finds in the arguments.
 use Rattle.std.proofs.Common.{◌≡◌, true, refl}
 use Rattle.clap.specs.Words.{is_simple}
 use Rattle.clap.specs.Faults.{is_simple_and_free}

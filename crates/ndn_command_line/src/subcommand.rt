@@ -51,7 +51,7 @@ impl Subcommand {
         }
     }
 
-    /// Returns the command line of the subcommand.
+    /// Returns the subcommand as `clap` represents it.
     fn command<'a>(self, alloc: Global) -> Result<Command<'a>, AllocError>
         ensures { IfOk result (HasApp (app_for self)) }
     {
@@ -298,7 +298,7 @@ fn peek_command<'a>(alloc: Global) -> Result<Command<'a>, AllocError>
     described(alloc, "peek", about, help::PEEK, &arguments)
 }
 
-/// Adds the options of a stamp to a command: time, Nonce, sequence number, key and ports.
+/// Adds to a command the options of a stamp: time, Nonce, sequence number, key and ports.
 fn with_stamp<'a>(alloc: Global, command: Command<'a>) -> Result<Command<'a>, AllocError>
     ensures { (app : App) → HasApp app command.entry → IfOk result (HasApp (stamped app)) }
 {

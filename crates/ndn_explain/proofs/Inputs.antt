@@ -58,7 +58,7 @@ pub no_octets_said : (keys : Option (List NamedKey)) (text head octets : List �
 no_octets_said keys text head octets e = subst (λ (o : List ℕ). IsExplainedPart keys text head (Ok o) (repeated text)) (sym e) refl
 
 -- in a line that begins with `>`, `parts_of` gives the text before the last space and the digits
--- after it
+-- after this space
 pub parts_found : (line head digits : List ℕ) → is_send line ≡ true → at_last_space line ≡ Some (head, digits) → (head, digits) ≡ parts_of line
 parts_found line head digits s e = rw (s, e) refl
 

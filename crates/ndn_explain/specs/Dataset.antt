@@ -53,8 +53,8 @@ pub record AreLabels (l : Labels) (texts : Texts) : Type 0 where
 
 -- ---- entries
 
--- the short name of the strategy with this URI: the last component of the URI for the strategies
--- best-route and multicast, and the whole URI for any other strategy
+-- the short name of the strategy with this URI: `best-route` or `multicast` for these two
+-- strategies, and the whole URI for any other strategy
 abbrev pub short_strategy : List ℕ → List ℕ
 short_strategy uri =
     if bytes_eq uri (codes "/localhost/nfd/strategy/best-route") then codes "best-route" else (
@@ -75,8 +75,8 @@ hop_words layout es =
     number_word (labels_of layout).face (first_of FACE_ID es)
     ++ number_word (labels_of layout).cost (first_of COST es)
 
--- the line of a route: this name, and the face and the cost in the element; nothing if the element
--- is not a next hop
+-- the line of a route, with this name, and with the face and the cost of the next hop in the
+-- element; nothing if the element is not a next hop
 abbrev pub hop_line : Layout → List ℕ → Result Field TlvFault → List ℕ
 hop_line layout name (Err fault) = []
 hop_line layout name (Ok e) =

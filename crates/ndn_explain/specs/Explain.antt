@@ -1,6 +1,6 @@
 -- The explanation of a packet for debugging, as lines of text: the lines of `show`, the fields of
--- its SignatureInfo (NDN Packet Format 0.3, "Signature"), whether the signature is right, and the
--- segment, the command, the reply or the dataset entries that the packet carries.
+-- the packet's SignatureInfo (NDN Packet Format 0.3, "Signature"), whether the signature is right,
+-- and the segment, the command, the reply or the dataset entries that the packet carries.
 use Rattle.std.specs.Prelude.{ℕ, List, [], ◌∷◌, ◌++◌, codes, Option, None, Some, ◌==◌, if◌then◌else◌}
 use Rattle.std.specs.List.{list_all}
 use Rattle.std.specs.Option.{option_map}
@@ -84,7 +84,8 @@ explanation frame check =
     named_frame_lines frame
     ++ (signer_lines (signature_of frame) ++ (check_lines check ++ meaning frame))
 
--- the line of the PIT token (NDNLPv2, "PIT Token"), and the explanation of the frame
+-- the line of the PIT token if there is a token (NDNLPv2, "PIT Token"), followed by the explanation
+-- of the frame
 abbrev pub framed_explanation : PlainFramed → Option TagCheck → List ℕ
 framed_explanation framed check =
     optional_line (codes "token") (option_map hex_or_dash framed.token)

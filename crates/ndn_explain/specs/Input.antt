@@ -34,8 +34,8 @@ abbrev pub repeated : List ℕ → List ℕ
 repeated [] = []
 repeated (o ∷ text) = line (o ∷ text)
 
--- the explanation of a packet, whose signature is checked if there are keys, or why the octets are
--- not a packet
+-- `said` explains the packet in the octets, or says why the octets are not a packet; the packet's
+-- signature is checked if there are keys
 abbrev pub IsExplainedPacket : Option (List NamedKey) → List ℕ → List ℕ → Type 0
 IsExplainedPacket keys octets said =
     ((framed : PlainFramed) × (check : Option TagCheck) × IsFramed octets framed

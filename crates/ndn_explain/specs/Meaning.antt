@@ -104,8 +104,8 @@ abbrev pub or_else : {X : Type 0} → Option X → Option X → Option X
 or_else None other = other
 or_else (Some x) other = Some x
 
--- the value of a ControlParameters or RepoCommandParameter element, if the value of the component
--- is exactly such an element
+-- the fields of the element in `value`, if `value` is a single ControlParameters or
+-- RepoCommandParameter element
 abbrev pub parameters_of : List ℕ → Option (List ℕ)
 parameters_of value =
     or_else (single CONTROL_PARAMETERS (elements_of value))
@@ -148,7 +148,7 @@ abbrev pub status_text : Option (List ℕ) → List ℕ
 status_text None = codes "-"
 status_text (Some text) = if list_all is_printable text then text else hex_or_dash text
 
--- the line of a status: its code and its text; no line without a code
+-- the line with the code and the text of a status; no line if there is no code
 abbrev pub status_words : Option (List ℕ) → Option (List ℕ) → List ℕ
 status_words None text = []
 status_words (Some code) text =
@@ -167,8 +167,9 @@ node_reply_lines es = status_line STATUS_CODE es ++ body_lines (first_of CONTROL
 abbrev pub repository_reply_lines : Elements → List ℕ
 repository_reply_lines es = status_line REPO_STATUS_CODE es ++ field_lines es
 
--- the lines of the node's response if there is one, otherwise the lines of the repository's
--- response if there is one, otherwise no lines; each response is given by its fields
+-- The lines of a response. The first argument has the fields of the node's response, and the second
+-- argument has the fields of a repository's response. The repository's response counts only if
+-- there is no response of the node. There are no lines if there is no response.
 abbrev pub or_repository : Option (List ℕ) → Option (List ℕ) → List ℕ
 or_repository (Some fields) other = node_reply_lines (elements_of fields)
 or_repository None (Some fields) = repository_reply_lines (elements_of fields)

@@ -21,7 +21,8 @@ pub enum Layout {
     Table,
 }
 
-/// The text that is printed before each value of an entry.
+/// For each value in a line, the text that is printed before the value. In the line of a route,
+/// `route` precedes the name. In the line of a strategy choice, `choice` precedes the name.
 #[derive(Clone, Copy)]
 struct Labels {
     route: &'static str,
@@ -31,9 +32,9 @@ struct Labels {
     strategy: &'static str,
 }
 
-/// Appends the lines of all entries in a Content, or nothing if the Content has no entries. The
-/// first malformed element and all octets after it are ignored. On `Memory`, some of the lines may
-/// have been appended.
+/// Appends the lines of the entries in a Content, or nothing if the Content has no entries. The
+/// first malformed element and all octets after this element are ignored. On `Memory`, some of the
+/// lines may have been appended.
 pub fn put_entries(
     alloc: Global,
     text: &mut Vec<u8>,
@@ -53,7 +54,8 @@ pub fn put_entries(
     Ok(())
 }
 
-/// Appends the lines of an element if it is an entry, and nothing otherwise.
+/// Appends the lines of an element if the element is an entry. Appends nothing for any other
+/// element.
 fn put_entry(
     alloc: Global,
     text: &mut Vec<u8>,
@@ -83,7 +85,7 @@ fn put_entry_name(alloc: Global, text: &mut Vec<u8>, name: Option<&[u8]>) -> Res
     }
 }
 
-/// Appends the line of an entry's strategy, if the entry has one.
+/// Appends the line of a strategy choice, or nothing if `strategy` is `None`.
 fn put_choice(
     alloc: Global,
     text: &mut Vec<u8>,
@@ -108,8 +110,8 @@ fn put_choice(
     Ok(())
 }
 
-/// Returns the last component of the URI for the strategies `best-route` and `multicast`, and the
-/// unchanged URI for any other strategy.
+/// Returns `best-route` or `multicast` if `uri` is the URI of this strategy. Returns any other URI
+/// unchanged.
 fn short_strategy(uri: &[u8]) -> &[u8]
     ensures { result.now ≡ short_strategy uri.now }
 {
@@ -122,7 +124,7 @@ fn short_strategy(uri: &[u8]) -> &[u8]
     uri
 }
 
-/// Appends a line for each next hop of an entry with this name.
+/// Appends a line for each next hop in the fields `entry`. `name` is the text of the entry's name.
 fn put_hops(
     alloc: Global,
     text: &mut Vec<u8>,
@@ -144,7 +146,8 @@ fn put_hops(
     Ok(())
 }
 
-/// Appends the line of an element if it is a next hop, and nothing otherwise.
+/// Appends the line of an element if the element is a next hop. Appends nothing for any other
+/// element.
 fn put_hop(
     alloc: Global,
     text: &mut Vec<u8>,

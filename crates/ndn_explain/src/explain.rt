@@ -32,8 +32,8 @@ pub fn check_of(frame: &Frame<'_>, keys: Option<&KeyBook>) -> Option<TagCheck>
     }
 }
 
-/// Appends the line of the PIT token in hexadecimal, if the frame has a token (NDNLPv2, "PIT
-/// Token"), and then the explanation of the frame. On `Memory`, some of the text may have been
+/// Appends a line with the PIT token in hexadecimal, if the frame has a token (NDNLPv2, "PIT
+/// Token"). Then appends the explanation of the frame. On `Memory`, some of the text may have been
 /// appended.
 pub fn put_framed_explanation(
     alloc: Global,
@@ -48,10 +48,11 @@ pub fn put_framed_explanation(
     put_explanation(alloc, text, &framed.frame, check)
 }
 
-/// Appends the lines that `ndn_tool show` prints, with the name of a Nack's reason after the number
-/// of the reason. Then appends the lines of the SignatureInfo and of the signature check, and the
-/// lines of a segment, a command, a reply, a dataset or a printable Content. On `Memory`, some of
-/// the lines may have been appended.
+/// Appends the lines that `ndn_tool show` prints. For a Nack, the name of the reason is added after
+/// the number of the reason. Then appends the lines of the SignatureInfo and the line of the
+/// signature check. At the end, appends the lines of what the packet carries: a segment, a command,
+/// a reply, a dataset or a printable Content. On `Memory`, some of the lines may have been
+/// appended.
 pub fn put_explanation(
     alloc: Global,
     text: &mut Vec<u8>,
@@ -67,7 +68,8 @@ pub fn put_explanation(
     put_meaning(alloc, text, frame)
 }
 
-/// Appends the lines that `ndn_tool show` prints, with the name of a Nack's reason.
+/// Appends the lines that `ndn_tool show` prints. For a Nack, the name of the reason is added after
+/// the number of the reason.
 fn put_named_frame(alloc: Global, text: &mut Vec<u8>, frame: &Frame<'_>) -> Result<(), Memory>
     ensures { OnOk result (text.new.items
         ≡ text.old.items ++ named_frame_lines (plain_frame frame.now)) }
@@ -100,7 +102,7 @@ fn reason_word(reason: u64) -> &'static str
     }
 }
 
-/// Appends the line with the result of a signature check.
+/// Appends the line with the result of the signature check, or nothing if `check` is `None`.
 fn put_check(text: &mut Vec<u8>, check: Option<TagCheck>) -> Result<(), Memory>
     ensures { OnOk result (text.new.items ≡ text.old.items ++ check_lines check) }
 {
@@ -156,8 +158,8 @@ pub fn put_content(alloc: Global, text: &mut Vec<u8>, content: &[u8]) -> Result<
     put_text(text, content)
 }
 
-/// Appends the line of a Content that consists of printable ASCII, or nothing for any other
-/// Content.
+/// Appends the line of a Content that is not empty and consists of printable ASCII. Appends nothing
+/// for any other Content.
 fn put_text(text: &mut Vec<u8>, content: &[u8]) -> Result<(), Memory>
     ensures { OnOk result (text.new.items ≡ text.old.items ++ text_lines content.now) }
 {

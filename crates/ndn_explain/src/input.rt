@@ -53,7 +53,8 @@ fn put_line(
     put_digits(alloc, text, line, head, digits, keys)
 }
 
-/// Explains the line that consists of the text `head` and these digits.
+/// Explains a line. `head` is the text before the packet, and `digits` are the digits of the
+/// packet, as `parts_of` returns them.
 fn put_digits(
     alloc: Global,
     text: &mut Vec<u8>,
@@ -74,7 +75,8 @@ fn put_digits(
     }
 }
 
-/// Explains a line with these octets, or repeats the line if there are no octets.
+/// Appends `head` as a line, and then the explanation of the octets. If there are no octets,
+/// appends `line` instead. An empty `head` or `line` is left out.
 fn put_octets(
     alloc: Global,
     text: &mut Vec<u8>,
@@ -127,7 +129,8 @@ fn put_repeated(text: &mut Vec<u8>, line: &str) -> Result<(), Memory>
     }
 }
 
-/// Appends the explanation of a packet, or why the octets are not a packet.
+/// Appends the explanation of the packet in `octets`, or the line that says why `octets` are not a
+/// packet.
 fn put_packet(
     alloc: Global,
     text: &mut Vec<u8>,
@@ -146,7 +149,7 @@ fn put_packet(
     }
 }
 
-/// Appends why the octets are not a packet.
+/// Appends the line that says why octets are not a packet.
 fn put_malformed(text: &mut Vec<u8>, fault: PacketFault) -> Result<(), Memory>
     ensures { OnOk result (text.new.items ≡ text.old.items
         ++ named_line (codes "malformed") (packet_name fault)) }

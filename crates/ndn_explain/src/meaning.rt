@@ -70,7 +70,7 @@ pub fn parameters_in<'a>(name: Name<'a>) -> Option<&'a [u8]>
     parameters_of(component.value)
 }
 
-/// Returns the fields in a component's value, if this value is a single ControlParameters or
+/// Returns the fields of the element in `value`, if `value` is a single ControlParameters or
 /// RepoCommandParameter element.
 fn parameters_of(value: &[u8]) -> Option<&[u8]>
     ensures { option_map (λ v. v.now) result ≡ parameters_of value.now }
@@ -130,8 +130,8 @@ fn put_status(alloc: Global, text: &mut Vec<u8>, fields: &[u8], kind: u32) -> Re
     Ok(())
 }
 
-/// Appends the StatusText, in hexadecimal if it is not printable ASCII, or a dash if there is no
-/// StatusText.
+/// Appends the StatusText, or a dash if there is no StatusText. A StatusText that is not printable
+/// ASCII is appended in hexadecimal.
 fn put_status_text(alloc: Global, text: &mut Vec<u8>, status: Option<&[u8]>) -> Result<(), Memory>
     ensures { OnOk result (text.new.items ≡ text.old.items
         ++ status_text (option_map (λ s. s.now) status.entry)) }
@@ -151,7 +151,8 @@ pub fn is_one_line(octets: &[u8]) -> bool
     octets.iter().all(|&octet| 32 <= octet && octet <= 126)
 }
 
-/// Appends a line for each field that is present.
+/// Appends a line for each of these fields that is present: name, face, cost, origin, flags,
+/// expiration period, strategy, count, CanBePrefix and InterestLifetime.
 fn put_fields(alloc: Global, text: &mut Vec<u8>, fields: &[u8]) -> Result<(), Memory>
     ensures { OnOk result (text.new.items
         ≡ text.old.items ++ field_lines (elements_of fields.now)) }
@@ -172,8 +173,8 @@ fn put_hop(alloc: Global, text: &mut Vec<u8>, fields: &[u8]) -> Result<(), Memor
     put_field(alloc, text, "cost", Form::Number, fields, COST)
 }
 
-/// Appends the lines of the fields that only a registered route has, if they are present: origin,
-/// flags and expiration period.
+/// Appends the lines of the origin, the flags and the expiration period, if these fields are
+/// present. Only registered routes have these fields.
 fn put_route(alloc: Global, text: &mut Vec<u8>, fields: &[u8]) -> Result<(), Memory>
     ensures { OnOk result (text.new.items
         ≡ text.old.items ++ route_lines (elements_of fields.now)) }
@@ -190,8 +191,8 @@ fn put_route(alloc: Global, text: &mut Vec<u8>, fields: &[u8]) -> Result<(), Mem
     )
 }
 
-/// Appends the lines of the fields that only a repository's command has, if they are present:
-/// CanBePrefix and InterestLifetime.
+/// Appends the lines of CanBePrefix and InterestLifetime, if these fields are present. Only a
+/// repository's commands have these fields.
 fn put_wanted(alloc: Global, text: &mut Vec<u8>, fields: &[u8]) -> Result<(), Memory>
     ensures { OnOk result (text.new.items
         ≡ text.old.items ++ wanted_lines (elements_of fields.now)) }
@@ -233,7 +234,7 @@ fn put_field(
     Ok(())
 }
 
-/// Appends the text of a value in this form.
+/// Appends the text of `value`, which is read as `form` says.
 pub fn put_form(alloc: Global, text: &mut Vec<u8>, form: Form, value: &[u8]) -> Result<(), Memory>
     ensures { OnOk result (text.new.items ≡ text.old.items ++ form_text form value.now) }
 {
@@ -267,7 +268,7 @@ fn put_flags_text(alloc: Global, text: &mut Vec<u8>, value: &[u8]) -> Result<(),
     }
 }
 
-/// Returns the names of a route's flags.
+/// Returns the names of a route's flags, or `none` if neither flag is set.
 fn flags_word(flags: u64) -> &'static str
     ensures { result.now ≡ flags_word flags }
 {

@@ -16,8 +16,8 @@ use ndn_tlv::{Memory, first_field, single_element};
 use std::alloc::Global;
 
 /// Returns the Content in the octets, if the octets are exactly the reply that a node writes to the
-/// command with this name. The reply is a Data of any length without MetaInfo, signed with
-/// DigestSha256. Returns `None` for any other octets.
+/// command with this name. The reply is a Data that has no MetaInfo and is signed with
+/// DigestSha256. The Data may have any length. Returns `None` for any other octets.
 pub fn written_content<'a>(
     alloc: Global,
     name: Name<'_>,

@@ -55,8 +55,8 @@ IsFlag said b =
     × (said ≡ Some (codes "false") → b ≡ false)
     × (said ≡ None → b ≡ false)
 
--- the words `best-route` and `multicast` stand for the names of these strategies, and any other
--- word stands for itself
+-- the words `best-route` and `multicast` stand for the URIs of these strategies, and any other word
+-- stands for itself
 abbrev pub strategy_uri : List ℕ → List ℕ
 strategy_uri word =
     if bytes_eq word (codes "best-route") then codes "/localhost/nfd/strategy/best-route" else (

@@ -45,8 +45,8 @@ IsVerb subcommand verb action = action_of subcommand verb ≡ Some action
 abbrev pub may_give : Action → ℕ → Option (List ℕ) → Bool
 may_give action kind value = takes kind (row_of action) || is_none value
 
--- whether the options suit a command on routes: a face is given, and each other option that is
--- given belongs to a field of the command
+-- whether the options suit a command on routes: a face is given, and each of the options `cost`,
+-- `origin`, `flags` and `expires` that is given belongs to a field of the command
 abbrev pub fits_route : Action → List Row → Bool
 fits_route action rows =
     is_some (value_at rows (codes "face"))

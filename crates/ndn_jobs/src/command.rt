@@ -64,7 +64,7 @@ fn job_of(alloc: Global, matches: &ArgMatches<'_>, now: u64, words: &[u8]) -> Re
     }
 }
 
-/// Returns the name of the subcommand that was found, and its options, or `None` if no subcommand
+/// Returns the name and the options of the subcommand that was found, or `None` if no subcommand
 /// was found.
 fn used<'a, 'm>(matches: &'m ArgMatches<'a>) -> Option<(&'a str, &'m ArgMatches<'a>)>
     ensures { option_map (λ p. (p.0.now, rows_in p.1.now)) result ≡ subcommand_rows_of matches.now }

@@ -46,7 +46,8 @@ pub fn nonce_or(
 }
 
 /// Returns a Nonce that is computed from a time and the words of a command line: the first four
-/// octets of SHA-256 over the time in decimal digits, followed by the words.
+/// octets of the SHA-256 digest of a text. The text is the time in decimal digits, and then the
+/// words.
 fn nonce_of(alloc: Global, time: u64, words: &[u8]) -> Result<[u8; 4], AllocError>
     ensures { IfOk result (λ nonce. nonce ≡ nonce_of time words.now) }
 {

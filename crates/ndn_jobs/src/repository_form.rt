@@ -12,8 +12,7 @@ use ndn_names::component_type::GENERIC;
 use ndn_names::{NameBuf, NameFault};
 use std::alloc::Global;
 
-/// Returns the name of the command: the repository's prefix, and the verb as one component after
-/// it.
+/// Returns the name of the command: the repository's prefix, followed by the verb as one component.
 pub fn repository_name(alloc: Global, options: &ArgMatches<'_>) -> Result<NameBuf, ToolFault>
     ensures { ReadsInMemory (IsRepositoryName (rows_in options.now)) result }
 {

@@ -56,7 +56,7 @@ node_path part word =
 abbrev pub node_name : Action → List Field
 node_name action = node_path (row_of action).part (row_of action).verb
 
--- the types of the fields that are written for these parameters
+-- the types of the fields that are written for these parameters in a command for the node
 abbrev pub kinds : Parameters → List ℕ
 kinds p = map (λ (f : Field). f.0) (node_fields p)
 

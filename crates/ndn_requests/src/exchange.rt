@@ -21,7 +21,8 @@ use std::alloc::Global;
 /// What is printed of the answer to a request.
 #[derive(Clone, Copy, Debug, PartialEq, Eq)]
 pub enum View {
-    /// The first datagram, whatever it is, as a line of hexadecimal.
+    /// The first datagram that arrives, as a line of hexadecimal, even if this datagram does not
+    /// answer the request.
     Hexadecimal,
     /// The lines that `explain` prints for the answer.
     Lines,
@@ -110,7 +111,7 @@ impl Exchange {
         }
     }
 
-    /// Returns what is printed of the answer.
+    /// Returns what is printed of the answer `datagram`.
     fn printed(&self, alloc: Global, datagram: &[u8]) -> Result<Vec<u8>, Memory>
         ensures { IfOk result (λ text. text.items
             ≡ printed self.now.view self.now.request.items datagram.now) }
@@ -277,7 +278,8 @@ fn place_of(is_first: bool, packet: &Data<'_>) -> Option<(u64, u64)>
     Some((segment, last))
 }
 
-/// Returns the name of the segment after the segment with this number.
+/// Returns the name of the segment that follows the segment with the name `name` and the number
+/// `segment`.
 fn next_name(alloc: Global, name: Name<'_>, segment: u64) -> Result<NameBuf, Memory>
     requires { segment + 1 < 2 ^ 64 }
     ensures { IfOk result (λ next. next ≡ next_name (components name.entry) segment) }

@@ -18,9 +18,9 @@ ghost use Rattle.ndn_requests.specs.Commands.{AreValues, Fits64, IsWhole, asked_
 ghost use Rattle.ndn_requests.specs.Reply.{content_outcome, done_if, is_insert, is_of_repository};
 ghost use Rattle.ndn_requests.specs.Shown.{node_shown, repository_shown};
 
-/// Law: the node reads the name of a command as exactly the command that was asked for, whatever
-/// digest follows the parameters. The node answers 400 exactly if the parameters do not suit the
-/// command.
+/// Law: if the parameters suit the command, the node reads the name of the command as exactly the
+/// command that was asked for. Otherwise the node refuses the name with status 400. The digest that
+/// follows the parameters makes no difference.
 pub fn nodes_read_what_is_asked()
     ensures { (action : Action) (p : Parameters) (digest : List ℕ) → AreValues p
         → IsWhole (command_name (node_name action) p)
@@ -38,8 +38,8 @@ pub fn repositories_read_what_is_asked()
         ≡ Some (wanted_of verb p) }
 {}
 
-/// Law: for a reply that the node or a repository writes, exactly the fields of the reply are
-/// printed.
+/// Law: for a reply that the node or a repository writes, exactly the status and the fields of the
+/// reply are printed.
 pub fn replies_are_explained()
     ensures node { (c : PlainCommand) (face status : ℕ) (text : List ℕ) → IsWhole c.name
         → face < 2 ^ 64 → c.face < 2 ^ 64 → c.origin < 2 ^ 64 → c.cost < 2 ^ 64

@@ -18,9 +18,9 @@ use ndn_packets::types::{CAN_BE_PREFIX, INTEREST_LIFETIME, NAME};
 use ndn_tlv::{Memory, put_element, put_flag, put_number_field};
 use std::alloc::Global;
 
-/// The parameters of a command for the node or for a repository. In a command for a repository,
-/// fields that only commands for the node have are left out. In a command for the node, fields that
-/// only commands for a repository have are left out.
+/// The parameters of a command for the node or for a repository. A command for a repository leaves
+/// out the fields that only the node's commands have. A command for the node leaves out the fields
+/// that only a repository's commands have.
 #[derive(Drop)]
 pub struct Parameters {
     /// The name that the command applies to.
@@ -46,7 +46,7 @@ pub struct Parameters {
 }
 
 /// Returns the name of a command's Interest without the parameters digest: the command's own name,
-/// with the parameters as the last component.
+/// followed by the parameters as one component.
 ///
 /// Returns `TooLong` if the name has too many components for the parameters to follow. The only
 /// other error is `Memory`.
@@ -73,7 +73,7 @@ pub fn command_name(
     }
 }
 
-/// Returns the element of the parameters of a command with this name.
+/// Returns the parameters of a command with this name, as an element.
 fn parameters_element(
     alloc: Global,
     name: &NameBuf,
@@ -93,8 +93,8 @@ fn parameters_element(
     Ok(text)
 }
 
-/// Returns whether a command with this name is for the node itself: the name is under
-/// `/localhost/nfd`.
+/// Returns whether a command with this name is for the node itself, that is, whether the name is
+/// under `/localhost/nfd`.
 fn is_of_node(name: Name<'_>) -> bool
     ensures { result ≡ is_of_node (components name.entry) }
 {

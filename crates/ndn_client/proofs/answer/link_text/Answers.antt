@@ -3,7 +3,7 @@ use Rattle.ndn_packets.specs.Writing.{lp_text}
 use Rattle.ndn_explain.specs.Show.{hex_line}
 use Rattle.ndn_client.proofs.answer.link_text.Goals as goal
 
--- after a link packet is appended to an empty buffer, the buffer is exactly the link packet
+-- appending a link packet to an empty buffer gives exactly the link packet
 put : (frame old lent packet : List ℕ) (given token : Option (List ℕ))
     → frame ≡ old ++ lp_text given None lent → old ≡ [] → given ≡ token → lent ≡ packet → frame ≡ lp_text token None packet
 put frame old lent packet given token e none of at =
