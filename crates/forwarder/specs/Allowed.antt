@@ -25,8 +25,8 @@ AllowedIn first (Then before event answer) packet =
     AllowedIn first before packet
     ⊎ ((was : Policy) × IsPolicyOf first before was × Allows was event packet)
 
--- some event of the run brought this packet, and the packet was allowed; `now` is the greatest
--- moment of the events of the run, up to and including this event
+-- some event of the run brought this packet, and the packet was allowed at that event; `now` is the
+-- greatest moment of the run's events, up to and including that event
 abbrev pub AllowedAt : Policy → Run → PlainFrame → ℕ → Type 0
 AllowedAt first Start packet now = ⊥
 AllowedAt first (Then before event answer) packet now =

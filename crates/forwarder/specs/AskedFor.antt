@@ -31,8 +31,8 @@ pub record BringsPacketOn (event : PlainEvent) (face : ℕ) (packet : PlainFrame
   pub brings : event ≡ Packet face now octets
   pub read : frame_at octets ≡ Ok packet
 
--- `octets` are the node's own answer to the Interest `i` with the octets `asked`: the reply to a
--- command, or the requested segment of a list
+-- `octets` are the node's own answer to the Interest `i`: the reply to a command, or the requested
+-- segment of a list; `asked` are the octets of the Interest
 abbrev pub IsOwnAnswer : Policy → ℕ → List ℕ → PlainInterest → List ℕ → Type 0
 IsOwnAnswer p face asked i octets =
     IsReplyToCommand p face asked i octets ⊎ IsSegmentAskedFor p face i octets

@@ -154,7 +154,8 @@ id_of rules rule = unwrap_or (option_map (λ r. r.id) (slice_get rules rule)) []
 abbrev pub denial_text : Policy → ℕ → Reason → List ℕ
 denial_text p rule reason = reason_name reason ++ (codes " by " ++ id_of p.rules rule)
 
--- a Data with the command's name, sent back on the face that the command came from
+-- a Data with the name of the command and with this Content, sent back on the face that the command
+-- came from
 abbrev pub replied : ℕ → Token → PlainInterest → List ℕ → Send
 replied face token i content = sent_back face token (reply_text i.name content)
 
@@ -201,8 +202,8 @@ IsDenial p face token (AData whole d) decided.NoRule answer =
 IsDenial p face token (ANack reason whole i) decision answer = ⊥
 IsDenial p face token Idle decision answer = ⊥
 
--- The policy after the signer, the SignatureTime and the SignatureSeqNum of an allowed command are
--- recorded in the guard. With None, nothing is recorded and the policy is unchanged.
+-- Recording the signer, the SignatureTime and the SignatureSeqNum of an allowed command in the
+-- guard of the policy `p` gives this policy. With None, nothing is recorded, and the result is `p`.
 abbrev pub with_record : Policy → Option Recorded → Policy
 with_record p None = p
 with_record p (Some r) = record p { guard = with_recorded p.guard r }

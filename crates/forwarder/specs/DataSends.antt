@@ -26,10 +26,10 @@ use Rattle.forwarder.specs.Request.{ListAsked, is_command, list_asked, request_o
 use Rattle.forwarder.specs.Replies.{Seen, Waits}
 use Rattle.forwarder.specs.Verdict.{Answer, passed}
 
--- The event brings a Data that is allowed. The received octets of the Data are sent to another
--- face, which has a pending Interest that the Data answers. The octets are sent with the token of
--- that Interest. If the Data answers several pending Interests of that face, the token is that of
--- the Interest with the latest deadline (`IsTokenFor`).
+-- The event brings an allowed Data on the face `face`. The received octets of the Data are sent to
+-- another face, which has a pending Interest that the Data answers. The octets are sent with the
+-- token of that Interest. If the Data answers several pending Interests of that face, the token is
+-- that of the Interest with the latest deadline (`IsTokenFor`).
 pub record IsForwardedData (seen : Seen) (event : PlainEvent) (sent : Send) : Type 0 where
   pub face : ℕ
   pub now : ℕ
@@ -126,7 +126,7 @@ IsExplained seen event sent =
 abbrev pub EachIsExplained : Seen → PlainEvent → Answer → Type 0
 EachIsExplained seen event answer = All (IsExplained seen event) answer.sends
 
--- if the event brings a packet, its octets are numbers below 256
+-- if the event brings a packet, the packet's octets are numbers below 256
 abbrev pub BringsOctets : PlainEvent → Type 0
 BringsOctets (Packet face now octets) = AreOctets octets
 BringsOctets (FaceUp face scope now) = ⊤

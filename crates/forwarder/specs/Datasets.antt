@@ -25,8 +25,8 @@ segment_name kind version segment =
 abbrev pub LIST_FRESHNESS : ℕ
 LIST_FRESHNESS = 1000
 
--- the octets of a Data with this name and content, signed with DigestSha256; its FinalBlockId
--- contains the number `last` of the last segment
+-- the octets of a Data with this name and content, signed with DigestSha256; the FinalBlockId of
+-- the Data contains the number `last` of the last segment
 abbrev pub segment_data : List Field → List ℕ → ℕ → List ℕ
 segment_data name content last =
     signed_data sign.Digest name (meta_of (meta_fields (Some LIST_FRESHNESS) (Some last)))
@@ -42,8 +42,9 @@ abbrev pub is_present : Policy → Option ℕ → Bool
 is_present p None = true
 is_present p (Some version) = version == p.table_number
 
--- The answer to an Interest for a segment. The segment of the current list is sent if it exists
--- and the Interest requests the current version or no version. Otherwise the Interest is dropped.
+-- The answer to an Interest for a segment. If the Interest requests the current version or no
+-- version, and the current list has this segment, the segment is sent. Otherwise the Interest is
+-- dropped.
 abbrev pub list_answer : Policy → ℕ → Token → ListAsked → Answer
 list_answer p face token asked =
     if is_present p asked.version

@@ -40,7 +40,8 @@ with_closed p face =
       routes = without_face p.routes face;
     }) else p
 
--- the packet that was read from octets on this face, if there is one and rules decide it
+-- the packet that was read from octets on this face, if rules decide the packet; None if rules do
+-- not decide the packet, or if the octets are malformed
 abbrev pub packet_to_decide : Policy → ℕ → Result PlainFrame PacketFault → Option PlainFrame
 packet_to_decide p face (Err fault) = None
 packet_to_decide p face (Ok packet) = if is_decided p face packet then Some packet else None

@@ -85,8 +85,8 @@ interest_packet i = AnInterest i.whole.now (plain_interest i)
 abbrev pub data_packet : Data → PlainFrame
 data_packet d = AData d.whole.now (plain_data d)
 
--- What is true when a packet comes on a face. The node is sound, the face is open, the packet's
--- token, if there is one, is valid, and each object that the repository stores is a Data.
+-- What is true when a packet comes on a face. The node is sound, and the face is open. The packet's
+-- token, if there is one, is valid. Each object that the repository stores is a Data.
 pub record AwaitsPacket (s : State) (face : ℕ) (token : Token) : Type 0 where
   pub sound : IsSound (state_of s)
   pub from : is_open face s.faces ≡ true

@@ -22,12 +22,14 @@ abbrev pub selection_of : StrategyId → Selection
 selection_of BestRoute = best_route
 selection_of Multicast = multicast
 
--- the strategy of the longest prefix that has a strategy; `/` always has one
+-- the strategy of a name: among the prefixes of the name that have a strategy, the longest decides;
+-- the prefix `/` always has a strategy
 abbrev pub strategy_for : Policy → List Field → StrategyId
 strategy_for p name = unwrap_or (longest p.choices name) BestRoute
 
--- the effective next hops of the longest prefix that has next hops or routes, with the hops to
--- Local faces marked; no next hops if there is no such prefix
+-- the effective next hops for a name, with the hops to Local faces marked; among the prefixes of
+-- the name that have next hops or routes, the longest decides; no next hops if there is no such
+-- prefix
 abbrev pub hops_for : Policy → List Field → List Hop
 hops_for p name = marked (local_faces p) (longest_hops p.routes name)
 
@@ -51,7 +53,7 @@ ask_from p face i = record {
   now = p.now;
 }
 
--- the input of the strategy for an Interest of the node itself
+-- the input of the strategy for an Interest that the node itself makes
 abbrev pub ask_for : Policy → List Field → Ask
 ask_for p name = record {
   asker = None;

@@ -1,5 +1,5 @@
--- Whether an event brings a Data that the repository wants. The policy is the one after time has
--- advanced to the event's moment.
+-- Whether an event brings a Data that the repository wants. The policy `p` in these definitions is
+-- the policy once time has advanced to the event's moment.
 use Rattle.std.specs.Prelude.{Bool, false, Result, Ok, Err}
 use Rattle.sha2.specs.Sha256.{sha256}
 use Rattle.ndn_packets.specs.FrameReading.{frame_at}

@@ -148,8 +148,9 @@ impl State {
         Ok(status)
     }
 
-    /// Reserves the memory that the command may need, advances time, applies the command, and
-    /// answers it.
+    /// Reserves the memory that the command may need, and advances time. Then applies, answers and
+    /// records the command, and increases the version of the lists by 1. Returns the status of the
+    /// reply.
     fn command_read(
         &mut self,
         arrived: &Arrived<'_, Interest<'_>>,
@@ -187,8 +188,9 @@ impl State {
         Ok(applied.status)
     }
 
-    /// Applies an allowed command to the repository, and answers the command. If the command makes
-    /// the repository want Data, sends an Interest for the Data. Returns the status of the reply.
+    /// Carries out an allowed command to the repository: applies, answers and records the command.
+    /// If the command makes the repository want Data, sends an Interest for the Data. Returns the
+    /// status of the reply.
     fn command_repository(
         &mut self,
         arrived: &Arrived<'_, Interest<'_>>,

@@ -42,8 +42,8 @@ pub(crate) fn denial_text(
     Ok(text)
 }
 
-/// Appends the Content of the reply to a command that is refused. The reply has status 403. Appends
-/// nothing if memory runs out, or if the request is not a command.
+/// Appends the Content of the reply to a command that is refused. The reply has status 403 and the
+/// text `text`. Appends nothing if memory runs out, or if the request is not a command.
 pub(crate) fn put_refusal(
     out: &mut Vec<u8>,
     request: NamedRequest,

@@ -73,8 +73,8 @@ pub enum OwnedEvent {
 }
 
 impl OwnedEvent {
-    /// Returns the event. The octets of a packet are moved to `held`, from which the event borrows
-    /// them.
+    /// Returns the event. The octets of a packet are moved to `held`, and the returned event
+    /// borrows the octets from `held`.
     pub fn into_event(self, held: &mut Vec<u8>) -> Event<'_>
         ensures { plain result ≡ plain_owned self }
     {

@@ -15,7 +15,7 @@ use ndn_tlv::Memory;
 use replay_guard::{Guard, Signer};
 use std::alloc::Global;
 
-/// The signer of a command, and when the command was signed.
+/// The signer, the SignatureTime and the SignatureSeqNum of a command.
 #[derive(Clone, Copy, Debug)]
 pub(crate) struct Signed<'a> {
     pub signer: Signer<'a>,
@@ -121,9 +121,9 @@ pub(crate) fn prepare_record(guard: &mut Guard, interest: &Interest<'_>) -> Resu
     }
 }
 
-/// Records the signer of a command, and when the command was signed. The call must be prepared by
-/// `prepare_record`, so it needs no memory. Does nothing if the command has no signature or no
-/// SignatureTime.
+/// Records the signer, the SignatureTime and the SignatureSeqNum of a command. The call must be
+/// prepared by `prepare_record`, so the call of `record` needs no memory. Does nothing if the
+/// command has no signature or no SignatureTime.
 pub(crate) fn record(guard: &mut Guard, interest: &Interest<'_>) -> Result<(), Memory>
     requires { IfSome (recorded_of (plain_interest interest.now))
         (λ r. IsPrepared guard.old r.signer) }

@@ -146,8 +146,8 @@ impl State {
     }
 
     /// Forwards an Interest that neither the cache nor the repository answers (NFD Developer's
-    /// Guide, "Content Store Miss Pipeline"). Sends a Nack back if the Interest loops or no next
-    /// hop may get it.
+    /// Guide, "Content Store Miss Pipeline"). Sends a Nack back if the Interest loops, or if no
+    /// next hop may get the Interest.
     fn miss(
         &mut self,
         arrived: &Arrived<'_, Interest<'_>>,

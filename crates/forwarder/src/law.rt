@@ -45,9 +45,10 @@ pub fn events_have_one_effect()
         → IsAfter old event new → IsAfter old event other → new ≡ other }
 {}
 
-/// Law: two steps of the same node with the same event give the same policy, whatever their answers
-/// are, if no two keys of the node's key book have the same name. The nodes after the two steps
-/// differ at most in pending Interests and the cache.
+/// Law: if two steps start from the same node and handle the same event, both steps lead to the
+/// same policy, even if the answers of the two steps differ. The law requires that no two keys of
+/// the node's key book have the same name. The nodes after the two steps differ at most in pending
+/// Interests and the cache.
 pub fn steps_have_one_effect()
     ensures { (old new other : NodeState) (event : PlainEvent) (answer another : Answer)
         → AreApart old.policy.keys → IsStep old event answer new → IsStep old event another other
@@ -68,9 +69,9 @@ pub fn steps_keep_nodes_sound()
         → IsStep old event answer new → IsSound new }
 {}
 
-/// Law: let a node agree with a valid run that began at the moment 0. If the event and the answer
-/// of a step of this node are appended to the run, the longer run is valid, and the node after the
-/// step agrees with the longer run.
+/// Law: let a node agree (`Stands`) with a valid run (`IsRun`) that began at the moment 0. If the
+/// event and the answer of a step of this node are appended to the run, the longer run is valid,
+/// and the node after the step agrees with the longer run.
 pub fn steps_go_on_with_runs()
     ensures { (first : Policy) (past : Run) (old new : NodeState) (event : PlainEvent)
         (answer : Answer) → first.now ≡ 0 → IsRun first past → Stands first past old
@@ -100,8 +101,8 @@ pub fn refused_steps_stand_still()
 /// the event brings a command, a request for a list, or an Interest that is dropped because of its
 /// HopLimit or scope, each valid answer after one run equals each valid answer after the other run.
 /// If the event brings a Data, each valid answer after one run has the same verdict as each valid
-/// answer after the other run. The parts of the two runs before any one event are again two runs
-/// with the same events. So this law applies at each event of the two runs.
+/// answer after the other run. If both runs are cut off before one of their events, the two shorter
+/// runs again have the same events. So this law applies at each event of the two runs.
 pub fn histories_decide()
     ensures policy { (first p q : Policy) (past other : Run) → KeysAreApart first past
         → HaveOneHistory past other → IsPolicyOf first past p → IsPolicyOf first other q → p ≡ q }
@@ -116,7 +117,7 @@ pub fn histories_decide()
 
 /// Law: let no key book have two keys of the same name. If some denied events of a valid run are
 /// replaced by ticks at the moments of these events, the resulting run is valid, and leads to the
-/// same policy as the run before the replacement.
+/// same policy as the original run.
 pub fn denied_events_change_nothing()
     ensures run { (first : Policy) (past other : Run) → KeysAreApart first past → IsRun first past
         → HasTicksForDenied past other → IsRun first other }
@@ -126,11 +127,12 @@ pub fn denied_events_change_nothing()
 {}
 
 /// Law: each send of a valid answer to an event is of one of three kinds. In the first kind, the
-/// event brings an allowed Data, and the Data is sent to another face, which has a pending Interest
-/// for the Data. In the second kind, the event brings an Interest, and a Data from the cache, the
-/// repository or the node itself answers the Interest, and is sent back to the Interest's face. In
-/// the third kind, what is sent is no Data. The numbers in the event's packet must be below 256,
-/// which is true of every event of a node.
+/// event brings an allowed Data, and the Data is sent to a face that has a pending Interest for the
+/// Data and is not the face on which the Data came. In the second kind, the event brings an
+/// Interest. A Data that answers this Interest is sent back to the Interest's face. This Data comes
+/// from the cache or the repository, or is made by the node itself. In the third kind, the octets
+/// that are sent are no Data. The law requires that the octets of the event's packet are numbers
+/// below 256, which is true of every event of a node.
 pub fn each_send_is_explained()
     ensures { (first : Policy) (past : Run) (event : PlainEvent) (answer : Answer)
         (reply : MayReply first past event answer) → BringsOctets event
@@ -138,8 +140,8 @@ pub fn each_send_is_explained()
         event answer }
 {}
 
-/// Law: let no two keys of the key book from before a run have the same name, and let no event of
-/// the run bring two keys of the same name. Then no key book of the run has two keys of the same
+/// Law: let no two keys of the key book in force before a run have the same name, and let no event
+/// of the run bring two keys of the same name. Then no key book of the run has two keys of the same
 /// name. The key book in force after the run has no two keys of the same name either.
 pub fn keys_stay_apart()
     ensures books { (first : Policy) (past : Run) → AreApart first.keys
@@ -168,9 +170,10 @@ pub fn rules_in_force()
 /// event after the run was asked for by the face that the Data is sent to. Either the event brings
 /// the Data, the first rule that applies allows the Data, and the Data answers an Interest that is
 /// pending on that face. Or the event brings an Interest on that face, and one of two things is
-/// true: the Data answers the Interest and was allowed in an earlier event, or the Data is the
-/// node's own answer to the Interest, which is a reply to a command or a segment of a list. The
-/// numbers in the event's packet must be below 256, which is true of every event of a node.
+/// true: the Data answers the Interest and was allowed in an event of the run, or the Data is the
+/// node's own answer to the Interest. The node's own answer is a segment of a list, or the reply to
+/// a command. The law requires that the octets of the event's packet are numbers below 256, which
+/// is true of every event of a node.
 pub fn every_data_sent_was_asked_for()
     ensures read { (first : Policy) (past : Run) (event : PlainEvent) (answer : Answer) (face : ℕ)
         (octets whole : List ℕ) (d : PlainData) (reply : MayReply first past event answer)
@@ -244,9 +247,10 @@ pub fn cached_data_were_allowed()
 {}
 
 /// Law: the causes in a run (`past_causes`) determine the records of each key, face by face. The
-/// in-record is that of the latest Interest of this key that came from the face and became pending.
-/// The out-record is that of the latest Interest of this key that was sent to the face. If a later
-/// cause has ended a record, the record no longer exists.
+/// in-record of a face under a key is that of the latest Interest of the key that came from the
+/// face and became pending. The out-record of a face under a key is that of the latest Interest of
+/// the key that was sent to the face. If a later cause has ended a record, the record no longer
+/// exists.
 pub fn records_are_read_off_the_run()
     ensures in_records { (past : Run) (key : PlainKey) (face : ℕ)
         → map.get (records_of past key).in_records face
@@ -261,8 +265,8 @@ pub fn records_are_read_off_the_run()
 /// or existed before the event. For a passed Interest with a valid answer, there are two cases.
 /// Either the Interest becomes pending and is forwarded to other faces, possibly to none. Or one
 /// packet is sent back to the Interest's face: a Nack, or a Data from the cache, the repository or
-/// the node. The clause `answers`, which states the two cases, requires that the numbers in the
-/// event's packet are below 256, which is true of every event of a node.
+/// the node. The clause `answers` states the two cases. The clause requires that the octets of the
+/// event's packet are numbers below 256, which is true of every event of a node.
 pub fn unanswered_interests_wait()
     ensures arrives { (now : ℕ) (event : PlainEvent) (answer : Answer) (key : PlainKey) (face : ℕ)
         (in_record : InRecord) → Contains (causes_of now event answer) (Arrives key face in_record)
@@ -301,13 +305,13 @@ pub fn routes_are_read_off_the_run()
 
 /// Law: let no key book have two keys of the same name, and let a run begin without next hops and
 /// routes, at the moment 0. A registered route ends when an unregister of its name, face and origin
-/// is answered with status 200, when its face is closed, or when a later event comes at or after
-/// its deadline. After the run, a registered route exists exactly if a register of its name, face
-/// and origin was answered with status 200, and the route has not ended since the latest such
-/// register. The cost and flags of the route are those of the latest register of its name, face and
-/// origin that was answered with status 200. The deadline of the route is the time of that register
-/// plus the register's period, at most the greatest u64. A register without a period gives no
-/// deadline.
+/// is answered with status 200, when its face is closed, or when the node's time at a later event
+/// is at or after the route's deadline. After the run, a registered route exists exactly if a
+/// register of its name, face and origin was answered with status 200, and the route has not ended
+/// since the latest such register. The cost and flags of the route are those of the latest register
+/// of its name, face and origin that was answered with status 200. The deadline of the route is the
+/// node's time at that register plus the register's period, at most the greatest u64. A register
+/// without a period gives no deadline.
 pub fn registered_routes_are_read_off_the_run()
     ensures { (first p : Policy) (past : Run) (name : List Field) (face origin : ℕ)
         → KeysAreApart first past → first.now ≡ 0
@@ -316,10 +320,11 @@ pub fn registered_routes_are_read_off_the_run()
         ≡ route_of past name face origin }
 {}
 
-/// Law: a denial in a valid answer is the decision on the event's packet. The denial gives the rule
-/// that denies the packet, or states that no rule applies. A denied command gets a reply with
-/// status 403. The reply gives the reason and the rule, or says that no rule applies. For a denied
-/// Data, nothing is sent. So the kind in the verdict (Interest or Data) is the kind of the packet.
+/// Law: if the verdict of a valid answer is a denial, the denial is the decision on the event's
+/// packet. The denial gives the rule that denies the packet, or states that no rule applies. A
+/// denied command gets a reply with status 403. The reply gives the reason and the rule, or says
+/// that no rule applies. For a denied Data, nothing is sent. The kind in the verdict, Interest or
+/// Data, is the kind of the packet.
 pub fn denials_name_their_rule()
     ensures denied { (first : Policy) (past : Run) (event : PlainEvent) (answer : Answer)
         (kind : Kind) (rule : ℕ) (reason : Reason) (reply : MayReply first past event answer)

@@ -37,13 +37,13 @@ pub struct NodeParts {
     pub rules: Rules,
     /// The keys that the rules refer to.
     pub keys: KeyBook,
-    /// The repository's prefix, neither empty nor under `/localhost`.
+    /// The repository's prefix, which must not be empty and must not begin with `/localhost`.
     pub repo: NameBuf,
-    /// The number of Data that the cache can hold, from 1 to 65,536.
+    /// The number of Data that the cache can hold, which must be from 1 to 65,536.
     pub cache: u32,
 }
 
-/// Why a node cannot be made. If there are several faults, `Node::new` returns the one that comes
+/// Why a node cannot be made. If there are several faults, `Node::new` returns the fault that comes
 /// first in this list.
 #[derive(Clone, Copy, Debug, PartialEq, Eq, Error)]
 pub enum NodeFault {
@@ -103,7 +103,7 @@ fn is_bad_prefix(repo: &NameBuf) -> bool
 impl Node {
     /// Returns a node without faces.
     ///
-    /// If there are several faults, returns the one that comes first in `NodeFault`.
+    /// If there are several faults, returns the fault that comes first in `NodeFault`.
     pub fn new(alloc: Global, parts: NodeParts) -> Result<Node, NodeFault>
         ensures ok { IfOk result
             (λ node. node ≡ first_node parts.rules parts.keys parts.repo parts.cache) }
@@ -154,6 +154,7 @@ impl Node {
     }
 
     /// Returns the greatest moment of the events that were handled, in milliseconds since 1970.
+    /// Returns 0 before the first event.
     pub fn now(&self) -> u64
         ensures { result ≡ self.now.policy.now }
     {
@@ -180,8 +181,8 @@ impl Node {
         self.state.has_same_tables(&other.state)
     }
 
-    /// Returns whether an event brings a Data that the repository wants once time has advanced to
-    /// the event's moment.
+    /// Returns whether an event brings a Data that the repository wants. The wants are those that
+    /// remain once time has advanced to the event's moment.
     pub fn wants(&self, event: &Event<'_>) -> bool
         ensures { result ≡ brings_wanted
             (at_moment self.now.policy (moment (plain event.now))) (plain event.now) }
@@ -192,8 +193,8 @@ impl Node {
         }
     }
 
-    /// Returns whether the octets are a Data that the repository wants once time has advanced to
-    /// `now`.
+    /// Returns whether the octets are a Data that the repository wants. The wants are those that
+    /// remain once time has advanced to `now`.
     fn wants_packet(&self, now: u64, octets: &[u8]) -> bool
         ensures { result ≡ is_wanted_packet (at_moment self.now.policy now) (frame_at octets.now) }
     {
@@ -209,15 +210,15 @@ impl Node {
     /// Handles one event (NFD Developer's Guide, "Forwarding"): returns the verdict, and appends
     /// the sends to the outbox.
     ///
-    /// From the next event on, new rules and keys are in force instead of the old rules and keys.
-    /// An event with new rules and keys advances time, as each event does, and changes nothing
-    /// else.
+    /// The rules and keys of an event `NewRules` replace the old rules and keys, and are in force
+    /// from the next event on. The event `NewRules` itself advances time, as each event does, and
+    /// changes nothing else.
     ///
     /// If memory runs out, the cache may have dropped Data or changed their order of use; nothing
     /// else changes. These events need no memory: face changes, ticks, new rules, packets on faces
-    /// that are not open, octets that hold no packet, packets out of scope, and Interests with
-    /// HopLimit 0. A Data that the rules do not allow needs no memory, unless the first rule that
-    /// applies to the Data has a hyper-relation.
+    /// that are not open, octets that hold no packet, packets out of scope (`DropReason::Scope`),
+    /// and Interests with HopLimit 0. A Data that the rules do not allow needs no memory, unless
+    /// the first rule that applies to the Data has a hyper-relation.
     pub fn step(&mut self, event: Event<'_>, outbox: &mut Outbox) -> Result<Verdict, Memory>
         // One step, from received octets to sent octets.
         ensures answered { IfOk result

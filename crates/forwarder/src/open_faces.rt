@@ -56,16 +56,16 @@ impl OpenFaces {
         self.all.len()
     }
 
-    /// Returns the number of the open face at index `i`, in rising order of the numbers, or `None`
-    /// if `i` or fewer faces are open.
+    /// Returns the number of the open face at index `i`, or `None` if `i` or fewer faces are open.
+    /// The open faces are in rising order of their numbers.
     pub fn get(&self, i: usize) -> Option<u64>
         ensures { result ≡ slice_get (numbers self.now) i }
     {
         self.all.get(i)
     }
 
-    /// Returns the number and the scope of the open face at index `i`, in rising order of the
-    /// numbers, or `None` if `i` or fewer faces are open.
+    /// Returns the number and the scope of the open face at index `i`, or `None` if `i` or fewer
+    /// faces are open. The open faces are in rising order of their numbers.
     pub fn entry(&self, i: usize) -> Option<(u64, Scope)>
         ensures { result ≡ slice_get self.now i }
     {

@@ -30,7 +30,7 @@ pub(crate) struct ListAsked {
     pub segment: u64,
 }
 
-/// What an Interest asks for, according to its name.
+/// What an Interest asks for, according to its name and its CanBePrefix.
 #[derive(Clone, Copy, Debug, PartialEq, Eq)]
 pub(crate) enum NamedRequest {
     ForList(ListAsked),
@@ -50,7 +50,8 @@ fn begins(name: Name<'_>, octets: &[u8]) -> bool
     name.as_octets().starts_with(octets)
 }
 
-/// Returns whether the name begins with `/localhost`, so that its packets stay on this machine.
+/// Returns whether the name begins with `/localhost`. Packets with such a name stay on this
+/// machine.
 pub(crate) fn is_local_name(name: Name<'_>) -> bool
     ensures { result ≡ is_local (components name.entry) }
 {
@@ -193,7 +194,8 @@ pub(crate) fn list_asked(interest: &Interest<'_>) -> Option<ListAsked>
     }
 }
 
-/// Returns what an Interest asks for according to its name, given the prefix of the repository.
+/// Returns what an Interest asks for according to its name and its CanBePrefix, given the prefix of
+/// the repository.
 pub(crate) fn named_request(repo: &Repo, interest: &Interest<'_>) -> NamedRequest
     ensures { (p : Policy) → p.repo ≡ repo.now.start
         → request_named result

@@ -30,8 +30,8 @@ struct Sent {
     end: usize,
 }
 
-/// The packets to send, in order, and the memory that is reserved for more. If memory runs out in a
-/// call, the sends do not change.
+/// The packets to send, in order, and the memory that is reserved for further sends. If memory runs
+/// out in a call, the sends do not change.
 #[derive(Drop)]
 pub struct Sends {
     octets: Vec<u8>,
@@ -99,7 +99,7 @@ impl Sends {
         self.octets.clear();
     }
 
-    /// Reserves memory for `places` more sends, with `space` octets in all.
+    /// Reserves memory for `places` more sends that have `space` octets in all.
     pub fn reserve(&mut self, places: usize, space: usize) -> Result<(), Memory>
         ensures sends { self.new.sends ≡ self.old.sends }
         ensures places { OnOk result (places ≤ self.new.places) }
@@ -113,7 +113,7 @@ impl Sends {
         Ok(())
     }
 
-    /// Adds a send of these octets.
+    /// Adds a send of these octets to the face `face`.
     pub fn push(&mut self, face: u64, octets: &[u8]) -> Result<(), Memory>
         ensures ok { OnOk result (self.new.sends ≡ self.old.sends ++ (face, octets.now) ∷ []) }
         ensures err { OnErr result (self.new.sends ≡ self.old.sends) }
@@ -231,8 +231,8 @@ impl Sends {
         Ok(())
     }
 
-    /// Adds a send of these octets to each face. The octets are stored once, or not at all if there
-    /// is no face.
+    /// Adds one send for each face: these octets, sent to the face. The octets are stored once, or
+    /// not at all if there is no face.
     pub fn push_to_each(&mut self, faces: &Faces, octets: &[u8]) -> Result<(), Memory>
         ensures ok { OnOk result
             (self.new.sends ≡ self.old.sends ++ to_each faces.now octets.now) }
@@ -252,9 +252,9 @@ impl Sends {
         Ok(())
     }
 
-    /// Adds a send of an Interest to each face. The HopLimit, if there is one, is decremented, and
-    /// nothing else in the Interest changes. The octets are stored once, or not at all if there is
-    /// no face.
+    /// Adds one send for each face: the Interest, sent to the face. The HopLimit, if there is one,
+    /// is decremented, and nothing else in the Interest changes. The octets are stored once, or not
+    /// at all if there is no face.
     pub fn push_interest(&mut self, faces: &Faces, interest: &Interest<'_>) -> Result<(), Memory>
         requires hops { interest.now.hop_limit ≢ Some 0 }
         ensures ok { OnOk result (self.new.sends ≡ self.old.sends
@@ -275,8 +275,9 @@ impl Sends {
         Ok(())
     }
 
-    /// Adds a send of an Interest of the node itself to each face, or nothing if the Interest
-    /// cannot be encoded. The octets are stored once, or not at all if there is no face.
+    /// Adds one send for each face: an Interest that the node itself makes, sent to the face. Adds
+    /// nothing if the Interest cannot be encoded. The octets are stored once, or not at all if
+    /// there is no face.
     pub fn push_fetch(&mut self, faces: &Faces, interest: &InterestWriter<'_>) -> Result<(), Memory>
         ensures ok { OnOk result
             (self.new.sends ≡ self.old.sends ++ fetched faces.now interest.now) }
@@ -301,7 +302,8 @@ impl Sends {
     }
 }
 
-/// Adds one send of the octets from `start` to `end`. Memory for the send is already reserved.
+/// Adds one send to `face`, of the octets from `start` to `end`. Memory for the send is already
+/// reserved.
 fn place(places: &mut Vec<Sent>, face: u64, start: usize, end: usize) -> Result<(), Memory>
     requires { vec_len places.old < vec_capacity places.old }
     ensures ok { IsOk result }
@@ -313,8 +315,8 @@ fn place(places: &mut Vec<Sent>, face: u64, start: usize, end: usize) -> Result<
     Ok(())
 }
 
-/// Adds a send of the octets from `start` to `end` to each face. Memory for these sends is already
-/// reserved.
+/// Adds one send for each face: the octets from index `start` to index `end`, sent to the face.
+/// Memory for these sends is already reserved.
 fn place_each(places: &mut Vec<Sent>, faces: &Faces, start: usize, end: usize) -> Result<(), Memory>
     requires { vec_len places.old + length faces.now ≤ vec_capacity places.old }
     ensures ok { IsOk result }
@@ -355,7 +357,8 @@ fn put_reply_back(
     done
 }
 
-/// Returns whether a packet was written. A fault other than `Memory` gives false.
+/// Returns whether a packet was written, given the result of writing the packet. The fault `Memory`
+/// is returned as an error, and each other fault gives false.
 fn written(done: Result<(), WriteFault>) -> Result<bool, Memory>
     ensures ok { IfOk result (λ written. written ≡ is_ok done) }
     ensures other { OnOk result (done ≢ Err WriteFault.Memory) }
@@ -388,7 +391,7 @@ fn put_sent_on(out: &mut Vec<u8>, interest: &Interest<'_>) -> Result<(), Memory>
     Ok(())
 }
 
-/// Overwrites the HopLimit of an Interest that has a HopLimit.
+/// Sets the HopLimit of the Interest in `octets` to `limit`. The Interest must have a HopLimit.
 fn set_hop_limit(octets: &mut [u8], limit: u8)
     requires { ∥ ((old : ℕ) × HasHopLimit octets.old old) ∥₁ }
     ensures { octets.new ≡ with_octet octets.old limit }

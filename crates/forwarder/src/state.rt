@@ -26,7 +26,8 @@ pub struct State {
     pub pit: Pit,
     /// The tables of routes and strategies, and the cache.
     pub tables: Tables,
-    /// The signers of allowed commands, each with the greatest time and number of its commands.
+    /// For each signer of allowed commands, the greatest SignatureTime and SignatureSeqNum of its
+    /// commands.
     pub guard: Guard,
     pub repo: Repo,
 }
