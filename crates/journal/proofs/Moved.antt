@@ -70,10 +70,10 @@ module _ (p : Policy) (now : ℕ) where
   moved_choice event chosen None h = h ∙ same_choice event
   moved_choice event chosen (Some packet) h = h
 
--- In this module, the policy `q`, advanced to the time `now`, equals the policy `was`, advanced to
--- the event's moment. The event, changed to the time `now`, has the same effect on `q` as the
--- unchanged event on `was`. The changed event is journalled for `q` exactly if the unchanged event
--- is journalled for `was`.
+-- In this module, advancing the policy `q` to the time `now` gives the same policy as advancing the
+-- policy `was` to the time of the event. The moved event is the event with its time replaced by
+-- `now`. The moved event has the same effect on `q` as the unmoved event has on `was`. The moved
+-- event is journalled for `q` exactly if the unmoved event is journalled for `was`.
 module _ (was q : Policy) (now : ℕ) (event : PlainEvent) (met : at_moment q now ≡ at_moment was (moment event)) where
   comes : at_moment was (moment event) ≡ at_moment q (moment (with_moment now event))
   comes = sym met ∙ ap (at_moment q) (sym (moved_moment now event))

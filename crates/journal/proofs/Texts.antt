@@ -44,9 +44,9 @@ texts_join (event ∷ journal) added text more h k =
 
 -- ---- a prefix of a text
 
--- `left` is the concatenation of `line`, an LF and `more`, and `rest` is `more` followed by `lost`.
--- So `left` contains `line` with its LF, and is a prefix of the concatenation of `line`, an LF and
--- `rest`.
+-- `left` is the concatenation of `line`, an LF and `more`. `rest` is the concatenation of `more`
+-- and `lost`. So `left` begins with `line` and an LF, and `left` is a prefix of the concatenation
+-- of `line`, an LF and `rest`.
 pub record HoldsLine (line rest left lost : List ℕ) : Type 0 where
   pub more : List ℕ
   pub front : left ≡ line ++ (10 ∷ more)

@@ -1,5 +1,6 @@
--- The journal of a node: those events of a run that may change more than the time. From the last
--- time of the run on, the first policy and the events of the journal determine the policy.
+-- The journal of a node: those events of a run that may change more than the time. The first policy
+-- of the run and the events of the journal determine the policy at each time from the last time of
+-- the run on.
 use Rattle.std.specs.Prelude.{◌≡◌, ◌⊎◌, ◌≤◌, ℕ, Bool, true, false, List, [], ◌∷◌, ◌++◌, Option, None, Some, max}
 use Rattle.sha2.specs.Sha256.{sha256}
 use Rattle.ndn_packets.specs.Packet.{PlainFrame, AnInterest, AData, ANack, Idle}
@@ -73,8 +74,8 @@ with_event true event journal = journal ++ (event ∷ [])
 with_event false event journal = journal
 
 -- The journal after an event, where `was` is the policy before the event. A journalled event is
--- stored with the latest time so far, which is the time of `was` or of the event. So the times in a
--- journal never decrease, even if a clock is set back.
+-- stored with the greater of two times: the time of `was` and the time of the event. So the times
+-- in a journal never decrease, even if a clock is set back.
 abbrev pub IsJournalAfter : Policy → PlainEvent → List PlainEvent → List PlainEvent → Type 0
 IsJournalAfter was event old new =
     (chosen : Bool) × IsJournalled was event chosen
@@ -96,8 +97,9 @@ events_of Start = []
 events_of (Then before event answer) = events_of before ++ (event ∷ [])
 
 -- From the time `now` on, the policies `p` and `q` are the same. Before `now`, `p` and `q` may
--- differ in their time, in the wants (pending inserts) and routes that expire by `now`, and in the
--- version of the lists of routes and strategies, which increases when a route expires.
+-- differ in their time, in the wants (pending inserts) that expire by `now`, in the routes that
+-- expire by `now`, and in the version of the lists of routes and strategies. This version increases
+-- when a route expires.
 abbrev pub AreOneFrom : ℕ → Policy → Policy → Type 0
 AreOneFrom now p q = (m : ℕ) → now ≤ m → at_moment p m ≡ at_moment q m
 

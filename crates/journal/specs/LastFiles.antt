@@ -35,7 +35,7 @@ HasNoFiles text =
     (lines : List (List ℕ)) × (cut : List ℕ) × AreLines lines × Lacks 10 cut
     × (text ≡ joined lines ++ cut) × HaveNoRules lines
 
--- the text for a rule file and a key file in a line of new rules: the octets of the two files in
--- hexadecimal, with a space between the files
+-- the text after the time in a line of new rules: the octets of the rule file in hexadecimal, a
+-- space, and the octets of the key file in hexadecimal
 abbrev pub files_text : List ℕ → List ℕ → List ℕ
 files_text rules keys = hex_word rules ++ (32 ∷ hex_word keys)

@@ -105,7 +105,8 @@ StopsLine line number old new (fault.BadLine n) =
 StopsLine line number old new fault.Read = ⊥
 StopsLine line number old new fault.Memory = ChangesCacheOnly old new
 
--- a fault that reading a line may have: `Read` (the reader failed) or `Memory` (memory ran out)
+-- the fault is one that can occur when a line is read: `Read` (the reader failed) or `Memory`
+-- (memory ran out)
 abbrev pub IsReadFault : ReplayFault → Type 0
 IsReadFault (fault.BadLine n) = ⊥
 IsReadFault fault.Read = ⊤

@@ -112,7 +112,7 @@ pub fn crashes_leave_a_beginning()
 {}
 
 /// Law: let a text be the lines of some events and then octets without an LF, as a crash may leave
-/// the text of a journal. If the text is read as a script, its whole lines spell exactly these
+/// the text of a journal. As lines of a script, the whole lines of the text spell exactly these
 /// events, and no other list of events.
 pub fn journal_texts_have_one_reading()
     ensures script { (text : List ℕ) (events : List PlainEvent) → IsCutTextOf events text

@@ -38,8 +38,8 @@ pub enum ReplayFault {
     Memory,
 }
 
-/// Replays the events in the whole lines of a journal on a node. The octets after the last LF,
-/// which a crash may leave, are counted but not replayed.
+/// Lets the node `node` handle the events in the whole lines of a journal, in order. The octets
+/// after the last LF, which a crash may leave, are counted but not replayed.
 ///
 /// Each line is read completely before it is parsed, and takes at least as much memory as it has
 /// octets.

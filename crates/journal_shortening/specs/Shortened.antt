@@ -8,8 +8,8 @@ use Rattle.forwarder.specs.declared.node.NodeParts.{NodeParts}
 use Rattle.journal_shortening.specs.Comparing.{HaveSameLastRules, HaveSameTables}
 use Rattle.journal_shortening.specs.Needed.{PutsNeeded}
 
--- the parts of a node whose repository has this prefix, with the rules of an empty rule file and
--- without keys
+-- the parts of a node: the rules are those of an empty rule file, there are no keys, and the
+-- repository has the prefix `repo`
 pub record AreEmptyParts (repo : List Field) (parts : NodeParts) : Type 0 where
   pub are_rules : AreRules [] parts.rules
   pub no_keys : parts.keys ≡ []

@@ -30,7 +30,7 @@ pub fn restores_same_tables(
     }
 }
 
-/// Replays the whole lines of a journal on a node.
+/// Lets a node handle the events in the whole lines of a journal.
 fn play_all(alloc: Global, node: &mut Node, journal: &[u8]) -> Result<(), ShortenFault>
     ensures { OnOk result (IsReplayed journal.now node.old node.new) }
 {

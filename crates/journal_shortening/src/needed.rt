@@ -11,7 +11,7 @@ use ndn_tlv::Memory;
 use node_core::cut_line;
 use std::alloc::Global;
 
-/// The lines of a journal that a shorter journal keeps.
+/// Which lines of a journal a shorter journal keeps.
 #[derive(Debug, Drop)]
 pub struct Needed {
     /// One flag for each whole line of the journal: whether the line is needed.

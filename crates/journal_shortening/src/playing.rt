@@ -73,7 +73,8 @@ fn change_by(change: Change, verdict: Verdict, is_wanted: bool) -> Change {
     }
 }
 
-/// Replays the whole lines of a journal on a node, and adds to the survey what each line did.
+/// Lets a node handle the events in the whole lines of a journal, and adds to the survey what each
+/// line did.
 pub fn survey_lines(
     node: &mut Node,
     journal: &[u8],
@@ -92,7 +93,8 @@ pub fn survey_lines(
     Err(ShortenFault::TooLong)
 }
 
-/// Replays one line on a node, and adds to the survey what the line did.
+/// Lets a node handle the event of one line, if the line has one, and adds to the survey what the
+/// line did.
 fn survey_line(
     node: &mut Node,
     text: &[u8],

@@ -12,9 +12,9 @@ pub enum Kind {
     Signer = 1,
     /// The greatest SignatureSeqNum of a signer's commands.
     Numbered = 2,
-    /// The next hop of a name on a face.
+    /// The next hop of a name through a face.
     Hop = 3,
-    /// The route of a name with a face and an origin.
+    /// The route of a name through a face, with an origin.
     Route = 4,
     /// The strategy of a name.
     Strategy = 5,

@@ -10,7 +10,7 @@ use ndn_tlv::Memory;
 use std::alloc::Global;
 use std::collections::BTreeMap;
 
-/// Where a packet came from: its face, its line, and the node's time after the packet.
+/// Where a packet came from: its face, its line, and the node's time after the packet was handled.
 #[derive(Clone, Copy, Debug)]
 pub struct Place {
     pub face: u64,
@@ -87,8 +87,8 @@ impl Survey {
     }
 
     /// Notes what the event of a line did. `octets` are the octets of the event's packet, if the
-    /// event has one. The fault is `NotJournalled` for a packet that a node does not journal, or
-    /// `Memory`.
+    /// event has one. The fault is `NotJournalled` if the event is a packet that a node does not
+    /// journal, and `Memory` if memory runs out.
     pub fn note(&mut self, seen: Seen, octets: &[u8], line: u32) -> Result<(), ShortenFault> {
         match seen.change {
             Change::Nothing => {}
@@ -176,9 +176,9 @@ impl Survey {
     }
 
     /// Notes that this line has the last command of its signer among the lines that were replayed
-    /// so far. The node allows a command with a SignatureTime only if this time is greater than in
-    /// all earlier allowed commands of the signer. The same holds for the SignatureSeqNum, if the
-    /// command has one.
+    /// so far. The node allows a command with a SignatureTime only if this time is greater than the
+    /// SignatureTimes of all earlier allowed commands of the signer. The same holds for the
+    /// SignatureSeqNum, if the command has one.
     fn note_signer(&mut self, line: u32, signature: &Signature<'_>) -> Result<(), Memory> {
         if signature.time.is_none() {
             return Ok(());
@@ -240,7 +240,8 @@ impl Survey {
         Ok(())
     }
 
-    /// Returns whether a subject whose last effect is `effect` exists at the time `now`.
+    /// Returns whether a subject exists at the time `now`. `effect` is what the last line on the
+    /// subject did to the subject.
     fn has_effect(&self, now: u64, effect: Effect) -> bool {
         match effect {
             Effect::Removed => false,

@@ -1,5 +1,5 @@
--- To know whether there are more octets than the limit, it suffices to read up to one octet more
--- than the limit.
+-- To know whether there are more than `limit` octets, it suffices to read at most `limit + 1`
+-- octets.
 use Rattle.std.proofs.Common.{◌≡◌, ℕ, zero, suc, ◌+◌, ◌≤◌, Bool, true, false, List, [], ◌∷◌, length, take, refl, ap, subst, ◌∙◌, arith}
 use Rattle.std.specs.Prelude.{Option, None, Some, IfSome, if◌then◌else◌, ◌==◌}
 use Rattle.std.specs.Io.BufRead.{take_through}

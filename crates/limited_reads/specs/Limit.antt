@@ -1,4 +1,4 @@
--- Reading octets that are known in advance, up to a limit.
+-- The result of reading known octets with a limit on their number.
 use Rattle.std.specs.Prelude.{◌≡◌, ◌<◌, ◌≤◌, ℕ, List, Option, None, Some, length}
 
 -- the result is all of the octets, or `None` if there are more octets than the limit

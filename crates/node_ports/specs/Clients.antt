@@ -22,7 +22,7 @@ abbrev pub IsIdle : Option ℕ → ℕ → Client → Type 0
 IsIdle None now client = ⊥
 IsIdle (Some idle) now client = IsSilent idle now client
 
--- an idle time is set, and the client has been silent for at least 10 seconds, after which its face
+-- an idle time is set, and the client has been silent for at least 10 seconds; so the client's face
 -- may close to make room for an endpoint without a face
 abbrev pub GivesWay : Option ℕ → ℕ → Client → Type 0
 GivesWay None now client = ⊥
@@ -35,8 +35,8 @@ pub record IsSilentLongest (clients : List Client) (place : ℕ) (client : Clien
   pub least : All (λ other. client.heard ≤ other.heard) clients
   pub first : All (λ other. client.heard < other.heard) (take place clients)
 
--- the first client with this endpoint has this face; the time of its last datagram becomes `now`,
--- and nothing else changes
+-- the first client with this endpoint has this face; the time of this client's last datagram
+-- becomes `now`, and nothing else changes
 pub record Hears (before after : List Client) (endpoint : SocketAddr) (now face : ℕ) : Type 0 where
   pub place : ℕ
   pub client : Client

@@ -6,7 +6,7 @@ use Rattle.std.specs.Net.Socket.{socket_ip, socket_port}
 use Rattle.std.specs.declared.net.socket_addr.SocketAddr.{SocketAddr}
 use Rattle.std.specs.contracts.net.socket_addr.SocketAddrPartialEq.TheImpl as socket
 
--- whether the known endpoint equals `endpoint`, by the operator `==`
+-- whether the endpoints `known` and `endpoint` are equal, as the operator `==` decides
 abbrev pub is_at : SocketAddr → SocketAddr → Bool
 is_at endpoint known = (socket.ghosts).eq known endpoint
 

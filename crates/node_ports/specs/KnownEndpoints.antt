@@ -31,7 +31,7 @@ endpoint_at endpoints face = option_or (peer_at endpoints.peers face)
 abbrev pub peer_place : SocketAddr → KnownEndpoints → Option ℕ
 peer_place endpoint endpoints = position (is_at endpoint) endpoints.peers
 
--- the known endpoints with the clients replaced by these clients
+-- the known endpoints, where the list of clients is replaced by `rows`
 abbrev pub with_clients : KnownEndpoints → List Client → KnownEndpoints
 with_clients endpoints rows =
     record endpoints { clients = record endpoints.clients { rows = rows } }

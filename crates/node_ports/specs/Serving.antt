@@ -34,9 +34,9 @@ abbrev pub HasEnded : Option (List PlainEvent) → Type 0
 HasEnded None = ⊤
 HasEnded (Some events) = events ≡ []
 
--- `events` are the first zero or more of the events to come. If an event brings a packet, the
--- packet is truncated to `size` octets. The other events are still to come. If the events to come
--- are not known, nothing is stated about `events`.
+-- `events` is a prefix, possibly empty, of the list of the events to come. If an event brings a
+-- packet, the packet is truncated to `size` octets. The other events are still to come. If the
+-- events to come are not known, nothing is stated about `events`.
 abbrev pub GivesAll : Option (List PlainEvent) → Option (List PlainEvent) → ℕ → List PlainEvent
     → Type 0
 GivesAll None new size events = new ≡ None
@@ -52,7 +52,8 @@ AreSendsTaken (sent ∷ sends) failed taken =
     ((rest : List Send) × (taken ≡ sent ∷ rest) × AreSendsTaken sends failed rest)
     ⊎ ((fewer : ℕ) × (failed ≡ fewer + 1) × AreSendsTaken sends fewer taken)
 
--- the count of failures after this number of further failures, at most the greatest u64
+-- the count of failures, which was `count`, after more failures; the last argument is the number of
+-- these failures, and the count does not grow above the greatest u64
 abbrev pub count_after : ℕ → ℕ → ℕ
 count_after count zero = count
 count_after count (suc n) = one_more (count_after count n)
@@ -122,7 +123,7 @@ pub record FailsToWrite (old new : NodeState) (before after : Shown) : Type 0 wh
   pub journal : HasFront old before.journal event answer after.journal
   pub failures : after.failures ≡ before.failures
 
--- the call for the next arrival failed, and nothing else changed
+-- the call for the next arrival failed and was counted as a failure, and nothing else changed
 pub record FailsNext (before after : Shown) : Type 0 where
   pub coming : after.coming ≡ before.coming
   pub taken : after.taken ≡ before.taken
@@ -136,9 +137,9 @@ pub record EndsNext (before after : Shown) : Type 0 where
   pub journal : after.journal ≡ before.journal
   pub failures : after.failures ≡ before.failures
 
--- The meaning of each result of a turn, with these sends in the outbox. `Done`: an event was
--- answered. `Refused`: memory ran out for an event. `Unwritten`: an event could not be journalled.
--- `End`: no event came.
+-- The meaning of each result of a turn. `sends` are the sends in the outbox after the turn. `Done`:
+-- an event was answered. `Refused`: memory ran out for an event. `Unwritten`: an event could not be
+-- journalled. `End`: no event came.
 abbrev pub IsTurn : NodeState → NodeState → Shown → Shown → List Send → Turn → Type 0
 IsTurn old new before after sends (turn.Done verdict failed) =
     Handles old new before after

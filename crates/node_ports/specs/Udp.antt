@@ -27,7 +27,7 @@ pub record UdpState : Type 0 where
   pub known : KnownEndpoints
   -- the number of peers' faces that are already opened
   pub opened : ℕ
-  -- the number of peers whose faces are Local; these are the first peers
+  -- the faces of the first `local` peers are Local, and the faces of the other peers are Far
   pub local : ℕ
   -- the datagram that waits for the next turn
   pub waiting : Option Datagram

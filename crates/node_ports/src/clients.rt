@@ -194,7 +194,7 @@ impl Clients {
     }
 
     /// Returns the index of the client that has been silent longest, or `None` if that client is
-    /// not idle or there is no client.
+    /// not idle at the time `now`, or if there is no client.
     pub fn idle_place(&mut self, now: u64) -> Option<usize>
         ensures same { self.new ≡ self.old }
         ensures none { result ≡ None
@@ -254,8 +254,8 @@ fn is_silent(heard: u64, time: u64, now: u64) -> bool
     heard <= now && now - heard >= time
 }
 
-/// Returns the time at which a client becomes idle if no more datagrams arrive from it. If no idle
-/// time is set, returns the greatest u64.
+/// Returns the time at which a client becomes idle, if its last datagram arrived at the time
+/// `heard` and no more datagrams arrive from it. If no idle time is set, returns the greatest u64.
 fn end_of(idle: Option<u64>, heard: u64) -> u64
     ensures { IfSome idle (λ idle. result ≤ heard + idle) }
 {

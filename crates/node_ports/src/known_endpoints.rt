@@ -30,8 +30,8 @@ pub struct KnownEndpoints {
     pub clients: Clients,
     /// The number of the next face to open.
     pub next: u64,
-    /// The face number that all endpoints without a face get, or `None` if no endpoint was refused
-    /// a face since the last face was opened.
+    /// The face number of all endpoints that are not stored because 64 endpoints are known. `None`
+    /// if there was no such endpoint since a face was last opened for a new client.
     pub refused: Option<u64>,
 }
 

@@ -1,5 +1,5 @@
-//! Ports, from which a node gets its events and to which it sends its packets: in memory, over UDP,
-//! and with a journal.
+//! Ports. A node gets its events from a port, and sends its packets to the port. There are ports in
+//! memory, ports over UDP, and ports with a journal.
 #![tactic(auto)]
 
 mod clients;

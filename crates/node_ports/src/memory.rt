@@ -36,7 +36,8 @@ pub enum OwnedArrival {
     },
 }
 
-/// Ports in memory, whose arrivals are the events of a list. The packets that are sent are stored.
+/// Ports in memory. The arrivals are the events of a list, and the ports store the packets that are
+/// sent.
 ///
 /// `fail_next` makes one later call of `next` fail, and `fail_send` makes one later call of `send`
 /// fail. A send also fails if memory runs out.

@@ -77,9 +77,9 @@ pub trait Ports {
         ensures failed { OnErr result ((coming self.new ≡ coming self.old)
             × (failures self.new ≡ one_more (failures self.old))) };
 
-    /// Returns the next arrival like `next`, but only if the arrival is available at once or within
-    /// some milliseconds. Returns `None` if no arrival is available within some milliseconds. A
-    /// port that cannot wait for only some milliseconds may always return `None`.
+    /// Returns the next arrival, as `next` does, if an arrival is available within some
+    /// milliseconds. Returns `None` otherwise. A port that cannot limit its waiting to some
+    /// milliseconds may always return `None`.
     fn next_soon(&mut self, _buffer: &mut [u8]) -> Option<Arrival>
         ensures fits { IfSome result (LiesWithin (length _buffer.new)) }
         ensures gives { IfSome result (λ arrival. Gives (coming self.old) (coming self.new)
@@ -120,10 +120,10 @@ pub trait Ports {
         ensures failed { OnErr result ((taken self.new ≡ taken self.old)
             × (failures self.new ≡ one_more (failures self.old))) };
 
-    /// Is called with the result of the latest arrival, after the packets of this turn were sent.
-    /// If the arrival is a packet, `_octets` begins with the packet's octets. `_rules` are the
-    /// rules in force after the arrival. A port with a log writes the result to the log, and
-    /// nothing else changes.
+    /// Is called with the result `_turn` of a turn, after the packets of the turn were sent. If the
+    /// arrival of the turn is a packet, `_octets` begins with the packet's octets. `_rules` are the
+    /// rules in force after the turn. A port with a log writes the result to the log, and nothing
+    /// else changes.
     fn note(&mut self, _turn: &Turn, _octets: &[u8], _rules: &Rules)
         ensures gives_none { coming self.new ≡ coming self.old }
         ensures takes_none { taken self.new ≡ taken self.old }
