@@ -414,9 +414,9 @@ $ ndn_tool command /localhost/nfd/rib/register --name /A --face 1 --cost 2 --str
 05cd078508096c6f63616c686f737408036e66640803726962080872656769737465720842684007030801416901016a01026b27072508096c6f63616c686f737408036e66640808737472617465677908096d756c7469636173746c01036d01046f01058401060220e81fe4a9c31a791ce2e0a662cf5918ee7259642c519760e37705302f0508fa090a040102030424002c1a1b01041c0f070d08036f707308034b45590801312804000f42402e2084eb55d73ad50d435aa887e0566bf99d86058dcef2a5a89ec5c86825d673df7d
 ";
 
-/// Tests each option of the commands for registered routes. Commands are written in the short form
-/// `ndn_tool route`, and as `ndn_tool command` with an option for each field. The packets were made
-/// by an independent program.
+/// Tests the options of the commands for registered routes, except `--send` and `--from`. Commands
+/// are written in the short form `ndn_tool route`, and as `ndn_tool command` with an option for
+/// each field. The packets were made by an independent program.
 #[test]
 fn registered_routes(rt: HostRuntime) {
     check_session(&rt, OPS, ROUTES);

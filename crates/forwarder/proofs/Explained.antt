@@ -118,9 +118,9 @@ module _ (seen : Seen) (face now : ℕ) (octets whole : List ℕ) (i : PlainInte
   command_explained is (decided.Denied rule reason) says = one_send (IsExplained seen event) _ (reply_explained is (decided.Denied rule reason) says)
   command_explained is decided.NoRule says = one_send (IsExplained seen event) _ (reply_explained is decided.NoRule says)
 
-  -- The answer to an Interest for a list. `b` tells whether the Interest requests the current
-  -- version or no version. If `b` is true and the list has the segment, the answer is the segment.
-  -- In all other cases, the Interest is dropped.
+  -- The answer to an Interest for a list. `b` is true if the Interest requests the current version
+  -- or names no version, and false if the Interest requests another version. If `b` is true and the
+  -- list has the segment, the answer is the segment. In all other cases, the Interest is dropped.
   abbrev by_present : Token → ListAsked → Bool → Answer
   by_present t asked b =
       if b then segment_answer face t (segment_name asked.kind seen.policy.table_number asked.segment) (segment_at (dataset_text seen.policy asked.kind) asked.segment) else dropped NoSegment

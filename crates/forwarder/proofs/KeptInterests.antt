@@ -275,9 +275,9 @@ module _ (seen : Seen) (event : PlainEvent) (answer : Answer) (face : ℕ) (whol
   hand : (packet : List ℕ) → answer ≡ passed (sent_back face token packet ∷ []) → IsAtHand seen face whole i packet → IsSentOnOrBack answer.sends
   hand packet e h = inr (inr (packet, ap (λ (a : Answer). a.sends) e, h))
 
-  -- The answer to an Interest for a list. `b` tells whether the Interest requests the current
-  -- version or no version. If `b` is true and the list has the segment, the answer is the segment.
-  -- In all other cases, the Interest is dropped.
+  -- The answer to an Interest for a list. `b` is true if the Interest requests the current version
+  -- or names no version, and false if the Interest requests another version. If `b` is true and the
+  -- list has the segment, the answer is the segment. In all other cases, the Interest is dropped.
   abbrev by_present : Token → ListAsked → Bool → Answer
   by_present t asked b =
       cond b (segment_answer face t (segment_name asked.kind seen.policy.table_number asked.segment) (segment_at (dataset_text seen.policy asked.kind) asked.segment)) (dropped NoSegment)

@@ -60,7 +60,7 @@ WasAskedFor first past was event face whole d =
     × AnswersNow first past (at_moment was (moment event)) face asked i whole d)
 
 -- the event brings an Interest on a face, and `sent` sends the node's own answer to that Interest
--- back to that face, with the Interest's token
+-- back to that face, with the Interest's token, if there is one
 abbrev pub AnswersItself : Policy → PlainEvent → Send → Type 0
 AnswersItself was event sent =
     (asked packet : List ℕ) × (i : PlainInterest)

@@ -35,8 +35,9 @@ pub record IsCommanded (was : NodeState) (face : ℕ) (token : Token) (i : Plain
   pub cache : CacheAfter was.policy.now was.pending (request_use i status request)
       was.cache new.cache
 
--- An allowed command was carried out: time advanced to `moment`, and the command was answered and
--- took effect. `after` is the list of sends `before`, with the sends of the answer appended.
+-- An allowed command was carried out: time advanced to `moment`, and the command was answered, took
+-- effect, and was recorded. `after` is the list of sends `before`, with the sends of the answer
+-- appended.
 abbrev pub IsCarriedOut : State → State → List Send → List Send → ℕ → Token → ℕ → PlainInterest
     → Request → ℕ → Type 0
 IsCarriedOut old new before after face token moment i request status =

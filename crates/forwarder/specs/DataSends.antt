@@ -28,8 +28,8 @@ use Rattle.forwarder.specs.Verdict.{Answer, passed}
 
 -- The event brings an allowed Data on the face `face`. The received octets of the Data are sent to
 -- another face, which has a pending Interest that the Data answers. The octets are sent with the
--- token of that Interest. If the Data answers several pending Interests of that face, the token is
--- that of the Interest with the latest deadline (`IsTokenFor`).
+-- token of that Interest, if there is one. If the Data answers several pending Interests of that
+-- face, the token is that of the Interest with the latest deadline (`IsTokenFor`).
 pub record IsForwardedData (seen : Seen) (event : PlainEvent) (sent : Send) : Type 0 where
   pub face : ℕ
   pub now : ℕ
@@ -72,7 +72,7 @@ IsAtHand seen face whole i octets =
     ⊎ IsSegmentAskedFor seen.policy face i octets))
 
 -- the event brings an Interest, and a Data that answers the Interest at once is sent back to the
--- Interest's face, with the Interest's token
+-- Interest's face, with the Interest's token, if there is one
 pub record IsReply (seen : Seen) (event : PlainEvent) (sent : Send) : Type 0 where
   pub now : ℕ
   pub octets : List ℕ
@@ -112,13 +112,13 @@ abbrev pub holds_data : Result Field PacketFault → Bool
 holds_data (Err fault) = false
 holds_data (Ok e) = if e.0 == LINK_PACKET then carries_data (elements_of e.1) else (e.0 == DATA)
 
--- Whether octets that go over a link are a Data, or a link packet that carries a Data. A Data that
--- is too long to be read also counts, such as a long reply of the node.
+-- True if octets that go over a link are a Data or a link packet that carries a Data, and false
+-- otherwise. A Data that is too long to be read also counts, such as a long reply of the node.
 abbrev pub is_data : List ℕ → Bool
 is_data octets = is_data_frame (frame_at octets) || holds_data (only_element octets)
 
 -- the send `sent` forwards the Data that the event brings, or is a reply to the Interest that the
--- event brings, or is no Data
+-- event brings, or its octets are neither a Data nor a link packet that carries a Data
 abbrev pub IsExplained : Seen → PlainEvent → Send → Type 0
 IsExplained seen event sent =
     IsForwardedData seen event sent ⊎ (IsReply seen event sent ⊎ (is_data sent.1 ≡ false))

@@ -37,7 +37,8 @@ segment_answer face token name None = dropped NoSegment
 segment_answer face token name (Some part) =
     passed (sent_back face token (segment_data name part.0 part.1) ∷ [])
 
--- whether the requested version is the current version of the lists, or no version is requested
+-- true if no version is requested or the requested version is the current version of the lists, and
+-- false otherwise
 abbrev pub is_present : Policy → Option ℕ → Bool
 is_present p None = true
 is_present p (Some version) = version == p.table_number

@@ -26,7 +26,7 @@ pub record IsPassed (event : PlainEvent) (answer : Answer) (face : ℕ) (whole :
 
 -- The event brings an Interest of this key on the face `face`. The Interest is passed, nothing is
 -- sent back to `face`, and no Nack is sent. So the Interest becomes pending on `face`, with the
--- in-record `in_record`, which has the Interest's token.
+-- in-record `in_record`, which has the Interest's token, if there is one.
 pub record IsKept (now : ℕ) (event : PlainEvent) (answer : Answer) (key : PlainKey) (face : ℕ)
     (in_record : InRecord) : Type 0 where
   pub whole : List ℕ
@@ -46,9 +46,9 @@ IsSentOn face whole i sends =
     (faces : List ℕ) × (has_face face faces ≡ false)
     × (sends ≡ to_each faces (sent_on whole i.hop_limit))
 
--- One packet is sent back to the Interest's face with the Interest's token, and nothing is sent to
--- other faces. The packet is a Nack with the reason NoRoute, or a Data from the cache, the
--- repository or the node.
+-- One packet is sent back to the Interest's face, and nothing is sent to other faces. The packet is
+-- sent with the Interest's token, if there is one. The packet is a Nack with the reason NoRoute, or
+-- a Data from the cache, the repository or the node.
 abbrev pub IsSentBack : Seen → ℕ → Token → List ℕ → PlainInterest → List Send → Type 0
 IsSentBack seen face token whole i sends =
     (sends ≡ nacked_back face token NO_ROUTE whole ∷ [])

@@ -1,4 +1,4 @@
--- The greatest total length in octets of the Nacks for all in-records of a key.
+-- A number of octets that is enough for the Nacks for all in-records of a key.
 use Rattle.std.specs.Prelude.{ℕ, ◌+◌, List, length, Option, None, Some, sum_by}
 use Rattle.std.specs.FinMap as map
 use Rattle.ndn_packets.specs.Key.{PlainKey}

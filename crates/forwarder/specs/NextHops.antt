@@ -23,7 +23,8 @@ selection_of BestRoute = best_route
 selection_of Multicast = multicast
 
 -- the strategy of a name: among the prefixes of the name that have a strategy, the longest decides;
--- the prefix `/` always has a strategy
+-- BestRoute if no prefix of the name has a strategy, but in every node the prefix `/` has a
+-- strategy
 abbrev pub strategy_for : Policy → List Field → StrategyId
 strategy_for p name = unwrap_or (longest p.choices name) BestRoute
 

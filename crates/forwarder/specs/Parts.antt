@@ -15,7 +15,7 @@ use Rattle.forwarder.specs.declared.node.NodeFault.TheVariants.{BadRepoPrefix, B
 abbrev pub is_localhost : Field → Bool
 is_localhost c = (c.0 == GENERIC) && pointwise nat_eq c.1 (codes "localhost")
 
--- whether the name is empty, or begins with `/localhost`
+-- true if the name is empty or begins with `/localhost`, and false otherwise
 abbrev pub is_bad_prefix : List Field → Bool
 is_bad_prefix [] = true
 is_bad_prefix (c ∷ cs) = is_localhost c

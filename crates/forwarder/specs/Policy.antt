@@ -29,7 +29,8 @@ pub record Policy : Type 0 where
   pub faces : List FaceEntry
   pub routes : Routes
   pub choices : Choices
-  -- for each signer of allowed commands, the greatest SignatureTime and SignatureSeqNum
+  -- for each signer of allowed commands, the greatest SignatureTime and the greatest
+  -- SignatureSeqNum of the signer's allowed commands
   pub guard : Table
   -- the objects that the repository stores, and the Data that it wants
   pub held : Held

@@ -37,7 +37,8 @@ use Rattle.forwarder.specs.NextHops.{choice_for, ask_from, sent_on}
 -- what an answer may depend on, once time has advanced to the moment of the event
 pub record Seen : Type 1 where
   pub policy : Policy
-  -- the records of each key, and whether the PIT is full, that is, has records for 4,096 keys
+  -- the records of each key, and whether the PIT is full, that is, has records for at least 4,096
+  -- keys
   pub records : PlainKey → Records
   pub is_full : Bool
   -- Whether the cache may give the Data with these octets for an Interest with this key. For None,
@@ -78,8 +79,8 @@ by_strategy seen key whole i face token (choices.Send faces) =
 
 -- The answer to an Interest that the cache does not answer, given the object of the repository that
 -- answers the Interest, if there is one. The object is sent back like a cached Data, even if the
--- Interest has MustBeFresh. If there is no object, the strategy chooses the faces to send the
--- Interest to.
+-- Interest has MustBeFresh. If there is no object, the Interest is answered according to the
+-- strategy's choice (`by_strategy`).
 abbrev pub by_repository : Seen → ℕ → Token → List ℕ → PlainInterest → Option (List ℕ) → Answer
 by_repository seen face token whole i (Some octets) = content_store_hit face token octets
 by_repository seen face token whole i None =
@@ -88,7 +89,7 @@ by_repository seen face token whole i None =
     (ask_from seen.policy face i))
 
 -- Content Store Miss: the repository answers with a stored object; if no stored object answers the
--- Interest, the strategy chooses the faces to send the Interest to
+-- Interest, the Interest is answered according to the strategy's choice (`by_strategy`)
 abbrev pub content_store_miss : Seen → ℕ → Token → List ℕ → PlainInterest → Answer
 content_store_miss seen face token whole i =
     by_repository seen face token whole i
@@ -100,7 +101,8 @@ by_content_store seen face token whole i (Some octets) = content_store_hit face 
 by_content_store seen face token whole i None = content_store_miss seen face token whole i
 
 -- Incoming Interest: an Interest that loops gets a Nack; otherwise the content store or the
--- repository answers the Interest, or the strategy chooses the faces to send the Interest to
+-- repository answers the Interest, or the Interest is answered according to the strategy's choice
+-- (`by_strategy`)
 abbrev pub RepliesForData : Seen → ℕ → Token → List ℕ → PlainInterest → Answer → Type 0
 RepliesForData seen face token whole i answer =
     IfTrueElse (loops (seen.records (key_of i)) face i.nonce)
@@ -147,8 +149,8 @@ sent_to askers whole =
 
 -- The Data's octets are sent once to each face with a pending Interest that the Data answers,
 -- except to `face`, from which the Data came. The sends are in rising order of the faces. Each face
--- gets the token of its Interest. If the Data answers several Interests of a face, the face gets
--- the token of the Interest with the latest deadline (`IsTokenFor`).
+-- gets the token of its Interest, if there is one. If the Data answers several Interests of a face,
+-- the face gets the token of the Interest with the latest deadline (`IsTokenFor`).
 abbrev pub IsSentToAskers : Seen → ℕ → List ℕ → PlainData → List Send → Type 0
 IsSentToAskers seen face whole d sends =
     (askers : Askers) × IsRising (faces_of askers)
@@ -171,8 +173,8 @@ RepliesToData seen face whole d answer =
     ((decision : Decision) × IsDecidedAs seen.policy (AData whole d) decision
     × RepliesByDecision seen face whole d answer decision)
 
--- a Nack for each in-record, in rising order of the faces; each Nack has this reason, and the
--- Interest and the token of its in-record
+-- a Nack for each in-record, in rising order of the faces; each Nack has this reason, the Interest
+-- of its in-record and, if there is one, the token of its in-record
 abbrev pub nacks_to : InRecords → ℕ → List Send
 nacks_to in_records reason =
     map_list {A = ℕ × InRecord} {B = Send}

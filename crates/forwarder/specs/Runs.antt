@@ -166,8 +166,8 @@ HaveOneHistory (Then before event answer) Start = ⊥
 HaveOneHistory (Then before event answer) (Then other another reply) =
     (event ≡ another) × HaveOneHistory before other
 
--- whether an Interest is dropped because of its HopLimit or scope, is a command, or asks for a
--- segment of a list
+-- true if an Interest is dropped because of its HopLimit or scope, is a command, or asks for a
+-- segment of a list, and false otherwise
 abbrev pub is_request : Request → Bool
 is_request (Refused reason) = true
 is_request (ForList asked) = true
@@ -215,7 +215,7 @@ is_denied (NoRule kind) = true
 is_denied (Dropped reason) = false
 
 -- the second run is the first run, except that denied events may be replaced by ticks at the
--- moments of these events
+-- moments of these events; the answer to such a tick has the verdict Passed and no sends
 abbrev pub HasTicksForDenied : Run → Run → Type 0
 HasTicksForDenied Start Start = ⊤
 HasTicksForDenied Start (Then other another reply) = ⊥

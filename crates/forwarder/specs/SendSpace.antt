@@ -23,7 +23,7 @@ abbrev pub fetched : List ℕ → InterestWriter → List Send
 fetched faces w = unless_refused (interest_refusal w) (to_each faces (interest_text w))
 
 -- The number of octets to reserve for sending a Data to the faces that asked for it. With tokens,
--- the number is `MAX_FACES` times the greatest length of a link packet with the Data. Without
+-- the number is `MAX_FACES` times the sum of the length of the Data and `LINK_EXTRA`. Without
 -- tokens, the number is the length of the Data.
 abbrev pub room_for_data : List ℕ → Bool → ℕ
 room_for_data whole with_tokens =

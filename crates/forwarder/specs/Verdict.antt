@@ -9,7 +9,7 @@ use Rattle.forwarder.specs.declared.verdict.Verdict as code_verdict
 use Rattle.forwarder.specs.declared.verdict.Verdict.TheVariants as said
 use Rattle.forwarder.specs.Event.{Send}
 
--- the proposition `A` if the test is true, and `B` if it is false
+-- the proposition `A` if the test is true, and the proposition `B` if the test is false
 abbrev pub IfTrueElse : Bool → Type 0 → Type 0 → Type 0
 IfTrueElse true A B = A
 IfTrueElse false A B = B

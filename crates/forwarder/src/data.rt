@@ -30,11 +30,12 @@ use ndn_tlv::Memory;
 use pit_fib::{Faces, MAX_FACES};
 
 impl State {
-    /// Handles a Data (NFD Developer's Guide, "Incoming Data Pipeline"). A Data that the rules
-    /// allow is sent, without changes, to each face with a pending Interest for the Data, except
-    /// the incoming face. The Data is offered to the cache if any face, even the incoming face, has
-    /// a pending Interest for the Data. The pending Interests that the Data answers are removed.
-    /// The repository stores the Data if the repository wants the Data.
+    /// Handles a Data (NFD Developer's Guide, "Incoming Data Pipeline"). A Data out of scope is
+    /// dropped. A Data that the rules allow is sent, without changes, to each face with a pending
+    /// Interest for the Data, except the incoming face. The Data is offered to the cache if at
+    /// least one face, possibly the incoming face, has a pending Interest for the Data. The pending
+    /// Interests that the Data answers are removed. The repository stores the Data if the
+    /// repository wants the Data.
     pub fn receive_data(
         &mut self,
         arrived: &Arrived<'_, Data<'_>>,
@@ -89,11 +90,11 @@ impl State {
 
     /// Sends an allowed Data to each face with a pending Interest for the Data, except `face`, from
     /// which the Data came. Removes all in-records and out-records of the keys that the Data
-    /// answers. If any face had a pending Interest for the Data, offers the Data to the cache,
-    /// which does not store the Data if memory runs out. Stores the Data in the repository if the
-    /// repository wants the Data. If `with_tokens` is false, no pending Interest has a token. The
-    /// call never fails: memory for 64 sends and their octets is already reserved, and the offer to
-    /// the repository is prepared.
+    /// answers. If at least one face had a pending Interest for the Data, offers the Data to the
+    /// cache, which does not store the Data if memory runs out. Stores the Data in the repository
+    /// if the repository wants the Data. If `with_tokens` is false, no pending Interest has a
+    /// token. The call never fails: memory for 64 sends and their octets is already reserved, and
+    /// the offer to the repository is prepared.
     fn deliver(
         &mut self,
         face: u64,
@@ -136,9 +137,9 @@ impl State {
     }
 
     /// Sends a Data to each face with a pending Interest for the Data, except `face`, from which
-    /// the Data came. Each face gets the token of its Interest. If the Data answers several
-    /// Interests of a face, the face gets the token of the Interest with the latest deadline (see
-    /// `Pit::token_for`).
+    /// the Data came. Each face gets the token of its Interest, if there is one. If the Data
+    /// answers several Interests of a face, the face gets the token of the Interest with the latest
+    /// deadline (see `Pit::token_for`).
     fn send_with_tokens(&self, face: u64, packet: &Data<'_>, out: &mut Sends) -> Result<(), Memory>
         requires places { MAX_FACES ≤ out.old.places }
         requires space { room_for_data packet.now.whole.now true ≤ out.old.space }
@@ -151,9 +152,9 @@ impl State {
         self.push_with_tokens(&without_face(&askers, face), packet, out)
     }
 
-    /// Sends a Data to each of these faces. Each face gets the token of its Interest. If the Data
-    /// answers several Interests of a face, the face gets the token of the Interest with the latest
-    /// deadline (see `Pit::token_for`).
+    /// Sends a Data to each of these faces. Each face gets the token of its Interest, if there is
+    /// one. If the Data answers several Interests of a face, the face gets the token of the
+    /// Interest with the latest deadline (see `Pit::token_for`).
     fn push_with_tokens(
         &self,
         faces: &Faces,

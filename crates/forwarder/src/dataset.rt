@@ -58,8 +58,8 @@ pub(crate) fn list_segment(
     Ok(Some(octets))
 }
 
-/// Returns whether the requested version is the current version `table_number`, or no version is
-/// requested.
+/// Returns true if no version is requested or the requested version is the current version
+/// `table_number`, and false otherwise.
 fn is_present(asked: Option<u64>, table_number: u64) -> bool
     ensures { (p : Policy) → p.table_number ≡ table_number → result ≡ is_present p asked }
 {
@@ -156,8 +156,9 @@ fn segment_data<'a>(
 impl State {
     /// Sends a segment of a list to the face that requests the segment. The segment shows the list
     /// as it is once time has advanced to the moment of the Interest. Drops the Interest if the
-    /// requested segment does not exist, or if the requested version is not the current version.
-    /// The segment is encoded before time advances, so nothing has changed if memory runs out.
+    /// requested segment does not exist, or if a version other than the current version is
+    /// requested. The segment is encoded before time advances, so nothing has changed if memory
+    /// runs out.
     pub fn send_list(
         &mut self,
         arrived: &Arrived<'_, Interest<'_>>,

@@ -4,8 +4,8 @@ ghost use Rattle.forwarder.specs.Event.{plain, plain_owned};
 use hmac_keys::KeyBook;
 use info_rules::Rules;
 
-/// Whether a face leads to a program on this machine or to another machine (NFD Developer's Guide,
-/// "Face Scope").
+/// Where a face leads (NFD Developer's Guide, "Face Scope"). A `Local` face leads to a program on
+/// this machine. A `Far` face leads to another machine.
 #[derive(Clone, Copy, Debug, PartialEq, Eq)]
 pub enum Scope {
     Local,

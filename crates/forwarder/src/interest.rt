@@ -57,9 +57,10 @@ impl State {
     }
 
     /// Handles an Interest for Data. If the Interest loops, sends a Nack back. If the Interest does
-    /// not loop, answers the Interest with a Data from the cache or the repository, or forwards the
-    /// Interest. Looks for the Data in the cache and the repository before a PIT record is
-    /// prepared, since an answer from the cache or the repository needs no PIT record.
+    /// not loop, answers the Interest with a Data from the cache or the repository. If the cache
+    /// and the repository have no Data for the Interest, handles the Interest as `miss` specifies.
+    /// Looks for the Data in the cache and the repository before a PIT record is prepared, since an
+    /// answer from the cache or the repository needs no PIT record.
     fn answer(
         &mut self,
         arrived: &Arrived<'_, Interest<'_>>,
@@ -147,7 +148,8 @@ impl State {
 
     /// Forwards an Interest that neither the cache nor the repository answers (NFD Developer's
     /// Guide, "Content Store Miss Pipeline"). Sends a Nack back if the Interest loops, or if no
-    /// next hop may get the Interest.
+    /// next hop may get the Interest. Drops the Interest if its key is not in the PIT and the PIT
+    /// is full.
     fn miss(
         &mut self,
         arrived: &Arrived<'_, Interest<'_>>,
@@ -207,7 +209,8 @@ impl State {
 
     /// Forwards an Interest, which neither the cache nor the repository answers, to the faces that
     /// the strategy of its name chooses. If no next hop may get the Interest, removes the in-record
-    /// of the incoming face `face` under the Interest's key, and sends a Nack back.
+    /// of the incoming face `face` under the Interest's key, if there is one, and sends a Nack
+    /// back. Drops the Interest if its key is not in the PIT and the PIT is full.
     fn forward(
         &mut self,
         face: u64,
@@ -314,7 +317,7 @@ impl State {
     }
 }
 
-/// Returns the length of an Interest and its token together, in octets.
+/// Returns the length of an Interest in octets, plus the length of its token, if there is one.
 fn kept_len(interest: &Interest<'_>, token: Option<&[u8]>) -> usize
     requires { IfSome (token_of token) IsToken }
     ensures { result ≡ length interest.now.whole.now + token_len (token_of token.entry) }

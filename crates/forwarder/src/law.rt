@@ -56,22 +56,23 @@ pub fn steps_have_one_effect()
 {}
 
 /// Law: advancing time to two moments, one after the other, has the same effect as advancing time
-/// once, to the greater of these moments. In both cases, each expired route is counted once in the
-/// version of the lists of routes and strategies.
+/// once, to the greater of these moments. Either way, each route that expires adds 1 to the version
+/// of the lists of routes and strategies, up to the greatest u64.
 pub fn moments_in_a_row_are_as_the_later()
     ensures { (p : Policy) (m n : ℕ) → at_moment (at_moment p m) n ≡ at_moment p (max m n) }
 {}
 
 /// Law: a step leaves a sound node sound. In a sound node each face with a record, a next hop or a
-/// route is open, and at most 64 faces are open.
+/// route is open, at most 64 faces are open, and the list of open faces is in rising order of the
+/// faces' numbers.
 pub fn steps_keep_nodes_sound()
     ensures { (old new : NodeState) (event : PlainEvent) (answer : Answer) → IsSound old
         → IsStep old event answer new → IsSound new }
 {}
 
-/// Law: let a node agree (`Stands`) with a valid run (`IsRun`) that began at the moment 0. If the
-/// event and the answer of a step of this node are appended to the run, the longer run is valid,
-/// and the node after the step agrees with the longer run.
+/// Law: let a node agree (`Stands`) with a valid run (`IsRun`) that starts from a policy with the
+/// time 0. If the event and the answer of a step of this node are appended to the run, the longer
+/// run is valid, and the node after the step agrees with the longer run.
 pub fn steps_go_on_with_runs()
     ensures { (first : Policy) (past : Run) (old new : NodeState) (event : PlainEvent)
         (answer : Answer) → first.now ≡ 0 → IsRun first past → Stands first past old
@@ -96,13 +97,14 @@ pub fn refused_steps_stand_still()
         → ChangesCacheOnly old new → Stands first past new }
 {}
 
-/// Law: let no key book have two keys of the same name. If two runs have the same events and start
-/// from the same policy, both runs lead to the same policy. Let the same event follow both runs. If
-/// the event brings a command, a request for a list, or an Interest that is dropped because of its
-/// HopLimit or scope, each valid answer after one run equals each valid answer after the other run.
-/// If the event brings a Data, each valid answer after one run has the same verdict as each valid
-/// answer after the other run. If both runs are cut off before one of their events, the two shorter
-/// runs again have the same events. So this law applies at each event of the two runs.
+/// Law: let no key book of two runs have two keys of the same name. If the two runs have the same
+/// events and start from the same policy, both runs lead to the same policy. Let the same event
+/// follow both runs. If the event brings a command, a request for a segment of a list, or an
+/// Interest that is dropped because of its HopLimit or scope, each valid answer after one run
+/// equals each valid answer after the other run. If the event brings a Data, each valid answer
+/// after one run has the same verdict as each valid answer after the other run. If the same number
+/// of events is removed from the end of each of the two runs, the two shorter runs have the same
+/// events. So this law applies at each event of the two runs.
 pub fn histories_decide()
     ensures policy { (first p q : Policy) (past other : Run) → KeysAreApart first past
         → HaveOneHistory past other → IsPolicyOf first past p → IsPolicyOf first other q → p ≡ q }
@@ -115,9 +117,10 @@ pub fn histories_decide()
         → MayReply first past event a → MayReply first other event b → a.verdict ≡ b.verdict }
 {}
 
-/// Law: let no key book have two keys of the same name. If some denied events of a valid run are
-/// replaced by ticks at the moments of these events, the resulting run is valid, and leads to the
-/// same policy as the original run.
+/// Law: let no key book of a valid run have two keys of the same name. In this run, let some denied
+/// events be replaced by ticks at the moments of these events, and let the answers to these events
+/// be replaced by answers with the verdict `Passed` and no sends. Then the resulting run is valid,
+/// and leads to the same policy as the original run.
 pub fn denied_events_change_nothing()
     ensures run { (first : Policy) (past other : Run) → KeysAreApart first past → IsRun first past
         → HasTicksForDenied past other → IsRun first other }
@@ -131,8 +134,8 @@ pub fn denied_events_change_nothing()
 /// Data and is not the face on which the Data came. In the second kind, the event brings an
 /// Interest. A Data that answers this Interest is sent back to the Interest's face. This Data comes
 /// from the cache or the repository, or is made by the node itself. In the third kind, the octets
-/// that are sent are no Data. The law requires that the octets of the event's packet are numbers
-/// below 256, which is true of every event of a node.
+/// that are sent are neither a Data nor a link packet that carries a Data. The law requires that
+/// the octets of the event's packet are numbers below 256, which is true of every event of a node.
 pub fn each_send_is_explained()
     ensures { (first : Policy) (past : Run) (event : PlainEvent) (answer : Answer)
         (reply : MayReply first past event answer) → BringsOctets event
@@ -150,10 +153,11 @@ pub fn keys_stay_apart()
         → IsPolicyOf first past p → AreApart p.keys }
 {}
 
-/// Law: the rules and keys in force after a run are those of the latest event that brought rules
-/// and keys. If no event brought rules and keys, the rules and keys from before the run are still
-/// in force. A command or Data in the event that follows the run is decided by the rules and keys
-/// in force after the run.
+/// Law: the rules and keys in force after a run are those of the last event of the run that brought
+/// rules and keys. If no event of the run brought rules and keys, the rules and keys from before
+/// the run are still in force. A Data in the event that follows the run is decided by the rules and
+/// keys in force after the run. The same rules and keys decide a command in that event, but a
+/// command that is not fresh is denied even if the rules allow it.
 pub fn rules_in_force()
     ensures last { (first p : Policy) (past : Run) (rules : List PlainRule) (keys : List NamedKey)
         → IsPolicyOf first past p → AreLastRules past rules keys
@@ -166,14 +170,14 @@ pub fn rules_in_force()
         ⊎ ((rules : List PlainRule) × (keys : List NamedKey) × AreLastRules past rules keys) }
 {}
 
-/// Law: let the repository be empty before a valid run. Then each Data in a valid answer to the
-/// event after the run was asked for by the face that the Data is sent to. Either the event brings
-/// the Data, the first rule that applies allows the Data, and the Data answers an Interest that is
-/// pending on that face. Or the event brings an Interest on that face, and one of two things is
-/// true: the Data answers the Interest and was allowed in an event of the run, or the Data is the
-/// node's own answer to the Interest. The node's own answer is a segment of a list, or the reply to
-/// a command. The law requires that the octets of the event's packet are numbers below 256, which
-/// is true of every event of a node.
+/// Law: let the repository store no objects before a valid run. Then each Data in a valid answer to
+/// the event after the run was asked for by the face that the Data is sent to. Either the event
+/// brings the Data, the first rule that applies allows the Data, and the Data answers an Interest
+/// that is pending on that face. Or the event brings an Interest on that face, and at least one of
+/// two things is true: the Data answers the Interest and was allowed in an event of the run, or the
+/// Data is the node's own answer to the Interest. The node's own answer is a segment of a list, or
+/// the reply to a command. The law requires that the octets of the event's packet are numbers below
+/// 256, which is true of every event of a node.
 pub fn every_data_sent_was_asked_for()
     ensures read { (first : Policy) (past : Run) (event : PlainEvent) (answer : Answer) (face : ℕ)
         (octets whole : List ℕ) (d : PlainData) (reply : MayReply first past event answer)
@@ -190,10 +194,10 @@ pub fn every_data_sent_was_asked_for()
         → AnswersItself reply.was event (face, octets) }
 {}
 
-/// Law: let no key book have two keys of the same name. Then each allowed command has a greater
-/// SignatureTime than each earlier allowed command of its signer and, if both commands have a
-/// SignatureSeqNum, a greater SignatureSeqNum. So no two allowed commands have the same signature,
-/// whatever else their Interests contain.
+/// Law: let no key book of a run have two keys of the same name. Then each allowed command has a
+/// greater SignatureTime than each earlier allowed command of its signer and, if both commands have
+/// a SignatureSeqNum, a greater SignatureSeqNum. So no two allowed commands have the same
+/// signature, whatever else their Interests contain.
 pub fn commands_are_allowed_once()
     ensures newer { (first was : Policy) (past : Run) (event : PlainEvent) (whole other : List ℕ)
         (i j : PlainInterest) (r s : Recorded) → KeysAreApart first past
@@ -204,10 +208,10 @@ pub fn commands_are_allowed_once()
         (i j : PlainInterest) → KeysAreApart first past → AllowedIn first past (AnInterest whole i)
         → IsPolicyOf first past was → Allows was event (AnInterest other j)
         → i.signature ≡ j.signature → ⊥ }
-    // Conversely, let no command be recorded before the run. Then a command is fresh if its
-    // SignatureTime differs from the node's time by at most 120,000 milliseconds, and the command
-    // is newer, as in the clause `newer`, than each command of its signer that was allowed in the
-    // run.
+    // Conversely, let no command be recorded before the run. Then a command with a SignatureTime is
+    // fresh if this time differs from the node's time at the command by at most 120,000
+    // milliseconds, and the command is newer, as in the clause `newer`, than each command of its
+    // signer that was allowed in the run.
     ensures fresh { (first was : Policy) (past : Run) (now : ℕ) (i : PlainInterest) (r : Recorded)
         → first.guard ≡ map.empty → IsPolicyOf first past was → recorded_of i ≡ Some r
         → AreNear r.time (at_moment was now).now
@@ -226,9 +230,9 @@ pub fn guards_hold_allowed_commands()
         × AllowedIn first past (AnInterest whole i) × (recorded_of i ≡ Some r)) records }
 {}
 
-/// Law: if the repository is empty before a run, each object that the repository stores after the
-/// run is a Data that was allowed in an event of the run. The object is stored under the Data's
-/// full name.
+/// Law: if the repository stores no objects before a run, each object that the repository stores
+/// after the run is a Data that was allowed in an event of the run. The object is stored under the
+/// Data's full name.
 pub fn objects_were_allowed()
     ensures { (first p : Policy) (past : Run) (name : List Field) (octets : List ℕ)
         → first.held.objects ≡ map.empty → IsPolicyOf first past p
@@ -237,9 +241,10 @@ pub fn objects_were_allowed()
         × (name ≡ full_name d.name (sha256 octets)) }
 {}
 
-/// Law: each Data that a cache may hold after a run was allowed in an event of the run, at the
-/// moment that the cache records as the Data's arrival. The recorded implicit digest is the SHA-256
-/// hash of the Data's octets, and the recorded name and FreshnessPeriod are those of the Data.
+/// Law: each Data that a cache may hold after a valid run was allowed in an event of the run. The
+/// arrival that the cache records for the Data is the greatest moment of the run's events, up to
+/// and including that event. The recorded implicit digest is the SHA-256 hash of the Data's octets,
+/// and the recorded name and FreshnessPeriod are those of the Data.
 pub fn cached_data_were_allowed()
     ensures { (first : Policy) (past : Run) (c : CachedData) → IsRun first past → MayHold past c
         → (d : PlainData) × AllowedAt first past (AData c.octets d) c.arrival × (c.name ≡ d.name)
@@ -249,8 +254,8 @@ pub fn cached_data_were_allowed()
 /// Law: the causes in a run (`past_causes`) determine the records of each key, face by face. The
 /// in-record of a face under a key is that of the latest Interest of the key that came from the
 /// face and became pending. The out-record of a face under a key is that of the latest Interest of
-/// the key that was sent to the face. If a later cause has ended a record, the record no longer
-/// exists.
+/// the key that was sent to the face; a Nack that comes later from the face can set the reason in
+/// the out-record. If a later cause has ended a record, the record no longer exists.
 pub fn records_are_read_off_the_run()
     ensures in_records { (past : Run) (key : PlainKey) (face : ℕ)
         → map.get (records_of past key).in_records face
@@ -290,12 +295,12 @@ pub fn unanswered_interests_wait()
         ⊎ IsSentBack seen face (token_in event) whole i answer.sends }
 {}
 
-/// Law: let no key book have two keys of the same name, and let a run begin without next hops and
-/// routes. A next hop is removed when a remove-nexthop of its name and face is answered with status
-/// 200, or when its face is closed. After the run, a next hop exists exactly if an add-nexthop of
-/// its name and face was answered with status 200, and the next hop was not removed since the
-/// latest such add-nexthop. The cost of a next hop was set by the latest add-nexthop of its name
-/// and face that was answered with status 200.
+/// Law: let a valid run begin without next hops and routes, and let no key book of the run have two
+/// keys of the same name. A next hop is removed when a remove-nexthop of its name and face is
+/// answered with status 200, or when its face is closed. After the run, a next hop exists exactly
+/// if an add-nexthop of its name and face was answered with status 200, and the next hop was not
+/// removed since the latest such add-nexthop. The cost of a next hop was set by the latest
+/// add-nexthop of its name and face that was answered with status 200.
 pub fn routes_are_read_off_the_run()
     ensures { (first p : Policy) (past : Run) (name : List Field) (face : ℕ)
         → KeysAreApart first past
@@ -303,15 +308,15 @@ pub fn routes_are_read_off_the_run()
         → map.get (costs_at p.routes name) face ≡ cost_of past name face }
 {}
 
-/// Law: let no key book have two keys of the same name, and let a run begin without next hops and
-/// routes, at the moment 0. A registered route ends when an unregister of its name, face and origin
-/// is answered with status 200, when its face is closed, or when the node's time at a later event
-/// is at or after the route's deadline. After the run, a registered route exists exactly if a
-/// register of its name, face and origin was answered with status 200, and the route has not ended
-/// since the latest such register. The cost and flags of the route are those of the latest register
-/// of its name, face and origin that was answered with status 200. The deadline of the route is the
-/// node's time at that register plus the register's period, at most the greatest u64. A register
-/// without a period gives no deadline.
+/// Law: let a valid run start from a policy that has the time 0, no next hops and no routes, and
+/// let no key book of the run have two keys of the same name. A registered route ends when an
+/// unregister of its name, face and origin is answered with status 200, when its face is closed, or
+/// when the node's time at a later event is at or after the route's deadline. After the run, a
+/// registered route exists exactly if a register of its name, face and origin was answered with
+/// status 200, and the route has not ended since the latest such register. The cost and flags of
+/// the route are those of the latest register of its name, face and origin that was answered with
+/// status 200. The deadline of the route is the node's time at that register plus the register's
+/// period, at most the greatest u64. A register without a period gives no deadline.
 pub fn registered_routes_are_read_off_the_run()
     ensures { (first p : Policy) (past : Run) (name : List Field) (face origin : ℕ)
         → KeysAreApart first past → first.now ≡ 0

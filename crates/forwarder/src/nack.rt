@@ -20,9 +20,11 @@ use pit_fib::{MAX_FACES, Nacked};
 
 impl State {
     /// Handles a Nack (NFD Developer's Guide, "Incoming Nack Pipeline"). The key of a Nack is the
-    /// key of the Interest in the Nack. When each out-record of the key has the reason of a
-    /// received Nack, each face with an in-record of the key gets a Nack with the least of these
-    /// reasons. Then all records of the key are removed.
+    /// key of the Interest in the Nack. Drops the Nack if the Nack is out of scope, or if the face
+    /// that the Nack came on has no out-record with the key and Nonce of the Interest in the Nack.
+    /// Otherwise records the Nack's reason in the out-record. When each out-record of the key has
+    /// the reason of a received Nack, each face with an in-record of the key gets a Nack with the
+    /// least of these reasons. Then all records of the key are removed.
     pub fn receive_nack(
         &mut self,
         reason: u64,
@@ -77,8 +79,8 @@ impl State {
     }
 
     /// Sends a Nack with this reason to each face with an in-record of the key. Each Nack contains
-    /// the Interest of the face's in-record, and has the token of this in-record. Memory for the
-    /// Nacks is already reserved.
+    /// the Interest of the face's in-record, and has the token of this in-record, if there is one.
+    /// Memory for the Nacks is already reserved.
     fn push_nacks(&self, key: Key<'_>, reason: u64, out: &mut Sends) -> Result<(), Memory>
         requires known { (f : ℕ)
             → IsSome (map.get (in_records_at self.now.pit.pending (plain_key key)) f)

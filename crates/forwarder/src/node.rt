@@ -211,8 +211,8 @@ impl Node {
     /// the sends to the outbox.
     ///
     /// The rules and keys of an event `NewRules` replace the old rules and keys, and are in force
-    /// from the next event on. The event `NewRules` itself advances time, as each event does, and
-    /// changes nothing else.
+    /// from the next event on. Apart from this, the event `NewRules` only advances time, as each
+    /// event does.
     ///
     /// If memory runs out, the cache may have dropped Data or changed their order of use; nothing
     /// else changes. These events need no memory: face changes, ticks, new rules, packets on faces
@@ -225,9 +225,9 @@ impl Node {
             (λ verdict. (sends : List Send) × (outbox.new ≡ outbox.old ++ sends)
             × IsStep self.old (plain event.entry)
             (record { verdict = verdict_of verdict; sends = sends }) self.new) }
-        // Let the node agree with a valid run that began at the moment 0. If this event and its
-        // answer are appended to the run, the longer run is valid, and the node after the step
-        // agrees with the longer run.
+        // Let the node agree with a valid run that starts from a policy with the time 0. If this
+        // event and its answer are appended to the run, the longer run is valid, and the node after
+        // the step agrees with the longer run.
         ensures run { IfOk result (λ verdict. let sends = drop (length outbox.old) outbox.new in
             (first : Policy) (past : Run) → first.now ≡ 0 → IsRun first past
             → Stands first past self.old

@@ -108,7 +108,7 @@ impl OpenFaces {
         *self = OpenFaces { all, local };
     }
 
-    /// Returns whether both lists have the same faces with the same scopes.
+    /// Returns whether `self` and `other` have the same open faces with the same scopes.
     pub fn is_same(&self, other: &OpenFaces) -> bool
         ensures { IsTrue result → self.now ≡ other.now }
     {

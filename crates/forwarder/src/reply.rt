@@ -12,8 +12,8 @@ use ndn_names::Name;
 use ndn_tlv::Memory;
 use repo_core::{RepoReply, put_repo_reply, repo_status_text};
 
-/// The greatest number of octets by which a reply is longer than its name and its Content together.
-/// Apart from its name and its Content, a reply consists of headers and a signature.
+/// A reply is longer than its name and its Content together by at most this number of octets. Apart
+/// from its name and its Content, a reply consists of headers and a signature.
 const REPLY_EXTRA: usize = 77;
 
 /// Returns a number of octets that is enough for a reply of this name with a token, if the reply's

@@ -104,7 +104,8 @@ fn is_list_name(kind: ListKind, name: Name<'_>) -> bool
     begins(name, kind.octets())
 }
 
-/// Returns the number that `value` encodes, if `value` is the shortest encoding of the number.
+/// Returns the number that `value` encodes, or `None` if `value` is not the shortest encoding of a
+/// number.
 fn shortest_number(value: &[u8]) -> Option<u64>
     ensures { result ≡ shortest_number value.now }
 {
@@ -117,8 +118,8 @@ fn shortest_number(value: &[u8]) -> Option<u64>
     Some(number)
 }
 
-/// Returns the number in a component, if the component has the type `kind` and its value is the
-/// shortest encoding of the number.
+/// Returns the number in a component of the type `kind`. Returns `None` if the component has
+/// another type, or if the component's value is not the shortest encoding of a number.
 fn numbered(kind: u16, component: Component<'_>) -> Option<u64>
     ensures { result ≡ numbered kind (field_of component.entry) }
 {
@@ -173,7 +174,8 @@ fn versioned(kind: ListKind, segment: u64, version: Component<'_>) -> Option<Lis
     })
 }
 
-/// Returns the segment that an Interest asks for, if it asks for a list of this kind.
+/// Returns the segment that an Interest asks for, or `None` if the Interest does not ask for a list
+/// of this kind.
 fn list_of_kind(kind: ListKind, interest: &Interest<'_>) -> Option<ListAsked>
     ensures { result ≡ list_of_kind kind (plain_interest interest.now) }
 {
@@ -184,7 +186,8 @@ fn list_of_kind(kind: ListKind, interest: &Interest<'_>) -> Option<ListAsked>
     }
 }
 
-/// Returns the segment that an Interest asks for, if it asks for a list.
+/// Returns the segment that an Interest asks for, or `None` if the Interest does not ask for a
+/// list.
 pub(crate) fn list_asked(interest: &Interest<'_>) -> Option<ListAsked>
     ensures { result ≡ list_asked (plain_interest interest.now) }
 {

@@ -18,8 +18,8 @@ use pit_fib::{Faces, MAX_FACES};
 use std::alloc::Global;
 use std::marker::Model;
 
-/// The greatest number of octets by which a link packet is longer than the packet in it. A link
-/// packet adds headers, a token of at most 32 octets, and a Nack with its reason.
+/// A link packet is longer than the packet in it by at most this number of octets. A link packet
+/// adds headers, a token of at most 32 octets, and a Nack with its reason.
 pub const LINK_EXTRA: usize = 70;
 
 /// One send: its face, and the range of its octets.
@@ -131,7 +131,8 @@ impl Sends {
         Ok(())
     }
 
-    /// Adds a packet that is sent back to the face of an Interest, with the token of that Interest.
+    /// Adds a packet that is sent back to the face of an Interest. The packet gets the token of
+    /// that Interest, if there is one.
     pub fn push_back(
         &mut self,
         face: u64,
@@ -152,8 +153,8 @@ impl Sends {
         self.push_lp(face, token, None, packet)
     }
 
-    /// Adds a Nack with this reason. The Nack contains the octets of an Interest and has the
-    /// Interest's token.
+    /// Adds a Nack with this reason. The Nack contains the octets of an Interest, and has the
+    /// Interest's token, if there is one.
     pub fn push_nack(
         &mut self,
         face: u64,
@@ -203,7 +204,7 @@ impl Sends {
     }
 
     /// Adds a reply: a Data with this name and Content, without MetaInfo, signed with DigestSha256.
-    /// The reply is sent back with the token of the Interest that it answers.
+    /// The reply gets the token of the Interest that it answers, if there is one.
     pub fn push_reply(
         &mut self,
         face: u64,
@@ -231,8 +232,8 @@ impl Sends {
         Ok(())
     }
 
-    /// Adds one send for each face: these octets, sent to the face. The octets are stored once, or
-    /// not at all if there is no face.
+    /// Adds one send for each face in `faces`: these octets, sent to the face. The octets are
+    /// stored once, or not at all if there is no face.
     pub fn push_to_each(&mut self, faces: &Faces, octets: &[u8]) -> Result<(), Memory>
         ensures ok { OnOk result
             (self.new.sends ≡ self.old.sends ++ to_each faces.now octets.now) }
@@ -302,8 +303,8 @@ impl Sends {
     }
 }
 
-/// Adds one send to `face`, of the octets from `start` to `end`. Memory for the send is already
-/// reserved.
+/// Adds one send to `face`: the octets from index `start` up to, but not including, index `end`.
+/// Memory for the send is already reserved.
 fn place(places: &mut Vec<Sent>, face: u64, start: usize, end: usize) -> Result<(), Memory>
     requires { vec_len places.old < vec_capacity places.old }
     ensures ok { IsOk result }
@@ -315,8 +316,8 @@ fn place(places: &mut Vec<Sent>, face: u64, start: usize, end: usize) -> Result<
     Ok(())
 }
 
-/// Adds one send for each face: the octets from index `start` to index `end`, sent to the face.
-/// Memory for these sends is already reserved.
+/// Adds one send for each face: the octets from index `start` up to, but not including, index
+/// `end`, sent to the face. Memory for these sends is already reserved.
 fn place_each(places: &mut Vec<Sent>, faces: &Faces, start: usize, end: usize) -> Result<(), Memory>
     requires { vec_len places.old + length faces.now ≤ vec_capacity places.old }
     ensures ok { IsOk result }
@@ -332,7 +333,8 @@ fn place_each(places: &mut Vec<Sent>, faces: &Faces, start: usize, end: usize) -
     Ok(())
 }
 
-/// Appends a reply with the token of the Interest that it answers, or nothing if memory runs out.
+/// Appends a reply. The reply gets the token of the Interest that it answers, if there is one.
+/// Appends nothing if memory runs out.
 fn put_reply_back(
     out: &mut Vec<u8>,
     token: Option<&[u8]>,

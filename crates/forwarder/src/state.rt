@@ -26,16 +26,17 @@ pub struct State {
     pub pit: Pit,
     /// The tables of routes and strategies, and the cache.
     pub tables: Tables,
-    /// For each signer of allowed commands, the greatest SignatureTime and SignatureSeqNum of its
-    /// commands.
+    /// For each signer of allowed commands, the greatest SignatureTime and the greatest
+    /// SignatureSeqNum of the signer's allowed commands.
     pub guard: Guard,
     pub repo: Repo,
 }
 
 impl State {
     /// Sets the time to the greater of `self.now` and `moment`, and removes the in-records, routes
-    /// and wants that have expired. Adds the number of expired routes to the version of the lists.
-    /// What was prepared in the PIT, the tables, the guard and the repository stays prepared.
+    /// and wants that have expired. Adds the number of expired routes to the version of the lists,
+    /// up to the greatest u64. What was prepared in the PIT, the tables, the guard and the
+    /// repository stays prepared.
     pub fn pass_time(&mut self, moment: u64)
         ensures later { IsLater (state_of self.old) moment (state_of self.new) }
         ensures pit { self.new.pit.prepared ≡ self.old.pit.prepared }

@@ -32,7 +32,8 @@ pub enum DropReason {
     Idle,
     /// The HopLimit of the Interest is 0.
     HopLimit,
-    /// The packet came from another machine, and its name is under `/localhost`.
+    /// The packet came from another machine, and the packet's name begins with `/localhost`. The
+    /// name of a Nack is that of the Interest in the Nack.
     Scope,
     /// The Interest loops: an in-record of another face, or an out-record, has the Interest's key
     /// and Nonce, but no in-record of the Interest's own face has them. A Nack with the reason
@@ -43,8 +44,8 @@ pub enum DropReason {
     /// The face that the Nack came on has no out-record with the key and Nonce of the Interest in
     /// the Nack.
     NoPending,
-    /// The list has no segment with the requested number, or the list's version is not the
-    /// requested version.
+    /// The list has no segment with the requested number, or the Interest requests a version other
+    /// than the list's current version.
     NoSegment,
     /// The face number is 0.
     BadFace,

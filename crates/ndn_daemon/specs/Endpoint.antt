@@ -29,8 +29,8 @@ IsEndpoint text endpoint =
 abbrev pub IsLoopback : SocketAddr → Type 0
 IsLoopback endpoint = MatchIp (socket_ip endpoint) IsLoopbackV4 IsLoopbackV6
 
--- The address is the unspecified address, 0.0.0.0 or ::. A node that listens on the unspecified
--- address listens on all addresses of its machine.
+-- The address is an unspecified address, 0.0.0.0 or ::. A node that listens on 0.0.0.0 listens on
+-- all IPv4 addresses of its machine. A node that listens on :: listens on all IPv6 addresses.
 abbrev pub IsUnspecified : SocketAddr → Type 0
 IsUnspecified endpoint = MatchIp (socket_ip endpoint) IsUnspecifiedV4 IsUnspecifiedV6
 
