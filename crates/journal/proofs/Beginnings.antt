@@ -1,4 +1,4 @@
--- The first events of a run's journal are the journal of a prefix of the run.
+-- Each prefix of a run's journal is the journal of a prefix of the run.
 use Rattle.std.proofs.Common.{◌≡◌, inl, inr, Bool, true, false, List, [], ◌∷◌, ◌++◌, length, length-append, arith, refl, sym, ap, subst, ◌∙◌}
 use Rattle.std.proofs.lemmas.List.{append-nil}
 use Rattle.std.specs.Prelude.{max}

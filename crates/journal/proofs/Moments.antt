@@ -23,16 +23,16 @@ at_greatest p m =
     let same : max p.now (max p.now m) ≡ max p.now m = omega arith in
     ap (with_time p) same
 
--- if two policies are the same from a time on, and one of them is advanced to a later time, the two
--- policies are the same from the later time on
+-- if `q` and `was` are the same from the time of `was` on, and `was` is advanced to the time `m`,
+-- then `q` and the advanced policy are the same from the greater of these two times on
 pub one_later : (was q : Policy) (m : ℕ) → AreOneFrom was.now q was → AreOneFrom (max was.now m) q (at_moment was m)
 one_later was q m one n le =
     let after : was.now ≤ n = omega arith in
     let same : max m n ≡ n = omega arith in
     one n after ∙ sym (moments_in_a_row was m n ∙ ap (at_moment was) same)
 
--- if two policies are the same from a time on, advancing both to the same later time gives the same
--- policy
+-- if `q` and `was` are the same from the time of `was` on, then advancing `q` to the greater of
+-- this time and `m` gives the same policy as advancing `was` to `m`
 pub one_now : (was q : Policy) (m : ℕ) → AreOneFrom was.now q was → at_moment q (max was.now m) ≡ at_moment was m
 one_now was q m one =
     let after : was.now ≤ max was.now m = omega arith in

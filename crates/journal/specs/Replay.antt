@@ -78,9 +78,9 @@ pub record Restores (first : Policy) (past : Run) (left : List ℕ) (done : Repl
   pub is_journal : IsJournalOf first again survives.events
   pub is_text : IsTextOf survives.events (take done.whole left)
 
--- `Restores` is true for each run whose journal's text begins with `left`, if two conditions are
--- met: no key book in the run has two keys of the same name, and the old node has not handled any
--- event and has the run's first policy, whose time is 0.
+-- `Restores` is true for each run whose journal's text begins with `left`, if three conditions are
+-- met. The run leads to a policy. No key book in the run has two keys of the same name. The old
+-- node has not handled any event and has the run's first policy, whose time is 0.
 abbrev pub RestoresRuns : NodeState → NodeState → List ℕ → Replayed → Type 0
 RestoresRuns old new left done =
     (first p : Policy) (past : Run) (journal : List PlainEvent) (text lost : List ℕ)

@@ -16,7 +16,7 @@ ghost use Rattle.journal.specs.Journal.{AreOneFrom, IsJournalled, IsJournalOf, K
 
 /// Law: suppose that the keys of a policy have different names. Then the policy and the next event
 /// determine whether the event is journalled. If the event is not journalled, its only effect on
-/// the policy is that time advances (`at_moment`).
+/// the policy is that time advances to the event's time, unless that time is earlier (`at_moment`).
 pub fn other_events_bring_their_moments()
     ensures decided { (old : Policy) (event : PlainEvent) (a b : Bool) → AreApart old.keys
         → IsJournalled old event a → IsJournalled old event b → a ≡ b }
@@ -36,7 +36,8 @@ pub fn verdicts_say_what_is_journalled()
 
 /// Law: if a node agrees (`Stands`) with a run, and the event of the node's next step is
 /// journalled, the step appends the event to the run's journal and the event's line to the
-/// journal's text. If the event is not journalled, the step appends nothing.
+/// journal's text. The time of the appended event is the greater of the node's time and the event's
+/// time. If the event is not journalled, the step appends nothing.
 pub fn journals_grow_by_steps()
     ensures journal { (first : Policy) (past : Run) (old new : NodeState) (event : PlainEvent)
         (answer : Answer) (journal : List PlainEvent) → Stands first past old
@@ -101,10 +102,11 @@ pub fn rules_at_the_start_are_the_first()
         → IsPolicyOf (with_rules first r k) again q → IsPolicyOf first again q }
 {}
 
-/// Law: if a crash leaves only the first events of a run's journal, these events are the journal of
-/// a prefix `part` of the run. From the last time of `part` on, a replay of these events leads to
-/// the policy after `part`. If the whole journal of a prefix of the run is left, that prefix of the
-/// run is also a prefix of `part`. The keys of each key book in the run must have different names.
+/// Law: if a crash leaves a prefix of the events of a run's journal, the events that are left are
+/// the journal of a prefix `part` of the run. From the last time of `part` on, a replay of the
+/// events that are left leads to the policy after `part`. If the whole journal of a prefix of the
+/// run is left, that prefix of the run is also a prefix of `part`. The keys of each key book in the
+/// run must have different names.
 pub fn crashes_leave_a_beginning()
     ensures { (first p : Policy) (past : Run) (journal left lost : List PlainEvent)
         → KeysAreApart first past → IsPolicyOf first past p → IsJournalOf first past journal

@@ -41,14 +41,14 @@ pub record AgreeOnEmptyNodes (repo : List Field) (text other : List ℕ) : Type 
   pub other_is_empty : IsEmptyNode repo other_first
   pub tables : HaveSameTables text first last other other_first other_last
 
--- `text` consists of some lines of `journal`, in the same order, and then a line `tick`
+-- `text` consists of zero or more lines of `journal`, in the same order, and then a line `tick`
 abbrev pub KeepsSomeLines : List ℕ → List ℕ → Type 0
 KeepsSomeLines journal text =
     (flags : List Bool) × (moment : ℕ) × PutsNeeded journal flags moment [] text
 
--- `text` consists of some lines of `journal` and then a line `tick`. `text` is shorter than
--- `journal`, restores on an empty node the same tables as `journal`, and has the same last rules
--- and keys as `journal`.
+-- `text` consists of zero or more lines of `journal`, in the same order, and then a line `tick`.
+-- `text` is shorter than `journal`, restores on an empty node the same tables as `journal`, and has
+-- the same last rules and keys as `journal`, or has no rules and keys if `journal` has none.
 pub record Shortens (repo : List Field) (journal text : List ℕ) : Type 0 where
   pub lines : KeepsSomeLines journal text
   pub shorter : length text < length journal

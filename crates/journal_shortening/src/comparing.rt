@@ -7,8 +7,8 @@ use journal::{last_rules, replay};
 use std::alloc::Global;
 
 /// Replays the whole lines of the journal `old` on node `a`, and the whole lines of the journal
-/// `new` on node `b`. Returns whether both nodes have the same tables after the replay. On failure,
-/// a part of the journals may have been replayed.
+/// `new` on node `b`. Returns whether `a` and `b` have the same tables after these two replays. On
+/// failure, a part of the two journals may have been replayed.
 ///
 /// The tables are everything in a node's policy except the rules, the keys and the version of the
 /// lists of routes and strategies.

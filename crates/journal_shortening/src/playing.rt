@@ -62,7 +62,8 @@ fn change_of(event: &OwnedEvent) -> Change {
 }
 
 /// Returns what an event with this verdict changed. `change` is what the event changes if it takes
-/// effect.
+/// effect, as `change_of` returns it. `is_wanted` is true if the event brings a Data that the
+/// repository wants.
 fn change_by(change: Change, verdict: Verdict, is_wanted: bool) -> Change {
     match (change, verdict) {
         (Change::Stored(face), Verdict::Allowed(_, status)) => Change::Command(face, status),

@@ -36,7 +36,7 @@ pub struct Survey {
     pub alloc: Global,
     /// The number of lines.
     pub count: u32,
-    /// The line of the rules and keys in force.
+    /// The line of the rules and keys in force, or `None` if no line has new rules.
     pub rules: Option<u32>,
     /// For each open face, the line that opened the face.
     pub ups: BTreeMap<u64, u32>,
@@ -137,8 +137,8 @@ impl Survey {
         self.ups.get(&face).copied()
     }
 
-    /// Notes that the line of a packet needs the line of the rules in force, and the line that
-    /// opened the packet's face.
+    /// Notes that the line of a packet needs the line of the rules in force, if there is such a
+    /// line, and the line that opened the packet's face, if this face is open.
     fn link_packet(&mut self, at: Place) -> Result<(), Memory> {
         if let Some(rules) = self.rules {
             self.link(at.line, rules)?;
@@ -178,7 +178,7 @@ impl Survey {
     /// Notes that this line has the last command of its signer among the lines that were replayed
     /// so far. The node allows a command with a SignatureTime only if this time is greater than the
     /// SignatureTimes of all earlier allowed commands of the signer. The same holds for the
-    /// SignatureSeqNum, if the command has one.
+    /// SignatureSeqNum, if the command has one. Notes nothing if the command has no SignatureTime.
     fn note_signer(&mut self, line: u32, signature: &Signature<'_>) -> Result<(), Memory> {
         if signature.time.is_none() {
             return Ok(());
@@ -192,7 +192,8 @@ impl Survey {
         self.write(key, line, Effect::Renewed)
     }
 
-    /// Notes a command on routes, strategies or the cache.
+    /// Notes a command on routes, strategies or the cache. Notes nothing if the status of the
+    /// command is not 200.
     fn note_management(&mut self, at: Place, status: u16, name: Name<'_>) -> Result<(), Memory> {
         match Command::read(name) {
             Ok(command) if status == OK => self.note_tables(at, &command),
@@ -259,7 +260,8 @@ pub const OK: u16 = 200;
 /// The status of a command for which a table had no room.
 const TABLE_FULL: u16 = 503;
 
-/// Returns whether the name is that of a command on routes, strategies or the cache.
+/// Returns whether the name begins with `/localhost/nfd`, as the names of commands on routes,
+/// strategies and the cache do.
 fn is_management(name: Name<'_>) -> bool {
     name.as_octets()
         .starts_with(b"\x08\x09localhost\x08\x03nfd".as_slice())

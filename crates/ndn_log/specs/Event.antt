@@ -32,8 +32,8 @@ came_words endpoint frame (Closed face) = face_words face endpoint ++ codes " cl
 came_words endpoint frame Tick = codes "tick"
 came_words endpoint frame NewRules = codes "rules replaced"
 
--- the words for the octets of a dropped packet: the number of octets and the first 32 octets; empty
--- for other events
+-- the words for the octets of a dropped packet: the number of octets and at most the first 32
+-- octets; empty for other events
 abbrev pub end_words : Came → Result code.Verdict Memory → List ℕ
 end_words (Packet face octets) outcome = dropped_words octets.now outcome
 end_words (Opened face scope) outcome = []

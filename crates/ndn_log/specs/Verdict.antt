@@ -50,8 +50,8 @@ abbrev pub outcome_words : List PlainRule → Option PlainFrame → Result code.
 outcome_words rules frame (Ok verdict) = verdict_words rules frame (verdict_of verdict)
 outcome_words rules frame (Err _) = codes "out of memory"
 
--- the words for the octets of a dropped packet: the number of octets and the first 32 octets; empty
--- for other packets
+-- the words for the octets of a dropped packet: the number of octets and at most the first 32
+-- octets; empty for other packets
 abbrev pub dropped_words : List ℕ → Result code.Verdict Memory → List ℕ
 dropped_words octets (Ok outcomes.Passed) = []
 dropped_words octets (Ok (outcomes.Allowed rule status)) = []

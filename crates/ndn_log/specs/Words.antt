@@ -19,7 +19,8 @@ plural_of count = if count == 1 then [] else codes "s"
 abbrev pub counted : ℕ → List ℕ → List ℕ
 counted count noun = decimal count ++ (codes " " ++ (noun ++ plural_of count))
 
--- the first 32 octets in hexadecimal, or nothing if there are no octets
+-- the word ` beginning ` and at most the first 32 octets in hexadecimal, or nothing if there are no
+-- octets
 abbrev pub beginning_words : List ℕ → List ℕ
 beginning_words [] = []
 beginning_words (o ∷ octets) =
@@ -30,7 +31,8 @@ beginning_words (o ∷ octets) =
 abbrev pub more_words : ℕ → List ℕ
 more_words count = if count == CUT_OCTETS then codes " or more" else []
 
--- the number of octets, and the first 32 octets
+-- the number of octets, the words ` or more` if there are 9,001 octets, and at most the first 32
+-- octets
 abbrev pub octets_words : List ℕ → List ℕ
 octets_words octets =
     counted (length octets) (codes "octet")

@@ -19,8 +19,8 @@ use std::alloc::Global;
 /// Appends the line of an event: the time of the event, what happened, and the verdict. For an
 /// event on a face, the line also has the face, and the endpoint of the face if known. For an
 /// Interest, a Data or a Nack, the line also has the packet's name. For a dropped packet, the line
-/// also has the number of octets and the first 32 octets. The verdict shows a rule by its id in
-/// `rules`, the rules in force. If memory runs out, nothing is appended.
+/// also has the number of octets and at most the first 32 octets. The verdict shows a rule by its
+/// id in `rules`, the rules in force. If memory runs out, nothing is appended.
 pub fn put_event(
     alloc: Global,
     text: &mut Vec<u8>,
@@ -55,8 +55,8 @@ fn event_words(
     Ok(words)
 }
 
-/// Appends a comma, the number of octets and the first 32 octets, if the event is a dropped packet.
-/// Otherwise appends nothing. If memory runs out, some of the text may be appended.
+/// If the event is a dropped packet, appends a comma, the number of octets and at most the first 32
+/// octets. Otherwise appends nothing. If memory runs out, some of the text may be appended.
 fn put_end(
     alloc: Global,
     text: &mut Vec<u8>,

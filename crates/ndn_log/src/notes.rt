@@ -12,7 +12,7 @@ use std::alloc::Global;
 use std::net::SocketAddr;
 
 /// Appends a line about a failed send: the face, its endpoint if known, the number of octets, and
-/// the first 32 octets. If memory runs out, nothing is appended.
+/// at most the first 32 octets. If memory runs out, nothing is appended.
 pub fn put_failed_send(
     alloc: Global,
     text: &mut Vec<u8>,

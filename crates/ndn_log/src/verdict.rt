@@ -31,8 +31,8 @@ pub fn put_outcome(
     }
 }
 
-/// Appends a comma, the number of octets and the first 32 octets, if the packet was dropped.
-/// Otherwise appends nothing. If memory runs out, some of the text may be appended.
+/// If the packet was dropped, appends a comma, the number of octets and at most the first 32
+/// octets. Otherwise appends nothing. If memory runs out, some of the text may be appended.
 pub fn put_dropped(
     alloc: Global,
     text: &mut Vec<u8>,

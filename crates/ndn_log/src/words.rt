@@ -48,9 +48,9 @@ fn plural_of(count: u64) -> &'static str
     if count == 1 { "" } else { "s" }
 }
 
-/// Appends the number of octets and the first 32 octets. If there are 9,001 octets, the text adds
-/// that there may be more, since a longer packet is truncated to 9,001 octets. If memory runs out,
-/// some of the text may be appended.
+/// Appends the number of octets and at most the first 32 octets. If there are 9,001 octets, the
+/// text adds that there may be more, since a longer packet is truncated to 9,001 octets. If memory
+/// runs out, some of the text may be appended.
 pub fn put_octets(alloc: Global, text: &mut Vec<u8>, octets: &[u8]) -> Result<(), Memory>
     ensures { OnOk result (text.new.items ≡ text.old.items ++ octets_words octets.now) }
 {

@@ -58,7 +58,8 @@ pub get_or-empty : (text : List ℕ) → length text ≡ 0 → get_or text 0 0 �
 get_or-empty [] h = refl
 get_or-empty (o ∷ text) h = absurd (omega arith)
 
--- the three parts `a`, `b` and `c` of a text are the same as the three parts `d`, `e` and `f`
+-- two splits of a text into three parts are equal: `a` equals `d`, `b` equals `e`, and `c` equals
+-- `f`
 pub record SameCuts (a b c d e f : List ℕ) : Type 0 where
   pub first : a ≡ d
   pub second : b ≡ e

@@ -61,7 +61,7 @@ next_rules old new event (Answered answer) h = after_rules old.policy new.policy
 next_rules old new event NoMemory h = ap (λ (p : Policy). p.rules) h.1.policy ∙ sym (refused_rules old new event h)
 
 -- the text of an answer is the same, whether it is written with the rules before the event or with
--- the rules after it
+-- the rules after the event
 answered_text : (old new : NodeState) (event : PlainEvent) (answer : Answer) (n : ℕ) → IsStep old event answer new
     → outcome_text new.policy.rules n (Answered answer) ≡ outcome_text old.policy.rules n (Answered answer)
 answered_text old new (Packet face now octets) answer n h = ap (λ (l : List PlainRule). outcome_text l n (Answered answer)) (after_rules old.policy new.policy (Packet face now octets) h.policy)

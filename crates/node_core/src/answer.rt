@@ -15,9 +15,9 @@ use itoa::Buffer;
 use ndn_tlv::Memory;
 
 /// Appends the text of an answer: a line with the number of the event and the verdict on the event,
-/// and one line for each packet that is sent. If `outcome` is an error, the line of the event has
-/// `memory` in place of a verdict. A rule is printed as its id. If memory runs out for the text,
-/// nothing is appended.
+/// and one line for each packet in `outbox`. If `outcome` is an error, the line of the event has
+/// `memory` in place of a verdict. A rule is printed as its id, or as nothing if `rules` has no
+/// rule with the number in the verdict. If memory runs out for the text, nothing is appended.
 pub fn put_answer(
     text: &mut Vec<u8>,
     number: u64,
@@ -87,7 +87,7 @@ pub fn put_refused(text: &mut Vec<u8>, number: u64) -> Result<(), Memory>
     done
 }
 
-/// Appends one line for each packet that is sent, in the form that `run_script` writes: `>`, the
+/// Appends one line for each packet in `outbox`, in the form that `run_script` writes: `>`, the
 /// face, and the octets in hexadecimal. A dash stands for no octets. If memory runs out, nothing is
 /// appended.
 pub fn put_sends(text: &mut Vec<u8>, outbox: &Outbox) -> Result<(), Memory>
@@ -160,7 +160,7 @@ fn put_refused_line(text: &mut Vec<u8>, number: u64) -> Result<(), Memory>
     put_word(text, b" memory\n")
 }
 
-/// Appends one line for each packet that is sent. If memory runs out, some octets of the lines may
+/// Appends one line for each packet in `outbox`. If memory runs out, some octets of the lines may
 /// have been appended.
 fn put_send_lines(text: &mut Vec<u8>, outbox: &Outbox) -> Result<(), Memory>
     ensures { Puts text.old text.new result (flat_map send_text outbox.now) }

@@ -45,16 +45,16 @@ pub enum RunFault {
 /// Runs the events of a script on a new node and writes the answers. The answers to all lines whose
 /// LF is among the octets of one read are written before the next read.
 ///
-/// A line is `up FACE local|far MOMENT`, `down FACE MOMENT`, `tick MOMENT`, `in FACE MOMENT HEX` or
-/// `rules MOMENT HEX HEX`. FACE is the number of a face, MOMENT is a time in milliseconds since
-/// 1970, and HEX stands for octets in hexadecimal, where `-` stands for no octets. Words are
-/// separated by single spaces. Numbers are decimal, below 2 ^ 64 and without leading zeros. A line
-/// has at most 20,000 octets, not counting its LF. A line ends with an LF or at the end of the
-/// input. The HEX of `in` has the octets that arrive on the face. The two HEX words of `rules` have
-/// the octets of a rule file and of a key file. Empty lines and lines that begin with `#` are
-/// skipped. If memory runs out for an event, the answer to the event has `memory` in place of a
-/// verdict. An event for which memory runs out has no effect, except that the cache may have
-/// dropped or reordered Data.
+/// The line of an event is `up FACE local|far MOMENT`, `down FACE MOMENT`, `tick MOMENT`,
+/// `in FACE MOMENT HEX` or `rules MOMENT HEX HEX`. FACE is the number of a face, MOMENT is a time
+/// in milliseconds since 1970, and HEX stands for octets in hexadecimal, where `-` stands for no
+/// octets. Words are separated by single spaces. Numbers are decimal, below 2 ^ 64 and without
+/// leading zeros. The HEX of `in` has the octets that arrive on the face. The first HEX of `rules`
+/// has the octets of a rule file, and the second HEX has the octets of a key file. Empty lines and
+/// lines that begin with `#` are skipped. Every line has at most 20,000 octets, not counting its
+/// LF. A line ends with an LF or at the end of the input. If memory runs out for an event, the
+/// answer to the event has `memory` in place of a verdict. An event for which memory runs out has
+/// no effect, except that the cache may have dropped or reordered Data.
 pub fn run_script<R: Read, W: Write>(
     alloc: Global,
     reader: &mut R,

@@ -7,7 +7,8 @@ use Rattle.node_ports.specs.declared.ports.TheConstants.{FRAME_ROOM}
 use Rattle.node_ports.specs.declared.udp.Waiting.{Waiting}
 use Rattle.node_ports.specs.Udp.{Datagram}
 
--- truncating octets that are already truncated changes nothing
+-- truncating octets to `FRAME_ROOM` octets changes nothing if the octets are already truncated to
+-- `len` octets, and `len` is at most `FRAME_ROOM`
 pub cut_once : (len : ℕ) (octets : List ℕ) → len ≤ FRAME_ROOM → take FRAME_ROOM (take len octets) ≡ take len octets
 cut_once len octets h = take_all FRAME_ROOM (take len octets) (omega (arith, length-take len octets, h))
 

@@ -260,9 +260,9 @@ take-next [] i x h = cc h
 take-next (y ∷ ys) zero x h = let same : y ≡ x = cc h in ap (λ (t : Send). t ∷ []) same
 take-next (y ∷ ys) (suc i) x h = ap (λ (t : List Send). y ∷ t) (take-next ys i x h)
 
--- Let `failed` be the number of the first `i` sends that failed. Let `more` be 1 if the send at
--- index `i` failed, and 0 otherwise. Then `failed + more` is the number of the first `i + 1` sends
--- that failed, and the other sends were accepted.
+-- Let `failed` be the number of failed sends among the first `i` sends. Let `more` be 1 if the send
+-- at index `i` failed, and 0 otherwise. Then `failed + more` is the number of failed sends among
+-- the first `i + 1` sends, and the other sends among the first `i + 1` sends were accepted.
 pub sent_next : (xs : List Send) (i failed more : ℕ) (x : Send) (y : List Send) (a b c : Option (List Send)) → slice_get xs i ≡ Some x
     → ((taken : List Send) × AreSendsTaken (take i xs) failed taken × Takes a b taken) → AreSendsTaken (x ∷ []) more y → Takes b c y
     → (taken : List Send) × AreSendsTaken (take (i + 1) xs) (failed + more) taken × Takes a c taken

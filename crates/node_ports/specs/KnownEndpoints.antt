@@ -17,7 +17,8 @@ use Rattle.node_ports.specs.Ports.{one_more}
 abbrev pub known_count : KnownEndpoints → ℕ
 known_count endpoints = length endpoints.peers + length endpoints.clients.rows
 
--- the endpoint of a peer's face; the faces of the peers have the numbers 1, 2 and so on
+-- the endpoint of the peer with this face, or None if no peer has this face; the faces of the peers
+-- have the numbers 1, 2 and so on
 abbrev pub peer_at : List SocketAddr → ℕ → Option SocketAddr
 peer_at peers face = if face == 0 then None else slice_get peers (face - 1)
 
@@ -27,7 +28,7 @@ endpoint_at endpoints face = option_or (peer_at endpoints.peers face)
     (option_map (λ (client : Client). client.endpoint)
     (find (λ client. client.face == face) endpoints.clients.rows))
 
--- the index of the first peer with this endpoint
+-- the index of the first peer with this endpoint, or None if no peer has this endpoint
 abbrev pub peer_place : SocketAddr → KnownEndpoints → Option ℕ
 peer_place endpoint endpoints = position (is_at endpoint) endpoints.peers
 

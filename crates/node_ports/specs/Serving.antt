@@ -44,8 +44,8 @@ GivesAll (Some old) new size events =
     (came left : List PlainEvent) × (old ≡ came ++ left) × (events ≡ map (cut_to size) came)
     × (new ≡ Some left)
 
--- `taken` is the list of sends, in order, with some sends left out; `failed` is the number of sends
--- that are left out
+-- `taken` is the list of sends, in order, with zero or more sends left out; `failed` is the number
+-- of sends that are left out
 abbrev pub AreSendsTaken : List Send → ℕ → List Send → Type 0
 AreSendsTaken [] failed taken = (failed ≡ 0) × (taken ≡ [])
 AreSendsTaken (sent ∷ sends) failed taken =

@@ -29,7 +29,7 @@ pub record UdpState : Type 0 where
   pub opened : ℕ
   -- the faces of the first `local` peers are Local, and the faces of the other peers are Far
   pub local : ℕ
-  -- the datagram that waits for the next turn
+  -- the datagram that waits for the next turn, or None if no datagram waits
   pub waiting : Option Datagram
   -- the time that the clock returned most recently
   pub told : ℕ

@@ -72,7 +72,7 @@ impl Clients {
         }
     }
 
-    /// Sets the idle time after which a face closes, in milliseconds.
+    /// Sets the idle time, in milliseconds, after which a client's face may close.
     pub fn close_after(&mut self, idle: u64)
         ensures { self.new ≡ record self.old { idle = Some idle } }
     {
@@ -213,7 +213,8 @@ impl Clients {
     }
 
     /// Returns the index of the client that has been silent longest, if its face may close to make
-    /// room for an endpoint without a face.
+    /// room for an endpoint without a face. Returns `None` if no client's face may close to make
+    /// room.
     pub fn yielding_place(&self, now: u64) -> Option<usize>
         ensures none { result ≡ None
             → All (λ client. GivesWay self.now.idle now client → ⊥) self.now.rows }
@@ -226,7 +227,7 @@ impl Clients {
     }
 
     /// Returns the index of the client that has been silent longest, if that client has been silent
-    /// for at least `time` milliseconds.
+    /// for at least `time` milliseconds. Returns `None` if no client has been silent for this time.
     fn silent_for(&self, time: u64, now: u64) -> Option<usize>
         ensures none { result ≡ None
             → All (λ client. IsSilent time now client → ⊥) self.now.rows }

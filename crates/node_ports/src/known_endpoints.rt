@@ -23,7 +23,7 @@ pub enum Met {
 }
 
 /// The endpoints that have faces: the peers, which have the faces 1, 2 and so on, and the clients.
-/// The number of an opened face is never used for another face.
+/// The number of an opened face is never used for another face, unless it is the greatest u64.
 #[derive(Drop)]
 pub struct KnownEndpoints {
     pub peers: Peers,
@@ -31,7 +31,8 @@ pub struct KnownEndpoints {
     /// The number of the next face to open.
     pub next: u64,
     /// The face number of all endpoints that are not stored because 64 endpoints are known. `None`
-    /// if there was no such endpoint since a face was last opened for a new client.
+    /// if no such endpoint was met since a face was last opened for a new client, or since the
+    /// start if no face was opened for a client.
     pub refused: Option<u64>,
 }
 

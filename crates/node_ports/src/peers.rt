@@ -55,7 +55,7 @@ impl Peers {
         &self.endpoints[..self.len]
     }
 
-    /// Returns the endpoint at index `i`.
+    /// Returns the endpoint at index `i`, or `None` if there is no endpoint at this index.
     pub fn get(&self, i: usize) -> Option<SocketAddr>
         ensures { result ≡ slice_get self.now i }
     {

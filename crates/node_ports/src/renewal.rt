@@ -64,7 +64,7 @@ impl Renewal {
         &self.files.keys
     }
 
-    /// Returns the total number of octets of both files.
+    /// Returns the total number of octets of the rule file and the key file.
     pub fn octets_len(&self) -> usize {
         self.files.rules.len().saturating_add(self.files.keys.len())
     }

@@ -52,8 +52,8 @@ pub struct Served {
     pub ended: bool,
 }
 
-/// Lets a node handle the arrivals of a port, one in each turn, for `turns` turns or until the port
-/// ends.
+/// Lets a node handle the arrivals of a port, one in each turn, for `turns` turns, or until the
+/// port ends or a fault (`ServeFault`) occurs.
 ///
 /// A failed send is counted and does not prevent other sends. An event for which memory runs out is
 /// counted, and has no other effect, except that the cache may have dropped or reordered Data. If a

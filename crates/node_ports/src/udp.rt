@@ -37,7 +37,7 @@ pub trait Moments: Drop {
 /// arrivals: the opening of a face and the packet. The two arrivals for an endpoint that is not
 /// stored have a face number that no open face has: 65 if no face has closed. A node with 64 faces
 /// does not open a face for an endpoint that is not stored. The number of an opened face is never
-/// used for another face. The ports never return `End`.
+/// used for another face, unless it is the greatest u64. The ports never return `End`.
 ///
 /// After a call of `close_after`, the faces of idle clients close. A peer's face never closes.
 /// After a call of `ignore_strangers`, only datagrams from peers are accepted.
@@ -49,8 +49,8 @@ pub struct UdpPorts<M: Moments> {
     // The number of peers' faces that are already opened.
     opened: usize,
     local: u64,
-    // The datagram that waits for the next turn. The octets of the waiting datagram are the first
-    // `len` octets of `octets`.
+    // The datagram that waits for the next turn, or `None` if no datagram waits. The octets of the
+    // waiting datagram are the first `len` octets of `octets`.
     waiting: Option<Waiting>,
     octets: [u8; FRAME_ROOM],
     len: usize,
@@ -120,8 +120,8 @@ impl<M: Moments> UdpPorts<M> {
     /// Binds the endpoint `listen`. The peers' faces are opened in the first turns: the first
     /// `local` faces are Local, the others Far. One socket and no heap memory are used. There are
     /// at most 64 peers, and each peer must have the same address family as `listen`. If an
-    /// endpoint is twice in `peers`, only the first of its two faces gets its datagrams. No face
-    /// closes until `close_after` is called. Datagrams from endpoints that are not peers are
+    /// endpoint is more than once in `peers`, only the first of its faces gets its datagrams. No
+    /// face closes until `close_after` is called. Datagrams from endpoints that are not peers are
     /// accepted until `ignore_strangers` is called. A Local peer may send commands, so such a peer
     /// should have a loopback address. Fails if the endpoint `listen` cannot be bound.
     pub fn bind_at(
@@ -167,8 +167,9 @@ impl<M: Moments> UdpPorts<M> {
         self.known.clients.close_after(idle);
     }
 
-    /// From now on, a datagram from an endpoint that is not a peer is dropped and counted. A
-    /// dropped datagram does not become an arrival.
+    /// From now on, each datagram that is received from an endpoint that is not a peer is dropped
+    /// and counted. A dropped datagram does not become an arrival. A datagram that was received
+    /// before and still waits is not dropped.
     pub fn ignore_strangers(&mut self)
         ensures { self.new ≡ record self.old { accepts_strangers = false } }
     {

@@ -101,8 +101,8 @@ AddStops fault.Write line from = ⊥
 AddStops fault.Read line from = ⊥
 AddStops (fault.Node _) line from = ⊥
 
--- for all octets `more`, the text `stream ++ more` begins with these lines, and the line after
--- these lines is bad
+-- for all octets `more`, the text `stream ++ more`, with an LF appended, begins with these lines,
+-- and the line after these lines is bad
 abbrev pub TurnsBad : List ℕ → List (List ℕ) → Type 0
 TurnsBad stream lines = (more : List ℕ) → (line rest : List ℕ)
     × (ended (stream ++ more) ≡ joined lines ++ (ended line ++ rest)) × Lacks 10 line

@@ -33,7 +33,8 @@ abbrev pub kind_name : Kind → List ℕ
 kind_name kinds.Data = codes "data"
 kind_name kinds.Interest = codes "interest"
 
--- the text of a verdict; a rule is printed as its id
+-- the text of a verdict; a rule is printed as its id, or as nothing if `rules` has no rule with the
+-- number in the verdict
 abbrev pub verdict_text : List PlainRule → Verdict → List ℕ
 verdict_text rules Passed = codes "passed"
 verdict_text rules (Allowed rule status) =
@@ -53,7 +54,8 @@ abbrev pub hex_word : List ℕ → List ℕ
 hex_word [] = codes "-"
 hex_word (o ∷ octets) = encode_lower (o ∷ octets)
 
--- the line of a packet that is sent: `>`, the face, and the octets in hexadecimal
+-- the line of a packet that is sent: `>`, the face, and the octets in hexadecimal, or a dash if
+-- there are no octets
 abbrev pub send_text : Send → List ℕ
 send_text sent = codes "> " ++ (decimal sent.0 ++ (32 ∷ (hex_word sent.1 ++ (10 ∷ []))))
 

@@ -178,8 +178,8 @@ impl Player {
         line.extend_from_slice(octets).map_err(|_| RunFault::Memory)
     }
 
-    // Handles the line that consists of `line` followed by `octets`, and appends the answer to
-    // `self.text`. Then leaves `line` empty.
+    // Handles the line that consists of `line` followed by `octets`. If this line has an event,
+    // appends the answer to `self.text`. Then leaves `line` empty.
     fn end_line(&mut self, line: &mut Vec<u8>, octets: &[u8]) -> Result<(), RunFault>
         requires room { HasRoom (place_of self.old) 1 }
         requires pending { IsPending line.old.items }
@@ -203,7 +203,7 @@ impl Player {
         Ok(())
     }
 
-    // Handles a line, and appends the answer to `self.text`.
+    // Handles a line. If the line has an event, appends the answer to `self.text`.
     fn answer_line(&mut self, line: &[u8]) -> Result<(), RunFault>
         requires room { HasRoom (place_of self.old) 1 }
         requires whole { Lacks 10 line.now }
