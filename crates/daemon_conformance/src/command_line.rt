@@ -200,8 +200,7 @@ fn shortening_text(alloc: Global, options: &ShorteningOptions) -> Option<String>
     format!(in alloc; "{journal} {repo}").ok()
 }
 
-/// Fails at the first row whose command makes a request other than the one that the row gives as
-/// text.
+/// Fails at the first row whose command does not make the request that the row gives as text.
 fn check_requests(rt: &(impl Abort + AllocGlobal), rows: &str) {
     let wrong = first_misshown(rt.alloc(), rows, request_text);
     assert!(rt; wrong.is_none(), "{wrong:?}");

@@ -52,7 +52,7 @@ fn is_line(alloc: Global, packet: &str, verdict: Verdict, line: &str) -> bool {
     )
 }
 
-/// Returns whether `line` is the line of an event on face 2 at 192.0.2.7:6363 with this verdict.
+/// Returns whether `line` is the line of an event on a face at 192.0.2.7:6363 with this verdict.
 fn is_event_line(alloc: Global, came: Came<'_>, verdict: Verdict, line: &str) -> bool {
     shown(alloc, came, verdict).is_some_and(|text| text.as_slice() == line.as_bytes())
 }

@@ -189,7 +189,8 @@ fn marked(alloc: Global, lines: &str) -> Option<String> {
     Some(text)
 }
 
-/// Returns the lines of a test without their marks. Lines that begin with `tick` are left out.
+/// Returns the lines of a test without their marks. Lines whose first word, without the mark, is
+/// `tick` are left out.
 fn unmarked(alloc: Global, lines: &str) -> Option<String> {
     let mut text = String::new(alloc);
     for line in lines.lines() {
@@ -266,8 +267,8 @@ fn hops_of_a_closed_face(rt: HostRuntime) {
     keeps_marked(&rt, HOPS_OF_A_CLOSED_FACE);
 }
 
-/// Two routes last 1,000 milliseconds. At the end of the journal the route of `/A` has expired, so
-/// the command that registered this route is left out.
+/// Two routes last 1,000 milliseconds each. At the end of the journal, the route of `/A` has
+/// expired, so the command that registered this route is left out.
 const ROUTES_THAT_EXPIRE: &str = "* rules 900
 * up 1 local 1000
 ask 1 1001 /ops/KEY/1 /localhost/nfd/rib/register/%68%09%07%03%08%01A%6D%02%03%E8
@@ -309,8 +310,8 @@ fn a_data_that_stays(rt: HostRuntime) {
     keeps_marked(&rt, A_DATA_THAT_STAYS);
 }
 
-/// Of the lines about a Data that was inserted and then deleted, only the delete stays. The delete
-/// stays because it is the last command of its signer.
+/// A Data is inserted and then deleted. The lines of the insert and of the Data are left out. The
+/// line of the delete stays, because the delete is the last command of its signer.
 const A_DATA_THAT_GOES: &str = "* rules 900
 * up 1 local 1000
 * up 2 far 1000

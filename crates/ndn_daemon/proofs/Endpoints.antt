@@ -55,7 +55,7 @@ one_endpoint text a b (inl h) (inr k) = absurd (not_digits text b h.0.0 k.0)
 one_endpoint text a b (inr h) (inl k) = absurd (not_digits text a k.0.0 h.0)
 one_endpoint text a b (inr h) (inr k) = IsSocketText_unique text a b h.0 k.0
 
--- a text that spells neither a port nor an address with a port spells no endpoint
+-- a text that spells neither a port nor an address with a port above 0 spells no endpoint
 pub no_endpoint : (text : List ℕ) → ((n : ℕ) → IsPort text n → ⊥) → ((a : SocketAddr) → IsSocketText text a → 0 < socket_port a → ⊥) → (a : SocketAddr) → IsEndpoint text a → ⊥
 no_endpoint text no_port no_socket a (inl h) = no_port (socket_port a) h.0
 no_endpoint text no_port no_socket a (inr h) = no_socket a h.0 h.1

@@ -43,8 +43,8 @@ IsAsked (Udp node options) =
 IsAsked (Shorten options) =
     (name : List ℕ) × (rows : List Row) × IsRequest name rows (Shorten options)
 
--- the fault of reading a command line: the command line is wrong, the value of an option is not
--- allowed, or memory ran out
+-- the fault of reading a command line: the command line is wrong, or a value of an option or of the
+-- argument `PEERS` is not allowed, or memory ran out
 abbrev pub IsFaultOfWords : Fault → Type 0
 IsFaultOfWords (CommandLine error) = ⊤
 IsFaultOfWords (BadValue place wanted) = ⊤

@@ -30,7 +30,8 @@ abbrev pub IsLoopback : SocketAddr → Type 0
 IsLoopback endpoint = MatchIp (socket_ip endpoint) IsLoopbackV4 IsLoopbackV6
 
 -- The address is an unspecified address, 0.0.0.0 or ::. A node that listens on 0.0.0.0 listens on
--- all IPv4 addresses of its machine. A node that listens on :: listens on all IPv6 addresses.
+-- all IPv4 addresses of its machine. A node that listens on :: listens on all IPv6 addresses of its
+-- machine.
 abbrev pub IsUnspecified : SocketAddr → Type 0
 IsUnspecified endpoint = MatchIp (socket_ip endpoint) IsUnspecifiedV4 IsUnspecifiedV6
 
@@ -42,7 +43,8 @@ IsItself listen peer =
     (socket_port peer ≡ socket_port listen)
     × ((socket_ip peer ≡ socket_ip listen) ⊎ (IsUnspecified listen × IsLoopback peer))
 
--- the texts spell these endpoints in order; there are at most 64 endpoints, and all are different
+-- the texts spell these endpoints in order; there are at most 64 endpoints, and no two of them are
+-- equal
 pub record AreEndpoints (texts : List (List ℕ)) (endpoints : List SocketAddr) : Type 0 where
   pub many : length endpoints ≡ length texts
   pub spelled : (place : ℕ) (text : List ℕ) (endpoint : SocketAddr)

@@ -39,9 +39,9 @@ pub record ReplaysJournal (unread kept : Option (List ℕ)) (old new : NodeState
 abbrev pub TakesItsTurns : ℕ → NodeState → NodeState → Type 0
 TakesItsTurns turns old new = (before after : Shown) × ServesTurns old new before after turns
 
--- A journal with the octets `unread` was replayed on the node. After the replay, the node took its
--- turns at a port. Before the first turn, the journal of the port had exactly the octets that the
--- replay kept.
+-- A journal with the octets `unread` was replayed on the node. `unread` is None if the octets of
+-- the journal are not known. After the replay, the node took its turns at a port. Before the first
+-- turn, the journal of the port had exactly the octets that the replay kept.
 pub record TakesLaterTurns (unread : Option (List ℕ)) (turns : ℕ) (old new : NodeState)
     : Type 0 where
   pub begun : NodeState

@@ -19,7 +19,8 @@ seen_in (arrival.FaceDown face now) = Some (Closed face)
 seen_in (arrival.Tick now) = Some Tick
 seen_in (arrival.NewRules renewal now) = Some NewRules
 
--- `shown` is the arrival `seen`; the octets of a packet are the first `len` octets of the buffer
+-- `shown` is the arrival `seen`; the octets of a packet are the first `len` octets of the buffer,
+-- or all octets of the buffer if it has fewer than `len` octets
 abbrev pub IsCameOf : Seen → List ℕ → Came → Type 0
 IsCameOf (Packet face len) buffer (came.Packet f octets) =
     (f ≡ face) × (octets.now ≡ take len buffer)

@@ -20,9 +20,9 @@ use Rattle.ndn_daemon.specs.declared.fault.Fault.{Fault}
 use Rattle.ndn_daemon.specs.declared.fault.Fault.TheVariants.{Script, Unbound, Unreceived, Journal}
 use Rattle.ndn_daemon.specs.declared.fault.JournalFault.TheVariants as journal
 
--- The text of a turn in the format of scripts. The text is a line with the verdict, or with the
--- word `memory` if memory ran out, followed by one line for each send. The text is empty if no
--- event came or the event could not be journalled.
+-- The text of a turn in the format of the answers to a script. The text begins with a line with the
+-- verdict. If memory ran out, the line has the word `memory` in place of the verdict. One line for
+-- each send follows. If no event came, or the event could not be journalled, the text is empty.
 abbrev pub turn_text : ℕ → List PlainRule → Turn → List Send → List ℕ
 turn_text number rules (Done verdict failed) sends =
     numbered_line number (verdict_text rules (verdict_of verdict)) ++ flat_map send_text sends
@@ -103,12 +103,13 @@ abbrev pub fault_of : ServeFault → Fault
 fault_of (serve.Next events) = Unreceived
 fault_of (serve.Journal events) = Journal journal.Unwritten
 
--- after some events, the call for the next arrival failed, or an event could not be journalled
+-- after zero or more events, the call for the next arrival failed, or an event could not be
+-- journalled
 abbrev pub StopsQuietTurns : NodeState → NodeState → Shown → Shown → ℕ → Fault → Type 0
 StopsQuietTurns old new before after turns why =
     (stop : ServeFault) × StopsServing old new before after turns stop × (why ≡ fault_of stop)
 
--- why a node stops before all its turns are done: no datagram can be received, an answer cannot be
+-- why a node on a bound port stops with a fault: no datagram can be received, an answer cannot be
 -- written, memory for printing an answer ran out, or an event could not be journalled
 abbrev pub EndsTurns : Fault → Type 0
 EndsTurns Unreceived = ⊤
@@ -125,6 +126,6 @@ HasNoTurns endpoint (Script (Node why)) = why ≡ NodeMemory
 HasNoTurns endpoint why = ⊥
 
 -- why a node with valid parts stops on this endpoint: it takes no turns (`HasNoTurns`), or it stops
--- before all its turns are done (`EndsTurns`)
+-- with a fault after the endpoint was bound (`EndsTurns`)
 abbrev pub StopsAt : SocketAddr → Fault → Type 0
 StopsAt endpoint why = HasNoTurns endpoint why ⊎ EndsTurns why

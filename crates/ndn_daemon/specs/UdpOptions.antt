@@ -85,7 +85,7 @@ pub record ArePortsOf (options : UdpOptions) (told : ℕ) (ports : UdpState) : T
         accepts_strangers = ports.accepts_strangers;
       }
 
--- the fault is `BadValue`: the value of an option is not allowed
+-- the fault is `BadValue`: a value of an option or of the argument `PEERS` is not allowed
 abbrev pub IsBadValue : Fault → Type 0
 IsBadValue (BadValue place wanted) = ⊤
 IsBadValue why = ⊥

@@ -323,8 +323,8 @@ fn peers<'a>(alloc: Global) -> Arg<'a> {
     )
 }
 
-/// Returns the option that selects what is logged. If the command line gives no value for the
-/// option, its value is `events`.
+/// Returns the option that selects what is logged. If the command line has the option without a
+/// value, the value is `events`.
 fn log_option<'a>(alloc: Global) -> Arg<'a> {
     option(
         alloc,

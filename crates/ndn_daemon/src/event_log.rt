@@ -66,8 +66,8 @@ pub struct EventLog<S: LogSink> {
     sink: S,
     shows_all: bool,
     text: Vec<u8>,
-    // Lines about failed sends. A line about a failed send is moved to `text` after the line of the
-    // event that caused the send was appended to `text`.
+    // Lines about failed sends. A line about a failed send is moved to `text` after the event that
+    // caused the send was logged or left out.
     later: Vec<u8>,
     // The time of the first line that is not yet written.
     since: u64,
@@ -75,7 +75,7 @@ pub struct EventLog<S: LogSink> {
     closed: u64,
     // The total number of dropped datagrams from endpoints that are not peers, as last reported.
     strangers: u64,
-    // The time of the last report of a count.
+    // The time of the last report of a count, or 0 if no count was reported yet.
     counted: u64,
 }
 
@@ -142,8 +142,8 @@ impl<S: LogSink> EventLog<S> {
         }
     }
 
-    /// Stores the line of a failed send until the line of the event that caused the send is
-    /// appended.
+    /// Stores the line of a failed send until `put_later` is called, so that the line of the event
+    /// that caused the send comes first. If memory runs out, nothing is stored.
     pub fn put_failed_send(
         &mut self,
         moment: u64,
@@ -172,8 +172,9 @@ impl<S: LogSink> EventLog<S> {
         self.later.clear();
     }
 
-    /// If the last report of a count is at least a minute old, calls `put_counts_now`. `strangers`
-    /// is the total number of dropped datagrams from endpoints that are not peers.
+    /// Calls `put_counts_now` if the time of the last report of a count is at least a minute away
+    /// from `moment`. `strangers` is the total number of dropped datagrams from endpoints that are
+    /// not peers.
     pub fn put_counts(&mut self, moment: u64, strangers: u64)
         ensures others { self.new ≡ record self.old {
           text = self.new.text;
@@ -280,7 +281,7 @@ impl<S: LogSink> EventLog<S> {
     }
 
     /// Writes all buffered lines if they have at least `MOST_GATHERED` octets together, or if the
-    /// first of them is at least a second old at the time `moment`.
+    /// time of the first of them is at least a second away from `moment`.
     pub fn write_old(&mut self, moment: u64)
         ensures { (self.new ≡ self.old) ⊎ ((self.new.text.items ≡ [])
             × Appends (S.given self.old.sink) (S.given self.new.sink) self.old.text.items) }

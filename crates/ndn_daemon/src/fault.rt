@@ -65,7 +65,7 @@ pub enum JournalFault {
     /// The rule file and the key file together are too long for one line of the journal.
     LongRules,
     /// The line with this number, counted from 1, cannot come from a node whose repository has the
-    /// given prefix.
+    /// prefix `repo` of the `ShorteningOptions`.
     NotJournalled(u64),
     /// The journal has too many lines to be shortened.
     ManyLines,

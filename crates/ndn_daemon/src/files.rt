@@ -103,7 +103,8 @@ pub fn unread_journal(alloc: Global, path: &str, error: &io::Error) -> Fault
 }
 
 /// Returns the fault of a file that cannot be opened or read. `file` says what the file is, such as
-/// `rule file`, and `kind` is the cause.
+/// `rule file`, and `kind` is the cause. If `kind` is `OutOfMemory`, or memory runs out for a copy
+/// of `path`, the fault is that memory ran out.
 fn unread(alloc: Global, file: &'static str, path: &str, kind: ErrorKind) -> Fault
     ensures file { IsUnread file.now path.now result }
     ensures cause { HasCause kind result }

@@ -67,8 +67,8 @@ impl<'a, R: Clock> Moments for MachineClock<'a, R> {
     }
 }
 
-/// Returns the time of the clock in milliseconds since 1970, or `None` if the clock cannot be read
-/// or shows a time before 1970.
+/// Returns the time of the clock in milliseconds since 1970. Returns `None` if the clock cannot be
+/// read, or if it shows a time before 1970, or if the number of milliseconds is not below 2^64.
 fn milliseconds<R: Clock>(rt: &R) -> Option<u64> {
     let now = SystemTime::now(rt).ok()?;
     let duration = now.duration_since(SystemTime::UNIX_EPOCH).ok()?;

@@ -106,9 +106,9 @@ impl<'a, R: AllocGlobal + Files> RuleFiles<'a, R> {
         }
     }
 
-    /// Returns whether one of the two files has changed since the last check. If a file is replaced
-    /// while the node reads it, the file counts as changed at the next check, since each file is
-    /// checked before it is read.
+    /// Returns whether at least one of the two files has changed since the last check. If a file is
+    /// replaced while the node reads it, the file counts as changed at the next check, since each
+    /// file is checked before it is read.
     fn look(&mut self) -> bool {
         let rules = stamp_of(self.rt, &self.rules);
         let keys = stamp_of(self.rt, &self.keys);

@@ -9,7 +9,8 @@ use std::fs::File;
 use std::rt::Files;
 
 /// Shortens the journal in a file, and prints how many lines of the journal are kept. If the
-/// function `shortened` returns no shorter journal, the file stays as it is.
+/// function `shortened` returns no shorter journal, the file stays as it is, and the printed line
+/// says that nothing is left out.
 pub fn shorten_file<R: AllocGlobal + Files<File = File> + Print>(
     rt: &R,
     options: &ShorteningOptions,

@@ -29,8 +29,9 @@ pub struct UdpOptions {
     pub listen: SocketAddr,
     /// The number of turns that the node takes.
     pub turns: u64,
-    /// The addresses and ports of the peers: at most 64, all different, of the same address family
-    /// as `listen`. No peer is the node itself, and no peer has the unspecified address.
+    /// The addresses and ports of the peers. There are at most 64 peers, and no two peers are
+    /// equal. All peers have the address family of `listen`. No peer is the node itself, and no
+    /// peer has the unspecified address.
     pub peers: Vec<SocketAddr>,
     /// The number of Local peers. It is at most the number of peers. The Local peers come first in
     /// `peers`, and they are on this machine.
@@ -183,7 +184,7 @@ fn is_itself(listen: &SocketAddr, peer: &SocketAddr) -> bool
 }
 
 /// Reads the number of Local peers. The Local peers come first in `peers`, and they must be on this
-/// machine, since a Local peer may send commands.
+/// machine, since a Local peer may send commands under `/localhost`.
 fn local_of(digits: &str, peers: &[SocketAddr]) -> Result<u64, Fault>
     ensures { Reads (IsLocal digits.now peers.now) result }
 {

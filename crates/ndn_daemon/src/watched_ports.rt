@@ -15,7 +15,7 @@ const LOOK_MILLISECONDS: u64 = 1000;
 /// A source of new rules and keys.
 pub trait RuleSource: Drop {
     /// Returns new rules and keys, with which the caller replaces the rules and keys in force.
-    /// Returns `None` if nothing is new.
+    /// Returns `None` if nothing is new, or if the new rules and keys cannot be read.
     fn renewed(&mut self) -> Option<Renewal>;
 
     /// Returns the present rules and keys of the source. Only a node with a journal makes this
@@ -121,8 +121,8 @@ impl<P: Ports + Drop, S: RuleSource> WatchedPorts<P, S> {
         self.held = Some(arrival);
     }
 
-    /// If the source has new rules and keys, returns them and stores the arrival for the next turn.
-    /// Otherwise returns the arrival.
+    /// If a check of the source gives new rules and keys, returns them and stores the arrival for
+    /// the next turn. Otherwise returns the arrival.
     fn renewed_first(&mut self, arrival: Arrival, buffer: &[u8]) -> Arrival
         requires { LiesWithin (length buffer.now) arrival }
         ensures ports { self.new.ports ≡ self.old.ports }

@@ -149,7 +149,7 @@ fn spelled(alloc: Global, dialogue: &str) -> Option<String> {
 }
 
 /// Plays the script of a dialogue, and returns the output and how the script ended. No word of the
-/// dialogue may stand for a packet.
+/// dialogue may stand for a packet or a sample file.
 fn dialogue_outcome(alloc: Global, rules: &str, cache: u32, dialogue: &str) -> Option<String> {
     let script = script_of(alloc, dialogue)?;
     outcome_under(alloc, rules, cache, script.as_str())
@@ -205,7 +205,8 @@ fn is_same_at_a_port(
     )
 }
 
-/// Does the same as `replies_under` for a dialogue in which all packets are in hexadecimal.
+/// Does the same as `replies_under` for a dialogue in which all packets and all files are in
+/// hexadecimal.
 fn check_dialogue(rt: &(impl Abort + AllocGlobal), rules: &str, cache: u32, dialogue: &str) {
     let alloc = rt.alloc();
     let outcome = dialogue_outcome(alloc, rules, cache, dialogue).expect(rt, "an outcome");

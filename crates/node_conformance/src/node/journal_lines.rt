@@ -165,7 +165,8 @@ fn face_at(node: &Node, i: usize) -> Option<u64> {
     Some(face)
 }
 
-/// Returns whether a node has this time, and its first two open faces have these numbers.
+/// Returns whether a node has this time, and its first two open faces have these numbers. A number
+/// `None` means that there is no such face.
 fn has(node: &Node, wanted: &(u64, Option<u64>, Option<u64>)) -> bool {
     (node.now(), face_at(node, 0), face_at(node, 1)) == *wanted
 }

@@ -187,7 +187,7 @@ fn wants_first(node: &Node, wanted: &[u8], other: &[u8]) -> bool {
 }
 
 /// Returns whether a node wants the Data of the insert command one millisecond before the deadline,
-/// but not at the deadline. The node must not want another Data.
+/// but not at the deadline. The node must not want the Data `D_B`, which no command asked for.
 fn wants_inserted(alloc: Global, node: &Node) -> bool {
     let wanted = octets_of(alloc, "D_A");
     let other = octets_of(alloc, "D_B");

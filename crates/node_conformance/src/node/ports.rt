@@ -169,7 +169,7 @@ pub fn on_node<F: Fn(Global, &mut Node) -> Option<bool>>(alloc: Global, play: &F
 }
 
 /// Takes one turn and appends the text that is printed for it. `outbox` receives the packets that
-/// the turn sends. Returns false if the turn answers no event, or the text cannot be appended.
+/// the turn sends. Returns false if the turn is not `Done`, or the text cannot be appended.
 fn put_turn<P: Ports>(
     node: &mut Node,
     ports: &mut P,

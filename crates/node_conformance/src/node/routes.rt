@@ -116,8 +116,8 @@ in 1 1000000 HOPS_0
 7 dropped HopLimit
 ";
 
-/// An Interest with two hops left goes to the face with the least cost. An Interest with no hops
-/// left is dropped.
+/// An Interest with two hops left goes to the next hop with the least cost. An Interest with no
+/// hops left is dropped.
 #[test]
 fn two_hops(rt: HostRuntime) {
     replies(&rt, TWO_HOPS);

@@ -580,8 +580,9 @@ fn udp_silent_peer(rt: HostRuntime) {
     assert!(rt; keeps_peer(&rt, &Cell::new(0)) == Some(true));
 }
 
-/// Sends a datagram on face 2 before the idle time of face 2 ends. Before the datagram is received,
-/// face 1 closes and the idle time of face 2 ends. Returns whether the datagram is received.
+/// Opens face 2 for `client`, which then sends a datagram before the idle time of face 2 ends.
+/// Before the datagram is received, face 1 closes and the idle time of face 2 ends. Returns whether
+/// the datagram is received on face 2.
 fn hears_in_time(
     ports: &mut UdpPorts<Handed<'_>>,
     moment: &Cell<u64>,
