@@ -172,8 +172,9 @@ pub fn plays(alloc: Global, scene: &mut Scene, book: &KeyBook, row: &str) -> Opt
     ends_as(alloc, &exchange, progress, wanted)
 }
 
-/// Runs the rows in order on one node, up to the first row that `plays` does not confirm. Returns
-/// the number of this row's line, counted from 1, or 0 if `plays` confirms every row.
+/// Runs the rows in order on one node, up to the first row that `plays` does not confirm. Empty
+/// lines are skipped. Returns the number of this row's line, counted from 1, or 0 if `plays`
+/// confirms every row.
 fn first_misplayed(alloc: Global, scene: &mut Scene, book: &KeyBook, rows: &str) -> usize {
     for (before, row) in rows.lines().enumerate() {
         if !row.is_empty() && plays(alloc, scene, book, row) != Some(true) {

@@ -57,7 +57,7 @@ fn answered(alloc: Global, command: &str, keys: &str) -> Result<String, ToolFaul
 }
 
 /// Returns the exit status of a command and the text that the command prints. If the command fails,
-/// the text is the text of its fault. Returns `None` if memory runs out for the text of the fault.
+/// the returned text is that of the fault. Returns `None` if memory runs out for this text.
 fn reply(alloc: Global, command: &str, keys: &str) -> Option<(u8, String)> {
     match answered(alloc, command, keys) {
         Ok(text) => Some((0, text)),
@@ -515,7 +515,7 @@ status 1
 
 /// Tests commands that are refused. The reason is that the key is not in the key file, that the
 /// name already has a parameters digest, or that the name has too many components for the
-/// parameters to be appended.
+/// parameters and the digest to be appended.
 #[test]
 fn unwritten_commands(rt: HostRuntime) {
     check_session(&rt, OPS, UNWRITTEN_COMMANDS);
@@ -1160,8 +1160,8 @@ fn key_file_status(rt: &HostRuntime, job: &Job) -> u8 {
     }
 }
 
-/// Returns whether a command names the key file `path`, and the function `key_file_status` returns
-/// `status` for the command's job.
+/// Returns `true` if a command names the key file `path` (no key file if `path` is `None`) and the
+/// function `key_file_status` returns `status` for the command's job.
 fn has_key_file(rt: &HostRuntime, command: &str, path: Option<&str>, status: u8) -> bool {
     job_of(rt.alloc(), command).is_ok_and(|job| job.key_file() == path
         && key_file_status(rt, &job) == status)
@@ -1451,8 +1451,8 @@ fn long_says(alloc: Global, first: &str, last: &str) -> Option<bool> {
     Some(text.starts_with(first.as_bytes()) && text.ends_with(last.as_bytes()))
 }
 
-/// A reply of more than 8,800 octets decides the outcome if its signature is right, is ignored if
-/// its signature is wrong, and can be explained.
+/// A reply of more than 8,800 octets decides the outcome if its signature is right, and is ignored
+/// if its signature is wrong. A long reply with a right signature is explained.
 #[test]
 fn long_replies(rt: HostRuntime) {
     assert!(rt; long_comes_to(rt.alloc(), 200, 0, "done") == Some(true));
@@ -1500,8 +1500,8 @@ fn hears(
     Some(asks(rt, &client, request, to))
 }
 
-/// Returns the outcome of a client whose second datagram is a reply with this status and with more
-/// than 9,000 octets.
+/// Returns the outcome of a client that receives a datagram that is not a packet, and then a reply
+/// with this status and with more than 9,000 octets.
 fn hears_long(rt: &HostRuntime, status: u8) -> Option<Result<(), Fault>> {
     let (request, _) = ROUTE_ANSWERS.split_once('\n')?;
     let request = packet_in(rt.alloc(), request.as_bytes()).ok()?;

@@ -39,8 +39,8 @@ fn goes_on(alloc: Global, scene: &mut Scene, exchange: &mut Exchange, book: &Key
     matches!(turn(alloc, scene, exchange, book), Some(Progress::Next))
 }
 
-/// Returns whether the third segment ends the list, and whether the client then prints the table of
-/// the 130 routes.
+/// Returns `true` if the third segment ends the list and the client then prints the table of the
+/// 130 routes.
 fn ends_with_table(
     alloc: Global,
     scene: &mut Scene,

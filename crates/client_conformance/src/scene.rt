@@ -17,8 +17,8 @@ const PRODUCER: u64 = 2;
 /// The face of a port that the node does not know yet.
 const NEW_PORT: u64 = 3;
 
-/// A node with the faces `OPERATOR`, `PRODUCER` and `NEW_PORT`, and the present moment, which
-/// advances with each command.
+/// A node with the faces `OPERATOR`, `PRODUCER` and `NEW_PORT`, and the present moment. The
+/// function `plays` advances the present moment by one millisecond for each command line.
 #[derive(Drop)]
 pub struct Scene {
     node: Node,

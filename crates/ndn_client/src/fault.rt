@@ -22,14 +22,14 @@ pub enum Fault {
     Keys(KeyFault),
     /// The key file has more octets than are allowed.
     LargeKeys,
-    /// The key file cannot be read.
+    /// The key file cannot be opened or read.
     Unread {
         /// The path of the key file.
         path: String,
-        /// Why the key file cannot be read.
+        /// Why the key file cannot be opened or read.
         kind: ErrorKind,
     },
-    /// The clock cannot be read.
+    /// The clock cannot be read, or its time has no number of milliseconds since 1970 below 2^64.
     Clock,
     /// Standard output cannot be written.
     Write,
@@ -45,7 +45,7 @@ pub enum Fault {
     },
     /// The packet of the subcommand `send`, which is sent unchanged, got no answer.
     Silent(Silence),
-    /// A request was sent, but it was not carried out.
+    /// A request was sent, but it was not carried out, or no answer to it came.
     NotDone(Failure),
 }
 
@@ -54,10 +54,10 @@ impl Fault {
     ghost use Rattle.ndn_client.specs.Fault.{status_of};
 
     /// Returns the exit status. For `Tool`, the exit status is that of the job's fault. For any
-    /// other fault, the exit status is 1 if no key file is named, the content of the key file has a
-    /// fault, or a request was not done. The exit status is 2 if an argument is not UTF-8. The exit
-    /// status is 3 if reading, writing, sending or binding a port failed, memory ran out, or no
-    /// answer came to the packet of `send`.
+    /// other fault, the exit status is 1 if a key but no key file is named, the content of the key
+    /// file has a fault, or a request was not done. The exit status is 2 if an argument is not
+    /// UTF-8. The exit status is 3 if reading, writing, sending or binding a port failed, memory
+    /// ran out, or no answer came to the packet of `send`.
     pub fn exit_status(&self) -> u8
         ensures { result ≡ status_of self.now }
     {

@@ -21,8 +21,8 @@ const MAX_PACKET_INPUT: u32 = 131_015;
 /// `ndn_node` to a script, a line with a packet of the greatest length has at most 131,038 octets.
 const MAX_INPUT_LINE: u32 = 131_072;
 
-/// Reads the text of standard input, which must be one packet. An input of more than 131,015 octets
-/// is refused. The limit is the length of 65,507 octets in hexadecimal and an LF.
+/// Reads the text of standard input for a job that reads one packet. An input of more than 131,015
+/// octets is refused. The limit is the length of 65,507 octets in hexadecimal and an LF.
 pub fn read_packet_input<R: Read + Drop>(alloc: Global, reader: R) -> Result<String, Fault>
     // This clause states the result if the octets of the reader are known.
     ensures { IfSome (R.remaining reader)
@@ -54,7 +54,7 @@ pub fn read_input_line<R: BufRead>(alloc: Global, reader: &mut R) -> Result<Stri
     }
 }
 
-/// Returns the octets as text, if they are UTF-8.
+/// Returns the octets as text, or the fault `Input` if the octets are not UTF-8.
 fn text_of(octets: Vec<u8>) -> Result<String, Fault>
     ensures { MatchResult result (IsTextOf octets.items) IsUnreadInput }
 {

@@ -1,5 +1,5 @@
-//! The client `ndn_tool`: it writes packets, prints them or sends them to a node, and explains
-//! packets.
+//! The client `ndn_tool`: it writes packets, prints them or sends them to a node, explains packets,
+//! and computes HMACs.
 #![tactic(auto)]
 
 mod answer;

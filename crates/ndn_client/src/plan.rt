@@ -45,10 +45,11 @@ pub fn input_form(job: &Job) -> InputForm
 }
 
 /// Returns what the program must do for a job, given the keys of the job's key file. `input` is the
-/// text of standard input if the job reads standard input.
+/// text, or one line, of standard input if the job reads standard input.
 ///
-/// Each error except `Memory` has its cause in the job or in the input. `Usage` is returned only
-/// for an input that is not one packet.
+/// Each error except `Memory` has its cause in the job, in the keys or in the input. `Usage` is
+/// returned only if the job reads a packet from standard input and `input` does not spell octets in
+/// hexadecimal.
 pub fn plan_of(alloc: Global, job: &Job, book: &KeyBook, input: &str) -> Result<Plan, ToolFault>
     ensures { MatchResult result (IsPlan job.now book.now input.now)
         (IsNoPlan job.now book.now input.now) }
@@ -112,7 +113,8 @@ fn printed(alloc: Global, job: &Job, book: &KeyBook, input: &str) -> Result<Vec<
     }
 }
 
-/// Returns the request of a job that sends a packet.
+/// Returns the request of a job that sends a packet, or no octets for a job of a kind that never
+/// sends a packet.
 fn request_of(alloc: Global, job: &Job, book: &KeyBook, input: &str) -> Result<Vec<u8>, ToolFault>
     ensures { MatchResult result (IsRequest job.now book.now input.now)
         (IsNoPlan job.now book.now input.now) }

@@ -68,7 +68,7 @@ fn input_of<R: AllocGlobal + Input>(rt: &R) -> Result<BufReader<R::Reader>, Faul
 }
 
 /// Runs the job once for each line of standard input. Each line is handled before the next line is
-/// read.
+/// read. The first fault ends the run.
 fn run_lines<R, I: BufRead>(rt: &R, job: &Job, book: &KeyBook, input: &mut I) -> Result<(), Fault>
 where
     R: Clock + AllocGlobal + Eprint + Net + Print,

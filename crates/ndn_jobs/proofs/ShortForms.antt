@@ -9,7 +9,7 @@ use Rattle.ndn_jobs.specs.Options.{Has}
 use Rattle.ndn_jobs.specs.ShortForm.{IsVerb, IsFormJob, action_of}
 use Rattle.ndn_jobs.proofs.Spelling.{refused_part}
 
--- a verb names at most one action
+-- a verb of a subcommand names at most one action
 same_form : (subcommand : List ℕ) (said : Option (List ℕ)) (f g : Action) → Has said (IsVerb subcommand) f → Has said (IsVerb subcommand) g → g ≡ f
 same_form subcommand said f g a b =
     let words : Some a.0 ≡ Some b.0 = sym a.1 ∙ b.1 in

@@ -44,8 +44,8 @@ IsListedJob now words name rows job = ⊥
 
 -- The job that the options `rows` of a subcommand ask for. `name` is the subcommand's name, `now`
 -- is the time, and `words` are the words of the command line. The subcommands `route`, `strategy`,
--- `cache` and `repo` are short forms of `command`. Only `route list` and `strategy list` are not
--- commands: they ask for a list.
+-- `cache` and `repo` are short forms of `command`, but `route list` and `strategy list` ask for a
+-- list.
 abbrev pub IsJobFor : Subcommand → ℕ → List ℕ → List ℕ → List Row → Job → Type 0
 IsJobFor sub.Interest now words name rows (Interest job) = IsLinkJob rows job
 IsJobFor sub.Data now words name rows (Data job) = IsDataJob rows job

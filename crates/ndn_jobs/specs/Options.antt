@@ -38,8 +38,8 @@ IsPath value path = string_bytes path ≡ value
 abbrev pub Has : {A : Type 0} → Option (List ℕ) → (List ℕ → A → Type 0) → A → Type 0
 Has value Spells x = (w : List ℕ) × (value ≡ Some w) × Spells w x
 
--- either the option is given and spells the value `x`, or the option is not given and the value is
--- None
+-- the last argument is None if the option is not given; if the option is given, the last argument
+-- is Some of a value that the option spells
 abbrev pub MayHave : {A : Type 0} → Option (List ℕ) → (List ℕ → A → Type 0) → Option A → Type 0
 MayHave value Spells None = value ≡ None
 MayHave value Spells (Some x) = Has value Spells x

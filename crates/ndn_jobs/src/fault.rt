@@ -12,9 +12,10 @@ use std::fmt;
 pub enum Usage {
     /// The arguments cannot be parsed as a command line.
     CommandLine(clap::Error),
-    /// An option, an argument or standard input has an invalid value.
+    /// An option, an argument or standard input has an invalid value, or a required value is
+    /// missing.
     BadValue {
-        /// What has the invalid value: the name of an option or argument, or `standard input`.
+        /// What has the invalid value, such as the name of an option, or `standard input`.
         place: &'static str,
         /// What kind of value to give instead.
         wanted: &'static str,

@@ -28,7 +28,7 @@ pub enum Job {
     Interest(LinkJob),
     /// Write a Data.
     Data(DataJob),
-    /// Write a command, and send it if there is a port to send it to.
+    /// Write a command. Send the command if there is a port to send it to, and otherwise print it.
     Command(CommandJob),
     /// Compute the HMAC of some octets.
     Tag(TagJob),
@@ -518,7 +518,8 @@ fn view_of(raw: bool) -> View
     if raw { View::Content } else { View::Lines }
 }
 
-/// Returns the list that belongs to the subcommand with this name.
+/// Returns the list of routes for the subcommand `route`, and the list of strategies for any other
+/// subcommand.
 fn list_of(subcommand: &str) -> NodeList
     ensures { result ≡ list_of subcommand.now }
 {
@@ -539,7 +540,8 @@ pub fn is_list(options: &ArgMatches<'_>) -> bool
     }
 }
 
-/// Returns whether all options that are given are options of `list`: the Nonce and the ports.
+/// Returns whether none of these arguments is given. With `list`, only the options for the Nonce
+/// and for the ports are allowed.
 fn is_alone(options: &ArgMatches<'_>) -> bool
     ensures { result ≡ is_alone (rows_in options.now) }
 {

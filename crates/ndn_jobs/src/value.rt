@@ -132,8 +132,8 @@ pub fn parse_port(place: &'static str, text: &str) -> Result<u16, ToolFault>
     Err(bad_value(place, "a port, a decimal number from 1 to 65535"))
 }
 
-/// Returns the number that a text of decimal digits spells, if the text has at least one digit and
-/// the number is below 2^64.
+/// Returns the number below 2^64 that a text of one or more decimal digits spells. Returns `None`
+/// if the text spells no such number.
 fn parse_digits(text: &str) -> Option<u64>
     ensures { MatchOption result ((n : ℕ) → IsNumber text.now n → ⊥) (IsNumber text.now) }
 {

@@ -77,9 +77,9 @@ IsProgress view request datagram (Some outcome) progress =
 
 -- ---- an exchange for the segments of a list
 
--- The Content of the Data is appended to the contents so far. If there is a next segment (`true`),
--- the next segment is requested. If there is no next segment (`false`), the exchange is over, and
--- the table of the list is printed.
+-- The effect of a Data with a segment. If there is a next segment (`true`), the Content of the Data
+-- is appended to the contents, and the next segment is requested. If there is no next segment
+-- (`false`), the exchange is over, and the table of the contents and of this Content is printed.
 abbrev pub IsStepped : Bool → Exchange → NodeList → ℕ → List ℕ → PlainData → Exchange → Progress
     → Type 0
 IsStepped true old list segment nonce d new progress =
@@ -161,8 +161,8 @@ IsNextRefusal why frame = ⊥
 
 -- ---- no answer
 
--- Whether a segment with a Content that is not empty has been received. If so, and no further
--- segment comes in time, the reported reason is `Changed`.
+-- Whether a segment with a Content that is not empty has been received. If so, the reason that
+-- `silence_in` reports is `Changed`, except if no program listens on the port.
 abbrev pub has_begun : Exchange → Bool
 has_begun x = not (is_nil x.contents.items)
 

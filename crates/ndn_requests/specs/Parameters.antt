@@ -1,5 +1,5 @@
--- The parameters of a command, which are the last component of the command's name (NFD Management,
--- "Control Command").
+-- The parameters of a command, which follow the command's own name as one component (NFD
+-- Management, "Control Command").
 use Rattle.std.specs.Prelude.{◌≡◌, ◌≤◌, ℕ, List, [], ◌∷◌, ◌++◌, length, Bool, false, ◌==◌, ◌&&◌, Option, None, Some, codes, slice_get, bytes_eq, if◌then◌else◌, ⊤}
 use Rattle.std.specs.Option.{option_map}
 use Rattle.ndn_tlv.specs.Element.{Field, element}
@@ -12,7 +12,7 @@ use Rattle.ndn_packets.specs.declared.command_types.TheConstants.{CONTROL_PARAME
 use Rattle.ndn_packets.specs.declared.types.TheConstants.{NAME, INTEREST_LIFETIME, CAN_BE_PREFIX}
 use Rattle.ndn_requests.specs.declared.parameters.Parameters.{Parameters}
 
--- whether the component is a GenericNameComponent with these octets
+-- whether there is a component, and it is a GenericNameComponent with these octets
 abbrev pub is_generic : Option Field → List ℕ → Bool
 is_generic None value = false
 is_generic (Some c) value = c.0 == GENERIC && bytes_eq c.1 value

@@ -26,9 +26,11 @@ pub enum View {
     Hexadecimal,
     /// The lines that `explain` prints for the answer.
     Lines,
-    /// Only the Content, unchanged. Nothing is printed for a Nack.
+    /// Only the Content of the Data, unchanged. Nothing is printed for a Nack, for a Data without a
+    /// Content, or for a reply that is too long to be read as a Data.
     Content,
-    /// A table of the entries in all segments of a list.
+    /// A table of the entries in all segments of a list. If the answer is a Nack, the lines that
+    /// `explain` prints for it.
     Table(NodeList),
 }
 
@@ -192,8 +194,8 @@ impl Exchange {
         }
     }
 
-    /// Handles a segment: prepares the request for the next segment, or returns the table of all
-    /// segments if this segment is the last.
+    /// Handles a segment. If `segment` is less than `last`, prepares the request for the next
+    /// segment. Otherwise returns the table of all segments.
     fn take_place(
         &mut self,
         alloc: Global,
@@ -218,7 +220,7 @@ impl Exchange {
         Ok(Progress::Next)
     }
 
-    /// Returns why no answer came. `is_closed` is true if no program listens on the port.
+    /// Returns why no answer came. `is_closed` is true if no program listens on the port `to`.
     pub fn silence(&self, is_closed: bool) -> Silence
         ensures { result ≡ silence_in self.now is_closed }
     {
@@ -294,7 +296,7 @@ fn next_name(alloc: Global, name: Name<'_>, segment: u64) -> Result<NameBuf, Mem
     }
 }
 
-/// Returns the Interest with this name and Nonce.
+/// Returns the Interest with this name and Nonce, and with no other fields.
 fn request_for(alloc: Global, name: Name<'_>, nonce: [u8; 4]) -> Result<Vec<u8>, WriteFault>
     ensures { MatchResult result
         (λ packet. IsRequest (components name.entry) nonce packet.items)

@@ -11,7 +11,7 @@ pub enum Silence {
     Far,
     /// A program listens, but no answer came in time.
     Late,
-    /// The node sent no further segment of a list.
+    /// The node sent no further segment of a list in time.
     Changed,
 }
 

@@ -1,5 +1,5 @@
-//! Laws: the node and repositories read what the client writes, and the client reads what they
-//! write. The laws do nothing at run time.
+//! Laws: the node and repositories read what the client writes, and the client reads what the node
+//! and repositories write. The laws do nothing at run time.
 
 ghost use Rattle.std.specs.Prelude.{◌≡◌, ◌<◌, ◌^◌, ◌==◌, ◌&&◌, ◌||◌, ◌++◌, ℕ, List, Some, None, Ok, Err, length, not, true, false, if◌then◌else◌};
 ghost use Rattle.ndn_tlv.specs.Element.{Field};
@@ -38,8 +38,8 @@ pub fn repositories_read_what_is_asked()
         ≡ Some (wanted_of verb p) }
 {}
 
-/// Law: for a reply that the node or a repository writes, exactly the status and the fields of the
-/// reply are printed.
+/// Law: for a reply that the node or a repository writes, exactly the status with its text and the
+/// fields of the reply are printed.
 pub fn replies_are_explained()
     ensures node { (c : PlainCommand) (face status : ℕ) (text : List ℕ) → IsWhole c.name
         → face < 2 ^ 64 → c.face < 2 ^ 64 → c.origin < 2 ^ 64 → c.cost < 2 ^ 64

@@ -1,5 +1,5 @@
-//! The parameters of a command, which are the last component of the command's name (NFD Management,
-//! "Control Command").
+//! The parameters of a command, which follow the command's own name as one component (NFD
+//! Management, "Control Command").
 
 ghost use Rattle.std.specs.Prelude.{◌≡◌, ◌++◌, ◌≤◌, [], ◌∷◌, IfOk, OnOk, MatchResult, length};
 ghost use Rattle.ndn_tlv.specs.Element.{element};
