@@ -30,8 +30,8 @@ abbrev pub IsLoopback : SocketAddr → Type 0
 IsLoopback endpoint = MatchIp (socket_ip endpoint) IsLoopbackV4 IsLoopbackV6
 
 -- The address is an unspecified address, 0.0.0.0 or ::. A node that listens on 0.0.0.0 listens on
--- all IPv4 addresses of its machine. A node that listens on :: listens on all IPv6 addresses of its
--- machine.
+-- all IPv4 addresses of its machine. A node that listens on :: listens on all IPv6 addresses, and
+-- also on the IPv4 addresses if the system allows this.
 abbrev pub IsUnspecified : SocketAddr → Type 0
 IsUnspecified endpoint = MatchIp (socket_ip endpoint) IsUnspecifiedV4 IsUnspecifiedV6
 
