@@ -1,14 +1,15 @@
-"""A second reader of packets, for `damaged`: octets in, and a packet or the name of its first fault out.
+"""A second reader of packets, for `damaged`: from octets it gives a packet, or the name of their first fault.
 
-It is made of tables, from the NDN Packet Format 0.3 and NDNLPv2, and where these leave a choice from
-`docs/DECISIONS.md` ("The profile"). It shares nothing with the readers that the node has.
-Faults are looked for in this order.
+Its tables follow the NDN Packet Format 0.3 and NDNLPv2 and, where these two leave a choice,
+`docs/DECISIONS.md` ("The profile"). It shares no code with the node's reader.
 
-Of a packet that arrives: more than 9,000 octets (TooLong); its outermost element (Tlv); octets after
-that, or a type that is not Interest, Data or link packet (BadField); an Interest or a Data of more than
-8,800 octets (TooLong). Then its elements from left to right, for each of them that it can be read (Tlv),
-that it may stand there (CriticalUnknown, in a link packet LpField), and what it holds. At the end that
-nothing is missing (BadField, then NoNonce), and then the digest of the parameters.
+Faults are looked for in the following order. The octets that arrive as a whole: more than 9,000 octets
+(TooLong); an outermost element that cannot be read (Tlv); octets after this element, or a type other than
+Interest, Data and link packet (BadField); an Interest or a Data of more than 8,800 octets (TooLong). Then
+the elements inside, from left to right. The first element of an Interest or a Data has to be a Name
+(NoName). Each element has to be readable (Tlv), has to be allowed at its place (CriticalUnknown, in a link
+packet LpField), and has to have a right value. At the end come missing fields (NoNonce in an Interest,
+BadField in a Data or a Nack), and in an Interest the digest of the parameters.
 """
 
 import collections
@@ -21,7 +22,7 @@ IMPLICIT_DIGEST, PARAMETERS_DIGEST = 1, 2
 
 
 class Fault(Exception):
-    """Why octets are no packet; its text is the one that a script prints."""
+    """Why octets are no packet. Its text is the one that the node prints after `dropped Malformed`."""
 
 
 # Numbers and elements.
@@ -60,7 +61,7 @@ def element(octets, start=0):
 
 
 def elements(octets):
-    """Each element in turn; the fault of one comes when its turn comes."""
+    """The elements, one after the other. The fault of an element is raised only when its turn comes."""
     at = 0
     while at < len(octets):
         one = element(octets, at)
@@ -68,7 +69,7 @@ def elements(octets):
         at = one.end
 
 
-# What the value of a field may be. Each of these gives the value, or faults.
+# Readers of the values of fields. Each of them returns what the value means, or raises a fault.
 
 
 def anything(value):
@@ -92,7 +93,7 @@ def integer(value):
 
 
 def components(value):
-    """The components of a name, each as its whole element; any fault of theirs is BadField."""
+    """The components of a name, each as its whole element. Any fault in them, and a 65th one, is BadField."""
     found = []
     try:
         for one in elements(value):
@@ -107,7 +108,7 @@ def components(value):
 
 
 def locator(value):
-    """The name of a key, or None where the locator is something else; no value of it is a fault."""
+    """The name of a key, or None if the locator is not exactly one readable Name. No locator is a fault."""
     try:
         one = element(value)
         if one.kind == NAME and one.end == len(value):
@@ -118,10 +119,12 @@ def locator(value):
 
 
 class Fields:
-    """Elements in a fixed order, each at most once: a table of types with what their values may be.
+    """Fields in a fixed order, each at most once. `table` has their types in this order, and a reader for
+    the value of each.
 
-    `after` names for a type the one that has to stand before it. An element that is not the next of the
-    table is ignored where its type is even and at least 32, or among `ignored`.
+    `after` maps a type to the type of the field that must have come before it. The types `needed` must be
+    there. An element whose type is not in the table after that of the last field is no field. It is ignored
+    if its type is even and at least 32, or is among `ignored`. Otherwise it is CriticalUnknown.
     """
 
     def __init__(self, table, after=(), ignored=(), needed=()):
@@ -129,7 +132,7 @@ class Fields:
         self.order = {kind: place for place, kind in enumerate(table)}
 
     def read(self, octets):
-        """The fields that are there, by type: their values, and where each begins and ends."""
+        """Two dictionaries by type, for the fields that are there: their values, and where each begins and ends."""
         found, places, last = {}, {}, -1
         for one in elements(octets):
             if self.comes_next(one.kind, last, found):
@@ -146,7 +149,7 @@ class Fields:
         return self.order.get(kind, -1) > last and (kind not in self.after or self.after[kind] in found)
 
     def value(self, octets):
-        """As the value of a field: the values of its own fields."""
+        """Reads the value of a field that holds fields: the values of these inner fields, by type."""
         return self.read(octets)[0]
 
 
@@ -219,8 +222,8 @@ def read_interest(outer, whole):
         raise Fault("DigestWithout")
     signature = None
     if 46 in found:
-        # Covered are the components but the digest, and the octets from the parameters to the value. With
-        # the digest at another place than the last there is nothing that a signature could cover.
+        # A signature covers all components but the digest, and the octets from the parameters up to the
+        # signature value. If the digest is not the last component, nothing counts as covered (None).
         parts = outer.value[places[PARAMETERS][0] : places[46][0]]
         covered = b"".join(name[:-1]) + parts if kind_of(name[-1]) == PARAMETERS_DIGEST else None
         signature = signature_of(found[44], found[46], covered)
@@ -240,7 +243,7 @@ def read_data(outer, whole):
 
 
 def packet_of(octets, kinds):
-    """The one packet that octets are, of one of these types."""
+    """The packet, of one of these types, that the octets are exactly. A link packet is returned as an element."""
     outer = element(octets)
     if outer.end != len(octets) or outer.kind not in kinds:
         raise Fault("BadField")
@@ -258,7 +261,7 @@ def token_value(value):
 
 
 def at_most(limit):
-    """FragIndex and FragCount: a number above this says that the packet is one of several parts."""
+    """Reads FragIndex or FragCount: a number above the limit says that the Fragment is only a part of a packet."""
 
     def read(value):
         if integer(value) > limit:
@@ -289,7 +292,8 @@ def read_link(outer):
 
 
 def read(octets):
-    """What arrived: a packet, with its token and, of a Nack, the reason; no packet where a link packet is idle."""
+    """What arrived: the packet, or None in an idle link packet; its PIT token or None; the reason of a Nack, or
+    NO_NACK."""
     if len(octets) > LONGEST_LINK:
         raise Fault("TooLong")
     found = packet_of(octets, (INTEREST, DATA, LINK))
@@ -304,19 +308,19 @@ def begins(name, prefix):
 
 
 def order(name):
-    """What names are ordered by: canonical order."""
+    """The sort key that puts names into canonical order."""
     parts = (element(part) for part in name)
     return [(part.kind, len(part.value), part.value) for part in parts]
 
 
 def full_name(data):
-    """The name of a Data with its implicit digest."""
+    """The name of a Data, and after it the implicit digest of this Data as a component."""
     digest = hashlib.sha256(data.whole).digest()
     return data.name + (bytes((IMPLICIT_DIGEST, 32)) + digest,)
 
 
 def answers(data, name, can_be_prefix):
-    """Whether a Data answers an Interest of this name and flag."""
+    """Whether a Data answers an Interest with this name and this CanBePrefix; freshness is not looked at."""
     if name in (data.name, full_name(data)):
         return True
     return can_be_prefix and begins(full_name(data), name)

@@ -1,8 +1,10 @@
 """A plain node, for `damaged`: what the documents say of an event, with nothing but dictionaries and lists.
 
 It follows `docs/SCRIPTS.md` ("What the node does with a packet"), `docs/MANAGEMENT.md` and `docs/RULES.md`
-as far as the cases need it, and stops where they would need more: other strategies than best-route are not
-in it, nor other commands than those on next hops and of the repository. Packets are read by `grammar`.
+as far as the cases of `damaged` need it. The only strategy is best-route, the only commands are those on next
+hops and of the repository, and neither the cache nor the table of pending Interests has a limit. For a face
+that does not open, another allowed command, or an Interest for the list of strategies it raises `Beyond`.
+Packets are read by `grammar`.
 """
 
 import hashlib
@@ -24,13 +26,14 @@ class Beyond(Exception):
 
 
 class Rule:
-    """A rule with at most one filter, a prefix, and at most one checker: HMAC of a key, or SHA-256."""
+    """A rule for the names under a prefix, with at most one checker. The checker asks for an HMAC of `key`, or for a
+    SHA-256 if `key` is None."""
 
     def __init__(self, identity, kind, prefix=(), key=None, checks=True):
         self.identity, self.kind, self.prefix, self.key, self.checks = identity, kind, prefix, key, checks
 
     def reason(self, keys, signature):
-        """Why its checker does not let the packet pass, or None."""
+        """Why the rule denies a packet with this signature, or None if it allows the packet."""
         if not self.checks:
             return "KeyLocator"
         if signature.kind != (0 if self.key is None else 4):
@@ -47,7 +50,8 @@ class Rule:
 
 
 class Entry:
-    """What is pending under one name and flags: who asks, and who was asked."""
+    """A PIT entry, for one name and flags: the faces that ask (in-records), and the faces that were asked
+    (out-records)."""
 
     def __init__(self):
         self.askers, self.asked = {}, {}
@@ -64,7 +68,8 @@ class Asked:
 
 
 def wrapped(packet, token, reason=None):
-    """What goes back to a face: bare, or in a link packet with the token of its Interest."""
+    """What goes back to a face: the bare packet, or a link packet with the token of the face's Interest, if it had
+    one, and with the reason of a Nack, if it is one."""
     if token is None and reason is None:
         return packet
     headers = [] if token is None else [p.tlv(98, token)]
@@ -74,7 +79,7 @@ def wrapped(packet, token, reason=None):
 
 
 def made(name, content, between=b""):
-    """A Data that the node makes."""
+    """A Data that the node makes. `between` is its MetaInfo, if any."""
     covered = p.tlv(7, *name) + between + p.tlv(21, content) + p.tlv(22, p.integer(27, 0))
     return p.tlv(6, covered, p.tlv(23, hashlib.sha256(covered).digest()))
 
@@ -88,8 +93,9 @@ def repository_content(status, text, count=0):
 
 
 def first_fields(component, kind):
-    """The parameters of a command: a generic component that holds one element of this type. Its elements by type, of each
-    type the first; a fault where it is something else."""
+    """The fields of a command's parameters: for each type, the value of the first field of this type. The parameters
+    have to be a generic component that holds exactly one element of type `kind`, which holds the fields; anything
+    else is a fault."""
     if g.kind_of(component) != p.GENERIC:
         raise g.Fault("BadField")
     value = g.element(component).value
@@ -109,10 +115,10 @@ class Node:
         self.hops, self.pending, self.cached, self.last = {}, {}, [], {}
         self.wants, self.objects = {}, {}
 
-    # Events: each gives a verdict and what is sent, a list of faces with octets.
+    # Events. Those of a script return a verdict and what is sent: a list of pairs of a face and octets.
 
     def passes(self, moment):
-        """Time goes on, and what has expired goes."""
+        """Advances the time, and removes the pending Interests and the wants that have expired."""
         self.now = max(self.now, moment)
         for entry in self.pending.values():
             entry.askers = {face: one for face, one in entry.askers.items() if one.deadline > self.now}
@@ -197,7 +203,8 @@ class Node:
         return nonce in others + [one.nonce for one in entry.asked.values()]
 
     def found(self, name, can_be_prefix, must_be_fresh):
-        """The cached Data of the least full name that answers."""
+        """The octets of a cached Data that answers, or None. If several answer, the one with the least full name
+        counts."""
         best = None
         for data, came in self.cached:
             fresh = not must_be_fresh or self.now < min(came + data.freshness, LAST_MOMENT)
@@ -207,16 +214,19 @@ class Node:
         return None if best is None else best.whole
 
     def stored(self, name, can_be_prefix):
-        """The stored Data of the least full name that answers."""
+        """The octets of a stored Data that answers, or None. If several answer, the one with the least full name
+        counts."""
         found = [full for full, data in self.objects.items() if g.answers(data, name, can_be_prefix)]
         return self.objects[min(found, key=g.order)].whole if found else None
 
     def longest(self, name):
-        """The next hops of the longest prefix that has some: costs by face."""
+        """The next hops of the longest prefix of a name that has next hops, as costs by face; none if no prefix has
+        some."""
         return next((self.hops[name[:n]] for n in range(len(name), -1, -1) if name[:n] in self.hops), {})
 
     def eligible(self, name, asker, local_alone):
-        """The next hops that an Interest of this name may go to, by cost and then by face."""
+        """The next hops that an Interest of this name may go to: pairs of a cost and a face, sorted by cost and then
+        by face."""
         local_alone = local_alone or g.begins(name, LOCALHOST)
         hops = sorted((cost, hop) for hop, cost in self.longest(name).items())
         return [(cost, hop) for cost, hop in hops if hop != asker and not (local_alone and self.up[hop] == "far")]
@@ -331,7 +341,8 @@ class Node:
         return "Replay" if late or old or again else None
 
     def apply(self, asker, named):
-        """A status with its text, and the element 104 of the reply."""
+        """Applies a command on next hops. Returns the status and the text of the reply, and its element 104, if it
+        has one."""
         bad = (400, "bad parameters", b"")
         if len(named) < 4:
             return bad
@@ -364,7 +375,8 @@ class Node:
         return 200, "OK", p.tlv(104, p.tlv(7, *name), p.integer(105, hop), p.integer(106, cost))
 
     def repository(self, named, nonce):
-        """A status with its text, a number, and the Interest that goes out for what is wanted."""
+        """Applies a command of the repository. Returns the status, the text and the count of the reply, and the
+        Interest, if any, that goes out for the wanted Data, in a list with its face."""
         bad = (400, "bad parameters", 0, [])
         if len(named) != 3:
             return bad
@@ -398,8 +410,8 @@ class Node:
     # The list of routes.
 
     def segment_asked(self, interest):
-        """The version, or None for the present one, and the number of the segment that is asked for; None where an
-        Interest asks for no list."""
+        """The version of the list of routes, or None for the present version, and the number of the segment that an
+        Interest asks for. None instead of both if the Interest asks for no segment of this list."""
         name, of_routes = interest.name, p.name("/localhost/nfd/fib/list")
         if g.begins(name, p.name("/localhost/nfd/strategy-choice/list")):
             raise Beyond("the list of strategies")

@@ -1,8 +1,8 @@
-"""Packets and files of a node, for the scripts of this folder.
+"""Writes packets, rules and the lines of key files, for the scripts of this folder.
 
 Packets are written as the NDN Packet Format 0.3 and NDNLPv2 define them, commands as `docs/MANAGEMENT.md`
-has them, and rule and key files as `docs/RULES.md` has them. A name is a tuple of components, and a
-component is its whole element. Nothing here is read from a node.
+has them, rules as `docs/RULES.md` has them, and keys as `docs/SCRIPTS.md` has them. A name is a tuple of
+components, each given as its whole element. Nothing here comes from a node.
 """
 
 import hashlib
@@ -43,17 +43,17 @@ def integer(kind, n):
 
 
 def name(text):
-    """The name of a URI that has plain components alone."""
+    """The name of a URI in which each component is generic and has no escape."""
     return tuple(tlv(GENERIC, part.encode()) for part in text.split("/") if part)
 
 
 def words(*octets):
-    """The name with these generic components."""
+    """The name whose generic components have these values."""
     return tuple(tlv(GENERIC, part) for part in octets)
 
 
 class Key:
-    """A key that signs with HMAC: the name of it and its octets."""
+    """A key that signs with HMAC: its name, as a URI and as components, and its octets."""
 
     def __init__(self, uri, octets):
         self.uri, self.name, self.octets = uri, name(uri), octets
@@ -74,7 +74,7 @@ def signature_info(kind, key, time=None, number=None):
 
 
 def tag(key, covered):
-    """The value of a signature: HMAC, or SHA-256 where there is no key."""
+    """The value of a signature: HMAC, or SHA-256 if the key is None."""
     if key is None:
         return hashlib.sha256(covered).digest()
     return hmac.digest(key.octets, covered, "sha256")
@@ -95,7 +95,7 @@ def interest(of, nonce, can_be_prefix=False, must_be_fresh=False, lifetime=None,
 
 
 def data(of, content=b"", freshness=None, key=None, wrong=False):
-    """A Data; with `wrong` one bit of its signature is turned."""
+    """A Data. With `wrong`, one bit of its signature value is inverted."""
     covered = tlv(7, *of)
     if freshness is not None:
         covered += tlv(20, integer(25, freshness))
@@ -107,7 +107,7 @@ def data(of, content=b"", freshness=None, key=None, wrong=False):
 
 
 def command(of, nonce, key, time, number=None, wrong=False):
-    """A signed Interest of this name, with the digest of its parameters after it."""
+    """A signed Interest. Its name is `of` and then the digest of its parameters. `wrong` is as in `data`."""
     later = tlv(36) + signature_info(44, key, time, number)
     value = tag(key, b"".join(of) + later)
     if wrong:
@@ -118,7 +118,7 @@ def command(of, nonce, key, time, number=None, wrong=False):
 
 
 def node_name(verb, of=None, face=None, cost=None, strategy=None, count=None, origin=None, flags=None, expires=None):
-    """The name of a command of the node, as `fib/add-nexthop`, with its parameters."""
+    """The name of a command of the node, with its parameters. `verb` is for example `fib/add-nexthop`."""
     fields = [] if of is None else [tlv(7, *of)]
     for kind, value in ((105, face), (111, origin), (106, cost), (108, flags)):
         if value is not None:
@@ -152,12 +152,14 @@ def with_token(packet, token):
 
 
 def nack(reason, of, *headers):
-    """A Nack of an Interest's octets, in a link packet with these headers before it."""
+    """A link packet with these header fields, then a Nack with this reason, and then the Interest `of`."""
     return link(of, *headers, tlv(800, integer(801, reason)))
 
 
 def rule(identity, kind, prefix=None, key=None, hierarchical=False):
-    """A rule with at most one filter and with one checker: HMAC of this key, a key above the name, or a digest."""
+    """The text of a rule with at most one filter, for names under `prefix`, and with one checker. The checker is
+    hierarchical (an HMAC of a key above the name) if `hierarchical` is set. Otherwise it asks for an HMAC of
+    `key`, or for a SHA-256 digest if `key` is None."""
     lines = ["rule {", f"  id {identity}", f"  for {kind}"]
     if prefix is not None:
         lines += ["  filter {", "    type name", f"    name {prefix}", "    relation is-prefix-of", "  }"]

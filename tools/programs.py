@@ -7,12 +7,12 @@ import subprocess
 import sys
 import threading
 
-# The kernel counts resident pages for each processor apart, in batches of 32 or more, and adds them
-# up later: on four processors a figure may be 4 x 32 pages of 4 KiB off, so 512 KiB.
+# The kernel counts resident pages separately for each processor, in batches of 32 or more, and adds the
+# counts up later. With batches of 32, a figure on four processors may be off by 4 x 32 pages of 4 KiB: 512 KiB.
 COUNTING_KIB = 512
 
-# The C library keeps much of what a program frees. By these words it gives it back at once, so that
-# the resident memory is what the program holds.
+# The C library keeps much of the memory that a program frees. With these environment variables it gives
+# freed memory back at once where it can, so that the resident memory is close to what the program holds.
 GIVES_BACK = {"MALLOC_TRIM_THRESHOLD_": "0", "MALLOC_TOP_PAD_": "0"}
 
 
@@ -21,12 +21,12 @@ class Wrong(Exception):
 
 
 def words_of(text):
-    """The words of a command line that is given as one word."""
+    """The words of a command line that is given as one text."""
     return shlex.split(text)
 
 
 def resident(process, field="VmRSS"):
-    """The resident memory of a process in KiB."""
+    """The resident memory of a process in KiB; with the field VmHWM, the greatest so far."""
     with open(f"/proc/{process.pid}/status", encoding="ascii") as status:
         for line in status:
             if line.startswith(field + ":"):
@@ -41,7 +41,8 @@ def processor_time(process):
 
 
 def fits(verdict, expected):
-    """Whether a verdict is one of those expected; one that ends with a space is a beginning."""
+    """Whether a verdict is one of those expected. An expected text that ends with a space stands for all
+    verdicts that begin with it. If `expected` is None, every verdict but `memory` fits."""
     if expected is None:
         return verdict != "memory"
     return any(verdict == one or (one[-1] == " " and verdict.startswith(one)) for one in expected)
@@ -50,8 +51,8 @@ def fits(verdict, expected):
 class Reader(threading.Thread):
     """Reads the answers of a node and looks at each verdict as it comes.
 
-    `expected` is filled before the events are written. Every thousandth event the SHA-256 of all
-    answers so far is kept, to compare programs by.
+    The entry of an event in `expected` is there before the event is written. At the verdicts 1, 1001, 2001
+    and so on the SHA-256 of all earlier answers is kept in `marks`, so that two programs can be compared.
     """
 
     keeps = False
@@ -91,18 +92,18 @@ class Reader(threading.Thread):
                 self.news.notify_all()
 
     def wait(self, count, seconds=120):
-        """Waits for so many verdicts."""
+        """Waits until `count` verdicts have come in all."""
         with self.news:
             self.waited = count
             if not self.news.wait_for(lambda: self.done or self.came >= count, seconds):
-                raise Wrong(f"after {self.came} of {count} verdicts nothing more came in {seconds} s")
+                raise Wrong(f"only {self.came} of {count} verdicts came within {seconds} s")
             self.waited = None
         if self.came < count:
             raise Wrong(f"the program ended after {self.came} of {count} verdicts")
 
 
 class ScriptNode:
-    """A node that reads a script through a pipe. The command has the word `script` in it."""
+    """A node that reads a script through a pipe. Its command must contain the word `script`."""
 
     def __init__(self, command, *options):
         self.process = subprocess.Popen(
@@ -130,7 +131,7 @@ class ScriptNode:
         self.reader.wait(self.put_so_far)
 
     def end(self):
-        """Ends the input; the exit status."""
+        """Ends the input, waits for the end of the node, and returns its exit status. `said` is then its message."""
         self.process.stdin.close()
         self.reader.join(600)
         self.said = self.message()
@@ -145,7 +146,7 @@ def stop(process):
 
 
 def write_files(folder, rules, keys):
-    """Writes a rule file and a key file; the options that name them."""
+    """Writes a rule file and a key file, and returns the options that name them."""
     paths = []
     for which, text in (("rules", rules), ("keys", "".join(key.line() for key in keys))):
         path = os.path.join(folder, which)
@@ -156,7 +157,7 @@ def write_files(folder, rules, keys):
 
 
 def report(run):
-    """Runs a script's work; its exit status is 0 only if all held."""
+    """Runs the work of a script, and returns its exit status: 0 if all held, and 1 if something was Wrong."""
     try:
         run()
     except Wrong as fault:

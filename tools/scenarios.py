@@ -1,4 +1,4 @@
-"""Scripts of a few dozen events, for the scripts of this folder, with the verdicts that the documents have for them."""
+"""Node scripts of 10 to 175 events, for `refused`, with the verdicts that the documents have for their events."""
 
 import random
 
@@ -21,11 +21,13 @@ FIRST_TOKEN, SECOND_TOKEN = bytes.fromhex("a1b2"), b"\x7f"
 
 
 class Scenario:
-    """A script. Of each event its verdict is known, and the faces that something is sent to.
+    """A node script. `expected` has for each event its verdict and the faces that something is sent to, or None in a
+    random script.
 
-    `loses` are ways for the cache to lose Data: each is a list of lines, which take nothing but Data away when they
-    come after an event. `apart` says that no answer depends on what the cache did in an earlier one, and that each Data
-    that may be cached comes right after the Interest that it answers.
+    `loses` are ways for the cache to lose Data. Each is a list of lines. If these lines come after an event, they
+    take Data from the cache, and change no later answer of this script in another way. `apart` says that no answer
+    depends on what the cache did at earlier events that it answered, and that each Data that may be cached comes
+    right after the Interest that it answers.
     """
 
     def __init__(self, title, cache=1):
@@ -56,7 +58,8 @@ class Scenario:
         self.put(f"in {face} {self.now} {packet.hex()}", verdict, *faces)
 
     def ask(self, face, of, *faces, **fields):
-        """An Interest that goes to these faces, or is answered to its own."""
+        """An Interest that comes on `face`. `faces` are those that it is sent on to, or `face` itself if it is
+        answered."""
         packet = p.interest(of, self.nonce(), **fields)
         self.comes(face, packet, "passed", *faces)
         return packet
@@ -67,7 +70,7 @@ class Scenario:
         return packet
 
     def order(self, verb, of, face=None, status=200, **fields):
-        """A command of the node, on face 1."""
+        """A command of the node that comes on face 1 and is allowed, with the status of its reply."""
         self.time += 1
         packet = p.command(p.node_name(verb, of, face, **fields), self.nonce(), OPERATOR, self.time)
         self.comes(1, packet, f"allowed {status} ops", 1)
@@ -78,7 +81,8 @@ class Scenario:
             self.order("fib/add-nexthop", of, face)
 
     def store(self, verb, of, status, *faces, **fields):
-        """A command of the repository, on face 1."""
+        """A command of the repository that comes on face 1 and is allowed. `faces` are those that its own Interest
+        goes to."""
         self.time += 1
         packet = p.command(p.repository_name(verb, of, **fields), self.nonce(), SECOND, self.time)
         self.comes(1, packet, f"allowed {status} repo-ops", 1, *faces)
@@ -100,7 +104,8 @@ class Scenario:
         self.put(f"rules {self.now} {files[0]} {files[1]}", "passed")
 
     def may_lose_its_data(self):
-        """The cache holds one Data, and another takes its place. Lists count no such event. Face 1 is open already."""
+        """Adds to `loses` a way to lose the one Data that the cache can hold: another Data takes its place. That does
+        not change the version of the lists. Face 1 has to be open already."""
         self.up(60, 61)
         other = p.name("/other")
         self.route(other, 60)
@@ -172,7 +177,8 @@ def commands_and_their_times():
 
 
 def deadlines():
-    """Each event comes later than what the next one is about: without it, what ended by it is still there."""
+    """Again and again one event comes at or after a deadline, and the next event, at a moment before this deadline,
+    asks for what has expired. Without the first event it has not expired."""
     s = Scenario("deadlines")
     s.up(1, 2, 3)
     s.route(A, 2)
@@ -407,7 +413,8 @@ def tokens():
 
 
 def many_faces():
-    """Data and Nacks for many faces, with and without tokens. Of each pair of flags the first Interest goes on."""
+    """A Data and a Nack for many faces, with and without tokens. Of the Interests with the same name and the same
+    values of MustBeFresh and CanBePrefix, only the first is forwarded."""
     s = Scenario("many faces wait")
     s.up(1)
     faces = list(range(2, 40))
@@ -460,7 +467,7 @@ def tables_grow():
 
 
 def a_full_cache():
-    """A cache of two Data, which others push out."""
+    """A cache for two Data. Later Data push earlier ones out."""
     s = Scenario("a full cache", 2)
     s.up(1, 2, 3)
     s.route(A, 2)
@@ -481,7 +488,7 @@ def a_full_cache():
 
 
 def sensors():
-    """Data that a rule with a pattern decides."""
+    """Data on which a rule with a hierarchical checker decides."""
     s = Scenario("a rule with patterns")
     s.up(1, 2)
     s.route(p.name("/sensors"), 2)
@@ -533,7 +540,8 @@ def all_of_them():
 
 
 def random_script(seed):
-    """Random events on few names. Each Interest has MustBeFresh and no Data is ever fresh, so that the cache answers none."""
+    """Random events on few names. Each Interest that is no command and asks for no list has MustBeFresh, and no Data
+    is ever fresh, so that the cache answers no Interest."""
     s, draw = Scenario(f"random script {seed}"), random.Random(seed)
     names = (A, AB, ABC, B, B + A, p.name("/sensors/roof"))
     sent = [p.interest(A, 1, must_be_fresh=True)]
