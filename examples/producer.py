@@ -1,5 +1,5 @@
 #!/usr/bin/env python3
-"""A producer: answers each Interest that comes to a port of 127.0.0.1 by the next of these Data.
+"""A producer: answers each packet that comes to PORT of 127.0.0.1 with the next DATA, and ends after the last.
 
     producer.py PORT DATA..      DATA is a packet in hexadecimal, as `ndn_tool data` prints it
 """
