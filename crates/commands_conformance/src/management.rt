@@ -128,8 +128,8 @@ fn absent_fields(rt: HostRuntime) {
 }
 
 /// Fields may come in any order. If a command has several fields of the same type, the first one is
-/// used. A complete element of an unknown type is ignored, while a truncated element is refused
-/// with status 400.
+/// used. A complete element of an unknown type is ignored, while a command with a truncated element
+/// is refused with status 400.
 #[test]
 fn the_first_of_each_field_counts(rt: HostRuntime) {
     let rows = "
@@ -181,7 +181,7 @@ fn fields_that_commands_need_and_take(rt: HostRuntime) {
 
 /// Applies a command from face 9, while the faces 2 and 9 are up. Shows the command's status, the
 /// body of the reply, and the dataset of routes. For a command that sets a strategy, shows the
-/// dataset of strategies instead.
+/// dataset of strategies instead of the dataset of routes.
 fn applied_shown(alloc: Global, row: &str) -> Option<String> {
     shown_on_station(alloc, row, applied_on)
 }

@@ -462,7 +462,8 @@ fn are_4096_routes(text: &[u8]) -> bool {
         && text.ends_with(b"\x80\x0e\x07\x04\x08\x02\x0f\xff\x81\x06\x69\x01\x02\x6a\x01\x00")
 }
 
-/// Returns whether the dataset of routes has 16 segments of 4,096 octets.
+/// Returns `true` if segment 15 of the dataset of routes is the last segment and has 4,096 octets,
+/// and there is no segment 16.
 fn has_16_segments(alloc: Global, station: &Station) -> Option<bool> {
     let is_last = has_last_segment(alloc, station, 4096, 15)?;
     Some(is_last && station.segment(alloc, false, 16).is_none())
