@@ -347,7 +347,7 @@ impl Rows {
     }
 }
 
-/// Removes Data whose full names begin with `name` from the slab and from `used`. Starts at
+/// Removes, from the slab and from `used`, Data whose full names begin with `name`. Starts at
 /// position `start` of the list, and removes at most `most` Data. Returns the position after the
 /// last removed Data, or `start` if no Data is removed.
 fn remove_under(

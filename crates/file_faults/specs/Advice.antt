@@ -17,8 +17,9 @@ advice_on_keys keys.TooMany =
 advice_on_keys keys.Memory = codes "out of memory"
 
 -- The message for a fault in a key file. The first line of the message has the line number and the
--- kind of the fault. The line number is 0 for `TooMany`. The second line of the message tells what
--- is wrong and how to correct it. The message for `Memory` is a single line without a number.
+-- kind of the fault. The line number is 0 for `TooMany` and for a file that is not UTF-8. The
+-- second line of the message tells what is wrong and how to correct it. The message for `Memory` is
+-- a single line without a number.
 abbrev pub key_text : KeyFault → List ℕ
 key_text (keys.BadLine line) = codes "keys:" ++ (decimal line ++ (codes ": BadLine\n  "
     ++ (advice_on_keys (keys.BadLine line) ++ codes "\n")))

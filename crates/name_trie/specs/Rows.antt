@@ -1,4 +1,4 @@
--- The rows in a list of type `Rows`, which stores a single row inline.
+-- The rows in a list of type `Rows`.
 use Rattle.std.specs.Prelude.{List, [], ◌∷◌}
 use Rattle.name_trie.specs.declared.rows.Rows.{Rows}
 use Rattle.name_trie.specs.declared.rows.Rows.TheVariants.{Empty, One, Many}

@@ -40,7 +40,7 @@ fn list_value<'a, V>(
 }
 
 /// Appends to `list` the rows of node `at`, whose name is `front`, and of the nodes below this
-/// node. `depth` is the number of levels to list. Node `at` is the first of these levels.
+/// node. `depth` is the number of levels to list, including the level of node `at`.
 pub fn list_below<'a, V>(
     alloc: Global,
     nodes: &'a Slab<Node<V>>,

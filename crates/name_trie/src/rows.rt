@@ -7,7 +7,7 @@ use ndn_tlv::Memory;
 use std::alloc::Global;
 use std::{array, mem};
 
-/// A list of rows. A single row is stored inline, since most lists have at most one row.
+/// A list of rows. The variant `One` stores its row inline, since most lists have at most one row.
 #[derive(Drop)]
 pub enum Rows<T> {
     Empty,
@@ -31,7 +31,7 @@ impl<T> Rows<T> {
 }
 
 impl<T: Drop> Rows<T> {
-    /// Returns the rows as a vector. A single row is moved into the vector `room`.
+    /// Returns the rows as a vector. The row of the variant `One` is moved into the vector `room`.
     fn into_vec(self, room: Vec<T>) -> Vec<T>
         requires empty { room.items ≡ [] }
         requires places { 2 ≤ vec_capacity room }

@@ -55,7 +55,7 @@ pub fn see_along<V, S: See<V>>(
 }
 
 /// Passes to the visitor `see` the values of node `at` and of the nodes below this node. `depth` is
-/// the number of levels to show. Node `at` is the first of these levels.
+/// the number of levels to show, including the level of node `at`.
 fn see_below<V, S: See<V>>(nodes: &Slab<Node<V>>, at: usize, depth: usize, see: &mut S)
     ensures { see.new ≡ fold S.seen see.old
         (map (λ r. r.1) (rows (get nodes.now) depth (Some at))) }

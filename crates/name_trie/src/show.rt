@@ -76,8 +76,8 @@ fn put_component(name: &mut Vec<u8>, component: Component<'_>) -> Result<(), Mem
 }
 
 /// Passes to the visitor `show` the names that have a value: the name of node `at`, and the names
-/// of the nodes below node `at`. `depth` is the number of levels to show. Node `at` is the first of
-/// these levels. `name` contains the octets of the name of node `at`.
+/// of the nodes below node `at`. `depth` is the number of levels to show, including the level of
+/// node `at`. `name` contains the octets of the name of node `at`.
 fn show_below<V, W: Carry<V> + Drop, S: Show<W>>(
     nodes: &Slab<Node<V>>,
     at: usize,

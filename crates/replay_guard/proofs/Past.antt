@@ -1,6 +1,6 @@
--- A guard stores only the greatest time and the greatest number of each signer. A command is fresh
--- according to the state of a guard exactly if it is fresh according to the list of all recorded
--- commands.
+-- A guard stores only the greatest time and the greatest sequence number of each signer. A command
+-- is fresh according to the state of a guard exactly if it is fresh according to the list of all
+-- recorded commands.
 use Rattle.std.proofs.Common.{◌≡◌, ℕ, ◌<◌, Bool, true, false, cond, List, [], ◌∷◌, refl, sym, subst, arith}
 use Rattle.std.specs.Prelude.{◌↔◌, Option, Some, None}
 use Rattle.std.specs.List.{AllByRecursion}

@@ -1,6 +1,6 @@
--- The state of a guard. For each signer, the state has the greatest time and the greatest number of
--- its recorded commands. The state also has the signer for which a call of `record` is prepared, if
--- any.
+-- The state of a guard. For each signer, the state has the greatest time and the greatest sequence
+-- number of the signer's recorded commands. The state also has the signer for which a call of
+-- `record` is prepared, if any.
 use Rattle.std.specs.Prelude.{◌≡◌, ◌⊎◌, ℕ, ◌<◌, List, [], ◌∷◌, Option, None, Some, IsSome, max, refl}
 use Rattle.std.specs.Coded.{Coded, code_by, coded×, coded_ℕ, coded_option}
 use Rattle.std.specs.declared.cmp.Ordering.{Ordering}

@@ -15,7 +15,7 @@ use std::marker::Model;
 /// command.
 const WINDOW: u64 = 120_000;
 
-/// For each signer, the greatest time and the greatest number of its recorded commands.
+/// For each signer, the greatest time and the greatest sequence number of its recorded commands.
 #[derive(Drop)]
 pub struct Guard {
     alloc: Global,
@@ -56,8 +56,8 @@ impl Guard {
 
     /// Returns whether a signed command is fresh. The command's time `time` and the present moment
     /// `now` are in milliseconds since 1970. `time` must differ from `now` by at most 120,000, and
-    /// must be greater than each recorded time of `signer`. If the command has a number, which is
-    /// in `seq`, the number must be greater than each recorded number of `signer`.
+    /// must be greater than each recorded time of `signer`. If the command has a sequence number
+    /// `seq`, this number must be greater than each recorded sequence number of `signer`.
     pub fn check(&self, signer: Signer<'_>, time: u64, seq: Option<u64>, now: u64) -> bool
         ensures { IsTrue result ↔ IsFresh self.now.latest (signer_of signer.entry) time seq now }
     {

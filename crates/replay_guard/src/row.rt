@@ -8,8 +8,8 @@ use ndn_tlv::Memory;
 use std::alloc::Global;
 use std::marker::Model;
 
-/// The recorded state of a signer: the greatest time and the greatest number of its recorded
-/// commands.
+/// The recorded state of a signer: the greatest time and the greatest sequence number of its
+/// recorded commands.
 #[derive(Drop)]
 pub struct Row {
     key: Option<NameBuf>,

@@ -9,8 +9,8 @@ ghost use Rattle.strategies.specs.Eligible.{is_eligible, eligible};
 
 use crate::strategy::Strategy;
 
-/// Law: a strategy chooses exactly the faces of the hops that it selects, and each of these hops is
-/// eligible. A strategy chooses `NoRoute` exactly if no hop is eligible.
+/// Law: each face that a strategy chooses is the face of an eligible hop, and the face of each hop
+/// that the strategy selects is chosen. A strategy chooses `NoRoute` exactly if no hop is eligible.
 pub fn each_chosen_face_is_eligible<S: Strategy>()
     ensures eligible { (hops : List Hop) (used : ByFace) (ask : Ask) (faces : List ℕ) (face : ℕ)
         → chosen S.selection hops used ask ≡ Send faces → has_face face faces ≡ true
