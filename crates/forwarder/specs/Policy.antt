@@ -32,7 +32,7 @@ pub record Policy : Type 0 where
   -- for each signer of allowed commands, the greatest SignatureTime and the greatest
   -- SignatureSeqNum of the signer's allowed commands
   pub guard : Table
-  -- the objects that the repository stores, and the Data that it wants
+  -- the objects that the repository stores, and its wants (pending inserts)
   pub held : Held
 
 -- the policy of a node before its first event, with these rules, these keys, and the prefix `repo`
@@ -98,7 +98,7 @@ is_far p face = is_far_scope (find_scope face p.faces)
 -- ---- two policies compared
 
 -- the policies agree in the time, the repository's prefix, the open faces, the replay guard, the
--- stored Data and the wants
+-- stored Data and the pending inserts
 pub record HasSameParts (p q : Policy) : Type 0 where
   pub now : p.now ≡ q.now
   pub repo : p.repo ≡ q.repo

@@ -171,9 +171,9 @@ impl Node {
     }
 
     /// Returns whether two nodes agree in the time, the repository's prefix, the open faces, the
-    /// routes, the strategies, the replay guard, the stored Data and the wants. The rules, the
-    /// keys, and the version of the lists of routes and strategies are not compared. The contract
-    /// says only what a result `true` means.
+    /// routes, the strategies, the replay guard, the stored Data and the pending inserts. The
+    /// rules, the keys, and the version of the lists of routes and strategies are not compared. The
+    /// contract says only what a result `true` means.
     pub fn has_same_tables(&self, other: &Node) -> Result<bool, Memory>
         ensures { IfOk result
             (λ same. IsTrue same → HasSameTables self.now.policy other.now.policy) }
@@ -181,8 +181,8 @@ impl Node {
         self.state.has_same_tables(&other.state)
     }
 
-    /// Returns whether an event brings a Data that the repository wants. The wants are those that
-    /// remain once time has advanced to the event's moment.
+    /// Returns whether an event brings a Data that answers a pending insert of the repository.
+    /// Inserts that expire as time advances to the event's moment do not count.
     pub fn wants(&self, event: &Event<'_>) -> bool
         ensures { result ≡ brings_wanted
             (at_moment self.now.policy (moment (plain event.now))) (plain event.now) }
@@ -193,8 +193,8 @@ impl Node {
         }
     }
 
-    /// Returns whether the octets are a Data that the repository wants. The wants are those that
-    /// remain once time has advanced to `now`.
+    /// Returns whether the octets are a Data that answers a pending insert of the repository.
+    /// Inserts that expire as time advances to `now` do not count.
     fn wants_packet(&self, now: u64, octets: &[u8]) -> bool
         ensures { result ≡ is_wanted_packet (at_moment self.now.policy now) (frame_at octets.now) }
     {

@@ -34,8 +34,8 @@ pub(crate) struct ListAsked {
 #[derive(Clone, Copy, Debug, PartialEq, Eq)]
 pub(crate) enum NamedRequest {
     ForList(ListAsked),
-    /// A command on routes, strategies or the cache: any name under `/localhost/nfd` that does not
-    /// ask for a list.
+    /// A management command. Every Interest whose name begins with `/localhost/nfd` and that does
+    /// not ask for a list is handled as one, even if no command has its name.
     ForTables,
     /// A command to the repository.
     ForRepository,

@@ -34,8 +34,8 @@ pub struct State {
 
 impl State {
     /// Sets the time to the greater of `self.now` and `moment`, and removes the in-records, routes
-    /// and wants that have expired. Adds the number of expired routes to the version of the lists,
-    /// up to the greatest u64. What was prepared in the PIT, the tables, the guard and the
+    /// and pending inserts that are due. Adds the number of removed routes to the version of the
+    /// lists, up to the greatest u64. What was prepared in the PIT, the tables, the guard and the
     /// repository stays prepared.
     pub fn pass_time(&mut self, moment: u64)
         ensures later { IsLater (state_of self.old) moment (state_of self.new) }
@@ -62,7 +62,7 @@ impl State {
     }
 
     /// Returns whether two states agree in the time, the repository's prefix, the open faces, the
-    /// routes, the strategies, the replay guard, the stored Data and the wants.
+    /// routes, the strategies, the replay guard, the stored Data and the pending inserts.
     pub fn has_same_tables(&self, other: &State) -> Result<bool, Memory>
         ensures { IfOk result (λ same. IsTrue same
             → HasSameTables (policy_of self.entry.now) (policy_of other.entry.now)) }
@@ -79,7 +79,7 @@ impl State {
     }
 
     /// Returns whether two states agree in the time, the repository's prefix, the open faces, the
-    /// replay guard, the stored Data and the wants.
+    /// replay guard, the stored Data and the pending inserts.
     fn has_same_parts(&self, other: &State) -> bool
         ensures { IsTrue result
             → HasSameParts (policy_of self.entry.now) (policy_of other.entry.now) }

@@ -184,9 +184,9 @@ impl<M: Moments> UdpPorts<M> {
         self.strangers
     }
 
-    /// Returns the endpoint of a face, or the endpoint of the datagram that waits for a face with
-    /// this number. Returns `None` if no endpoint has this face and no datagram waits for this
-    /// face.
+    /// Returns the endpoint whose face has the number `face`. If there is no such endpoint, returns
+    /// the endpoint of the datagram that waits for the face `face`. Returns `None` if no datagram
+    /// waits for this face either.
     pub fn endpoint_of(&self, face: u64) -> Option<SocketAddr>
         ensures { result ≡ option_or (endpoint_at self.now.known face)
             (waiting_at face self.now.waiting) }
@@ -381,8 +381,9 @@ impl<M: Moments> UdpPorts<M> {
         None
     }
 
-    /// Receives a datagram into the start of the buffer. Returns its length in octets and its
-    /// endpoint, or `None` if the socket gives no datagram.
+    /// Receives a datagram into the start of the buffer. A datagram longer than the buffer is
+    /// truncated. Returns the number of octets that were stored and the endpoint of the datagram.
+    /// Returns `None` if the socket gives no datagram.
     fn receive_one(&self, buffer: &mut [u8]) -> Option<(usize, SocketAddr)>
         ensures { IfSome result (λ received. received.0 ≤ length buffer.new) }
     {
