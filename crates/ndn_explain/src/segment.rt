@@ -29,7 +29,8 @@ fn put_numbers(text: &mut Vec<u8>, segment: u64, last: u64) -> Result<(), Memory
     writeln!(text, "segment {segment} last {last}").map_err(|_| Memory)
 }
 
-/// Returns the number in the last component of the name, if this component is a segment component.
+/// Returns the number in the last component of the name. Returns `None` if this component is not a
+/// segment component with a number.
 pub fn segment_of(name: Name<'_>) -> Option<u64>
     ensures { result ≡ segment_of (components name.entry) }
 {
