@@ -419,8 +419,8 @@ header_fault_again s headers e fault met (inr h) =
 
 -- ---- where the reading of a link packet stops with a fault
 
--- The list `elements` consists of accepted header fields, followed by `rest`. Reading `elements` in
--- state `s` stops with `fault` at the start of `rest`.
+-- The list `elements` consists of header fields that the reader accepts in state `s`, followed by
+-- `rest`. The fault of `rest` after these header fields is `fault`.
 record Stops (s : LinkSoFar) (elements : List (Result Field TlvFault)) (fault : PacketFault) : Type 0 where
   headers : List Field
   rest : List (Result Field TlvFault)
@@ -463,8 +463,8 @@ token_among (h ∷ headers) few =
     none_more [] few = refl
     none_more (f ∷ hs) few = absurd (omega arith)
 
--- If `fault` is the fault of `elements` whenever the header fields before `elements` lead to state
--- `s`, then reading `elements` in state `s` stops at the start of `elements`.
+-- if `fault` is the fault of `elements` whenever the header fields before `elements` lead to state
+-- `s`, then `Stops s elements fault` holds
 stops_here : (s : LinkSoFar) (elements : List (Result Field TlvFault)) (fault : PacketFault) → ((before : List Field) → Met s before → AfterHeaders before s.nack elements fault) → Stops s elements fault
 stops_here s elements fault h =
     record { headers = []; rest = elements; last = s; all = refl; allowed = λ fits. (tt, no_more s); met = λ before m. subst (Met s) (sym (append-nil before)) m; here = h }

@@ -342,7 +342,7 @@ cut_written kind value before following fit first =
     }
 
 -- `data_elements` and `data_grouped` are the same list: the elements of a Data after its Name. In
--- `data_grouped`, the lists are appended in the order that `IsData` uses.
+-- `data_grouped`, the parentheses are placed as in `IsData`.
 abbrev data_elements : Sign → List Field → Option (List ℕ) → Option (List ℕ) → List Field
 data_elements signed name meta content = (optional 20 meta ++ (optional 21 content ++ (22, octets (info_fields signed None None)) ∷ [])) ++ (23, data_value signed name meta content) ∷ []
 

@@ -1,5 +1,5 @@
 -- An Interest that is written is in the grammar, and its signature is computed over exactly the
--- octets that the signature covers.
+-- octets that `Covered` defines.
 use Rattle.std.proofs.Common.{rules, ◌≡◌, ◌≢◌, ℕ, ◌^◌, ◌<◌, ◌≤◌, Bool, true, false, cond, eqb, ltb, List, [], ◌∷◌, ◌++◌, length, Option, Some, None, refl, sym, ap, subst, ◌∙◌, append_assoc, ne_eqb, arith}
 use Rattle.std.specs.Prelude.{◌||◌, not, unwrap_or, IfSome, OnSome}
 use Rattle.std.specs.Option.{option_map}

@@ -70,8 +70,7 @@ abbrev pub parameters_of : Option Sign → Option (List ℕ) → Option (List �
 parameters_of None parameters = parameters
 parameters_of (Some signed) parameters = Some (unwrap_or parameters [])
 
--- the signature of an Interest covers the components of the Interest's name, followed by these
--- fields
+-- the signature of an Interest covers the components of the writer's name, followed by these fields
 abbrev pub covered_fields : InterestWriter → Sign → List Field
 covered_fields w signed =
     (APPLICATION_PARAMETERS, unwrap_or (option_map (λ p. p.now) w.parameters) [])

@@ -95,8 +95,8 @@ impl Data<'_> {
 }
 
 /// Law: the test `answers` decides `Answers`, and the test `begins_with` decides `IsPrefix`. If
-/// `asked` is not the Data's name followed by a digest, the result of `answers` is the same for
-/// every digest.
+/// `asked` is not the Data's name followed by an implicit digest, the result of `answers` is the
+/// same for every digest.
 pub fn answers_can_be_tested()
     ensures answers { (name asked : List Field) (digest : List ℕ) (can_be_prefix : Bool)
         → IsTrue (answers name digest asked can_be_prefix)

@@ -10,8 +10,8 @@ pub const CONTROL_PARAMETERS: u32 = 104;
 /// The type of the parameters of a command to a repository (repo-ng, RepoCommandParameter).
 pub const REPO_COMMAND_PARAMETER: u32 = 201;
 
-/// The types of the fields of ControlParameters, except the Name (NFD Management, "Control
-/// Command", ControlParameters).
+/// The types of some fields of ControlParameters (NFD Management, "Control Command",
+/// ControlParameters).
 pub const FACE_ID: u32 = 105;
 
 pub const COST: u32 = 106;

@@ -51,8 +51,8 @@ impl DataWriter<'_> {
     /// shortest forms. If neither a FreshnessPeriod nor a last segment is requested, no MetaInfo is
     /// written.
     ///
-    /// If the Data is refused, returns the first fault in the order of `WriteFault` and appends
-    /// nothing. `BadName` is never returned.
+    /// If the Data cannot be written, returns the first fault in the order of `WriteFault` and
+    /// appends nothing. `BadName` is never returned.
     pub fn write(&self, out: &mut Vec<u8>) -> Result<(), WriteFault>
         ensures ok { OnOk result (out.new.items ≡ out.old.items ++ data_text self.now) }
         ensures err { OnErr result (out.new.items ≡ out.old.items) }

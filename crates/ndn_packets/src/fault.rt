@@ -30,12 +30,12 @@ pub enum PacketFault {
     /// InterestSignatureInfo, are ignored and are no fault.
     #[error("an element is unknown or out of order, and may not be ignored")]
     CriticalUnknown,
-    /// A field other than the Name and the Nonce is missing, or the value of a field is malformed.
-    /// `BadField` is also the fault of an outer element with a type other than 5, 6 or 100, and of
-    /// octets after the outer element. A Nack without a Fragment has the fault `BadField`. A
-    /// Fragment has the fault `BadField` if octets follow its first element, or if this element is
-    /// neither an Interest nor a Data. With a Nack, a Fragment that contains a Data also has the
-    /// fault `BadField`.
+    /// A required field other than the Name and the Nonce is missing, or the value of a field is
+    /// malformed. `BadField` is also the fault of an outer element with a type other than 5, 6 or
+    /// 100, and of octets after the outer element. A Nack without a Fragment has the fault
+    /// `BadField`. A Fragment has the fault `BadField` if octets follow its first element, or if
+    /// this element is neither an Interest nor a Data. With a Nack, a Fragment that contains a Data
+    /// also has the fault `BadField`.
     #[error("a field is missing, or its value is malformed")]
     BadField,
     /// An Interest has no Nonce.

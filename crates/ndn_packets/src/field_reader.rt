@@ -121,8 +121,8 @@ pub fn leading_name(value: &[u8]) -> Result<(Name<'_>, &[u8]), PacketFault>
 }
 
 /// Returns the name in the first element, which must be a Name. Also returns the first digest of
-/// parameters in the name, and the octets after the Name. Returns the same faults as
-/// `leading_name`.
+/// parameters in the name, if there is one, and the octets after the Name. Returns the same faults
+/// as `leading_name`.
 #[inline(always)]
 pub fn digested_name(
     value: &[u8],

@@ -79,7 +79,7 @@ pub fn name_element_len(name: Name<'_>) -> usize
     element_len(NAME, octets_len(name.as_octets()))
 }
 
-/// Returns the SignatureType of a packet that is signed as `sign` tells.
+/// Returns the SignatureType for `sign`.
 #[inline(always)]
 fn kind_of(sign: Sign<'_>) -> u64
     ensures { result ≡ kind_of sign.entry }

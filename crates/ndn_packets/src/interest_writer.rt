@@ -70,8 +70,8 @@ impl InterestWriter<'_> {
     /// Appends the Interest with only the requested fields, in the standard's order and in their
     /// shortest forms.
     ///
-    /// If the Interest is refused, returns the first fault in the order of `WriteFault` and appends
-    /// nothing.
+    /// If the Interest cannot be written, returns the first fault in the order of `WriteFault` and
+    /// appends nothing.
     pub fn write(&self, out: &mut Vec<u8>) -> Result<(), WriteFault>
         ensures ok { OnOk result (out.new.items ≡ out.old.items ++ interest_text self.now) }
         ensures err { OnErr result (out.new.items ≡ out.old.items) }
@@ -266,8 +266,8 @@ impl InterestWriter<'_> {
     }
 
     /// Appends the Name element. If memory runs out, some octets may have been appended. If the
-    /// name has a digest of parameters, 32 zeros are written in place of the digest, which is not
-    /// yet known.
+    /// written name has a digest of parameters, 32 zeros are written in place of the digest, which
+    /// is not yet known.
     #[inline(always)]
     fn put_name(&self, out: &mut Vec<u8>, name_len: usize) -> Result<(), Memory>
         requires len { IsLength name_len (octets (interest_name self.now)) }
