@@ -17,7 +17,8 @@ use Rattle.hmac_keys.proofs.Books.{one_name, named_twice, one_too_many, key_adde
 
 -- ---- the first line of a text and the remaining text
 
--- the lines of the text are `line` and the lines of `after`, or only `line`, if `after` is empty
+-- either the lines of the text are `line` and the lines of `after`, or `line` is the only line of
+-- the text and `after` is empty
 abbrev pub BeginsWith : List ℕ → List ℕ → List ℕ → Type 0
 BeginsWith text line after = (lines_of text ≡ line ∷ lines_of after) ⊎ ((lines_of text ≡ line ∷ []) × (after ≡ []))
 

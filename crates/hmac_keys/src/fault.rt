@@ -27,7 +27,7 @@ pub enum KeyFault {
 impl KeyFault {
     ghost use Rattle.hmac_keys.specs.FaultName.{fault_name, fault_line};
 
-    /// Returns the name of the fault, as the client prints it.
+    /// Returns the name of the fault, for example `BadLine`.
     pub fn name(self) -> &'static str
         ensures { result.now ≡ fault_name self }
     {

@@ -9,7 +9,7 @@ use sha2::{Digest, Sha256};
 const BLOCK_LEN: usize = 64;
 
 /// The outer pad: for the outer hash, each octet of the key's block is combined with this octet by
-/// XOR. `INNER_PAD` is the inner pad, which takes the place of `OUTER_PAD` for the inner hash.
+/// XOR. For the inner hash, each octet is combined with `INNER_PAD`, the inner pad, instead.
 const OUTER_PAD: u8 = 0x5c;
 
 const INNER_PAD: u8 = 0x36;

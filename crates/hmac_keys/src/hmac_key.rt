@@ -3,8 +3,9 @@
 use crate::hmac::Blocks;
 use std::marker::Model;
 
-/// A key for HMAC with SHA-256. The key's block, combined with the inner pad and with the outer
-/// pad, is hashed only when the key is made, even if the key signs or checks many texts.
+/// A key for HMAC with SHA-256. When the key is made, the key's block is hashed once with the inner
+/// pad and once with the outer pad. The block is not hashed again for the texts that the key signs
+/// or checks.
 #[derive(Drop)]
 pub struct HmacKey {
     octets: Vec<u8>,

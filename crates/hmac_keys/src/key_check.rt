@@ -52,8 +52,8 @@ fn key_uri(number: u64, line: &str) -> Result<&str, KeyFault>
     Ok(uri)
 }
 
-/// Returns whether the line is not skipped, and the text before its last space is a URI of the name
-/// that `uri` reads as.
+/// Returns whether the line has the name that `uri` reads as: the line is not skipped, and the text
+/// before its last space is a URI of this name.
 fn has_name(line: &str, uri: &str) -> bool
     ensures { (name : List Field) → name_of uri.now ≡ Some name
         → result ≡ line_has_name name line.now }
@@ -113,7 +113,7 @@ fn check_line(text: &str, before: u64, keys: usize, line: &str) -> Result<usize,
 }
 
 /// Returns the first fault of a key file, if the file has a fault. No name is stored: the name in
-/// each line is compared with the names in all earlier lines, which are at most 256 names.
+/// each line is compared with the names in earlier lines. There are at most 256 earlier names.
 pub(crate) fn check_keys(text: &str) -> Result<(), KeyFault>
     ensures { MatchResult result (λ _. (keys : List NamedKey) × (keys_in text.now ≡ Ok keys))
         (λ fault. keys_in text.now ≡ Err fault) }

@@ -62,8 +62,8 @@ abbrev pub ArePassed : PlainTest → List Field → ℕ → Type 0
 ArePassed test cs places =
     (place : ℕ) → has_place places place ≡ passes_there test (slice_get cs place)
 
--- `places` has exactly those positions, up to the end of `cs`, from which the atoms have a split of
--- the remaining components
+-- of the positions up to and including the end of `cs`, `places` has exactly those from which the
+-- atoms have a split of the remaining components
 abbrev pub AreSplit : List PlainAtom → List Field → ℕ → Type 0
 AreSplit atoms cs places =
     (place : ℕ) → place ≤ length cs

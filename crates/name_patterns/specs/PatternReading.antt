@@ -132,7 +132,8 @@ braced_in text = do
   Some (bounds, parts.1)
 
 -- The bounds of the repeat at the front of the text, and the remaining text. Without a repeat, the
--- bounds are `once`. The result is `None` if an opening brace begins no range.
+-- bounds are `once`. The result is `None` if the text begins with an opening brace, but not with a
+-- range in braces.
 unfoldable pub repeat_in : List ℕ → Option (Bounds × List ℕ)
 repeat_in [] = Some (once, [])
 repeat_in (o ∷ text) =
@@ -222,8 +223,9 @@ with_item draft at (o ∷ text) =
     if o == 41 then with_closed draft at text draft.open_group else
     with_atom draft at (o ∷ text))
 
--- Whether the text contains a closing parenthesis that is not between < and >. `is_inside` is true
--- if the text begins between < and >.
+-- Whether the text contains a closing parenthesis that is not between < and >. If a < has no >
+-- after it, all text after this < counts as between < and >. `is_inside` is true if the text begins
+-- between < and >.
 unfoldable pub is_closed : Bool → List ℕ → Bool
 is_closed is_inside [] = false
 is_closed is_inside (o ∷ text) =

@@ -65,8 +65,8 @@ impl Test {
         matches!(&self.choice, Choice::Anything)
     }
 
-    /// Returns whether `candidate` passes this test, and adds one to `tests`. No other function
-    /// tests a component.
+    /// Returns whether `candidate` passes this test, and adds one to `tests`. Each test of a
+    /// component is a call of this function.
     pub fn passes(&self, candidate: Component<'_>, tests: &mut u64) -> bool
         requires { tests.old + 1 < 2 ^ 64 }
         ensures exact { result ≡ passes (test_of self.now) (component candidate.entry) }

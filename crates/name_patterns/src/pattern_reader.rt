@@ -12,7 +12,8 @@ use crate::fault::PatternFault;
 use crate::pattern::Pattern;
 use std::alloc::Global;
 
-/// Returns whether the text contains a closing parenthesis that is not between `<` and `>`.
+/// Returns whether the text contains a closing parenthesis that is not between `<` and `>`. If a
+/// `<` has no `>` after it, all text after this `<` counts as between `<` and `>`.
 fn is_closed(text: &[u8]) -> bool
     ensures { result ≡ read.is_closed false text.now }
 {
@@ -88,8 +89,9 @@ impl Pattern {
     ///
     /// If the text is not a pattern, returns the fault of the leftmost faulty item: see
     /// `PatternFault`. A faulty item is an atom with its repeat, a repeat that follows another
-    /// repeat or a group, a parenthesis, or a misplaced anchor. A group that is never closed is
-    /// faulty at its opening parenthesis. `Memory` may be returned for any text.
+    /// repeat or a group, a parenthesis, a misplaced anchor, or text that belongs to no item. A
+    /// group that is never closed is faulty at its opening parenthesis. `Memory` may be returned
+    /// for any text.
     pub fn read(alloc: Global, text: &str) -> Result<Pattern, PatternFault>
         // The text denotes the returned pattern.
         ensures found { IfOk result (IsPattern text.now) }

@@ -32,7 +32,7 @@ struct Row {
     split: Places,
 }
 
-/// One row for each atom, and a last row for the end.
+/// One row for each atom, and then one row for the end. Later rows are not used.
 type Table = [Row; MAX_STARTS];
 
 /// Returns the set `places`, with `place` added if `is_there` is true.
@@ -151,10 +151,11 @@ fn split_before(repeat: Repeat, passed: Places, after: Places) -> Places
     split
 }
 
-/// Fills the table from its last row back to the row of the atom at index `first`. The name has
-/// `len` components. Suppose that, for some atom, there is no position from which this atom and the
-/// later atoms can match all remaining components. The name then has no split, so the function
-/// stops and returns false. For each atom, each component is tested at most once.
+/// Fills the table from the row of the end back to the row of the atom at index `first`. The name
+/// has `len` components. Suppose that, for an atom from index `first` on, there is no position from
+/// which this atom and the later atoms can match all remaining components. The name then has no
+/// split, so the function stops and returns false. For each atom, each component is tested at most
+/// once.
 fn fill(
     atoms: &[Atom],
     first: usize,

@@ -76,8 +76,8 @@ element_found n x c e =
     at_found (Err f) c e = absurd cc
     at_found (Ok d) c e = let p = component_found d c e in (ap read_element p.0, p.1)
 
--- if `components_after n` reads a list of results as components, the list has no fault, all its
--- elements are valid components, and n plus the number of elements is at most 64
+-- Let n be at most 64. If `components_after n` reads a list of results as components, the list has
+-- no fault, all its elements are valid components, and n plus the number of elements is at most 64.
 pub components_found : (n : ℕ) (es : List (Result Field TlvFault)) (cs : List Field) → n ≤ 64 → components_after n es ≡ Ok cs → (es ≡ map read_element cs) × (n + length cs ≤ 64) × AllByRecursion IsComponent cs
 components_found n [] cs le e = subst (λ (ds : List Field). ([] ≡ map read_element ds) × (n + length ds ≤ 64) × AllByRecursion IsComponent ds) (done_is [] cs e) (refl, omega arith, tt)
 components_found n (x ∷ es) cs le e =

@@ -1,5 +1,5 @@
--- The octets of names have the same order as the names. No shortest encoding of a number is a
--- prefix of another one, and shortest encodings are ordered as their numbers are.
+-- The octets of names have the same order as the names. No shortest VAR-NUMBER is a prefix of
+-- another one, and shortest VAR-NUMBERs have the order of their numbers.
 use Rattle.std.proofs.Common.{◌≡◌, ℕ, ◌+◌, ◌*◌, ◌^◌, ◌<◌, ◌≤◌, List, [], ◌∷◌, ◌++◌, length, refl, sym, ap, ◌∙◌, inl, inr, append_assoc, arith}
 use Rattle.std.specs.declared.cmp.Ordering.{Ordering}
 use Rattle.std.specs.declared.cmp.Ordering.TheVariants.{Less as Lt, Equal, Greater}

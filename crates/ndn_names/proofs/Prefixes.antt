@@ -26,8 +26,8 @@ length-take-le n cs = omega (arith, ap length (take-append-drop n cs), length-ap
 octets_cut : (n : ℕ) (cs : List Field) → octets_of cs ≡ octets_of (take n cs) ++ octets_of (drop n cs)
 octets_cut n cs = ap octets_of (sym (take-append-drop n cs)) ∙ flat_map-append element (take n cs) (drop n cs)
 
--- if octets are `front` followed by `rest`, then `front` is all of these octets but the last
--- `length rest`
+-- if octets are `front` followed by `rest`, then `front` is these octets without the last
+-- `length rest` octets
 front_is : (octets front rest : List ℕ) → octets ≡ front ++ rest → (length rest ≤ length octets) × (take (length octets - length rest) octets ≡ front)
 front_is octets front rest e =
     let lengths : length octets ≡ length front + length rest = ap length e ∙ length-append front rest in

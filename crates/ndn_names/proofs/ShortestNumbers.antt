@@ -12,7 +12,7 @@ use Rattle.ndn_tlv.specs.Reading.{nni_at}
 use Rattle.ndn_tlv.proofs.Integers.{length-shortest_one, length-shortest_two, length-shortest_four}
 use Rattle.ndn_names.specs.TypeName.{shortest_number}
 
--- the least number whose shortest encoding has `len` octets
+-- the least number whose shortest encoding has `len` octets, if `len` is 1, 2, 4 or 8
 abbrev pub least_of : ℕ → ℕ
 least_of len = cond (eqb len 1) 0 (cond (eqb len 2) (2 ^ 8) (cond (eqb len 4) (2 ^ 16) (2 ^ 32)))
 

@@ -41,8 +41,8 @@ fn number_octets(value: ValueText<'_>) -> [u8; 8]
     }
 }
 
-/// Returns a text that encodes the component's value octet by octet. If the value is a number,
-/// `number` has to begin with the octets of the value.
+/// Returns a text that encodes octets one after the other. These octets begin with the component's
+/// value. If the value is a number, `number` has to begin with the octets of the value.
 fn spelled_out<'a>(component: ComponentText<'a>, number: &'a [u8; 8]) -> ValueText<'a>
     requires { IsNumberIn number.now component.value }
     ensures { (c : Field) → IsTextOf c component.entry → SaysFirst result c.1 }

@@ -14,7 +14,7 @@ use ndn_tlv::put_number;
 use std::alloc::Global;
 
 /// Spare capacity for a name, in octets. A component in a TLV-VALUE usually has two octets in
-/// addition to its value, for type and length. A component in URI text has only one additional
+/// addition to its value, for type and length. A component in URI text may have only one additional
 /// octet, the slash.
 const SPARE: usize = 16;
 

@@ -114,7 +114,7 @@ impl WriteFault {
     ghost use Rattle.std.specs.Prelude.{◌≡◌};
     ghost use Rattle.ndn_packets.specs.FaultName.{write_name};
 
-    /// Returns the name of the fault, as the client prints it.
+    /// Returns the name of the fault, for example `BadName`.
     pub fn name(self) -> &'static str
         ensures { result.now ≡ write_name self }
     {
