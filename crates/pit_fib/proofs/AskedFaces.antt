@@ -1,5 +1,5 @@
--- The faces with a pending Interest that a Data answers: the faces with an in-record under the
--- Data's name or under a proper prefix of this name, and the faces with an in-record under the full
+-- The faces with a pending Interest that a Data answers. The name of such an Interest is the Data's
+-- name, the Data's full name or, if the Interest has CanBePrefix, a proper prefix of the Data's
 -- name.
 use Rattle.std.proofs.Common.{◌≡◌, inl, inr, ℕ, Bool, true, false, List, [], ◌∷◌, ◌++◌, refl, sym, ap, subst, ◌∙◌}
 use Rattle.std.specs.Prelude.{Option, None, Some, IsSome, IsTrue, is_some, ◌||◌, ◌↔◌}

@@ -1,4 +1,4 @@
--- The moments at which faces were last sent an Interest, row by row.
+-- The moments at which an Interest was last sent to each face, row by row.
 use Rattle.std.proofs.Common.{◌≡◌, ℕ, suc, ◌+◌, ◌<◌, ◌≤◌, Bool, true, false, List, [], ◌∷◌, ◌++◌, length, get_or, take, drop, refl, sym, ap, subst, ◌∙◌, arith}
 use lib.Dec.{T}
 use Rattle.std.specs.Prelude.{Some, ◌&&◌}

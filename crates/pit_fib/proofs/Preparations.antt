@@ -105,8 +105,9 @@ pub memory_after : (rows : NameTable Row) (spare : ℕ) (prepared : Option Prepa
 memory_after rows spare None none h = tt
 memory_after rows spare (Some p) none h = (h p.key (λ i. Some (p.key, room_of (none i))), rw none tt)
 
--- there is memory for all prepared calls if the spare memory has capacity for 64 out-records, the
--- key's name is prepared in the table, and the memory of the prepared `arrive`, if any, is ready
+-- Let an `arrive` be prepared. There is memory for all prepared calls if the spare memory has
+-- capacity for 64 out-records, the key's name is prepared in the table, and the vector for the
+-- octets of the `arrive` is ready.
 pub memory_new : (rows : NameTable Row) (spare size : ℕ) (p : Prepared) → 64 ≤ spare → rows.prepared ≡ Some p.key.name → room_of p.arrival ≡ Some size → IfSome p.arrival IsReady
     → HasMemory rows spare (Some p)
 memory_new rows spare size p room name is ready = (inl room, at p.arrival ready)

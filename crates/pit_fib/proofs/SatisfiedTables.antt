@@ -1,4 +1,4 @@
--- Removing the entries that a Data answers from a table: entries under the name of the Data, under
+-- Removing from a table the entries that a Data answers: entries under the name of the Data, under
 -- proper prefixes of this name, and under the full name of the Data.
 use Rattle.std.proofs.Common.{◌≡◌, ℕ, Bool, true, false, cond, List, refl, sym, ap, ◌∙◌}
 use Rattle.std.specs.Prelude.{Option, None, Some, ◌||◌}
@@ -22,8 +22,8 @@ use Rattle.pit_fib.proofs.Answered.{along, and_some, answers_along, below_stays,
 use Rattle.pit_fib.proofs.KeptTables.{Steps, get-with_value, row_changes}
 use Rattle.pit_fib.proofs.PendingTables.{dead_none}
 
--- the walk along the name turns the table `rows` into `new`: the walk removes the entries that the
--- Data answers
+-- the walk along the Data's name turns the table `rows` into `new`: from the rows of this name and
+-- its proper prefixes, the walk removes the entries that the Data answers
 abbrev pub TakesAlong : List Field → Rows → Rows → Type 0
 TakesAlong name rows new =
     (q : List Field) → get new q ≡ option_and_then (changed_along (changed_row (unanswered true)) (changed_row (unanswered false)) q name) (get rows q)

@@ -1,4 +1,4 @@
--- Setting the cost of a face, if fewer than 64 faces have a cost.
+-- Setting the cost of a face, with a limit of 64 faces.
 use Rattle.std.proofs.Common.{◌≡◌, ◌⊎◌, inl, inr, ◌<◌, ℕ, Bool, true, false, cond, refl, ap, ◌∙◌}
 use Rattle.std.proofs.lemmas.Bool.{lt-ltb}
 use Rattle.std.specs.Prelude.{IsSome, nat_lt, ◌||◌}

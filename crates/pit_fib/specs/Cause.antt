@@ -45,8 +45,8 @@ nacked_with nonce reason out_record =
     if same_nonce out_record.nonce nonce then record out_record { reason = Some reason }
     else out_record
 
--- The out-records after the arrival of a Nack with this Nonce and reason on a face. The last
--- argument is the face's out-record, or None if the face has no out-record.
+-- The out-records after a Nack with this Nonce and reason arrives on a face. The last argument is
+-- the face's out-record, or None if the face has no out-record.
 abbrev pub with_reason : ℕ → List ℕ → ℕ → OutRecords → Option OutRecord → OutRecords
 with_reason face nonce reason out_records None = out_records
 with_reason face nonce reason out_records (Some out_record) =

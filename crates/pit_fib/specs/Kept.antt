@@ -181,8 +181,8 @@ with_kept_if f None row = unwrap_or row map.empty
 with_kept_if f (Some s) row = with_kept f s row
 
 -- The row in which `out_record` is stored for the face, under the key with these flags (`sent_in`).
--- The row is unchanged if the key has no entry. The call `sent` supplies memory for `room`
--- out-records in addition to the entry's own memory.
+-- If the key has no entry, the result is the old row, or an empty row if there was no row. The call
+-- `sent` supplies memory for `room` out-records in addition to the entry's own memory.
 abbrev pub row_sent : Flags → ℕ → OutRecord → ℕ → Option Row → Row
 row_sent f face out_record room row =
     with_kept_if f (option_map (sent_in room face out_record) (kept_in row f)) row

@@ -13,8 +13,8 @@ pub struct AtName {
     pub now: u64,
     /// Whether the entry of the name still has next hops or routes at the moment `now`.
     pub is_left: bool,
-    /// The state of a walk along the name, after the last entry on the name. This entry may be the
-    /// entry of the name itself.
+    /// The state of a walk along the name, after the last entry that this walk passed. This entry
+    /// may be the entry of the name itself.
     pub way: Inheriting,
 }
 

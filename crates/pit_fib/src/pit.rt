@@ -124,9 +124,9 @@ impl Pit {
 
     /// Prepares one `arrive` of this key, and the `sent` calls of this key after this `arrive`. The
     /// Interest and the PIT token of the `arrive` may have at most `octets` octets together. The
-    /// prepared calls cannot run out of memory if, after `prepare`, only calls that remove records
-    /// come before or between the prepared calls. `prepare` fails only if memory runs out; then no
-    /// call is prepared.
+    /// prepared calls cannot run out of memory if, after `prepare`, only calls that read or remove
+    /// records come before or between the prepared calls. `prepare` fails only if memory runs out;
+    /// then no call is prepared.
     pub fn prepare(&mut self, key: Key<'_>, octets: usize) -> Result<(), Memory>
         ensures pending { self.new.pending ≡ self.old.pending }
         ensures ok { OnOk result (self.new.prepared

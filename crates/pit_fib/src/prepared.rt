@@ -57,8 +57,8 @@ impl Prepared {
     }
 }
 
-/// Returns the memory of an `arrive` of this key, if such an `arrive` is prepared, and the calls
-/// that are still prepared after this `arrive`.
+/// Returns the memory of the prepared `arrive` of this key, and the calls that are still prepared
+/// after this `arrive`. Returns `None` for both if no `arrive` of this key is prepared.
 pub fn arriving(prepared: Option<Prepared>, key: Key<'_>) -> (Option<Ready>, Option<Prepared>)
     requires { IfSome prepared (λ p. IfSome p.arrival IsReady) }
     ensures ready { IfSome result.0 IsReady }
@@ -125,9 +125,9 @@ fn octets_and_room(
     Ok((ready.octets, ready.records))
 }
 
-/// Returns the in-record of an Interest, which includes the token (if any), and memory for the
-/// Interest's records. All memory is taken from `ready` if `ready` is large enough, and is newly
-/// allocated otherwise.
+/// Returns an in-record with the Interest and its token (if any), and memory for the Interest's
+/// records. All memory is taken from `ready` if `ready` is large enough, and is newly allocated
+/// otherwise.
 pub fn in_record_and_room(
     alloc: Global,
     ready: Option<Ready>,

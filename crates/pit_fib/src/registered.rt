@@ -71,9 +71,8 @@ impl Registered {
         place_of(self.rows(), key).is_ok()
     }
 
-    /// Sets the route under `key` to `route`, and returns all routes. The returned routes are
-    /// stored in the vector `room`. If `room` lacks capacity for all old routes and one more,
-    /// returns the old routes unchanged.
+    /// Sets the route under `key` to `route`, and returns all routes, stored in the vector `room`.
+    /// If `room` lacks capacity for all old routes and one more, returns the old routes unchanged.
     pub fn with(self, key: RouteKey, route: Route, room: Vec<(RouteKey, Route)>) -> Registered
         ensures { result ≡ with_route_within (vec_capacity room) key route self }
     {

@@ -52,7 +52,8 @@ impl Route {
         self.cost == other.cost && self.flags == other.flags && self.deadline == other.deadline
     }
 
-    /// Returns whether the route is a child-inherit route, which longer names can inherit.
+    /// Returns whether the route is a child-inherit route. The names below the route's name can
+    /// inherit such a route.
     pub fn is_child_inherit(self) -> bool
         ensures { result ≡ is_child_inherit self }
     {
@@ -60,7 +61,7 @@ impl Route {
     }
 
     /// Returns whether the route is a capture route. The name of a capture route inherits nothing,
-    /// and longer names inherit nothing from the proper prefixes of this name.
+    /// and the names below it inherit nothing from its proper prefixes.
     pub fn is_capture(self) -> bool
         ensures { result ≡ is_capture self }
     {

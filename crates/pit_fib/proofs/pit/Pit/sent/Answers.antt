@@ -48,7 +48,7 @@ old c = ap (λ (s : PitState). s.pending) c.self.view_is
 room : (c : Joined-self-after) → HasRoomFor (pending_of c.self.inside.rows.table) c.args.face
 room c = subst (λ (p : Pending). HasRoomFor p c.args.face) (sym (old c)) c.requires.room
 
--- the key has an entry before the out-record is set, since the contract requires an in-record
+-- the key has an entry before the out-record is set, because the contract requires an in-record
 found : (c : Joined-self-after) → (s : Kept) × (kept_at c.self.inside.rows.table (plain_key c.args.key) ≡ Some s) × (records_at (pending_of c.self.inside.rows.table) (plain_key c.args.key) ≡ s.records)
 found c = kept_where_alive c.self.inside.rows.table (plain_key c.args.key) (ap (λ (p : Pending). is_alive (records_at p (plain_key c.args.key))) (old c) ∙ c.requires.stands)
 

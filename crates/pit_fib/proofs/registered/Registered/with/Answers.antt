@@ -16,7 +16,7 @@ returns-then-capacity-len c =
     le-ltb (len c.args.self) (vec_capacity c.args.room) (omega (arith, size, c.capacity.ensures, c.len.ensures, c.if-capacity-len.true)) in
     c.self.view_is ∙ sym (ap (λ b. cond b (insert c.args.self c.args.key c.args.route) c.args.self) none)
 
--- after `append`, the vector `room` contains all routes
+-- after `append`, the vector `room` contains exactly the old routes
 moved : (c : goal.After-drop-old) → c.append.new.self.items ≡ c.self.inside.rows.items
 moved c =
     let none : vec_len c.clear.new.self ≡ length c.clear.new.self.items = search rules in
