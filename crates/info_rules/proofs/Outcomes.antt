@@ -1,5 +1,5 @@
 -- A decision on a packet as the rules see it (`seen_of`) is a decision on the frame of the packet
--- (`frame_of`). If deciding the packet may need memory, deciding the frame may need memory.
+-- (`frame_of`). If a decision on the packet may need memory, the decision on the frame may too.
 use Rattle.std.proofs.Common.{◌≡◌, ℕ, List, get_or, subst, sym}
 use Rattle.std.specs.Prelude.{Result, Ok, Err, IfOk, MatchResult}
 use Rattle.hmac_keys.specs.KeyFile.{NamedKey}

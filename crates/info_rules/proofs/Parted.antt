@@ -74,7 +74,7 @@ is_here entry rest true none = refl
 is_here entry rest false none = absurd cc
 
 -- if no entry comes before the first key, the first entry is the first key, and the block of this
--- key is the entries between this key and the next key
+-- key is the entries after this key, up to the next key, if there is one
 pub first_key : (depth : ℕ) (entry : Entry) (after : List Entry) → (parted depth (map entry_of (entry ∷ after))).0 ≡ []
     → (parted depth (map entry_of (entry ∷ after))).1 ≡ (entry_of entry, (parted depth (map entry_of after)).0) ∷ (parted depth (map entry_of after)).1
 unfolding parted

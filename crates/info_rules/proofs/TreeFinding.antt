@@ -16,8 +16,8 @@ use Rattle.info_rules.proofs.TreeSteps.{ok_is, ok_unless, word_found, open_found
 
 -- ---- the remaining entries of the open blocks
 
--- the remaining entries of the innermost open block, the line of its closing brace, and then the
--- remaining entries of the blocks around it
+-- `Inside` has the remaining entries of the innermost open block, the line of its closing brace,
+-- and the levels around the block; `Bottom` has the remaining entries outside all blocks
 data Levels : Type 0 where
   Bottom : Nodes → Levels
   Inside : Nodes → ℕ → Levels → Levels

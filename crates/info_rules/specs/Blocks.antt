@@ -31,7 +31,7 @@ pub data ValueKind : Type 0 where
   Template : ValueKind
   -- the type of a checker
   CheckerType : ValueKind
-  -- a signature type that a checker accepts
+  -- the signature type of a checker
   SignatureType : ValueKind
   -- the type of a trust anchor
   AnchorType : ValueKind

@@ -32,8 +32,8 @@ ChecksKey keys name signed given =
     ⊎ ((key : List ℕ) × IsAmong (name, key) keys × ChecksTag (Mac key signed.covered) signed given)
 
 -- `given` is the result of these checks: the KeyLocator has the name of a key, this name meets the
--- requirement, and the checks of `ChecksKey` pass for this name. If the KeyLocator has no name, or
--- a name that does not meet the requirement, `given` is the reason `KeyLocator`.
+-- requirement, and the checks of `ChecksKey` pass for this name. If the KeyLocator is missing, has
+-- no name, or has a name that does not meet the requirement, `given` is the reason `KeyLocator`.
 abbrev pub ChecksLocator : List NamedKey → LocatorTest → PlainLocator → PlainSigned → Option Reason
     → Type 0
 ChecksLocator keys test (KeyName name) signed given =

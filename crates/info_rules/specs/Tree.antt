@@ -16,8 +16,8 @@ abbrev pub Block : Type 0
 Block = PlainEntry × List PlainEntry
 
 -- A pair: the entries before the first entry at this depth, and the blocks at this depth. A block
--- is an entry at this depth, together with all entries between this entry and the next entry at
--- this depth.
+-- is an entry at this depth, together with all entries after it, up to the next entry at this
+-- depth, if there is one.
 unfoldable pub parted : ℕ → List PlainEntry → List PlainEntry × List Block
 parted depth [] = ([], [])
 parted depth (entry ∷ entries) =

@@ -44,8 +44,8 @@ abbrev pub given_in : {A : Type 0} → RulesFaultKind → (List ℕ → Option A
 given_in kind read line None = Err (record { line = line; kind = BadValue })
 given_in kind read line (Some text) = read_at kind line (read text)
 
--- the value of the first key that is `word`, or `None` if there is no such key; the fault is `kind`
--- for an invalid value, and `BadValue` for a key without a value
+-- the value of the first key that is `word`, or `None` if there is no such key; the fault is
+-- `BadValue` if this key has a block or has no value, and `kind` if the value is invalid
 unfoldable pub value_in : {A : Type 0} → RulesFaultKind → (List ℕ → Option A) → List ℕ → List Block
     → Found (Option A)
 value_in kind read word keys = on_option (λ key. given_in kind read key.0.line (value_of key))

@@ -1,6 +1,6 @@
 -- The faults of the keys of a block, according to the table: keys that are not in the table, and
--- keys that are given too many times. The value of a key that is the first or only key with its
--- word is not checked here, but by the reader of the block.
+-- keys that are given too many times. The value of the first key with a word is not checked here,
+-- but by the reader of the block.
 use Rattle.std.specs.Prelude.{List, [], ◌∷◌, ◌++◌, false, if◌then◌else◌}
 use Rattle.std.specs.List.{flat_map, list_any}
 use Rattle.info_rules.specs.declared.fault.RulesFault.{RulesFault}
@@ -16,8 +16,8 @@ abbrev pub unknown_faults : List PlainForm → Block → List RulesFault
 unknown_faults forms key =
     if list_any (λ form. is_word form.word key) forms then [] else fault_at UnknownKey key ∷ []
 
--- the kind of the fault of a repeated key: `BadValue` if this key must have a value and its value
--- is wrong or missing, otherwise `TwiceNamed`
+-- the kind of the fault of a repeated key: `BadValue` if this key must have a value, but has a
+-- block or has no valid value; otherwise `TwiceNamed`
 abbrev pub again_kind : Takes → Block → RulesFaultKind
 again_kind (Value kind) key =
     if on_option (is_value kind) false (value_of key) then TwiceNamed else BadValue

@@ -21,8 +21,8 @@ use std::alloc::Global;
 /// The type of a checker, `None` if the block has no type, or the fault to report.
 type FoundType = Found<Option<CheckerType>>;
 
-/// The signature type that a checker accepts, `None` if the block has no signature type, or the
-/// fault to report.
+/// The signature type of a checker, `None` if the block has no signature type, or the fault to
+/// report.
 type FoundSignature = Found<Option<SignatureType>>;
 
 fn is_hierarchical(checker_type: FoundType) -> bool

@@ -46,8 +46,9 @@ pub enum Reason {
     /// The signature value is not the tag of the covered octets.
     #[error("Tag: the octets were changed, or the two sides have different keys; compare the keys")]
     Tag,
-    /// A signed Interest is not newer than earlier Interests of its signer. Only callers give this
-    /// reason; the rules never do.
+    /// A signed Interest is not newer than the earlier allowed Interests of its signer, or its
+    /// SignatureTime is too far from the present time. Only callers give this reason; the rules
+    /// never do.
     #[error("Replay: not newer than an allowed command, or the clocks differ; sign it again now")]
     Replay,
 }
@@ -121,8 +122,8 @@ impl Rules {
         None
     }
 
-    /// Decides by the first rule that applies whether to allow a packet. The checkers check the
-    /// signature for the octets of the packet as they were received. If the name of an Interest
+    /// Decides whether to allow a packet. The first rule that applies decides. The checkers check
+    /// the signature for the octets of the packet as they were received. If the name of an Interest
     /// ends with a parameters digest, the rules see the name without this digest.
     ///
     /// Memory is needed only if the first rule that applies has a checker whose hyper-relation
@@ -150,7 +151,7 @@ impl Rules {
 }
 
 /// Returns the reason to deny the packet, or `None` if the packet passes a checker. `name` is the
-/// name of the packet that the rules see.
+/// packet's name as the rules see it.
 fn reason_against(
     alloc: Global,
     keys: &KeyBook,

@@ -1,4 +1,4 @@
-//! Decides by the name of a key which packets the key may sign.
+//! Decides which packets a key may sign, by the key's name.
 
 ghost use Rattle.std.specs.Prelude.{◌≡◌, ◌≤◌, ◌↔◌, ℕ, List, Some, length, option_map, IsTrue, MatchOption, MatchResult, IfOk, IfSome, IfNone, codes};
 ghost use Rattle.name_patterns.specs.Grammar.{IsPattern};

@@ -86,8 +86,9 @@ pub fn read_name_word(keys: Keys<'_>, word: &str) -> Found<Option<()>>
     Err(RulesFaultKind::BadValue.at(key.own.line))
 }
 
-/// Checks the type of a trust anchor, if the block has a key `type`. Returns the fault `AnyAnchor`
-/// for the type `any`, and `BadValue` for an unknown type or a missing value.
+/// Checks the type of a trust anchor, if the block has a key `type`. The type `any` has the fault
+/// `AnyAnchor`. An unknown type, or a key that has a block or has no value, has the fault
+/// `BadValue`.
 #[tactic(auto, unfolding(crate::specs::Values::anchor_value_in))]
 pub fn read_anchor_type(keys: Keys<'_>) -> Found<Option<()>>
     ensures { result ≡ anchor_value_in (keys_of keys.entry) }

@@ -71,7 +71,7 @@ fn judge_repeated(key: Key<'_>, later: Keys<'_>, report: &mut Report)
     }
 }
 
-/// Adds a fault to the report for each rule whose id an earlier rule has too.
+/// Adds a fault to the report for each rule that has the same id as an earlier rule.
 #[tactic(auto, using(crate::proofs::Reports::after_append), unfolding(crate::specs::RuleFile::id_faults, crate::specs::Faults::after))]
 fn judge_ids(keys: Keys<'_>, report: &mut Report)
     ensures { report.new ≡ after report.old (id_faults (keys_of keys.entry)) }

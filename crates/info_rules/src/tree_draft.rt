@@ -9,10 +9,10 @@ use crate::unescape::unescaped;
 use crate::words::Token;
 use std::alloc::Global;
 
-/// The greatest number of blocks that are open at once.
+/// The greatest number of blocks that may be open at once.
 const MAX_DEPTH: usize = 8;
 
-/// The outcome of adding a token. `Err` is the fault of a token that cannot be added, or `Memory`.
+/// The outcome of adding a token. `Err` is the first fault of the text, or `Memory`.
 type Added = Result<(), RulesFault>;
 
 /// Returns the fault of the block that is inside eight others. `deep` is the line of the block's

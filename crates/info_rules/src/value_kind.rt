@@ -29,7 +29,7 @@ pub enum ValueKind {
     Template,
     /// The type of a checker.
     CheckerType,
-    /// A signature type that a checker accepts.
+    /// The signature type of a checker.
     SignatureType,
     /// The type of a trust anchor.
     AnchorType,

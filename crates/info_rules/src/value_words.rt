@@ -16,16 +16,17 @@ use std::alloc::Global;
 /// The greatest length of a rule's id, in octets.
 const MAX_ID_LEN: usize = 100;
 
-/// The type of a checker: its requirement on the key's name.
+/// The type of a checker. For HMAC signatures, the type tells which requirement the key's name must
+/// meet.
 #[derive(Clone, Copy)]
 pub enum CheckerType {
-    /// The key meets the requirement of the checker's key locator.
+    /// The requirement of the checker's key locator.
     Customized,
-    /// The key is hierarchical for the packet.
+    /// The requirement `LocatorTest::Hierarchical`.
     Hierarchical,
 }
 
-/// The signature type that a checker accepts.
+/// The signature type of a checker.
 #[derive(Clone, Copy)]
 pub enum SignatureType {
     HmacSha256,

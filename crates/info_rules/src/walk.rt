@@ -41,9 +41,9 @@ fn judge_unknown(forms: &[Form], keys: Keys<'_>, report: &mut Report)
     }
 }
 
-/// Returns the kind of the fault of a repeated key: `BadValue` if this key must have a value and
-/// its value is wrong or missing, otherwise `TwiceNamed`. The value of the first key with the same
-/// word is checked when the block is read.
+/// Returns the kind of the fault of a repeated key. The kind is `BadValue` if this key must have a
+/// value, but has a block or has no valid value. Otherwise the kind is `TwiceNamed`. The value of
+/// the first key with the same word is checked when the block is read.
 fn again_kind(alloc: Global, takes: Takes, key: Key<'_>) -> Result<RulesFaultKind, Memory>
     ensures { IfOk result (λ kind. kind ≡ again_kind (takes_of takes) (key_of key.entry)) }
 {
@@ -112,7 +112,7 @@ fn judge_all_times(alloc: Global, forms: &[Form], keys: Keys<'_>, report: &mut R
 }
 
 /// Returns the fault that is reported for those keys of a block that are unknown or are given too
-/// many times. The value of a key that is the first or only key with its word is not checked here.
+/// many times. The value of the first key with a word is not checked here.
 #[tactic(auto, using(crate::proofs::Reports::after_append, crate::proofs::Reports::after_none), unfolding(crate::specs::Walk::walk_faults))]
 pub fn walk(alloc: Global, block: Block, keys: Keys<'_>) -> Result<Report, Memory>
     ensures { IfOk result

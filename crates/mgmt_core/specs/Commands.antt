@@ -119,6 +119,6 @@ texts =
     ∷ (PREFIX_TOO_LONG, codes "prefix too long") ∷ (UNKNOWN_COMMAND, codes "unknown command")
     ∷ (TABLE_FULL, codes "table full") ∷ []
 
--- the text of a status, or None if no command is answered with this status
+-- the text of a status, or None if the status is not in `texts`
 abbrev pub text_of : ℕ → Option (List ℕ)
 text_of status = option_map (λ row. row.1) (find (λ row. status == row.0) texts)

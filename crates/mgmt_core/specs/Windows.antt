@@ -41,12 +41,12 @@ with_more k more =
 abbrev pub start_of : ℕ → ℕ
 start_of number = min (number * SEGMENT_LEN) (2 ^ 64 - 1)
 
--- the octets of an entry of the dataset of routes that has this encoded name and these effective
--- next hops
+-- the octets of an entry with this encoded name and these effective next hops, in the dataset of
+-- routes
 abbrev pub route_octets : List ℕ → List Hop → List ℕ
 route_octets name hops = element (ENTRY, element (NAME, name) ++ flat_map hop_text hops)
 
--- the octets of an entry of the dataset of strategies that has this encoded name and this strategy
+-- the octets of an entry with this encoded name and this strategy, in the dataset of strategies
 abbrev pub choice_octets : List ℕ → StrategyId → List ℕ
 choice_octets name strategy =
     element (ENTRY, octets ((NAME, name) ∷ (STRATEGY, strategy_value strategy) ∷ []))

@@ -49,8 +49,8 @@ pub fn segment_of(text: &[u8], number: u64) -> Option<(&[u8], u64)>
     Some((&rest[..rest.len().min(SEGMENT_LEN)], last))
 }
 
-/// Returns what `segment_of` returns for the dataset of routes, but never stores the whole dataset.
-/// Reads all names in order. At any time, only the segment, one entry and one name are stored.
+/// Returns what `segment_of` returns for the dataset of routes. Reads all names in order. At any
+/// time, only the segment, one entry and one name are stored.
 pub fn fib_segment(
     alloc: Global,
     fib: &Fib,
@@ -64,8 +64,8 @@ pub fn fib_segment(
     Ok(written.segment(number))
 }
 
-/// Returns what `segment_of` returns for the dataset of strategies, but never stores the whole
-/// dataset: see `fib_segment`.
+/// Returns what `segment_of` returns for the dataset of strategies. Like `fib_segment`, stores only
+/// the segment, one entry and one name at any time.
 pub fn strategy_segment(
     alloc: Global,
     strategies: &StrategyTable,

@@ -26,7 +26,7 @@ use pit_fib::{Faces, Fib, MAX_DEPTH, StrategyTable};
 /// Returns the first status that applies, in this order:
 /// - 414 if the name has more than 32 components (`fib/add-nexthop`, `rib/register`,
 ///   `strategy-choice/set`);
-/// - 410 if the face is not up (`fib/add-nexthop`, `rib/register`);
+/// - 410 if the face of the next hop or route is not up (`fib/add-nexthop`, `rib/register`);
 /// - 404 if the strategy does not exist (`strategy-choice/set`);
 /// - 503 if the name is new and the table already has 4,096 names (`fib/add-nexthop`,
 ///   `rib/register`, `strategy-choice/set`), or the route is new and the table already has 16,384

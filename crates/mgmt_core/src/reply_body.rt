@@ -21,12 +21,13 @@ use pit_fib::StrategyId;
 use std::alloc::Global;
 use std::mem;
 
-/// The greatest number of octets in the body of a reply, not counting the octets of the command's
-/// name. The counted octets are the headers and the fields after the name. A reply to
+/// An upper bound of the number of octets in the body of a reply, not counting the octets of the
+/// command's name. The counted octets are the headers and the fields after the name. A reply to
 /// `rib/register` can have the most counted octets.
 pub const BODY_EXTRA: usize = 70;
 
-/// The greatest number of octets in a whole reply, not counting the octets of the command's name.
+/// An upper bound of the number of octets in a whole reply, not counting the octets of the
+/// command's name.
 pub const REPLY_EXTRA: usize = 116;
 
 /// The greatest length, in octets, of the header of an element whose type takes one octet.

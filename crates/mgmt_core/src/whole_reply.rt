@@ -11,7 +11,8 @@ use crate::types::{
 use ndn_packets::command_types::{CONTROL_RESPONSE, STATUS_CODE, STATUS_TEXT};
 use ndn_tlv::{Memory, element_len, nni_element_len, put_element, put_nni_element, put_number};
 
-/// Returns the text of a status, or `None` if no command is answered with this status.
+/// Returns the text of a status that `Command::read` or `apply` may return, or `None` for any other
+/// status.
 pub fn status_text(status: u16) -> Option<&'static str>
     ensures { option_map (λ text. text.now) result ≡ text_of status }
 {
