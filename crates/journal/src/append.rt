@@ -43,7 +43,7 @@ pub fn append_event<F: JournalFile>(
         coming.now (verdict_of verdict.now)) }
     ensures failed { OnErr result (FailsToJournal (F.synced file.old) (F.synced file.new) time
         coming.now (verdict_of verdict.now)) }
-    // If the event is not journalled, the file is unchanged and the call succeeds.
+    // If the event need not be journalled, the file is unchanged and the call succeeds.
     ensures silent { is_journalled_entry coming.now.entry coming.now.is_wanted
         (verdict_of verdict.now) ≡ false → IsOk result × (file.new ≡ file.old) }
 {

@@ -16,7 +16,7 @@ ghost use Rattle.journal.specs.Journal.{AreOneFrom, IsJournalled, IsJournalOf, K
 
 /// Law: suppose that the keys of a policy have different names. Then the policy and the next event
 /// determine whether the event is journalled. If the event is not journalled, its only effect on
-/// the policy is that time advances to the event's time, unless that time is earlier (`at_moment`).
+/// the policy is the passage of time (`at_moment`).
 pub fn other_events_bring_their_moments()
     ensures decided { (old : Policy) (event : PlainEvent) (a b : Bool) → AreApart old.keys
         → IsJournalled old event a → IsJournalled old event b → a ≡ b }

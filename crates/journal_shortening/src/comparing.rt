@@ -42,9 +42,9 @@ fn play_all(alloc: Global, node: &mut Node, journal: &[u8]) -> Result<(), Shorte
 }
 
 /// Compares the last whole line of new rules in the journal `old` with the last whole line of new
-/// rules in the journal `new`. Returns `true` if these two lines have the same rules and keys,
-/// octet by octet, or if neither journal has a whole line of new rules. The fault is `TooLong` or
-/// `Memory`.
+/// rules in the journal `new`. Returns `true` if these two lines have the same text (the rules and
+/// keys) after the time, or if neither journal has a whole line of new rules. The fault is
+/// `TooLong` or `Memory`.
 pub fn have_same_last_rules(alloc: Global, old: &[u8], new: &[u8]) -> Result<bool, ShortenFault>
     ensures { IfOk result (λ same. IsTrue same → HaveSameLastRules old.now new.now) }
 {

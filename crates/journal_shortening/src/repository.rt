@@ -135,9 +135,9 @@ impl Survey {
     }
 }
 
-/// Reads a name as the name of a command to the repository. Returns `None` if the name is not the
-/// name of such a command. The name of a command consists of the prefix of the repository, the
-/// verb, the parameters and the digest of the parameters.
+/// Reads a name as the name of a command to a repository with any prefix. Returns `None` if the
+/// name is not the name of such a command. The name of a command consists of the prefix, the verb,
+/// the parameters and the digest of the Interest's parameters.
 fn asked_by(name: Name<'_>) -> Option<Asked<'_>> {
     let start = name.len().checked_sub(3)?;
     command_in(name.prefix(start), name)

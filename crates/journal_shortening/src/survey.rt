@@ -254,10 +254,10 @@ impl Survey {
     }
 }
 
-/// The status of a command that took effect.
+/// The status of a successful command.
 pub const OK: u16 = 200;
 
-/// The status of a command for which a table had no room.
+/// The status of a command for which a table or the repository had no room.
 const TABLE_FULL: u16 = 503;
 
 /// Returns whether the name begins with `/localhost/nfd`, as the names of commands on routes,

@@ -36,8 +36,7 @@ pub enum RunFault {
     /// The node could not be created. Nothing was read or written.
     #[error("{0}")]
     Node(NodeFault),
-    /// Memory ran out for the read buffer, for a line or the rules and keys in the line, or for the
-    /// text of an answer.
+    /// Memory ran out for the read buffer, for reading a line, or for the text of an answer.
     #[error("out of memory")]
     Memory,
 }

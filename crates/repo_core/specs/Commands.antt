@@ -49,6 +49,6 @@ repo_texts =
     (PENDING, codes "pending") ∷ (OK, codes "OK") ∷ (BAD_PARAMETERS, codes "bad parameters")
     ∷ (NOT_FOUND, codes "not found") ∷ (FULL, codes "repository full") ∷ []
 
--- the text of a status, or None if no command is answered with this status
+-- the text of a status, or None if the status is not in `repo_texts`
 abbrev pub repo_text_of : ℕ → Option (List ℕ)
 repo_text_of status = option_map (λ row. row.1) (find (λ row. status == row.0) repo_texts)

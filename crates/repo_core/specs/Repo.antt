@@ -69,8 +69,8 @@ fetch_of c status =
       | _ ↦ None
     ]
 
--- the reply with this status; its count is the number of objects that match the command if the
--- status is 200, and 0 for every other status
+-- the reply with this status; if the status is 200, the count is the number of objects that match
+-- the command; otherwise the count is 0
 abbrev pub reply_with : Held → RepoCommand → ℕ → RepoReply
 reply_with s c status = record {
   status = status;

@@ -10,7 +10,7 @@ use ndn_names::NameBuf;
 use ndn_packets::command_types::{COUNT, REPO_COMMAND_RESPONSE, REPO_STATUS_CODE, STATUS_TEXT};
 use ndn_tlv::{Memory, element_len, nni_element_len, put_element, put_nni_element, put_number};
 
-/// The greatest length of a reply to an allowed command, in octets.
+/// A bound on the length of a reply to an allowed command, in octets.
 pub const MAX_REPLY_LEN: usize = 55;
 
 /// An Interest that is sent to fetch wanted Data.
@@ -48,7 +48,7 @@ impl RepoReply {
     }
 }
 
-/// Returns the text of a status, or `None` if no command is answered with this status.
+/// Returns the text of a status, or `None` if no `RepoReply` has this status.
 pub fn repo_status_text(status: u16) -> Option<&'static str>
     ensures { option_map (λ text. text.now) result ≡ repo_text_of status }
 {

@@ -262,7 +262,7 @@ impl Repo {
     /// command and for the returned `RepoReply`. The prepared command cannot run out of memory. The
     /// preparation ends with the next insert, the next offer of a wanted Data, or the next call
     /// that prepares a command or an offer, even if that call fails. Deletes and the expiry of
-    /// wants do not end the preparation. Only an insert needs memory.
+    /// wants do not end the preparation. Among commands, only an insert needs memory.
     pub fn prepare_command(&mut self, name: Name<'_>) -> Result<(), Memory>
         ensures held { self.new.held ≡ self.old.held }
         ensures start { self.new.start ≡ self.old.start }

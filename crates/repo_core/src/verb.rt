@@ -5,10 +5,11 @@ ghost use Rattle.repo_core.specs.Commands.{verb_named};
 #[derive(Clone, Copy, Debug, PartialEq, Eq)]
 pub enum Verb {
     /// `insert`: requests a Data that matches the command, and stores the Data when it arrives.
-    /// Requests nothing if a matching Data is stored already.
+    /// Requests nothing if a matching Data is stored already, or if the reply has the status 503
+    /// (repository full).
     Insert,
-    /// `delete`: removes the stored Data that match the command, and the want with the command's
-    /// name and CanBePrefix flag.
+    /// `delete`: removes the stored Data that match the command, and the want (pending insert) with
+    /// the command's name and CanBePrefix flag.
     Delete,
     /// `check`: counts the stored Data that match the command. If no stored Data matches, reports
     /// whether there is a want with the command's name and CanBePrefix flag.
