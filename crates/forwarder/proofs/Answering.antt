@@ -1,6 +1,6 @@
 -- How an Interest for Data is answered. If the Interest loops, a Nack is sent back. An Interest
--- that does not loop is answered from the cache or the repository, or is forwarded as the strategy
--- chooses.
+-- that does not loop is answered from the cache or the repository, or else according to the
+-- strategy's choice.
 use Rattle.std.proofs.Common.{◌≡◌, ℕ, ◌≤◌, Bool, true, false, cond, List, [], ◌∷◌, length, Option, None, Some, Result, Ok, Err, inl, inr, refl, sym, ap, subst, ◌∙◌}
 use Rattle.std.specs.Prelude.{◌⊎◌, IfOk, max, not, ◌&&◌, IfSome}
 use Rattle.std.specs.List.{All}

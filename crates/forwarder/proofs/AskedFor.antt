@@ -189,8 +189,9 @@ module _ (first : Policy) (past : Run) (event : PlainEvent) (answer : Answer) (r
     own_token : IfSome (token_at r.octets) IsToken
     own_token = token_fits r.octets (token_at r.octets) refl
 
-    -- Let `whole` be the Data `d`, which was allowed in an earlier event and answers the Interest
-    -- of this event. Then `octets` are read as `d`, and the face asked for `d`.
+    -- Let the packet that is sent back be the Data `d`. Let `d` answer the Interest of this event,
+    -- and let `d` be allowed in an earlier event. Then the sent octets are read as `d`, and the
+    -- face asked for `d`.
     earlier : (whole : List ℕ) (d : PlainData) → r.packet ≡ whole → AllowedIn first past (AData whole d)
         → IsTrue (answers d.name (sha256 whole) r.interest.name r.interest.can_be_prefix) → (frame_at octets ≡ Ok (AData whole d)) × Asked (AData whole d)
     earlier whole d same allowed answered =

@@ -166,8 +166,8 @@ content_fits s c reply is =
     by_text (Some text) e h = known_is_bounded reply.status reply.count text e
     by_text None e h = cc h
 
--- the sends by which the node fetches a Data do not depend on the prefix and the state of the
--- repository
+-- for the same want, the sends by which the node fetches a Data do not depend on the prefix or the
+-- state of the repository
 pub same_fetches : (p : Policy) (start : List Field) (held : Held) (nonce : List ℕ) (want : Option Want)
     → fetch_sends (record p { repo = start; held = held }) nonce want ≡ fetch_sends p nonce want
 same_fetches p start held nonce None = refl

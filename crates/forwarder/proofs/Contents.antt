@@ -1,4 +1,5 @@
--- Properties of octets that begin with the type of an Interest, a Data or a Nack.
+-- Properties of octets that begin with the type of an Interest or of a Data, and of link packets
+-- with a Nack header or a token.
 use Rattle.std.proofs.Common.{◌≡◌, ℕ, zero, suc, ◌+◌, ◌-◌, ◌^◌, ◌<◌, ◌≤◌, Bool, true, false, cond, not, ltb, List, [], ◌∷◌, ◌++◌, length, take, drop, refl, sym, ap, ◌∙◌, arith, Result, Ok, Err, lit<}
 use Rattle.std.specs.Prelude.{◌==◌, ◌&&◌, ◌||◌, Option, None, Some, nat_lt, slice_set, is_some, IfSome}
 use Rattle.std.proofs.lemmas.Bool.{eqb-true, ltb-false, le-ltb, le-leb}
@@ -400,8 +401,8 @@ module _ (token packet : List ℕ) (is : IsToken token) (small : length (wrapped
       next_element (98, token) after_token first
       ∙ ap (λ (l : List (Result Field TlvFault)). Ok (98, token) ∷ l) (next_element (80, packet) [] second ∙ ap (λ (l : List (Result Field TlvFault)). Ok (80, packet) ∷ l) elements_of-nil)
 
-  -- reading a link packet with a token around a packet has the same result as reading this packet
-  -- alone
+  -- reading a link packet with a token around `packet` has the same result as reading `packet` as
+  -- one element that is an Interest or a Data
   pub wrapped_is : frame_at (wrapped token packet) ≡ (((only_element packet >>= packet_of packet) >>= λ f. Ok (framed_with (Some token) f)) >>= λ f. Ok f.frame)
   wrapped_is =
       let few = value_short in

@@ -1,4 +1,4 @@
--- Which faces an allowed Data is sent to, and when the Data is cached.
+-- Which faces an allowed Data is sent to, and how the Data changes the cache.
 use Rattle.std.proofs.Common.{◌≡◌, ◌≢◌, inl, inr, ℕ, ◌<◌, ◌≤◌, Bool, true, false, cond, not, eqb, ltb, List, [], ◌∷◌, length, refl, sym, ap, subst, ◌∙◌, arith}
 use Rattle.std.specs.Prelude.{None, Some, map, IsSome, is_some, IsTrue, All, Contains, filter, ◌||◌, ◌↔◌}
 use Rattle.std.specs.Ordering.{nat_cmp, is_eq}

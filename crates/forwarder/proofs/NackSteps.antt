@@ -1,6 +1,6 @@
 -- How a Nack is answered. The reserved memory is enough for the Nacks to all faces with in-records.
--- The Nacks are sent in rising order of the faces that get them. The reason of the received Nack is
--- recorded.
+-- The Nacks are sent in rising order of the faces that get them. If the received Nack is passed,
+-- its reason is recorded.
 use Rattle.std.proofs.Common.{◌≡◌, ◌⊎◌, inl, inr, ℕ, ◌+◌, ◌<◌, ◌≤◌, Bool, true, false, cond, eqb, ltb, List, [], ◌∷◌, ◌++◌, length, drop, Option, None, Some, refl, sym, ap, subst, ◌∙◌, arith}
 use lib.Dec.{T}
 use Rattle.std.specs.Prelude.{is_some, option_and_then, map, slice_get, unwrap_or, ◌||◌}
@@ -272,8 +272,8 @@ module _ (pending : Pending) (living : HoldsTheLiving pending) (key : PlainKey) 
         | false ↦ λ dead. sym (none_where_dead dead)
       ] refl
 
-  -- if Nacks are sent back in answer to a Nack, some face has an in-record under the key of that
-  -- Nack
+  -- if a received Nack is answered by Nacks, some face has an in-record under the key of the
+  -- Interest in the received Nack
   pub awaited_alive : (face : ℕ) (nonce : List ℕ) (reason least : ℕ) → nacked_answer (records_at pending key) face nonce reason ≡ All least → is_alive (records_at pending key) ≡ true
   awaited_alive face nonce reason least answer =
       elim (is_alive (records_at pending key)) as (λ b. is_alive (records_at pending key) ≡ b → b ≡ true) [

@@ -27,9 +27,9 @@ use Rattle.forwarder.specs.Runs.{is_denied}
 use Rattle.forwarder.proofs.RunSteps.{seen_with}
 use Rattle.forwarder.proofs.Denials.{Mild, mild_closing, mild_data, mild_is, mild_list, mild_nack, mild_opening}
 
--- The verdict agrees with the decision. If the decision allows the packet, the verdict is no
--- denial. If the decision denies the packet, the verdict states the rule and the reason, or that
--- there is no rule.
+-- The verdict agrees with the decision. If a rule allows the packet, the verdict is no denial. If a
+-- rule denies the packet, the verdict states the rule and the reason. If no rule applies, the
+-- verdict is `NoRule`.
 abbrev Tells : Decision → Verdict → Type 0
 Tells (decided.Allowed n) v = is_denied v ≡ false
 Tells (decided.Denied n reason) v = (kind : Kind) × (v ≡ Denied kind n.0 reason)

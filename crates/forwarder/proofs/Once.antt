@@ -257,8 +257,9 @@ newer_than_all first run r newest (s ∷ records) all =
       newer_than_all first run r newest records (All-tail (IsRecordIn first run) s records all),
     )
 
--- Let the guard be empty at first, let the time of the command `r` be near the time of the event,
--- and let `r` be newer than each earlier allowed command of its signer. Then the command is fresh.
+-- Let the guard be empty at first, and let `r` have the values to record for the command `i`. If
+-- the time of `r` is near the node's time, and `r` is newer than each earlier allowed command of
+-- its signer, then `i` is fresh.
 pub newest_is_fresh : (first was : Policy) (run : Run) (now : ℕ) (i : PlainInterest) (r : Recorded) → first.guard ≡ map.empty → IsPolicyOf first run was → recorded_of i ≡ Some r
     → AreNear r.time (at_moment was now).now → IsNewest first run r → IsFreshCommand (at_moment was now) i
 newest_is_fresh first was run now i r none h is near newest =

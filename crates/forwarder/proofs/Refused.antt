@@ -44,7 +44,8 @@ pub said_as : (old : Policy) (now moment : ℕ) (whole : List ℕ) (i : PlainInt
 said_as old now moment whole i given said at is says =
     λ p rules keys guard then. subst (λ (d : Decision). IsDecidedAs p (AnInterest whole i) d) is (says p rules keys guard (then ∙ sym at))
 
--- the decision on a command is still the same once time has advanced to the command's moment
+-- if `SaysAt` is true of `said`, then the decision on the command is `said` once time has advanced
+-- to the command's moment
 said_then : (old was : NodeState) (now : ℕ) (whole : List ℕ) (i : PlainInterest) (said : Decision) → IsLater old now was
     → SaysAt old.policy now whole i said → IsDecidedAs was.policy (AnInterest whole i) said
 said_then old was now whole i said later says =

@@ -1,5 +1,5 @@
--- A new node agrees with the empty run, and a step of a node that agrees with a run extends the
--- run.
+-- A new node agrees with the empty run. A step of a node that agrees with a run extends the run,
+-- unless the step runs out of memory.
 use Rattle.std.proofs.Common.{◌≡◌, ℕ, [], refl, sym, ap, subst, ◌∙◌}
 use Rattle.std.specs.Prelude.{Option, unwrap_or}
 use Rattle.std.specs.FinMap as map
@@ -15,7 +15,7 @@ use Rattle.forwarder.specs.Verdict.{Answer}
 use Rattle.forwarder.proofs.RunSteps.{may_reply, pending_is}
 use Rattle.forwarder.proofs.RunCaches.{all_forgotten, cache_held}
 
--- a node without records and with an empty cache agrees with the empty run
+-- a node with the policy `first`, no records and an empty cache agrees with the empty run
 pub new_stands : (first : Policy) (capacity : ℕ) → Stands first Start (record { policy = first; pending = map.empty; cache = record { cached = []; capacity = capacity } })
 new_stands first capacity =
     record { policy = refl; pending = λ key. ap (λ (o : Option Records). unwrap_or o no_records) (get-empty key_cmp key); cache = All-nil (MayHold Start) }

@@ -63,7 +63,7 @@ records_ticks (Then before event answer) (Then other another reply) (t, inr (d, 
     ∙ sym (idle_records (max (now_of before) (moment event)) event answer key (records_of before key) d)
     ∙ records_then before event answer key
 
--- the records that are pending at a moment are the same in both runs
+-- once time has advanced to the same moment after each run, both runs have the same records
 waiting_ticks : (past other : Run) → HasTicksForDenied past other → (now : ℕ) (waiting : Pending) → IsWaiting past now waiting → IsWaiting other now waiting
 waiting_ticks past other t now waiting w = record {
   living = w.living;

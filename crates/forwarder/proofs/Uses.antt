@@ -55,7 +55,7 @@ denied_outcome (FaceDown face now) v d = denied_closing face v d
 denied_outcome (Tick now) v d = refl
 denied_outcome (NewRules rules keys now) v d = refl
 
--- ---- packets that leave the cache unchanged
+-- ---- how packets use the cache
 
 pub nack_use : (now face reason : ℕ) (whole : List ℕ) (i : PlainInterest) (v : Verdict) → packet_use now face (ANack reason whole i) v ≡ Untouched
 nack_use now face reason whole i Passed = refl

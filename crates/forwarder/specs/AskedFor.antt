@@ -1,5 +1,5 @@
--- Why a Data is sent to a face: the face sent an Interest, and the Data answers this Interest or
--- is the node's own answer to this Interest.
+-- Why a Data is sent to a face: an Interest came from the face, and the Data answers this Interest
+-- or is the node's own answer to this Interest.
 use Rattle.std.specs.Prelude.{◌≡◌, ◌⊎◌, ℕ, List, Some, IsTrue, Ok, max}
 use Rattle.std.specs.FinMap as map
 use Rattle.sha2.specs.Sha256.{sha256}

@@ -1,5 +1,5 @@
--- How commands and Data are decided: by the rules and, for a command, also by what was recorded for
--- the command's signer (NDN Packet Format 0.3, "Signed Interest").
+-- How commands and Data are decided: by the rules and, for a command, also by whether the command
+-- is fresh (NDN Packet Format 0.3, "Signed Interest").
 use Rattle.std.specs.Prelude.{◌≡◌, ◌⊎◌, ◌==◌, ℕ, Option, None, Some, IfSome, ⊤, if◌then◌else◌}
 use Rattle.ndn_packets.specs.Packet.{PlainLocator, Missing, KeyName, Digest, Other, PlainSignatureInfo, PlainInterest, PlainFrame, AnInterest, AData, ANack, Idle}
 use Rattle.ndn_packets.specs.declared.types.TheConstants.{DIGEST_SHA256}
@@ -12,15 +12,15 @@ use Rattle.replay_guard.specs.Guard.{IsFresh, signer_of}
 use Rattle.forwarder.specs.declared.freshness.Signed.{Signed}
 use Rattle.forwarder.specs.Policy.{Policy}
 
--- the key name in a KeyLocator, or None if the KeyLocator contains no name
+-- the key name in a KeyLocator, or None if there is no KeyLocator or it contains no name
 abbrev pub key_named : PlainLocator → Signer
 key_named Missing = None
 key_named (KeyName name) = Some name
 key_named Digest = None
 key_named Other = None
 
--- the signer of a command; all commands that are signed with DigestSha256, or whose KeyLocator
--- contains no name, count as commands of one signer
+-- the signer of a command; all commands that are signed with DigestSha256, or whose signatures have
+-- no key name, count as commands of one signer
 abbrev pub signer_in : PlainSignatureInfo → Signer
 signer_in info = if info.kind == DIGEST_SHA256 then None else key_named info.locator
 

@@ -20,8 +20,8 @@ find_scope face (entry ∷ faces) = if entry.0 == face then Some entry.1 else fi
 abbrev pub numbers : List FaceEntry → List ℕ
 numbers faces = map (λ entry. entry.0) faces
 
--- the list `faces`, in which `face` is inserted before the first face with a greater number, or at
--- the end if there is none; a list in rising order stays in rising order
+-- the list `faces` with `face` inserted before the first face that has a greater number, or at the
+-- end if there is none
 abbrev pub with_face : ℕ → Scope → List FaceEntry → List FaceEntry
 with_face face scope [] = (face, scope) ∷ []
 with_face face scope (entry ∷ faces) =

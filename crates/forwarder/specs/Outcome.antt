@@ -1,6 +1,5 @@
--- The outcome of an event, which the event and its verdict determine. The outcome determines which
--- records change, how the cache is used, and which next hops and routes a command sets (NFD
--- Developer's Guide, "Forwarding").
+-- The outcome of an event, which the event and its verdict determine. How PIT records, the cache,
+-- next hops and routes change depends on the outcome (NFD Developer's Guide, "Forwarding").
 use Rattle.std.specs.Prelude.{ℕ, List, Result, Ok, Err}
 use Rattle.ndn_packets.specs.FrameReading.{frame_at}
 use Rattle.ndn_packets.specs.Packet.{PlainInterest, PlainData, PlainFrame, AnInterest, AData, ANack, Idle}

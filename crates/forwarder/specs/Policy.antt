@@ -70,8 +70,8 @@ at_moment p moment =
 abbrev pub with_rules : Policy → List PlainRule → List NamedKey → Policy
 with_rules p rules keys = record p { rules = rules; keys = keys }
 
--- the policy, in which the version of the lists of routes and strategies is increased by 1, up to
--- the greatest u64
+-- the policy `p` with the version of the lists of routes and strategies increased by 1, up to the
+-- greatest u64
 abbrev pub with_next_version : Policy → Policy
 with_next_version p = record p { table_number = min (p.table_number + 1) (2 ^ 64 - 1) }
 

@@ -39,7 +39,7 @@ pub data Verdict : Type 0 where
   NoRule : (kind : Kind) → Verdict
   Dropped : (reason : DropReason) → Verdict
 
--- a DropReason of the Rust code as a value of the data type above
+-- a DropReason of the Rust code as a DropReason of this file
 abbrev pub reason_of : code_reason.DropReason → DropReason
 reason_of why.NoFace = NoFace
 reason_of (why.Malformed fault) = Malformed fault

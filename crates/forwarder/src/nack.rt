@@ -22,9 +22,9 @@ impl State {
     /// Handles a Nack (NFD Developer's Guide, "Incoming Nack Pipeline"). The key of a Nack is the
     /// key of the Interest in the Nack. Drops the Nack if the Nack is out of scope, or if the face
     /// that the Nack came on has no out-record with the key and Nonce of the Interest in the Nack.
-    /// Otherwise records the Nack's reason in the out-record. When each out-record of the key has
-    /// the reason of a received Nack, each face with an in-record of the key gets a Nack with the
-    /// least of these reasons. Then all records of the key are removed.
+    /// Otherwise records the Nack's reason in the out-record. If each out-record of the key now has
+    /// the reason of a received Nack, sends a Nack with the least of these reasons to each face
+    /// with an in-record of the key, and removes all records of the key.
     pub fn receive_nack(
         &mut self,
         reason: u64,

@@ -16,7 +16,7 @@ use repo_core::{RepoReply, put_repo_reply, repo_status_text};
 /// from its name and its Content, a reply consists of headers and a signature.
 const REPLY_EXTRA: usize = 77;
 
-/// Returns a number of octets that is enough for a reply of this name with a token, if the reply's
+/// Returns a number of octets that is enough for a reply with this name and a token, if the reply's
 /// Content has at most `content_len` octets. Fails with `Memory` if the number overflows.
 pub(crate) fn reply_room(name: Name<'_>, content_len: usize) -> Result<usize, Memory>
     ensures { IfOk result (λ room. (content : List ℕ) → length content ≤ content_len
