@@ -37,7 +37,7 @@ IsUnspecified endpoint = MatchIp (socket_ip endpoint) IsUnspecifiedV4 IsUnspecif
 
 -- The peer is the node itself: it has the node's port and the node's address. An IPv6 scope
 -- identifier is not compared. If the node listens on the unspecified address, a loopback address
--- also counts as the node's address.
+-- also counts as the node's address, but the other addresses of the machine do not.
 abbrev pub IsItself : SocketAddr → SocketAddr → Type 0
 IsItself listen peer =
     (socket_port peer ≡ socket_port listen)

@@ -30,8 +30,8 @@ pub struct UdpOptions {
     /// The number of turns that the node takes.
     pub turns: u64,
     /// The addresses and ports of the peers. There are at most 64 peers, and no two peers are
-    /// equal. All peers have the address family of `listen`. No peer is the node itself, and no
-    /// peer has the unspecified address.
+    /// equal. All peers have the address family of `listen`. No peer is the node itself, as
+    /// `is_itself` decides, and no peer has the unspecified address.
     pub peers: Vec<SocketAddr>,
     /// The number of Local peers. It is at most the number of peers. The Local peers come first in
     /// `peers`, and they are on this machine.
@@ -175,7 +175,8 @@ fn check_peers(listen: &SocketAddr, peers: &[SocketAddr]) -> Result<(), Fault>
 }
 
 /// Returns whether the peer is the node itself, which listens on `listen`. With such a peer, the
-/// node would receive its own datagrams.
+/// node would receive its own datagrams. If `listen` is unspecified, the machine's addresses other
+/// than loopback addresses are not recognized.
 fn is_itself(listen: &SocketAddr, peer: &SocketAddr) -> bool
     ensures { IsTrue result ↔ IsItself listen.now peer.now }
 {

@@ -31,8 +31,8 @@ pub struct Restart {
     /// The present rules and keys of the source, if they differ from the last rules and keys in the
     /// journal.
     pub renewal: Option<Renewal>,
-    /// The open faces that are to be closed. A face is to be closed if its number and its scope are
-    /// not those of a peer's face.
+    /// The open faces that are to be closed. A face is to be closed unless it has both the number
+    /// and the scope of a peer's face.
     pub closing: Vec<u64>,
 }
 
@@ -44,7 +44,7 @@ pub struct Restart {
 pub struct WatchedPorts<P: Ports + Drop, S: RuleSource> {
     ports: P,
     source: S,
-    // The time when the source was last checked.
+    // The time when the source was last checked, or 0 if it has not been checked.
     asked: u64,
     // `held` is the arrival that waits for the next turn. If this arrival is a packet, `octets`
     // begins with the octets of the packet.
@@ -97,8 +97,8 @@ impl<P: Ports + Drop, S: RuleSource> WatchedPorts<P, S> {
         Some(Arrival::FaceDown { face, now })
     }
 
-    /// Returns the new rules and keys of the source. Returns `None` if the source has nothing new,
-    /// or if the last check was less than a second away from the time `now`.
+    /// Checks the source, and returns the new rules and keys that the source gives, if any. If the
+    /// last check was less than a second away from the time `now`, does nothing and returns `None`.
     fn renewed(&mut self, now: u64) -> Option<Renewal>
         ensures { self.new.ports ≡ self.old.ports }
     {

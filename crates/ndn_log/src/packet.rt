@@ -58,8 +58,8 @@ fn put_nack(text: &mut Vec<u8>, reason: u64, name: Name<'_>) -> Result<(), Memor
     }
 }
 
-/// Appends a comma and the name of the key in the packet's KeyLocator. Appends nothing if the
-/// packet has no KeyLocator with a name. If memory runs out, some of the text may be appended.
+/// Appends `, key ` and the name in the packet's KeyLocator. Appends nothing if there is no such
+/// name. If memory runs out, some of the text may be appended.
 pub fn put_key(text: &mut Vec<u8>, frame: &Option<Frame<'_>>) -> Result<(), Memory>
     ensures { OnOk result (text.new.items ≡ text.old.items
         ++ key_words (option_map plain_frame frame.now)) }

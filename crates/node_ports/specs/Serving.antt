@@ -17,8 +17,9 @@ use Rattle.forwarder.specs.Verdict.{Answer, verdict_of}
 use Rattle.journal.specs.Journal.{IsJournalOf}
 use Rattle.journal.specs.Text.{IsTextOf}
 
--- the visible state of a port: the number of failed calls and, if they are known, the events that
--- have not yet arrived, the packets that were accepted, and the octets of the journal
+-- the visible state of a port: the number of failed calls of `next` and `send` and, if they are
+-- known, the events that have not yet arrived, the packets that were accepted, and the octets of
+-- the journal
 pub record Shown : Type 0 where
   pub failures : ℕ
   pub coming : Option (List PlainEvent)

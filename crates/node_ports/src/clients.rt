@@ -256,7 +256,8 @@ fn is_silent(heard: u64, time: u64, now: u64) -> bool
 }
 
 /// Returns the time at which a client becomes idle, if its last datagram arrived at the time
-/// `heard` and no more datagrams arrive from it. If no idle time is set, returns the greatest u64.
+/// `heard` and no more datagrams arrive from it. Returns the greatest u64 if this time is greater,
+/// or if no idle time is set.
 fn end_of(idle: Option<u64>, heard: u64) -> u64
     ensures { IfSome idle (λ idle. result ≤ heard + idle) }
 {

@@ -47,10 +47,10 @@ pub enum PortFault {
     Failed,
 }
 
-/// A port returns arrivals and sends packets. A port counts its failed calls: whenever `next` or
-/// `send` fails, the count increases, unless it is the greatest u64.
+/// A port returns arrivals and sends packets. A port counts the failed calls of `next` and `send`:
+/// each of them increases the count, unless the count is the greatest u64.
 pub trait Ports {
-    // The number of failed calls, at most the greatest u64.
+    // The number of failed calls of `next` and `send`, at most the greatest u64.
     ghost failures: { Self → ℕ };
 
     // The events that have not yet arrived, if they are known.
@@ -131,7 +131,7 @@ pub trait Ports {
         ensures works { failures self.new ≡ failures self.old }
     {}
 
-    /// Returns the number of failed calls, at most the greatest u64.
+    /// Returns the number of failed calls of `next` and `send`, at most the greatest u64.
     fn failures(&self) -> u64
         ensures { result ≡ failures self.now };
 }
