@@ -29,7 +29,8 @@ pub enum Fault {
         /// Why the key file cannot be opened or read.
         kind: ErrorKind,
     },
-    /// The clock cannot be read, or its time has no number of milliseconds since 1970 below 2^64.
+    /// The clock cannot be read, its time is before 1970, or the number of milliseconds since 1970
+    /// is 2^64 or more.
     Clock,
     /// Standard output cannot be written.
     Write,
@@ -56,8 +57,8 @@ impl Fault {
     /// Returns the exit status. For `Tool`, the exit status is that of the job's fault. For any
     /// other fault, the exit status is 1 if a key but no key file is named, the content of the key
     /// file has a fault, or a request was not done. The exit status is 2 if an argument is not
-    /// UTF-8. The exit status is 3 if reading, writing, sending or binding a port failed, memory
-    /// ran out, or no answer came to the packet of `send`.
+    /// UTF-8. The exit status is 3 if reading, writing or sending failed, a port could not be
+    /// bound, memory ran out, or no answer came to the packet of `send`.
     pub fn exit_status(&self) -> u8
         ensures { result ≡ status_of self.now }
     {

@@ -110,8 +110,8 @@ fn run_exchange<R: Clock + AllocGlobal + Eprint + Net + Print>(
 ///
 /// # Errors
 ///
-/// `NotDone` if a request was not carried out. Any other fault is the reason why the exchange has
-/// no outcome.
+/// `NotDone` if a request was not carried out, or if no answer came to a request other than the
+/// packet of `send`. Any other fault is the reason why the exchange has no outcome.
 pub fn exchange_on<R: Clock + AllocGlobal + Eprint + Print>(
     rt: &R,
     socket: &UdpSocket,
@@ -215,7 +215,7 @@ fn receive<R: Clock>(
 {
     let waited = start.elapsed(rt).map_err(|_| Missed::Clock)?;
     let left = Duration::from_secs(ANSWER_SECONDS).saturating_sub(waited);
-    // The system refuses a timeout of zero. So if no time remains, the answer is late.
+    // `set_read_timeout` refuses a timeout of zero. So if no time remains, the answer is late.
     socket
         .set_read_timeout(Some(left))
         .map_err(|_| Missed::Late)?;

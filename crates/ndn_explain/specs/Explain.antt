@@ -1,6 +1,6 @@
 -- The explanation of a packet for debugging, as lines of text: the lines of `show`, the fields of
 -- the packet's SignatureInfo (NDN Packet Format 0.3, "Signature"), whether the signature is right,
--- and the segment, the command, the reply or the dataset entries that the packet carries.
+-- and the segment, the command, the reply, the dataset entries or the text that the packet carries.
 use Rattle.std.specs.Prelude.{ℕ, List, [], ◌∷◌, ◌++◌, codes, Option, None, Some, ◌==◌, if◌then◌else◌}
 use Rattle.std.specs.List.{list_all}
 use Rattle.std.specs.Option.{option_map}

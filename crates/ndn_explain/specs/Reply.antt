@@ -1,5 +1,5 @@
--- Replies of any length, as nodes write them. If a command has 8,800 octets, its reply is longer
--- than a packet may be, so readers of packets refuse the reply.
+-- Replies of any length, as nodes write them. The reply to a long command can have more than 8,800
+-- octets. Then readers of packets refuse the reply.
 use Rattle.std.specs.Prelude.{ℕ, List, bytes_eq, Option, None, Some, if◌then◌else◌, unwrap_or, [], option_and_then}
 use Rattle.ndn_tlv.specs.Element.{Field}
 use Rattle.ndn_tlv.specs.Reading.{elements_of}

@@ -48,8 +48,8 @@ pub fn put_framed_explanation(
     put_explanation(alloc, text, &framed.frame, check)
 }
 
-/// Appends the lines that `ndn_tool show` prints. For a Nack, the name of the reason is added after
-/// the number of the reason. Then appends the lines of the SignatureInfo and the line of the
+/// Appends the lines that `ndn_tool show` prints. If a Nack's reason has a name, the name is added
+/// after the number of the reason. Then appends the lines of the SignatureInfo and the line of the
 /// signature check. At the end, appends the lines of what the packet carries: a segment, a command,
 /// a reply, a dataset or a printable Content. On `Memory`, some of the lines may have been
 /// appended.
@@ -68,8 +68,8 @@ pub fn put_explanation(
     put_meaning(alloc, text, frame)
 }
 
-/// Appends the lines that `ndn_tool show` prints. For a Nack, the name of the reason is added after
-/// the number of the reason.
+/// Appends the lines that `ndn_tool show` prints. If a Nack's reason has a name, the name is added
+/// after the number of the reason.
 fn put_named_frame(alloc: Global, text: &mut Vec<u8>, frame: &Frame<'_>) -> Result<(), Memory>
     ensures { OnOk result (text.new.items
         ≡ text.old.items ++ named_frame_lines (plain_frame frame.now)) }

@@ -38,8 +38,8 @@ pub fn written_content<'a>(
     }
 }
 
-/// Appends the lines that `ndn_tool explain` prints for a reply of any length with this name,
-/// Content and octets. On `Memory`, some of the lines may have been appended.
+/// Appends the explanation of a reply of any length with this name, Content and octets, without a
+/// signature check. On `Memory`, some of the lines may have been appended.
 pub fn put_written(
     alloc: Global,
     text: &mut Vec<u8>,

@@ -39,8 +39,8 @@ is_list rows = is_word (codes "list") (value_at rows (codes "VERB"))
 abbrev pub lacks : List Row → List ℕ → Bool
 lacks rows id = is_none (value_at rows id)
 
--- whether none of these arguments is given; with `list`, only the options for the Nonce and for the
--- ports are allowed
+-- whether none of the arguments below is given; with `list`, only the options for the Nonce and for
+-- the ports are allowed
 abbrev pub is_alone : List Row → Bool
 is_alone rows =
     lacks rows (codes "PREFIX") && lacks rows (codes "face") && lacks rows (codes "cost")

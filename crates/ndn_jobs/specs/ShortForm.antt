@@ -1,5 +1,5 @@
--- The short forms of commands: the action that each short form stands for, and the parameters that
--- the short form's options give.
+-- The short forms of the node's commands: the action that each short form stands for, and the
+-- parameters that the short form's options give.
 use Rattle.std.specs.Prelude.{◌≡◌, ℕ, List, Option, None, Some, Bool, true, false, is_some, is_none, ◌&&◌, ◌||◌, codes, find, bytes_eq}
 use Rattle.clap.specs.Walk.{Row}
 use Rattle.ndn_names.specs.ReadsAs.{ReadsAs}

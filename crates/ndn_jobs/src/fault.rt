@@ -15,7 +15,7 @@ pub enum Usage {
     /// An option, an argument or standard input has an invalid value, or a required value is
     /// missing.
     BadValue {
-        /// What has the invalid value, such as the name of an option, or `standard input`.
+        /// Names what has the invalid value, such as an option or standard input.
         place: &'static str,
         /// What kind of value to give instead.
         wanted: &'static str,

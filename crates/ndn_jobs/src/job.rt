@@ -36,7 +36,7 @@ pub enum Job {
     Show(Vec<u8>),
     /// Explain packets.
     Explain(ExplainJob),
-    /// Send a packet, and print the answer to it.
+    /// Send a packet, and print the first datagram that comes back.
     Send(SendJob),
     /// Send an Interest, and print what its answer contains. Without a port to send to, print the
     /// Interest.
@@ -540,8 +540,8 @@ pub fn is_list(options: &ArgMatches<'_>) -> bool
     }
 }
 
-/// Returns whether none of these arguments is given. With `list`, only the options for the Nonce
-/// and for the ports are allowed.
+/// Returns whether none of the arguments below is given. With `list`, only the options for the
+/// Nonce and for the ports are allowed.
 fn is_alone(options: &ArgMatches<'_>) -> bool
     ensures { result ≡ is_alone (rows_in options.now) }
 {

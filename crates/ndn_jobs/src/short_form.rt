@@ -1,4 +1,4 @@
-//! The short forms of commands: `route`, `strategy` and `cache`, each with its verbs.
+//! The short forms of the node's commands: `route`, `strategy` and `cache`, each with its verbs.
 
 ghost use Rattle.std.specs.Prelude.{◌≡◌, codes, false, true, Some, MatchResult};
 ghost use Rattle.ndn_packets.specs.declared.command_types.TheConstants.{COST, ORIGIN, FLAGS, EXPIRATION_PERIOD};

@@ -137,7 +137,7 @@ pub fn parse_port(place: &'static str, text: &str) -> Result<u16, ToolFault>
 fn parse_digits(text: &str) -> Option<u64>
     ensures { MatchOption result ((n : ℕ) → IsNumber text.now n → ⊥) (IsNumber text.now) }
 {
-    // The standard parser of numbers would accept a sign.
+    // The standard parser of numbers would accept a plus sign.
     if text.starts_with('+') {
         return None;
     }

@@ -168,8 +168,9 @@ long_lines (Ok (ANack reason whole i)) datagram = []
 long_lines (Ok Idle) datagram = []
 long_lines (Err why) datagram = []
 
--- the lines that `explain` prints without keys for the datagram, which may be a packet or a reply
--- of any length to the request; no lines for any other datagram
+-- The explanation of a datagram that is a packet, or a reply of any length to the request. The
+-- explanation has no line for a PIT token or for a signature check. There are no lines for any
+-- other datagram.
 abbrev pub explained_lines : List ℕ → List ℕ → Result PlainFrame PacketFault → List ℕ
 explained_lines request datagram (Ok frame) = explanation frame None
 explained_lines request datagram (Err why) = long_lines (frame_at request) datagram

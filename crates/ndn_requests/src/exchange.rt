@@ -24,13 +24,13 @@ pub enum View {
     /// The first datagram that arrives, as a line of hexadecimal, even if this datagram does not
     /// answer the request.
     Hexadecimal,
-    /// The lines that `explain` prints for the answer.
+    /// The explanation of the answer, as `put_explained` appends it.
     Lines,
     /// Only the Content of the Data, unchanged. Nothing is printed for a Nack, for a Data without a
     /// Content, or for a reply that is too long to be read as a Data.
     Content,
-    /// A table of the entries in all segments of a list. If the answer is a Nack, the lines that
-    /// `explain` prints for it.
+    /// A table of the entries in all segments of a list. If the answer is a Nack, the explanation
+    /// of the Nack.
     Table(NodeList),
 }
 
@@ -241,7 +241,8 @@ fn put_content(contents: &mut Vec<u8>, content: Option<&[u8]>) -> Result<(), Mem
     Ok(())
 }
 
-/// Returns the Content of the Data in the datagram, or no octets if the datagram is not a Data.
+/// Returns the Content of the Data in the datagram. Returns no octets if the datagram is not a
+/// Data, or if the Data has no Content.
 fn content_in(datagram: &[u8]) -> &[u8]
     ensures { result.now ≡ content_in (frame_at datagram.now) }
 {

@@ -29,9 +29,9 @@ pub type Outcome = Result<(), Failure>;
 ///
 /// A Nack for the request's Interest is an answer. If the request is not a command, the request is
 /// done when a Data answers the Interest. If the request is a command, a Data of any length is an
-/// answer if the Data is exactly a reply that a node writes. A Data with the command's name is also
-/// an answer if its signature is right, by DigestSha256 or by a key of the book. A command is done
-/// if the status is 200, or 100 for an insert to a repository.
+/// answer if the Data is exactly a reply that a node writes to this command. A Data with the
+/// command's name is also an answer if its signature is right, by DigestSha256 or by a key of the
+/// book. A command is done if the status is 200, or 100 for an insert to a repository.
 pub fn judge(
     alloc: Global,
     request: &[u8],
@@ -69,7 +69,8 @@ fn judge_frame(asked: &Interest<'_>, frame: &Frame<'_>, book: &KeyBook) -> Optio
 }
 
 /// Returns the outcome of a command whose reply is too long to be read. Returns `None` if the name
-/// is not that of a command, or if the datagram is not exactly a reply that a node writes.
+/// is not that of a command, or if the datagram is not exactly a reply that a node writes to this
+/// command.
 fn judge_written(alloc: Global, name: Name<'_>, datagram: &[u8]) -> Result<Option<Outcome>, Memory>
     ensures { IfOk result (λ outcome. outcome
         ≡ written_outcome (components name.entry)
@@ -227,9 +228,9 @@ fn is_word(component: Option<Component<'_>>, word: &str) -> bool
     }
 }
 
-/// Appends the lines that `explain` prints without keys for a datagram that is a packet, or that is
-/// a reply to the request. A reply of more than 8,800 octets is explained, too. Appends nothing for
-/// any other datagram. If memory runs out, some of the lines may have been appended.
+/// Appends the explanation of a datagram that is a packet, or a reply of any length to the request.
+/// The explanation has no line for a PIT token or for a signature check. Appends nothing for any
+/// other datagram. If memory runs out, some of the lines may have been appended.
 pub fn put_explained(
     alloc: Global,
     text: &mut Vec<u8>,

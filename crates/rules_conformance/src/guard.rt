@@ -204,9 +204,10 @@ fn refused_memory_for_records(rt: HostRuntime) {
 }
 
 /// Returns whether a recording for a new signer leaves earlier records unchanged, even if the
-/// recording runs out of memory. The command of the new signer must then be fresh exactly if it was
-/// not recorded. The recording may run out of memory because another signer's recording used up the
-/// preparation. Returns `None` if memory runs out before the recording for the new signer.
+/// recording runs out of memory. In both cases, the command of the new signer must afterwards be
+/// fresh exactly if it was not recorded. The recording may run out of memory because another
+/// signer's recording used up the preparation. Returns `None` if memory runs out before the
+/// recording for the new signer.
 fn leaves_earlier_records(alloc: Global) -> Option<bool> {
     let first = key_in(alloc, "/k")?;
     let second = key_in(alloc, "/l")?;
@@ -232,7 +233,7 @@ fn leaves_records(guard: &mut Guard, first: Signer<'_>, second: Signer<'_>) -> O
     )
 }
 
-/// Returns whether the last command recorded for the signer has time 5 and number 5.
+/// Returns whether the greatest time and the greatest number recorded for the signer are both 5.
 fn is_recorded(guard: &Guard, signer: Signer<'_>) -> bool {
     !guard.check(signer, 5, Some(6), 5)
         && !guard.check(signer, 6, Some(5), 5)

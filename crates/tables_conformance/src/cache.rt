@@ -208,8 +208,8 @@ fn cache_kept(rt: HostRuntime) {
     check_rows(&rt, rt.alloc(), rows, answers);
 }
 
-/// Among Data with the same name, a lookup finds the Data with the least digest. For each full
-/// name, only one Data is cached.
+/// Among Data with the same name, a lookup finds the Data with the least digest. A lookup or an
+/// `erase` can select one Data by its full name.
 #[test]
 fn cached_data_by_full_name(rt: HostRuntime) {
     let rows = "

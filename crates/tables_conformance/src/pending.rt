@@ -497,8 +497,8 @@ fn runs_rounds(alloc: Global, table: &mut Table) -> Option<bool> {
     Some(true)
 }
 
-/// Runs many rounds. Returns whether the table then has 64 keys, and is empty after the deadline of
-/// the Interests.
+/// Runs many rounds. Returns whether the table then has 64 keys, and is empty after an expiry at
+/// the deadline of the Interests.
 fn ends_empty(alloc: Global, table: &mut Table, _key: Key<'_>, _other: Key<'_>) -> Option<bool> {
     let runs = runs_rounds(alloc, table)?;
     let stood = table.pit.len();

@@ -529,7 +529,7 @@ fn takes_4096_strategies(alloc: Global, table: &mut StrategyTable) -> Option<boo
     Some(is_full && set_numbered(alloc, table, 4096)?.is_ok())
 }
 
-/// Returns whether an empty table takes 4,096 names with strategies, and no more.
+/// Returns whether a new table takes strategies for 4,096 names, `/` among them, and no more.
 fn holds_4096_strategies(alloc: Global) -> Option<bool> {
     let mut table = StrategyTable::new(alloc);
     takes_4096_strategies(alloc, &mut table)

@@ -190,7 +190,7 @@ fn status_and_body(alloc: Global, status: u16, body: &[u8]) -> Option<String> {
     format!(in alloc; "{status} {body}").ok()
 }
 
-/// Returns a Data with this name and without Content.
+/// Returns a Data with this name and an empty Content.
 fn empty_data(alloc: Global, uri: &str) -> Option<Vec<u8>> {
     let name = NameBuf::from_uri(alloc, uri).ok()?;
     let mut packet = Vec::new(alloc);

@@ -39,8 +39,8 @@ fn commands_that_do_not_exist(rt: HostRuntime) {
     check_rows(&rt, rt.alloc(), rows, command_shown);
 }
 
-/// A command's name has one component of parameters, and a digest may follow this component. Names
-/// of any other form are refused with status 400.
+/// A command's name has one component of parameters, and a digest may follow this component. If the
+/// command exists, a name of any other form is refused with status 400.
 #[test]
 fn names_of_another_shape(rt: HostRuntime) {
     let rows = "

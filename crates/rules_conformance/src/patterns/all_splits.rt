@@ -1,7 +1,7 @@
 //! Tests that compare the matching of patterns with a simple program. The simple program tries all
 //! ways to split the components of a name among the atoms of a pattern. Each split is a list of
 //! counts, one for each atom: the number of components that the atom gets. The lists are tried in
-//! descending lexicographic order.
+//! descending lexicographic order, until each atom matches its components.
 
 use name_patterns::Pattern;
 use ndn_names::{Name, NameBuf};

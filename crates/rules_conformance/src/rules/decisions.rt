@@ -102,7 +102,7 @@ fn decided(alloc: Global, rules: &Rules, keys: &str, octets: &[u8]) -> Option<De
 
 /// Returns the decision of a rule file on a packet, as `allowed 0`, `denied 0 Tag` or `no rule`. If
 /// `packet` is `any KIND NAME`, returns the first rule that applies to packets of this kind and
-/// name, as `rule 0` or `no rule`. Returns `None` if an input is not valid.
+/// name, as `rule 0` or `no rule`. Returns `None` if an input is not valid or memory runs out.
 pub fn told_of(alloc: Global, file: &str, keys: &str, packet: &str) -> Option<String> {
     let rules = typed_rules(alloc, file)?;
     match packet.strip_prefix("any ") {
@@ -169,9 +169,9 @@ pub fn first_wrong_under(alloc: Global, file: &str, rows: &str) -> usize {
     first_wrong(alloc, rows, |alloc, row| is_decided_so(alloc, file, row))
 }
 
-/// Returns the line of the first wrong row in a text of several rule files, or 0 if no row is
-/// wrong. Each file is one line, followed by its rows and an empty line. The text begins with an
-/// empty line, which is line 1.
+/// Returns the line of the first wrong row in a text of one or more rule files, or 0 if no row is
+/// wrong. Each file is one line, followed by its rows. An empty line separates two files. The text
+/// begins with an empty line, which is line 1.
 fn first_wrong_of(alloc: Global, files: &str) -> usize {
     let mut lines = 1usize;
     for file in files.trim_matches('\n').split("\n\n") {
@@ -358,8 +358,8 @@ octets 053007250801410220620e59c59d04596b40d4cbe11e875a127f928accec817bec4519ae7
 octets 053307280801410801420220620e59c59d04596b40d4cbe11e875a127f928accec817bec4519ae74d661f47a0a0401020304240170 → no rule
 ";
 
-/// An Interest without a signature is denied. A filter tests the Interest's name without the name's
-/// parameters digest.
+/// If a rule applies to an Interest without a signature, the rule denies the Interest. A filter
+/// tests the Interest's name without the name's parameters digest.
 #[test]
 fn interests_that_are_not_signed(rt: HostRuntime) {
     assert_right(&rt, first_wrong_of(rt.alloc(), NOT_SIGNED));

@@ -274,8 +274,8 @@ fn one_key_deletes(rt: HostRuntime) {
     assert_right(&rt, first_wrong_under(rt.alloc(), ARCHIVE, OF_ARCHIVE));
 }
 
-/// The rules `producers` and `others` of `docs/RULES.md`, each with only its first filter and its
-/// first checker.
+/// The rules `producers` and `others` of `docs/RULES.md`: `producers` with only its first filter,
+/// and `others` with only its first checker.
 const PRODUCERS: &str = r"rule
 {
   id producers

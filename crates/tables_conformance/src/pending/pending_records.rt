@@ -73,7 +73,8 @@ ask /A 1 7 5000, sent /A 1 2 7 1000, loops /A 1 7, ask /A 1 7 5009, used /A, sen
 ";
 
 /// An Interest whose Nonce is in the in-record of its own face does not loop. Any other Interest
-/// loops if its Nonce is in the in-record of another face or in an out-record.
+/// loops if its Nonce is in the in-record of another face or in an out-record. Only records of the
+/// Interest's key count.
 #[test]
 fn loops_and_retries(rt: HostRuntime) {
     check_rows(&rt, rt.alloc(), LOOPS_AND_RETRIES, answers);

@@ -199,8 +199,8 @@ impl Records {
     }
 }
 
-/// Returns whether `octets` are the Nonce of the Interest `ask`, or whether `octets` and `ask` are
-/// both `None`.
+/// Returns true if `octets` are the Nonce of the Interest `ask`, or if `octets` and `ask` are both
+/// `None`.
 fn is_same(octets: Option<&[u8]>, ask: Option<Asks>) -> bool {
     match (octets, ask) {
         (Some(octets), Some(ask)) => octets == octets_of(ask.nonce).as_slice(),
@@ -370,8 +370,8 @@ fn remove(table: &mut Table, records: &mut Records, key: Key<'_>, removal: u64, 
     }
 }
 
-/// Returns a random face, Nonce and moment, and the index of a key. The index is chosen at random
-/// between `first` and the next index.
+/// Returns a random face, Nonce and moment, and the index of a key. The index is either `first` or
+/// the next index, chosen at random.
 fn random_call(first: u64, state: &mut u64) -> Asked {
     let key = first.saturating_add(random(state, 2)) as usize;
     let (face, nonce, moment) = (random(state, 3), random(state, 2), random(state, 20));
@@ -384,8 +384,9 @@ fn random_call(first: u64, state: &mut u64) -> Asked {
     }
 }
 
-/// Returns whether a random call gives the same answer for the table and for the records. Most
-/// calls are for the key with the index `first` or with the next index.
+/// Returns whether a random call gives the same answer for the table and for the records, and both
+/// then have the same records for a random face and key. The key has the index `first` or the next
+/// index, and most calls are for this key.
 fn call_agrees(
     table: &mut Table,
     records: &mut Records,

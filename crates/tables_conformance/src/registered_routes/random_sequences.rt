@@ -261,8 +261,8 @@ impl Plain {
     }
 }
 
-/// How often a name inherited a cost, how often a capture route prevented the inheritance of a
-/// cost, and how many routes expired.
+/// How often a name inherited a cost, how often a capture route of a proper prefix prevented the
+/// inheritance of a cost, and how many routes expired.
 #[derive(Clone, Copy)]
 struct Seen {
     inherited: u64,
@@ -511,8 +511,8 @@ fn call_agrees(
     Some(agrees? && longest_agrees(routes, plain, names, seen, asked)?)
 }
 
-/// Returns whether 40 random calls agree with the lists, and the table then has the same next hops
-/// and routes as the lists.
+/// Returns whether 40 random calls agree with the lists, and the effective next hops and the number
+/// of names in the table then agree with the lists as well.
 fn calls_agree(
     alloc: Global,
     routes: &mut RouteTable,
