@@ -67,10 +67,11 @@ MayForget old new =
     All (λ c. Contains old.cached c) new.cached × (new.capacity ≡ old.capacity)
 
 -- The store `new` after a use of the store `old`. The use `Untouched` changes nothing. A Data that
--- a lookup returns becomes the most recently used. If some face waits for an inserted Data, there
--- are two cases. Either the Data is cached, or no Data is added, while some Data may be dropped or
--- reordered (`MayForget`). If no face waits for an inserted Data, nothing changes. An erase removes
--- Data as `IsErased` specifies, and leaves the capacity unchanged.
+-- a lookup returns becomes the most recently used; a lookup that returns no Data changes nothing.
+-- If some face waits for an inserted Data, there are two cases. Either the Data is cached, or no
+-- Data is added, while some Data may be dropped or reordered (`MayForget`). If no face waits for an
+-- inserted Data, nothing changes. An erase removes Data as `IsErased` specifies, and leaves the
+-- capacity unchanged.
 abbrev pub CacheAfter : ℕ → Pending → CacheUse → StoreState → StoreState → Type 0
 CacheAfter now waiting Untouched old new = new ≡ old
 CacheAfter now waiting (LooksUp key) old new =

@@ -131,8 +131,8 @@ is_command ForTables = true
 is_command ForRepository = true
 is_command ForData = false
 
--- whether rules decide a packet that came on an open face: they decide every command, and every
--- Data that is in scope
+-- whether rules decide a packet that came on an open face: they decide every Data in scope, and
+-- every command in scope whose HopLimit is not 0
 abbrev pub is_decided : Policy → ℕ → PlainFrame → Bool
 is_decided p face (AnInterest whole i) = is_command (request_of p face i)
 is_decided p face (AData whole d) = not (is_out_of_scope p face d.name)

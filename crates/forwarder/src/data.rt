@@ -31,10 +31,10 @@ use pit_fib::{Faces, MAX_FACES};
 
 impl State {
     /// Handles a Data (NFD Developer's Guide, "Incoming Data Pipeline"). A Data out of scope is
-    /// dropped. A Data that the rules allow is sent, without changes, to each face with a pending
-    /// Interest for the Data, except the incoming face. The Data is offered to the cache if at
-    /// least one face, possibly the incoming face, has a pending Interest for the Data. The pending
-    /// Interests that the Data answers are removed. The repository stores the Data if the
+    /// dropped. Any other Data that the rules allow is sent, without changes, to each face with a
+    /// pending Interest for the Data, except the incoming face. This Data is offered to the cache
+    /// if at least one face, possibly the incoming face, has a pending Interest for the Data. The
+    /// pending Interests that the Data answers are removed. The repository stores the Data if the
     /// repository wants the Data.
     pub fn receive_data(
         &mut self,
@@ -93,8 +93,8 @@ impl State {
     /// answers. If at least one face had a pending Interest for the Data, offers the Data to the
     /// cache, which does not store the Data if memory runs out. Stores the Data in the repository
     /// if the repository wants the Data. If `with_tokens` is false, no pending Interest has a
-    /// token. The call never fails: memory for 64 sends and their octets is already reserved, and
-    /// the offer to the repository is prepared.
+    /// token. Never fails: memory for 64 sends and their octets is already reserved, and the offer
+    /// to the repository is prepared.
     fn deliver(
         &mut self,
         face: u64,

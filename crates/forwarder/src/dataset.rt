@@ -127,8 +127,8 @@ fn append_number(alloc: Global, name: &mut NameBuf, kind: u16, number: u64) -> R
 }
 
 /// Returns a segment as a Data that is signed with DigestSha256. The FinalBlockId of the Data
-/// contains the number of the last segment. The Data is never too long to be encoded, so the call
-/// fails only if memory runs out.
+/// contains the number of the last segment. Fails only if memory runs out, since the Data is never
+/// too long to be encoded.
 fn segment_data<'a>(
     alloc: Global,
     name: Name<'a>,

@@ -121,8 +121,8 @@ pub(crate) fn prepare_record(guard: &mut Guard, interest: &Interest<'_>) -> Resu
     }
 }
 
-/// Records the signer, the SignatureTime and the SignatureSeqNum of a command. The call must be
-/// prepared by `prepare_record`, so the call of `record` needs no memory. Does nothing if the
+/// Records the signer, the SignatureTime and the SignatureSeqNum of a command. The caller must have
+/// called `prepare_record` for the command, so that `record` needs no memory. Does nothing if the
 /// command has no signature or no SignatureTime.
 pub(crate) fn record(guard: &mut Guard, interest: &Interest<'_>) -> Result<(), Memory>
     requires { IfSome (recorded_of (plain_interest interest.now))

@@ -155,9 +155,9 @@ pub fn keys_stay_apart()
 
 /// Law: the rules and keys in force after a run are those of the last event of the run that brought
 /// rules and keys. If no event of the run brought rules and keys, the rules and keys from before
-/// the run are still in force. A Data in the event that follows the run is decided by the rules and
-/// keys in force after the run. The same rules and keys decide a command in that event, but a
-/// command that is not fresh is denied even if the rules allow it.
+/// the run are still in force. If the event after the run brings a Data or a command, the rules and
+/// keys in force after the run decide this packet, unless the packet is dropped. A command that is
+/// not fresh is denied even if the rules allow it.
 pub fn rules_in_force()
     ensures last { (first p : Policy) (past : Run) (rules : List PlainRule) (keys : List NamedKey)
         → IsPolicyOf first past p → AreLastRules past rules keys
@@ -184,8 +184,8 @@ pub fn every_data_sent_was_asked_for()
         → first.held.objects ≡ map.empty → IsRun first past → BringsOctets event
         → Contains answer.sends (face, octets) → frame_at octets ≡ Ok (AData whole d)
         → WasAskedFor first past reply.was event face whole d }
-    // A Data that cannot be read as a packet, such as a Data that is too long, is the node's own
-    // answer.
+    // If a Data that the node sends cannot be read as a packet, for example because it is too long,
+    // this Data is the node's own answer.
     ensures unread { (first : Policy) (past : Run) (event : PlainEvent) (answer : Answer) (face : ℕ)
         (octets : List ℕ) (reply : MayReply first past event answer)
         → first.held.objects ≡ map.empty → IsRun first past → BringsOctets event
@@ -254,8 +254,9 @@ pub fn cached_data_were_allowed()
 /// Law: the causes in a run (`past_causes`) determine the records of each key, face by face. The
 /// in-record of a face under a key is that of the latest Interest of the key that came from the
 /// face and became pending. The out-record of a face under a key is that of the latest Interest of
-/// the key that was sent to the face; a Nack that comes later from the face can set the reason in
-/// the out-record. If a later cause has ended a record, the record no longer exists.
+/// the key that was forwarded to the face; the node's own Interests are not recorded. A Nack that
+/// comes later from the face can set the reason in the out-record. If a later cause has ended a
+/// record, the record no longer exists.
 pub fn records_are_read_off_the_run()
     ensures in_records { (past : Run) (key : PlainKey) (face : ℕ)
         → map.get (records_of past key).in_records face
@@ -326,10 +327,10 @@ pub fn registered_routes_are_read_off_the_run()
 {}
 
 /// Law: if the verdict of a valid answer is a denial, the denial is the decision on the event's
-/// packet. The denial gives the rule that denies the packet, or states that no rule applies. A
-/// denied command gets a reply with status 403. The reply gives the reason and the rule, or says
-/// that no rule applies. For a denied Data, nothing is sent. The kind in the verdict, Interest or
-/// Data, is the kind of the packet.
+/// packet. The denial gives the reason and the first rule that applies, or states that no rule
+/// applies. A denied command gets a reply with status 403. The reply gives the reason and the rule,
+/// or says that no rule applies. For a denied Data, nothing is sent. The kind in the verdict,
+/// Interest or Data, is the kind of the packet.
 pub fn denials_name_their_rule()
     ensures denied { (first : Policy) (past : Run) (event : PlainEvent) (answer : Answer)
         (kind : Kind) (rule : ℕ) (reason : Reason) (reply : MayReply first past event answer)

@@ -59,8 +59,8 @@ impl State {
         }
     }
 
-    /// Returns a number of octets that is enough for the Nacks to all faces with an in-record of
-    /// the key `key`.
+    /// Returns a number of octets that is enough for the Nacks to all open faces with an in-record
+    /// of the key `key`.
     fn nack_room(&self, key: Key<'_>) -> Result<usize, Memory>
         ensures { IfOk result (λ room. room
             ≡ nack_room (in_records_at self.entry.now.pit.pending (plain_key key.entry))

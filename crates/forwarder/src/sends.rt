@@ -18,8 +18,9 @@ use pit_fib::{Faces, MAX_FACES};
 use std::alloc::Global;
 use std::marker::Model;
 
-/// A link packet is longer than the packet in it by at most this number of octets. A link packet
-/// adds headers, a token of at most 32 octets, and a Nack with its reason.
+/// A link packet that the node sends is longer than the packet in it by at most this number of
+/// octets. The link packet adds headers and, if present, a token of at most 32 octets and a Nack
+/// with its reason.
 pub const LINK_EXTRA: usize = 70;
 
 /// One send: its face, and the range of its octets.
@@ -30,8 +31,8 @@ struct Sent {
     end: usize,
 }
 
-/// The packets to send, in order, and the memory that is reserved for further sends. If memory runs
-/// out in a call, the sends do not change.
+/// The packets to send, in order, and the memory that is reserved for further sends. If a method
+/// runs out of memory, the sends do not change.
 #[derive(Drop)]
 pub struct Sends {
     octets: Vec<u8>,
@@ -120,7 +121,7 @@ impl Sends {
         // If enough memory is reserved, memory does not run out.
         ensures promised { 1 ≤ self.old.places → length octets.now ≤ self.old.space
             → IsOk result }
-        // The call uses up reserved memory for at most one send.
+        // `push` uses up reserved memory for at most one send.
         ensures room { self.old.places ≤ self.new.places + 1 }
         ensures space { self.old.space ≤ self.new.space + length octets.now }
     {
@@ -146,7 +147,7 @@ impl Sends {
         // If enough memory is reserved, memory does not run out.
         ensures promised { 1 ≤ self.old.places → length packet.now + LINK_EXTRA ≤ self.old.space
             → IsOk result }
-        // The call uses up reserved memory for at most one send.
+        // `push_back` uses up reserved memory for at most one send.
         ensures room { self.old.places ≤ self.new.places + 1 }
         ensures space { self.old.space ≤ self.new.space + (length packet.now + LINK_EXTRA) }
     {
@@ -169,7 +170,7 @@ impl Sends {
         // If enough memory is reserved, memory does not run out.
         ensures promised { 1 ≤ self.old.places → length interest.now + LINK_EXTRA ≤ self.old.space
             → IsOk result }
-        // The call uses up reserved memory for at most one send.
+        // `push_nack` uses up reserved memory for at most one send.
         ensures room { self.old.places ≤ self.new.places + 1 }
         ensures space { self.old.space ≤ self.new.space + (length interest.now + LINK_EXTRA) }
     {
@@ -220,7 +221,7 @@ impl Sends {
         ensures promised { 1 ≤ self.old.places
             → length (reply_text (components name.entry) content.now) + LINK_EXTRA
             ≤ self.old.space → IsOk result }
-        // The call uses up reserved memory for at most one send.
+        // `push_reply` uses up reserved memory for at most one send.
         ensures room { self.old.places ≤ self.new.places + 1 }
         ensures space { self.old.space ≤ self.new.space
             + (length (reply_text (components name.entry) content.now) + LINK_EXTRA) }
