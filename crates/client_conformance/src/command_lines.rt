@@ -349,7 +349,7 @@ $ ndn_tool interest /localhost/nfd/fib/list --can-be-prefix --nonce 01020304
 0525071b08096c6f63616c686f737408036e6664080366696208046c69737421000a0401020304
 ";
 
-/// Tests the command lines of the example in `docs/MANAGEMENT.md`.
+/// Tests command lines of the sections "An example" and "Lists" in `docs/MANAGEMENT.md`.
 #[test]
 fn management(rt: HostRuntime) {
     check_session(&rt, OPS, MANAGEMENT);

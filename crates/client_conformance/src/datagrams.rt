@@ -114,8 +114,8 @@ fn forged_and_earlier_replies(rt: HostRuntime) {
     assert!(rt; first_wrong(rt.alloc(), HEARD, is_heard) == 0);
 }
 
-/// Rows in the form of `HEARD`, for a command with a long name. The character `~` stands for the
-/// name.
+/// Rows in the form of `HEARD`, for a command that adds a route for a long name. The character `~`
+/// stands for this name.
 const LONG: &str = "
 reply => done status 200 OK␊name ~␊face 2␊cost 0␊
 forged earlier reply => done status 200 OK␊name ~␊face 2␊cost 0␊

@@ -14,7 +14,7 @@ const OPERATOR: u64 = 1;
 /// The face of a producer, which answers each Interest.
 const PRODUCER: u64 = 2;
 
-/// The face of a port that the node does not know yet.
+/// The face of a client at a new port.
 const NEW_PORT: u64 = 3;
 
 /// A node with the faces `OPERATOR`, `PRODUCER` and `NEW_PORT`, and the present moment. The
@@ -155,7 +155,7 @@ impl Scene {
 
     /// Gives a client's packet to the node, and lets the producer answer the node's Interests.
     /// Returns all packets that the node sends to the client. If `from` is `Some`, the client is at
-    /// port 6401. If `from` is `None`, the client is at a port that the node does not know yet.
+    /// port 6401. If `from` is `None`, the client is at a new port.
     pub fn answers(
         &mut self,
         alloc: Global,

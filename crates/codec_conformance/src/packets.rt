@@ -141,15 +141,15 @@ fn signature_by(alloc: Global, signature: &Signature<'_>, key: &str) -> Option<S
     format!(in alloc; "signature {kind}, key {key}, time {time:?}, seq {seq:?}, value {value}").ok()
 }
 
-/// Returns all fields of an Interest.
+/// Returns the fields of an Interest, except `whole`, as text.
 fn interest_text(alloc: Global, interest: &Interest<'_>) -> Option<String> {
     let signature = signature_text(alloc, interest.signature)?;
     let parameters = value_text(alloc, interest.parameters)?;
     interest_with(alloc, interest, &parameters, &signature)
 }
 
-/// Returns all fields of an Interest, where `parameters` and `signature` are the texts of its
-/// parameters and of its signature.
+/// Returns what `interest_text` returns. `parameters` and `signature` are the texts of the
+/// Interest's parameters and signature.
 fn interest_with(
     alloc: Global,
     interest: &Interest<'_>,
@@ -170,26 +170,26 @@ fn interest_with(
     ).ok()
 }
 
-/// Returns all fields of a Data.
+/// Returns the fields of a Data, except `whole`, as text.
 fn data_text(alloc: Global, data: &Data<'_>) -> Option<String> {
     let signature = signature_text(alloc, Some(data.signature))?;
     data_with(alloc, data, &signature)
 }
 
-/// Returns all fields of a Data, where `signature` is the text of its signature.
+/// Returns what `data_text` returns. `signature` is the text of the Data's signature.
 fn data_with(alloc: Global, data: &Data<'_>, signature: &str) -> Option<String> {
     let (name, freshness) = (data.name, data.freshness);
     let content = value_text(alloc, data.content)?;
     format!(in alloc; "Data {name}, fresh {freshness}, content {content}, {signature}").ok()
 }
 
-/// Returns all fields of an Interest or a Data.
+/// Returns the fields of an Interest or a Data, except `whole`, as text.
 fn fields(alloc: Global, input: &str) -> Option<String> {
     let octets = packet(alloc, input)?;
     fields_in(alloc, &octets)
 }
 
-/// Returns all fields of the Interest or the Data in these octets.
+/// Returns what `fields` returns, for the packet in these octets.
 fn fields_in(alloc: Global, octets: &[u8]) -> Option<String> {
     match read_frame(octets).ok()? {
         Frame::Interest(interest) => interest_text(alloc, &interest),

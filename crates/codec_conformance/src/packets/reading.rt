@@ -75,9 +75,10 @@ ff0000000100000000 -> Tlv TypeTooLarge
     check_rows(&rt, rt.alloc(), rows, outcome);
 }
 
-/// An Interest is refused if its Nonce is missing, or if a field after its Name is malformed. An
-/// Interest is also refused if a critical element after its Name is repeated, out of order or
-/// unknown. Of two faulty fields, the fault of the first one is reported.
+/// An Interest is refused if its Nonce is missing, or if its CanBePrefix, MustBeFresh, Nonce,
+/// InterestLifetime or HopLimit is malformed. An Interest is also refused if a critical element
+/// after its Name is repeated, out of order or unknown. Of two faulty fields, the fault of the
+/// first one is reported.
 #[test]
 fn faults_of_interests(rt: HostRuntime) {
     let rows = "
@@ -120,8 +121,8 @@ fn faults_of_interests(rt: HostRuntime) {
     check_rows(&rt, rt.alloc(), rows, outcome);
 }
 
-/// All fields of an Interest that come before the ApplicationParameters are read. Elements that are
-/// to be ignored do not change the result.
+/// The name, CanBePrefix, MustBeFresh, Nonce, InterestLifetime and HopLimit of an Interest are
+/// read. A ForwardingHint, and elements that are to be ignored, do not change the result.
 #[test]
 fn fields_of_interests(rt: HostRuntime) {
     let rows = "
@@ -354,9 +355,10 @@ fn lengths_of_names(rt: HostRuntime) {
     check_rows(&rt, rt.alloc(), rows, outcome);
 }
 
-/// A Data is refused if its SignatureInfo or its SignatureValue is missing, or if a field after its
-/// Name is malformed. A Data is also refused if a critical element after its Name is repeated, out
-/// of order or unknown. Of two faulty fields, the fault of the first one is reported.
+/// A Data is refused if its SignatureInfo, SignatureType or SignatureValue is missing, or if a
+/// number in its MetaInfo or SignatureInfo is malformed. A Data is also refused if a critical
+/// element after its Name is repeated, out of order or unknown. Of two faulty fields, the fault of
+/// the first one is reported.
 #[test]
 fn faults_of_data(rt: HostRuntime) {
     let rows = "

@@ -117,7 +117,7 @@ fn journal_of_what_is_denied(rt: HostRuntime) {
     assert!(rt; has_journal(rt.alloc(), MOSTLY_DENIED, lines) == Some(true));
 }
 
-/// Returns whether a journal has three lines, and one packet was sent.
+/// Returns whether a journal has three whole lines, and one packet was sent.
 fn has_three_lines(ports: &JournalledPorts<MemoryPorts, MemoryFile>) -> bool {
     let lines = ports.file().octets.iter().filter(|o| **o == b'\n').count();
     ports.ports().sent().len() == 1 && lines == 3
@@ -148,8 +148,8 @@ in 1 1000000 ADD_FIRST
 in 1 1000000 INSERT
 in 2 1000000 D_A";
 
-/// What a node receives after a restart: an Interest for the stored Data, and two commands that
-/// were carried out before the restart.
+/// A dialogue after a restart. The node receives an Interest for the stored Data, and two commands
+/// that were carried out before the restart.
 const AFTER_A_RESTART: &str = "
 in 1 1000000 INTEREST
 > 1 D_A

@@ -61,8 +61,9 @@ fn is_line_of_send(alloc: Global, line: &str, sent: Option<(u64, &[u8])>) -> Opt
     Some(sent == Some((face, octets.as_slice())))
 }
 
-/// Returns whether a node gives the answers of a dialogue, or `None` if one of the test's own
-/// allocations fails. `outbox` receives the packets that the node sends for each event.
+/// Returns whether a node sends the packets of a dialogue, and its verdicts are of the kinds in the
+/// dialogue. Returns `None` if one of the test's own allocations fails. `outbox` receives the
+/// packets that the node sends for each event.
 fn plays(alloc: Global, node: &mut Node, outbox: &mut Outbox, dialogue: &str) -> Option<bool> {
     let mut verdict = None;
     let mut sends = 0;
@@ -93,9 +94,8 @@ fn node_plays(alloc: Global, node: &mut Node, dialogue: &str) -> Option<bool> {
     plays(alloc, node, &mut Outbox::new(alloc), dialogue)
 }
 
-/// Returns whether a new node gives the answers of a dialogue in which all packets are in
-/// hexadecimal. Returns `None` if the node cannot be created, or one of the test's own allocations
-/// fails.
+/// Returns what `node_plays` returns for a new node and a dialogue in which all packets are in
+/// hexadecimal. Returns `None` if the node cannot be created.
 fn new_node_plays(alloc: Global, dialogue: &str) -> Option<bool> {
     on_node(alloc, &|alloc, node| node_plays(alloc, node, dialogue))
 }

@@ -36,8 +36,8 @@ in 1 1001000 FOURTH
 > 1 NO_ROUTE_FOURTH
 ";
 
-/// The node gives the answers of the example in `docs/MANAGEMENT.md`: longer names inherit a route,
-/// and a route expires.
+/// The node gives the answers of the example of registered routes in `docs/MANAGEMENT.md`: longer
+/// names inherit a route, and a route expires.
 #[test]
 fn registered_routes(rt: HostRuntime) {
     replies(&rt, REGISTERED_ROUTES);

@@ -1,5 +1,5 @@
 //! PIT tokens: a packet that is sent back to a face has the token of the Interest that it answers,
-//! and a packet that is forwarded has no token.
+//! and a forwarded Interest has no token.
 
 use super::replies;
 
@@ -160,8 +160,8 @@ in 1 1000000 TOKEN_INTEREST
 > 1 TOKEN_D_A
 ";
 
-/// Replies to commands (also to denied commands), segments of lists, and objects of the repository
-/// are sent back with the token of the Interest. The repository's own Interest has no token.
+/// Replies to commands (also to denied commands), segments of lists, and stored Data are sent back
+/// with the token of the Interest. The repository's own Interest has no token.
 #[test]
 fn tokens_on_replies(rt: HostRuntime) {
     replies(&rt, REPLIES_FOR_A_TOKEN);

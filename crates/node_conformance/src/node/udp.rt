@@ -12,7 +12,7 @@ use std::alloc::Global;
 use std::cell::Cell;
 use std::net::{Ipv4Addr, Net, UdpSocket};
 
-/// A clock that always shows the moment for which the commands in dialogues are signed.
+/// A clock that always shows 1,000,000 milliseconds, the signature time of the command `ADD`.
 #[derive(Drop)]
 pub struct Still;
 
